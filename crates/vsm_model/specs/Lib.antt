@@ -1,0 +1,10 @@
+pub mod Search
+pub mod Regions
+pub mod State
+pub mod Areas
+pub mod Standing
+pub mod Causes
+pub mod Storage
+pub mod Step
+pub mod WellFormed
+pub mod Texts

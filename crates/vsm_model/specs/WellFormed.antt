@@ -1,0 +1,30 @@
+-- What holds of each state that is reached.
+use Rattle.std.specs.Prelude.{◌≡◌, ℕ, ◌/◌, true, Some, is_some}
+use Rattle.vsm_model.specs.declared.Subpool.{Subpool}
+use Rattle.vsm_model.specs.declared.Service.{Service}
+use Rattle.vsm_model.specs.declared.limits.Settings.{Settings}
+use Rattle.vsm_model.specs.declared.replies.Reply.{Reply}
+use Rattle.vsm_model.specs.Regions.{Region, low_region, within}
+use Rattle.vsm_model.specs.State.{State, first_state}
+use Rattle.vsm_model.specs.Standing.{Accepted}
+use Rattle.vsm_model.specs.Step.{step}
+
+pub record IsWellFormed (low : Region) (s : State) : Type 0 where
+  -- each assigned page lies in the region, its subpool is there, and a doubleword of it is taken
+  pub in_region : (k : ℕ) (p : Subpool) → s.pages k ≡ Some p → within low k ≡ true
+  pub has_subpool : (k : ℕ) (p : Subpool) → s.pages k ≡ Some p → s.subpools p.number p.owner ≡ true
+  pub has_taken : (k : ℕ) (p : Subpool) → s.pages k ≡ Some p → (d : ℕ) × (d / 512 ≡ k) × (s.taken d ≡ true)
+  -- each taken doubleword lies in an assigned page
+  pub in_page : (d : ℕ) → s.taken d ≡ true → is_some (s.pages (d / 512)) ≡ true
+  -- an owner sees its subpool, what is seen is there, and the current task sees a subpool 0
+  pub owner_sees : (number owner : ℕ) → s.subpools number owner ≡ true → s.sight owner number ≡ Some owner
+  pub seen_is_there : (task number owner : ℕ) → s.sight task number ≡ Some owner → s.subpools number owner ≡ true
+  pub sees_zero : is_some (s.sight s.current 0) ≡ true
+
+abbrev pub FirstIsWellFormed : Type 0
+FirstIsWellFormed = (settings : Settings) → IsWellFormed (low_region settings) first_state
+
+abbrev pub StaysWellFormed : Type 0
+StaysWellFormed =
+    (settings : Settings) (s t : State) (x : Service) (r : Reply) →
+    IsWellFormed (low_region settings) s → step settings s x ≡ Accepted t r → IsWellFormed (low_region settings) t
