@@ -1,9 +1,9 @@
 -- Free storage, free areas and extents, and the place of an area.
 -- Assembler Services Guide, "Virtual storage management", "Explicit requests for virtual storage".
-use Rattle.std.specs.Prelude.{◌≡◌, ℕ, zero, suc, pred, ◌+◌, ◌*◌, ◌/◌, ◌%◌, ◌<◌, ◌≤◌, ◌↔◌, Bool, true, false, not, ◌&&◌, if◌then◌else◌, ◌==◌, Option, Some, None, is_some, List, [], ◌∷◌}
+use Rattle.std.specs.Prelude.{ℕ, zero, suc, ◌+◌, ◌*◌, ◌/◌, ◌%◌, Bool, false, not, ◌&&◌, if◌then◌else◌, ◌==◌, Option, Some, None, is_some, List, [], ◌∷◌}
 use Rattle.vsm_model.specs.declared.Subpool.{Subpool}
 use Rattle.vsm_model.specs.Search.{least, all_pass}
-use Rattle.vsm_model.specs.Regions.{Region, within, among}
+use Rattle.vsm_model.specs.Regions.{Region, within}
 use Rattle.vsm_model.specs.State.{State}
 
 abbrev pub same_subpool : Subpool → Subpool → Bool

@@ -1,6 +1,6 @@
 -- The causes for which a service is refused, in order, and their completion codes.
 -- Assembler Services Reference, STORAGE, "ABEND codes".
-use Rattle.std.specs.Prelude.{ℕ, ◌/◌, ◌%◌, Bool, not, ◌&&◌, ◌||◌, if◌then◌else◌, nat_lt, ◌==◌, is_some}
+use Rattle.std.specs.Prelude.{ℕ, ◌/◌, Bool, not, ◌&&◌, ◌||◌, if◌then◌else◌, nat_lt, ◌==◌, is_some}
 use Rattle.vsm_model.specs.declared.Subpool.{Subpool}
 use Rattle.vsm_model.specs.declared.causes.Cause.{Cause}
 use Rattle.vsm_model.specs.declared.causes.Cause.TheVariants.{UnsupportedSubpool, SubpoolNotAllowed, ZeroLength, NoStorage, Misaligned, NotInSubpool, OverlapsFree}
@@ -9,7 +9,7 @@ use Rattle.vsm_model.specs.declared.causes.Code.TheVariants.{System, User}
 use Rattle.vsm_model.specs.Regions.{Region, within}
 use Rattle.vsm_model.specs.State.{State}
 use Rattle.vsm_model.specs.Areas.{belongs}
-use Rattle.vsm_model.specs.Standing.{Outcome, Accepted, Refused}
+use Rattle.vsm_model.specs.Standing.{Outcome, Refused}
 use Rattle.vsm_model.specs.declared.replies.Reply.{Reply}
 
 -- The completion codes of the macro STORAGE: B78, 878, 978 and A78 are 2936, 2168, 2424 and 2680 in decimal.
