@@ -8,3 +8,4 @@ pub mod Storage
 pub mod Step
 pub mod WellFormed
 pub mod Texts
+pub mod Steps
