@@ -1,2 +1,5 @@
 pub mod Least
 pub mod Alone
+pub mod Obtains
+pub mod Kept
+pub mod Reached
