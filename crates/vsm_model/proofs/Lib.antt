@@ -1,2 +1,6 @@
 pub mod Least
+pub mod Alone
 pub mod Steps
+pub mod Obtains
+pub mod Kept
+pub mod Reached

@@ -1,12 +1,12 @@
 -- What holds of each state that is reached.
-use Rattle.std.specs.Prelude.{◌≡◌, ℕ, ◌/◌, true, Some, is_some}
+use Rattle.std.specs.Prelude.{◌≡◌, ℕ, ◌/◌, true, Some, is_some, List}
 use Rattle.vsm_model.specs.declared.Subpool.{Subpool}
 use Rattle.vsm_model.specs.declared.Service.{Service}
 use Rattle.vsm_model.specs.declared.limits.Settings.{Settings}
 use Rattle.vsm_model.specs.declared.replies.Reply.{Reply}
 use Rattle.vsm_model.specs.Regions.{Region, low_region, within}
 use Rattle.vsm_model.specs.State.{State, first_state}
-use Rattle.vsm_model.specs.Standing.{Accepted}
+use Rattle.vsm_model.specs.Standing.{Accepted, alone}
 use Rattle.vsm_model.specs.Step.{step}
 
 pub record IsWellFormed (low : Region) (s : State) : Type 0 where
@@ -28,3 +28,8 @@ abbrev pub StaysWellFormed : Type 0
 StaysWellFormed =
     (settings : Settings) (s t : State) (x : Service) (r : Reply) →
     IsWellFormed (low_region settings) s → step settings s x ≡ Accepted t r → IsWellFormed (low_region settings) t
+
+-- So the state after any list of statements alone is well-formed.
+abbrev pub ReachedIsWellFormed : Type 0
+ReachedIsWellFormed =
+    (settings : Settings) (xs : List Service) → IsWellFormed (low_region settings) (alone first_state (step settings) xs)
