@@ -1,0 +1,3 @@
+pub mod Split
+pub mod Lines
+pub mod Readings

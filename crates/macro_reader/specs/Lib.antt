@@ -1,0 +1,10 @@
+pub mod Columns
+pub mod Words
+pub mod Field
+pub mod Values
+pub mod Keywords
+pub mod Rows
+pub mod Requests
+pub mod Statements
+pub mod Scripts
+pub mod Modes

@@ -1,0 +1,74 @@
+-- Values as operands spell them: numbers, names, registers and pairs.
+use Rattle.std.specs.Prelude.{ℕ, ◌+◌, ◌-◌, ◌*◌, ◌^◌, Bool, false, ◌&&◌, ◌||◌, ◌==◌, nat_lt, nat_le, if◌then◌else◌, List, [], ◌∷◌, length, drop, Option, Some, None, is_some, slice_index, slice_range}
+use Rattle.std.specs.Char.{to_ascii_uppercase}
+use Rattle.macro_reader.specs.Words.{is_name}
+use Rattle.macro_reader.specs.Field.{outside, operands_from}
+
+-- The value of a digit, and 99 for any other byte.
+abbrev pub digit_of : ℕ → ℕ
+digit_of c =
+    if nat_le 48 c && nat_le c 57 then c - 48
+    else if nat_le 65 c && nat_le c 70 then c - 55
+    else if nat_le 97 c && nat_le c 102 then c - 87
+    else 99
+
+-- The number that digits spell behind those of a number, where all are digits of the radix and it stays below 2 ^ 32.
+abbrev pub number_from : ℕ → ℕ → List ℕ → Option ℕ
+number_from radix n [] = Some n
+number_from radix n (c ∷ cs) =
+    if nat_lt (digit_of c) radix && nat_lt (n * radix + digit_of c) (2 ^ 32) then number_from radix (n * radix + digit_of c) cs else None
+
+-- The number that one digit or more spell, up to this many.
+abbrev pub digits_number : ℕ → ℕ → List ℕ → Option ℕ
+digits_number radix most text = if nat_le 1 (length text) && nat_le (length text) most then number_from radix 0 text else None
+
+-- A text is this letter, in either case, and something between apostrophes.
+abbrev pub is_quoted : ℕ → List ℕ → Bool
+is_quoted letter text =
+    nat_le 3 (length text) && (to_ascii_uppercase (slice_index text 0) == letter) && (slice_index text 1 == 39)
+    && (slice_index text (length text - 1) == 39)
+
+-- A number is 1 to 10 decimal digits, X'..' with 1 to 8 hexadecimal ones or B'..' with 1 to 32 binary ones (High Level Assembler Language
+-- Reference, "Self-defining terms").
+abbrev pub number_of : List ℕ → Option ℕ
+number_of text =
+    if is_quoted 88 text then digits_number 16 8 (slice_range text 2 (length text - 1))
+    else if is_quoted 66 text then digits_number 2 32 (slice_range text 2 (length text - 1))
+    else digits_number 10 10 text
+
+-- A register's number goes from 0 to 15, without leading zeros.
+abbrev pub is_register_number : List ℕ → Bool
+is_register_number digits =
+    ((length digits == 1) && nat_le 48 (slice_index digits 0) && nat_le (slice_index digits 0) 57)
+    || ((length digits == 2) && (slice_index digits 0 == 49) && nat_le 48 (slice_index digits 1) && nat_le (slice_index digits 1) 53)
+
+-- What stands behind an R, in either case, or the whole text where none stands in front.
+abbrev pub without_r : List ℕ → List ℕ
+without_r text = if nat_le 1 (length text) && (to_ascii_uppercase (slice_index text 0) == 82) then drop 1 text else text
+
+-- A text that stands in parentheses, as far as its first and last byte tell.
+abbrev pub is_enclosed : List ℕ → Bool
+is_enclosed text = nat_le 2 (length text) && (slice_index text 0 == 40) && (slice_index text (length text - 1) == 41)
+
+-- What stands between the first and the last byte.
+abbrev pub enclosed : List ℕ → List ℕ
+enclosed text = slice_range text 1 (length text - 1)
+
+-- A register is written `(n)` or `(Rn)` (Assembler Services Reference, "How to read macro parameters": register notation).
+abbrev pub is_register : List ℕ → Bool
+is_register text = is_enclosed text && is_register_number (without_r (enclosed text))
+
+-- A value is a number, a name or a register.
+abbrev pub is_value : List ℕ → Bool
+is_value text = is_some (number_of text) || is_name text || is_register text
+
+-- Two operands, each of them a value.
+abbrev pub are_two_values : List (List ℕ) → Bool
+are_two_values [] = false
+are_two_values (a ∷ []) = false
+are_two_values (a ∷ b ∷ []) = is_value a && is_value b
+are_two_values (a ∷ b ∷ c ∷ os) = false
+
+-- A pair is two values in parentheses: a maximum and a minimum length.
+abbrev pub is_pair : List ℕ → Bool
+is_pair text = is_enclosed text && are_two_values (operands_from outside (enclosed text))

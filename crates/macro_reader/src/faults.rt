@@ -1,0 +1,31 @@
+//! What may be wrong with a statement.
+
+/// What is wrong with a statement, by the first check that it fails. The numbers 1 to 8 stand for the kinds in this order.
+#[derive(Clone, Copy, Debug, PartialEq, Eq)]
+pub enum FaultKind {
+    /// Column 1 isn't blank, and no name of up to 63 letters and digits stands there.
+    Column = 1,
+    /// The statement is continued in a way that isn't read.
+    Continuation,
+    /// There is no operation, or none that is known.
+    Operation,
+    /// An apostrophe or a parenthesis that isn't closed or is closed too often, or an operand that the statement doesn't have.
+    Operand,
+    /// A keyword that stands in an earlier operand.
+    Repeated,
+    /// An operand that the statement requires isn't there.
+    Missing,
+    /// A value that isn't of its operand's kind.
+    Value,
+    /// A keyword or a kind of value that isn't supported.
+    LeftOut,
+}
+
+/// A statement that is wrong.
+#[derive(Clone, Copy, Debug, PartialEq, Eq)]
+pub struct Fault {
+    /// What is wrong with it.
+    pub kind: FaultKind,
+    /// The number of its first line, from 1.
+    pub line: u32,
+}

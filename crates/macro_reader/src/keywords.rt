@@ -1,0 +1,126 @@
+//! Keywords of operands, and sets of them.
+
+ghost use Rattle.std.specs.Prelude.{⊤, ◌≡◌, ◌==◌, position};
+ghost use Rattle.std.specs.Option.{option_map};
+ghost use Rattle.macro_reader.specs.Keywords.{keywords, keyword_of, upper_text, key_of, key_text, value_text, is_keyword_operand};
+
+use crate::words::is_name;
+use arrayvec::ArrayString;
+use bitflags::{Flag, Flags, bitflag_items};
+
+/// A set of keywords. A keyword is the set that holds it alone.
+#[derive(Clone, Copy, PartialEq, Eq, Debug)]
+pub struct Keywords(pub u64);
+
+bitflag_items! {
+    impl Keywords: u64 {
+        const LENGTH = 1;
+        const ADDR = 2;
+        const SP = 4;
+        const BNDRY = 8;
+        const LOC = 16;
+        const COND = 32;
+        const RELATED = 64;
+        const LINKAGE = 128;
+        const REGS = 256;
+        const KEY = 512;
+        const CALLRKY = 1024;
+        const TCBADDR = 2048;
+        const OWNER = 4096;
+        const EXECUTABLE = 8192;
+        const CHECKZERO = 16384;
+        const STARTBDY = 32768;
+        const CONTBDY = 65536;
+        const INADDR = 131072;
+        const RTCD = 262144;
+        const BRANCH = 524288;
+        const TCB = 1048576;
+        const MF = 2097152;
+    }
+}
+
+impl Flags for Keywords {
+    type Bits = u64;
+
+    ghost exact = { ⊤ };
+
+    ghost table = { keywords };
+
+    ghost set_of = { λ k. k.0 };
+
+    fn flags<'a>() -> &'a [Flag<Keywords>] {
+        Keywords::FLAGS
+    }
+
+    fn bits(&self) -> u64 {
+        self.0
+    }
+
+    fn from_bits_retain(bits: u64) -> Keywords {
+        Keywords(bits)
+    }
+}
+
+/// A text in upper case, where it can be a keyword.
+fn upper_text(text: &[u8]) -> Option<ArrayString<10>>
+    ensures { option_map (λ s. s.bytes) result ≡ upper_text text.now }
+{
+    if text.len() > 10 {
+        return None;
+    }
+    let mut upper = ArrayString::<10>::new();
+    for byte in text {
+        if !byte.is_ascii() {
+            return None;
+        }
+        upper.push(char::from(byte.to_ascii_uppercase()));
+    }
+    Some(upper)
+}
+
+/// The keyword that a text spells, in either case.
+fn keyword_of(text: &[u8]) -> Option<Keywords>
+    ensures { option_map (λ k. k.0) result ≡ keyword_of text.now }
+{
+    match upper_text(text) {
+        Some(upper) => Keywords::from_name(upper.as_str()),
+        None => None,
+    }
+}
+
+/// Where the equals sign of an operand stands.
+fn equals_at(text: &[u8]) -> Option<usize>
+    ensures { result ≡ position (λ c. c == 61) text.now }
+{
+    text.iter().position(|byte| *byte == b'=')
+}
+
+/// The keyword of an operand.
+pub fn key_of(text: &[u8]) -> Option<Keywords>
+    ensures { option_map (λ k. k.0) result ≡ key_of text.now }
+{
+    match equals_at(text) {
+        Some(i) => keyword_of(&text[..i]),
+        None => None,
+    }
+}
+
+/// What stands behind the equals sign of an operand.
+pub fn value_text(text: &[u8]) -> &[u8]
+    ensures { result.now ≡ value_text text.now }
+{
+    match equals_at(text) {
+        Some(i) => &text[i + 1..],
+        None => &[],
+    }
+}
+
+/// Whether an operand is a name and an equals sign behind it.
+pub fn is_keyword_operand(text: &[u8]) -> bool
+    ensures { result ≡ is_keyword_operand text.now }
+{
+    match equals_at(text) {
+        Some(i) => is_name(&text[..i]),
+        None => false,
+    }
+}

@@ -1,0 +1,15 @@
+//! Laws of the grammar.
+
+ghost use Rattle.std.specs.Prelude.{◌≡◌, List};
+ghost use Rattle.macro_reader.specs.Columns.{Line};
+ghost use Rattle.macro_reader.specs.Scripts.{Answer, Answers};
+
+/// A list of lines has one list of answers: any two are the same.
+pub fn one_reading()
+    ensures { (lines : List Line) (a b : List Answer) → Answers lines a → Answers lines b → a ≡ b }
+{}
+
+/// Every list of lines has a list of answers.
+pub fn every_script_is_read()
+    ensures { (lines : List Line) → (answers : List Answer) × Answers lines answers }
+{}

@@ -1,0 +1,21 @@
+//! Statements of storage macros, read line by line.
+#![tactic(auto)]
+
+mod columns;
+mod faults;
+mod keywords;
+mod laws;
+mod nesting;
+mod numbers;
+mod operands;
+mod reading;
+mod requests;
+mod rows;
+mod statements;
+mod values;
+mod words;
+
+pub use faults::{Fault, FaultKind};
+pub use laws::{every_script_is_read, one_reading};
+pub use reading::{Fed, Reader};
+pub use requests::{Request, Statement, Value};

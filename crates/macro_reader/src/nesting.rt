@@ -1,0 +1,105 @@
+//! Apostrophes and parentheses of an operand field.
+
+ghost use Rattle.std.specs.Prelude.{◌≡◌, ◌∷◌, ◌+◌, ◌^◌, ◌<◌, ◌≤◌, length, List, ℕ, Some};
+ghost use Rattle.std.specs.Option.{option_copied};
+ghost use Rattle.macro_reader.specs.Field.{outside, past, field_len, is_balanced, operand_len, operands_from, operands_behind};
+
+/// Where a byte of a field stands: between apostrophes or not, and in how many parentheses.
+#[derive(Clone, Copy)]
+pub struct Nesting {
+    pub quoted: bool,
+    pub depth: usize,
+}
+
+impl Nesting {
+    pub fn outside() -> Nesting
+        ensures { result ≡ outside }
+    {
+        Nesting {
+            quoted: false,
+            depth: 0,
+        }
+    }
+
+    /// Where the next byte stands.
+    pub fn past(self, byte: u8) -> Nesting
+        requires { self.depth + 1 < 2 ^ 64 }
+        ensures value { result ≡ past self byte }
+        ensures depth { result.depth ≤ self.depth + 1 }
+    {
+        let Nesting { quoted, depth } = self;
+        match byte {
+            b'\'' => Nesting {
+                quoted: !quoted,
+                depth,
+            },
+            _ if quoted => self,
+            b'(' => Nesting {
+                quoted,
+                depth: depth + 1,
+            },
+            b')' => Nesting {
+                quoted,
+                depth: depth.saturating_sub(1),
+            },
+            _ => self,
+        }
+    }
+}
+
+/// How far the field at the front of a text goes.
+pub fn field_len(text: &[u8]) -> usize
+    ensures value { result ≡ field_len outside text.now }
+    ensures within { result ≤ length text.now }
+{
+    let mut at = Nesting::outside();
+    for (i, byte) in text.iter().enumerate() {
+        if *byte == b' ' && !at.quoted {
+            return i;
+        }
+        at = at.past(*byte);
+    }
+    text.len()
+}
+
+/// Whether each apostrophe and parenthesis is closed, and none too often.
+pub fn is_balanced(text: &[u8]) -> bool
+    ensures { result ≡ is_balanced outside text.now }
+{
+    let mut at = Nesting::outside();
+    for byte in text {
+        if *byte == b')' && !at.quoted && at.depth == 0 {
+            return false;
+        }
+        at = at.past(*byte);
+    }
+    !at.quoted && at.depth == 0
+}
+
+/// How far the first operand of a field goes.
+pub fn operand_len(text: &[u8]) -> usize
+    ensures value { result ≡ operand_len outside text.now }
+    ensures within { result ≤ length text.now }
+{
+    let mut at = Nesting::outside();
+    for (i, byte) in text.iter().enumerate() {
+        if *byte == b',' && !at.quoted && at.depth == 0 {
+            return i;
+        }
+        at = at.past(*byte);
+    }
+    text.len()
+}
+
+/// The first operand of a text, and what stands behind its comma, if it has one.
+pub fn split(text: &[u8]) -> (&[u8], Option<&[u8]>)
+    ensures operands { operands_from outside text.now ≡ result.0.now ∷ operands_behind (option_copied result.1) }
+    ensures shorter { (rest : List ℕ) → option_copied result.1 ≡ Some rest → length rest < length text.now }
+{
+    let n = operand_len(text);
+    if n < text.len() {
+        (&text[..n], Some(&text[n + 1..]))
+    } else {
+        (text, None)
+    }
+}

@@ -1,0 +1,102 @@
+//! The operands of a form.
+
+ghost use Rattle.std.specs.Prelude.{◌≡◌};
+ghost use Rattle.std.specs.Option.{option_copied};
+ghost use Rattle.macro_reader.specs.Field.{outside, operands_from, operands_behind};
+ghost use Rattle.macro_reader.specs.Keywords.{key_of, with_key};
+ghost use Rattle.macro_reader.specs.Statements.{operand_fault, first_fault, text_at, number_at};
+
+use crate::faults::FaultKind;
+use crate::keywords::{Keywords, key_of, value_text};
+use crate::nesting::split;
+use crate::numbers::number_of;
+use crate::rows::{Entry, is_among, kind_in, value_fault};
+use bitflags::Flags;
+
+/// What is wrong with an operand behind those with the keywords that were seen.
+pub fn operand_fault(
+    left_out: &[Keywords],
+    row: &[Entry],
+    seen: Keywords,
+    text: &[u8],
+) -> Option<FaultKind>
+    ensures { result ≡ operand_fault left_out.now row.now seen.0 text.now }
+{
+    let Some(key) = key_of(text) else {
+        return Some(FaultKind::Operand);
+    };
+    if is_among(left_out, key) {
+        return Some(FaultKind::LeftOut);
+    }
+    let Some(kind) = kind_in(row, key) else {
+        return Some(FaultKind::Operand);
+    };
+    if seen.contains(key) {
+        return Some(FaultKind::Repeated);
+    }
+    value_fault(kind, value_text(text))
+}
+
+/// The keywords that were seen, with that of one operand more.
+fn with_key(seen: Keywords, text: &[u8]) -> Keywords
+    ensures { result.0 ≡ with_key seen.0 (key_of text.now) }
+{
+    let mut all = seen;
+    if let Some(key) = key_of(text) {
+        all.insert(key);
+    }
+    all
+}
+
+/// The first fault of the operands of a text, from left to right.
+fn first_fault_in(left_out: &[Keywords], row: &[Entry], text: &[u8]) -> Option<FaultKind>
+    ensures { result ≡ first_fault left_out.now row.now 0 (operands_from outside text.now) }
+{
+    let mut seen = Keywords(0);
+    let mut rest = text;
+    'operands: loop {
+        let (operand, behind) = split(rest);
+        if let Some(fault) = operand_fault(left_out, row, seen, operand) {
+            return Some(fault);
+        }
+        let Some(behind) = behind else {
+            return None;
+        };
+        seen = with_key(seen, operand);
+        rest = behind;
+    }
+}
+
+/// The first fault of the operands behind a form.
+pub fn first_fault(left_out: &[Keywords], row: &[Entry], text: Option<&[u8]>) -> Option<FaultKind>
+    ensures { result ≡ first_fault left_out.now row.now 0 (operands_behind (option_copied text.entry)) }
+{
+    match text {
+        Some(text) => first_fault_in(left_out, row, text),
+        None => None,
+    }
+}
+
+/// The value's text of the operand of a text that has this keyword.
+fn text_in(key: Keywords, text: &[u8]) -> Option<&[u8]>
+    ensures { option_copied result ≡ text_at key.0 (operands_from outside text.now) }
+{
+    let mut rest = text;
+    'operands: loop {
+        let (operand, behind) = split(rest);
+        if key_of(operand) == Some(key) {
+            return Some(value_text(operand));
+        }
+        let Some(behind) = behind else {
+            return None;
+        };
+        rest = behind;
+    }
+}
+
+/// The number of the operand behind a form that has this keyword.
+pub fn number_at(key: Keywords, text: Option<&[u8]>) -> Option<u32>
+    ensures { result ≡ number_at key.0 (operands_behind (option_copied text.entry)) }
+{
+    number_of(text_in(key, text?)?)
+}

@@ -1,0 +1,142 @@
+//! The operands of each form.
+
+ghost use Rattle.std.specs.Prelude.{◌≡◌};
+ghost use Rattle.macro_reader.specs.Rows.{is_among, kind_in, is_of_kind, value_fault};
+
+use crate::faults::FaultKind;
+use crate::keywords::Keywords;
+use crate::numbers::number_of;
+use crate::values::{is_pair, is_value};
+
+/// A kind of value.
+#[derive(Clone, Copy)]
+pub enum Kind {
+    /// A number, a name or a register.
+    Value,
+    /// A value, or a pair of values: a maximum and a minimum.
+    Length,
+}
+
+/// A keyword that a form has, and the kind of its value.
+#[derive(Clone, Copy)]
+pub struct Entry {
+    pub keyword: Keywords,
+    pub kind: Kind,
+}
+
+/// The row of STORAGE OBTAIN.
+pub const OBTAIN: [Entry; 2] = [
+    Entry {
+        keyword: Keywords::LENGTH,
+        kind: Kind::Length,
+    },
+    Entry {
+        keyword: Keywords::SP,
+        kind: Kind::Value,
+    },
+];
+
+/// The row of STORAGE RELEASE.
+pub const RELEASE: [Entry; 3] = [
+    Entry {
+        keyword: Keywords::LENGTH,
+        kind: Kind::Value,
+    },
+    Entry {
+        keyword: Keywords::ADDR,
+        kind: Kind::Value,
+    },
+    Entry {
+        keyword: Keywords::SP,
+        kind: Kind::Value,
+    },
+];
+
+/// The keywords of STORAGE that are left out.
+pub const STORAGE_LEFT_OUT: [Keywords; 19] = [
+    Keywords::BNDRY,
+    Keywords::LOC,
+    Keywords::COND,
+    Keywords::RELATED,
+    Keywords::LINKAGE,
+    Keywords::REGS,
+    Keywords::KEY,
+    Keywords::CALLRKY,
+    Keywords::TCBADDR,
+    Keywords::OWNER,
+    Keywords::EXECUTABLE,
+    Keywords::CHECKZERO,
+    Keywords::STARTBDY,
+    Keywords::CONTBDY,
+    Keywords::INADDR,
+    Keywords::RTCD,
+    Keywords::BRANCH,
+    Keywords::TCB,
+    Keywords::MF,
+];
+
+/// Those of STORAGE OBTAIN, and ADDR besides.
+pub const OBTAIN_LEFT_OUT: [Keywords; 20] = [
+    Keywords::ADDR,
+    Keywords::BNDRY,
+    Keywords::LOC,
+    Keywords::COND,
+    Keywords::RELATED,
+    Keywords::LINKAGE,
+    Keywords::REGS,
+    Keywords::KEY,
+    Keywords::CALLRKY,
+    Keywords::TCBADDR,
+    Keywords::OWNER,
+    Keywords::EXECUTABLE,
+    Keywords::CHECKZERO,
+    Keywords::STARTBDY,
+    Keywords::CONTBDY,
+    Keywords::INADDR,
+    Keywords::RTCD,
+    Keywords::BRANCH,
+    Keywords::TCB,
+    Keywords::MF,
+];
+
+/// The kind of value that a keyword takes, where the row has it.
+pub fn kind_in(row: &[Entry], key: Keywords) -> Option<Kind>
+    ensures { result ≡ kind_in row.now key.0 }
+{
+    for entry in row {
+        if entry.keyword == key {
+            return Some(entry.kind);
+        }
+    }
+    None
+}
+
+/// Whether a keyword is one of these.
+pub fn is_among(keywords: &[Keywords], key: Keywords) -> bool
+    ensures { result ≡ is_among keywords.now key.0 }
+{
+    keywords.iter().any(|k| *k == key)
+}
+
+/// Whether a text is a value of this kind.
+fn is_of_kind(kind: Kind, text: &[u8]) -> bool
+    ensures { result ≡ is_of_kind kind text.now }
+{
+    match kind {
+        Kind::Value => is_value(text),
+        Kind::Length => is_value(text) || is_pair(text),
+    }
+}
+
+/// What is wrong with a value of this kind.
+pub fn value_fault(kind: Kind, text: &[u8]) -> Option<FaultKind>
+    ensures { result ≡ value_fault kind text.now }
+{
+    if number_of(text).is_some() {
+        None
+    } else if is_of_kind(kind, text) {
+        Some(FaultKind::LeftOut)
+    } else {
+        Some(FaultKind::Value)
+    }
+}

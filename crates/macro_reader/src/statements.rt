@@ -1,0 +1,182 @@
+//! The request of a statement.
+
+ghost use Rattle.std.specs.Prelude.{◌≡◌, IfOk};
+ghost use Rattle.std.specs.Option.{option_copied};
+ghost use Rattle.macro_reader.specs.Field.{operands, operands_behind};
+ghost use Rattle.macro_reader.specs.Requests.{seen, written_in, asked_in, IsValue, IsValidAsked};
+ghost use Rattle.macro_reader.specs.Statements.{subpool_at, obtain_of, release_of, storage, form_fault, count_in, operation_of, asked_of, of_operation, from_operation, from_operands, field, statement_with, statement};
+
+use crate::faults::FaultKind;
+use crate::keywords::{Keywords, is_keyword_operand};
+use crate::nesting::{field_len, is_balanced, split};
+use crate::numbers::number_of;
+use crate::operands::{first_fault, number_at, operand_fault};
+use crate::requests::{Request, Statement, Value};
+use crate::rows::{OBTAIN, OBTAIN_LEFT_OUT, RELEASE, STORAGE_LEFT_OUT};
+use crate::words::{after_blanks, after_word, is_name, is_word, word, word_len};
+
+/// An operation that is known.
+#[derive(Clone, Copy)]
+pub enum Operation {
+    Storage,
+    Back,
+    Forward,
+}
+
+/// The operation that a word is, in either case.
+fn operation_of(text: &[u8]) -> Option<Operation>
+    ensures { result ≡ operation_of text.now }
+{
+    if is_word(text, b"STORAGE") {
+        Some(Operation::Storage)
+    } else if is_word(text, b"BACK") {
+        Some(Operation::Back)
+    } else if is_word(text, b"FORWARD") {
+        Some(Operation::Forward)
+    } else {
+        None
+    }
+}
+
+/// SP of the operands behind a form, 0 where it is left out.
+fn subpool_at(text: Option<&[u8]>) -> Value
+    ensures value { written_in result ≡ subpool_at (operands_behind (option_copied text.entry)) }
+    ensures valid { IsValue (written_in result) }
+{
+    Value::Number(number_at(Keywords::SP, text).unwrap_or(0))
+}
+
+/// STORAGE OBTAIN with the operands behind its form.
+fn obtain(text: Option<&[u8]>) -> Result<Request, FaultKind>
+    ensures value { seen result ≡ obtain_of (operands_behind (option_copied text.entry)) }
+    ensures valid { IfOk result (λ r. IsValidAsked (asked_in r)) }
+{
+    if let Some(fault) = first_fault(&OBTAIN_LEFT_OUT, &OBTAIN, text) {
+        return Err(fault);
+    }
+    let Some(length) = number_at(Keywords::LENGTH, text) else {
+        return Err(FaultKind::Missing);
+    };
+    Ok(Request::Act(Statement::Obtain {
+        length: Value::Number(length),
+        subpool: subpool_at(text),
+    }))
+}
+
+/// STORAGE RELEASE with the operands behind its form.
+fn release(text: Option<&[u8]>) -> Result<Request, FaultKind>
+    ensures value { seen result ≡ release_of (operands_behind (option_copied text.entry)) }
+    ensures valid { IfOk result (λ r. IsValidAsked (asked_in r)) }
+{
+    if let Some(fault) = first_fault(&STORAGE_LEFT_OUT, &RELEASE, text) {
+        return Err(fault);
+    }
+    let Some(length) = number_at(Keywords::LENGTH, text) else {
+        return Err(FaultKind::Missing);
+    };
+    let Some(address) = number_at(Keywords::ADDR, text) else {
+        return Err(FaultKind::Missing);
+    };
+    Ok(Request::Act(Statement::Release {
+        length: Value::Number(length),
+        address: Value::Number(address),
+        subpool: subpool_at(text),
+    }))
+}
+
+/// What is wrong with a first operand that is no form.
+fn form_fault(left_out: &[Keywords], form: &[u8]) -> FaultKind
+    ensures { result ≡ form_fault left_out.now form.now }
+{
+    operand_fault(left_out, &[], Keywords(0), form).unwrap_or(FaultKind::Operand)
+}
+
+/// STORAGE with its operand field.
+fn storage(field: &[u8]) -> Result<Request, FaultKind>
+    ensures value { seen result ≡ storage (operands field.now) }
+    ensures valid { IfOk result (λ r. IsValidAsked (asked_in r)) }
+{
+    if field.is_empty() {
+        return Err(FaultKind::Missing);
+    }
+    let (form, behind) = split(field);
+    if is_word(form, b"OBTAIN") {
+        obtain(behind)
+    } else if is_word(form, b"RELEASE") {
+        release(behind)
+    } else {
+        Err(form_fault(&STORAGE_LEFT_OUT, form))
+    }
+}
+
+/// The number that is the only operand of a field.
+fn count_in(field: &[u8]) -> Result<u32, FaultKind>
+    ensures { result ≡ count_in (operands field.now) }
+{
+    if field.is_empty() {
+        return Err(FaultKind::Missing);
+    }
+    let (count, behind) = split(field);
+    if count.is_empty() || is_keyword_operand(count) {
+        return Err(FaultKind::Operand);
+    }
+    let Some(n) = number_of(count) else {
+        return Err(FaultKind::Value);
+    };
+    match behind {
+        Some(_) => Err(FaultKind::Operand),
+        None => Ok(n),
+    }
+}
+
+/// What an operation asks for with this operand field.
+fn asked_of(operation: Operation, field: &[u8]) -> Result<Request, FaultKind>
+    ensures value { seen result ≡ asked_of operation (operands field.now) }
+    ensures valid { IfOk result (λ r. IsValidAsked (asked_in r)) }
+{
+    match operation {
+        Operation::Storage => storage(field),
+        Operation::Back => Ok(Request::Back(count_in(field)?)),
+        Operation::Forward => Ok(Request::Forward(count_in(field)?)),
+    }
+}
+
+/// What a first line, columns 1 to 71 of it, has from the operation on.
+fn from_operation(card: &[u8]) -> &[u8]
+    ensures { result.now ≡ from_operation card.now }
+{
+    after_blanks(after_word(card))
+}
+
+/// What a first line has from the operands on.
+fn from_operands(card: &[u8]) -> &[u8]
+    ensures { result.now ≡ from_operands card.now }
+{
+    after_blanks(after_word(from_operation(card)))
+}
+
+/// The request of a statement whose first line has these columns and whose operand field is this text.
+fn statement_with(card: &[u8], text: &[u8]) -> Result<Request, FaultKind>
+    ensures value { seen result ≡ statement_with card.now text.now }
+    ensures valid { IfOk result (λ r. IsValidAsked (asked_in r)) }
+{
+    if word_len(card) > 0 && !is_name(word(card)) {
+        return Err(FaultKind::Column);
+    }
+    let Some(operation) = operation_of(word(from_operation(card))) else {
+        return Err(FaultKind::Operation);
+    };
+    if !is_balanced(text) {
+        return Err(FaultKind::Operand);
+    }
+    asked_of(operation, text)
+}
+
+/// The request of a statement of one line, columns 1 to 71 of it.
+pub fn statement(card: &[u8]) -> Result<Request, FaultKind>
+    ensures value { seen result ≡ statement card.now }
+    ensures valid { IfOk result (λ r. IsValidAsked (asked_in r)) }
+{
+    let rest = from_operands(card);
+    statement_with(card, &rest[..field_len(rest)])
+}
