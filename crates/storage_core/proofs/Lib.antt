@@ -1,0 +1,9 @@
+pub mod Region
+pub mod Views
+pub mod Searches
+pub mod Runs
+pub mod Sights
+pub mod Idle
+pub mod Outcomes
+pub mod Foreign
+pub mod Fresh

@@ -1,0 +1,14 @@
+use Rattle.std.proofs.Common.{◌≡◌, ◌*◌, ◌/◌, ◌∙◌, rules, [], ◌∷◌, replicate, None, false, arith}
+use Rattle.std.proofs.lemmas.Grind.{common_steps}
+use Rattle.storage_core.specs.Meaning.{has_subpool, seen_in, assigned_at, is_taken_at}
+use Rattle.storage_core.proofs.Fresh.{fresh}
+use Rattle.storage_core.proofs.Storage.new.Goals as goal
+
+pub returns-clause-state : goal.returns-clause-state
+returns-clause-state c =
+    let subpools : c.in_ok-vec.field-0.items ≡ record { number = 0; owner = 1 } ∷ [] = first_of (search rules, grind (arith, common_steps)) in
+    let sight : c.in_ok-vec-2.field-0.items ≡ record { task = 1; number = 0; owner = 1 } ∷ [] = first_of (search rules, grind (arith, common_steps)) in
+    let pages : c.in_ok-vec-3.field-0.items ≡ replicate (c.args.settings.low_k / 4) None = first_of (search rules, grind (arith, common_steps)) in
+    let taken : c.in_ok-vec-4.field-0.items ≡ replicate (512 * (c.args.settings.low_k / 4)) false = first_of (search rules, grind (arith, common_steps)) in
+    (λ i. record { current = 1; subpools = has_subpool (subpools i); sight = seen_in (sight i); pages = assigned_at (pages i); taken = is_taken_at (taken i) })
+    ∙ fresh (c.args.settings.low_k / 4) (512 * (c.args.settings.low_k / 4))

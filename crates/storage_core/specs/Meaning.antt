@@ -1,0 +1,47 @@
+-- What a storage stands for: a state of the plain machine, and the settings that lay out its region.
+use Rattle.std.specs.Prelude.{ℕ, ◌-◌, Bool, false, ◌&&◌, if◌then◌else◌, nat_lt, nat_le, ◌==◌, Option, Some, None, List, [], ◌∷◌, slice_index_or}
+use Rattle.std.specs.List.{list_any}
+use Rattle.vsm_model.specs.declared.Subpool.{Subpool}
+use Rattle.vsm_model.specs.declared.limits.Settings.{Settings}
+use Rattle.vsm_model.specs.State.{State}
+use Rattle.vsm_model.specs.Areas.{same_subpool}
+use Rattle.storage_core.specs.declared.TheConstants.{FIRST_PAGE, FIRST_DOUBLEWORD}
+use Rattle.storage_core.specs.declared.Sight.{Sight}
+use Rattle.storage_core.specs.declared.Storage.{Storage}
+use Rattle.storage_core.specs.declared.changes.Change.{Change}
+
+-- one of the listed subpools has this number and this owner
+abbrev pub has_subpool : List Subpool → ℕ → ℕ → Bool
+has_subpool subpools number owner = list_any (λ p. same_subpool p (record { number = number; owner = owner })) subpools
+
+-- the owner that the first row for the task and the number names
+abbrev pub seen_in : List Sight → ℕ → ℕ → Option ℕ
+seen_in [] task number = None
+seen_in (x ∷ xs) task number = if (task == x.task) && (number == x.number) then Some x.owner else seen_in xs task number
+
+-- the subpool of a page, where the list begins at the region's first page
+abbrev pub assigned_at : List (Option Subpool) → ℕ → Option Subpool
+assigned_at pages page = if nat_lt page FIRST_PAGE then None else slice_index_or pages (page - FIRST_PAGE) None
+
+-- a doubleword is taken, where the list begins at the region's first doubleword
+abbrev pub is_taken_at : List Bool → ℕ → Bool
+is_taken_at taken d = nat_le FIRST_DOUBLEWORD d && slice_index_or taken (d - FIRST_DOUBLEWORD) false
+
+-- the state of the plain machine that the storage is in
+abbrev pub state_of : Storage → State
+state_of s =
+    record {
+      current = s.current;
+      subpools = has_subpool s.subpools.items;
+      sight = seen_in s.sight.items;
+      pages = assigned_at s.pages.items;
+      taken = is_taken_at s.taken.items;
+    }
+
+-- the settings that it was made with, by which its region is `low_region (settings_of s)`
+abbrev pub settings_of : Storage → Settings
+settings_of s = s.settings
+
+-- the storage that a change exchanges
+abbrev pub storage_in : Change → Storage
+storage_in change = change.other
