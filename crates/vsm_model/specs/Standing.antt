@@ -99,6 +99,11 @@ module _ {S R C : Type 0} where
   reply_in (Accepted t r) = Some r
   reply_in (Refused cause) = None
 
+  -- the answer to a statement with ample memory
+  abbrev pub outcome_answer : Outcome S R C → Answer R C
+  outcome_answer (Accepted t r) = Replied r
+  outcome_answer (Refused cause) = RefusedFor cause
+
   abbrev pub IsAccepted : Outcome S R C → Type 0
   IsAccepted (Accepted t r) = Unit {0}
   IsAccepted (Refused cause) = ⊥
@@ -137,11 +142,7 @@ module _ {S X R C : Type 0} (step : S → X → Outcome S R C) (limit : ℕ) whe
   Leads b [] c = c ≡ b
   Leads b (h ∷ hs) c = (mid : Bench S) × Keeps b h.call h.answer mid × Leads mid hs c
 
-  -- The answer to a call with ample memory, and the bench behind it.
-  abbrev pub outcome_answer : Outcome S R C → Answer R C
-  outcome_answer (Accepted t r) = Replied r
-  outcome_answer (Refused cause) = RefusedFor cause
-
+  -- The bench behind a call with ample memory, and the answer to it.
   abbrev pub after_outcome : Bench S → Outcome S R C → Bench S
   after_outcome b (Accepted t r) = record { past = take limit (b.present ∷ b.past); present = t; later = [] }
   after_outcome b (Refused cause) = b

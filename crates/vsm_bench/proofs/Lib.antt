@@ -1,0 +1,4 @@
+pub mod Trails
+pub mod Moves
+pub mod Applied
+pub mod Known

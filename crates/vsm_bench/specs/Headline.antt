@@ -1,0 +1,21 @@
+-- What holds after any list of statements and steps.
+use Rattle.std.specs.Prelude.{◌≡◌, ℕ, true}
+use Rattle.vsm_model.specs.declared.limits.Settings.{Settings}
+use Rattle.vsm_model.specs.Regions.{settings_valid}
+use Rattle.vsm_model.specs.State.{first_state}
+use Rattle.vsm_model.specs.Standing.{StandsAlone, StaysWithin}
+use Rattle.vsm_model.specs.Steps.{ForwardAgain}
+use Rattle.vsm_bench.specs.Machine.{statement_step}
+
+-- The present state and the replies that stand are those of the standing statements run alone on the plain machine, and what is
+-- kept and undone are as many states as statements.
+abbrev pub RunsAlone : Type 0
+RunsAlone = (settings : Settings) → settings_valid settings ≡ true → StandsAlone first_state (statement_step settings) settings.history
+
+-- What is kept and what is undone are together at most the limit of the history.
+abbrev pub StaysWithinLimit : Type 0
+StaysWithinLimit = (settings : Settings) → settings_valid settings ≡ true → StaysWithin first_state (statement_step settings) settings.history
+
+-- Steps forward after as many steps back give what was there before.
+abbrev pub ForwardGivesBack : Type 0
+ForwardGivesBack = (settings : Settings) → settings_valid settings ≡ true → ForwardAgain (statement_step settings) settings.history

@@ -1,0 +1,7 @@
+pub mod Machine
+pub mod Changes
+pub mod Stands
+pub mod Headline
+pub mod Responses
+pub mod Writing
+pub mod Output

@@ -1,0 +1,88 @@
+-- The output of a script: each response is that of the plain machine, run alone over the statements that stand there.
+use Rattle.std.specs.Prelude.{◌≡◌, ℕ, ◌+◌, List, [], ◌∷◌, ◌++◌, length, map, Bool, true, false, nat_le, if◌then◌else◌, Result, Ok, Err}
+use Rattle.macro_reader.specs.declared.faults.FaultKind.{FaultKind}
+use Rattle.macro_reader.specs.Requests.{Act, Asked, act, back, forward}
+use Rattle.macro_reader.specs.Scripts as grammar
+use Rattle.vsm_model.specs.declared.limits.Settings.{Settings}
+use Rattle.vsm_model.specs.declared.replies.Reply.{Reply}
+use Rattle.vsm_model.specs.declared.causes.Code.{Code}
+use Rattle.vsm_model.specs.State.{State, first_state}
+use Rattle.vsm_model.specs.Standing.{Outcome, Standing, Call, Apply, Back, Forward, Answer, NoMemory, Moved, TooFar, Heard, IsAccepted, nothing_stands, stand, alone, outcome_answer}
+use Rattle.vsm_bench.specs.Machine.{statement_step}
+use Rattle.vsm_bench.specs.Responses.{response_to, response_text, is_refused, numbered}
+use Rattle.vsm_bench.specs.declared.responses.Response.{Response}
+use Rattle.vsm_bench.specs.declared.responses.Response.TheVariants as response
+
+-- An answer of the grammar, and whether its statement was refused for want of memory.
+pub record Marked : Type 0 where
+  pub answer : grammar.Answer
+  pub unmet : Bool
+
+abbrev pub call_in : Asked → Call Act
+call_in (act x) = Apply x
+call_in (back n) = Back n
+call_in (forward n) = Forward n
+
+module _ (settings : Settings) where
+  -- The state of the plain machine after the standing statements alone.
+  abbrev pub alone_now : Standing Act Reply → State
+  alone_now l = alone first_state (statement_step settings) (map (λ x. x.statement) l.stood)
+
+  -- The answer to a request where these statements stand.
+  abbrev pub answer_to : Standing Act Reply → Bool → Asked → Answer Reply Code
+  answer_to l true (act x) = NoMemory
+  answer_to l false (act x) = outcome_answer (statement_step settings (alone_now l) x)
+  answer_to l unmet (back n) = if nat_le n l.kept then Moved else TooFar l.kept
+  answer_to l unmet (forward n) = if nat_le n (length l.undone) then Moved else TooFar (length l.undone)
+
+  -- Only a statement that the plain machine accepts is refused for want of memory.
+  abbrev pub IsMet : Standing Act Reply → Bool → Result Asked FaultKind → Type 0
+  IsMet l false what = Unit {0}
+  IsMet l true (Ok (act x)) = IsAccepted (statement_step settings (alone_now l) x)
+  IsMet l true (Ok (back n)) = ⊥
+  IsMet l true (Ok (forward n)) = ⊥
+  IsMet l true (Err kind) = ⊥
+
+  -- The statements that stand after a request or a fault,
+  abbrev pub stands_with : Standing Act Reply → Bool → Result Asked FaultKind → Standing Act Reply
+  stands_with l unmet (Err kind) = l
+  stands_with l unmet (Ok asked) = stand settings.history l (call_in asked) (answer_to l unmet asked)
+
+  -- and the response to it.
+  abbrev pub responded : Standing Act Reply → Bool → Result Asked FaultKind → Response
+  responded l unmet (Err kind) = response.Fault kind
+  responded l unmet (Ok asked) = response_to (call_in asked) (answer_to l unmet asked) (stands_with l unmet (Ok asked)).kept
+
+  abbrev pub stands_after : Standing Act Reply → Marked → Standing Act Reply
+  stands_after l m = stands_with l m.unmet m.answer.what
+
+  abbrev pub stands_all : Standing Act Reply → List Marked → Standing Act Reply
+  stands_all l [] = l
+  stands_all l (m ∷ ms) = stands_all (stands_after l m) ms
+
+  abbrev pub AllMet : Standing Act Reply → List Marked → Type 0
+  AllMet l [] = Unit {0}
+  AllMet l (m ∷ ms) = IsMet l m.unmet m.answer.what × AllMet (stands_after l m) ms
+
+  -- The lines of output,
+  abbrev pub texts : Standing Act Reply → List Marked → List ℕ
+  texts l [] = []
+  texts l (m ∷ ms) = numbered m.answer.line (response_text (responded l m.unmet m.answer.what)) ++ texts (stands_after l m) ms
+
+  -- and how many of them are refusals.
+  abbrev pub refusals : Standing Act Reply → List Marked → ℕ
+  refusals l [] = 0
+  refusals l (m ∷ ms) = (if is_refused (responded l m.unmet m.answer.what) then 1 else 0) + refusals (stands_after l m) ms
+
+  -- The output of a script with these answers, none of whose statements stood at first.
+  abbrev pub output : List Marked → List ℕ
+  output = texts nothing_stands
+
+  -- The calls that the answers stand for, each with its answer.
+  abbrev pub heard_with : Standing Act Reply → Bool → Result Asked FaultKind → List (Heard Act Reply Code) → List (Heard Act Reply Code)
+  heard_with l unmet (Err kind) hs = hs
+  heard_with l unmet (Ok asked) hs = record { call = call_in asked; answer = answer_to l unmet asked } ∷ hs
+
+  abbrev pub heard_all : Standing Act Reply → List Marked → List (Heard Act Reply Code)
+  heard_all l [] = []
+  heard_all l (m ∷ ms) = heard_with l m.unmet m.answer.what (heard_all (stands_after l m) ms)
