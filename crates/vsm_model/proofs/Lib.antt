@@ -3,3 +3,4 @@ pub mod Alone
 pub mod Obtains
 pub mod Kept
 pub mod Reached
+pub mod Maximal

@@ -1,4 +1,5 @@
 pub mod Search
+pub mod Runs
 pub mod Regions
 pub mod State
 pub mod Areas
