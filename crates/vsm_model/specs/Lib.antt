@@ -9,3 +9,4 @@ pub mod Storage
 pub mod Step
 pub mod WellFormed
 pub mod Texts
+pub mod Examples
