@@ -1,7 +1,7 @@
 -- The search finds the least number that passes, and only one number is the least.
 use Rattle.std.proofs.Common.{◌≡◌, ℕ, zero, suc, ◌+◌, ◌<◌, ◌≤◌, Bool, true, false, ◌&&◌, if◌then◌else◌, Option, Some, None, sym, ◌∙◌, ap, subst, refl, arith, inl, inr}
 use Rattle.std.proofs.lemmas.Bool.{cases_order, and_parts, cases_eq, both_ways, false_from_ne_true}
-use Rattle.vsm_model.specs.Search.{least, all_pass, IsLeastAmong, IsLeast}
+use Rattle.vsm_model.specs.Search.{least, all_pass, IsLeastAmong, IsLeast, AllPassIsAll}
 
 pub all_pass_at : (f : ℕ → Bool) (a n k : ℕ) → all_pass f a n ≡ true → a ≤ k → k < a + n → f k ≡ true
 all_pass_at f a zero k e low high = absurd (omega arith)
@@ -94,3 +94,6 @@ among_unique f a n (Some d) (Some b) g h =
 
 pub least_by : (f : ℕ → Bool) (a n : ℕ) (o : Option ℕ) → IsLeastAmong f a n o → o ≡ least f a n
 least_by f a n o h = among_unique f a n o _ h (least_among f a n)
+
+pub all_pass_is_all : AllPassIsAll
+all_pass_is_all f a n = (λ all k low high. all_pass_at f a n k all low high, λ each. all_pass_from f a n each)

@@ -4,3 +4,5 @@ pub mod Steps
 pub mod Obtains
 pub mod Kept
 pub mod Reached
+pub mod Maximal
+pub mod Worked

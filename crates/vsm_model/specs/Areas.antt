@@ -1,8 +1,9 @@
 -- Free storage, free areas and extents, and the place of an area.
 -- Assembler Services Guide, "Virtual storage management", "Explicit requests for virtual storage".
-use Rattle.std.specs.Prelude.{ℕ, zero, suc, ◌+◌, ◌*◌, ◌/◌, ◌%◌, Bool, false, not, ◌&&◌, if◌then◌else◌, ◌==◌, Option, Some, None, is_some, List, [], ◌∷◌}
+use Rattle.std.specs.Prelude.{ℕ, ◌+◌, ◌*◌, ◌/◌, ◌%◌, Bool, false, not, ◌&&◌, ◌==◌, Option, Some, None, is_some, List}
 use Rattle.vsm_model.specs.declared.Subpool.{Subpool}
 use Rattle.vsm_model.specs.Search.{least, all_pass}
+use Rattle.vsm_model.specs.Runs.{runs}
 use Rattle.vsm_model.specs.Regions.{Region, within}
 use Rattle.vsm_model.specs.State.{State}
 
@@ -52,16 +53,6 @@ or_fresh None None = Nowhere
 -- The subpool's own free storage comes first, then unassigned pages; each time at the lowest address.
 abbrev pub place : State → Region → Subpool → ℕ → ℕ → Place
 place s r p count boundary = or_fresh (least_fit s r p count boundary) (least_run s r (pages_for count))
-
--- A run of numbers: the first, and how many there are.
-abbrev pub with_first : ℕ → List (ℕ × ℕ) → List (ℕ × ℕ)
-with_first k [] = (k, 1) ∷ []
-with_first k (run ∷ runs) = if run.0 == suc k then (k, suc run.1) ∷ runs else (k, 1) ∷ run ∷ runs
-
--- the longest runs of passing numbers among the count numbers from first on, ascending
-abbrev pub runs : (ℕ → Bool) → ℕ → ℕ → List (ℕ × ℕ)
-runs passes first zero = []
-runs passes first (suc count) = if passes first then with_first first (runs passes (suc first) count) else runs passes (suc first) count
 
 -- The extents of a subpool are the longest runs of its pages in a region,
 abbrev pub extents : State → Region → Subpool → List (ℕ × ℕ)

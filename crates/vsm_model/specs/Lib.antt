@@ -1,4 +1,5 @@
 pub mod Search
+pub mod Runs
 pub mod Regions
 pub mod State
 pub mod Areas
@@ -8,4 +9,4 @@ pub mod Storage
 pub mod Step
 pub mod WellFormed
 pub mod Texts
-pub mod Steps
+pub mod Examples

@@ -1,5 +1,5 @@
 -- The least number that passes a test, and tests over a run of numbers.
-use Rattle.std.specs.Prelude.{◌≡◌, ℕ, zero, suc, ◌+◌, ◌<◌, ◌≤◌, Bool, true, false, ◌&&◌, if◌then◌else◌, Option, Some, None}
+use Rattle.std.specs.Prelude.{◌≡◌, ℕ, zero, suc, ◌+◌, ◌<◌, ◌≤◌, ◌↔◌, Bool, true, false, ◌&&◌, if◌then◌else◌, Option, Some, None}
 
 -- the least number that passes among the count numbers from first on
 abbrev pub least : (ℕ → Bool) → ℕ → ℕ → Option ℕ
@@ -21,3 +21,17 @@ IsLeastAmong passes first count (Some d) =
 abbrev pub IsLeast : (ℕ → Bool) → Option ℕ → Type 0
 IsLeast passes None = (k : ℕ) → passes k ≡ false
 IsLeast passes (Some d) = (passes d ≡ true) × ((k : ℕ) → k < d → passes k ≡ false)
+
+-- The search gives the least number that passes, and no other answer is the least,
+abbrev pub LeastIsLeast : Type 0
+LeastIsLeast = (passes : ℕ → Bool) (first count : ℕ) → IsLeastAmong passes first count (least passes first count)
+
+abbrev pub LeastIsOnly : Type 0
+LeastIsOnly =
+    (passes : ℕ → Bool) (first count : ℕ) (answer : Option ℕ) → IsLeastAmong passes first count answer → answer ≡ least passes first count
+
+-- and the test over a run of numbers holds just where each of them passes.
+abbrev pub AllPassIsAll : Type 0
+AllPassIsAll =
+    (passes : ℕ → Bool) (first count : ℕ) →
+    (all_pass passes first count ≡ true) ↔ ((k : ℕ) → first ≤ k → k < first + count → passes k ≡ true)

@@ -1,6 +1,6 @@
 -- The statements that stand after a list of calls, and any machine run over them alone.
 -- A machine is its first state and its step; `limit` is how many changes its history keeps.
-use Rattle.std.specs.Prelude.{◌≡◌, ℕ, zero, suc, ◌+◌, ◌-◌, ◌<◌, ◌≤◌, min, nat_le, if◌then◌else◌, List, [], ◌∷◌, length, take, map, Option, Some, None}
+use Rattle.std.specs.Prelude.{◌≡◌, ℕ, zero, suc, ◌+◌, ◌-◌, ◌<◌, ◌≤◌, min, nat_le, if◌then◌else◌, List, [], ◌∷◌, length, take, map, Option, Some, None, ◌⊎◌}
 
 -- What a statement does: a new state and a reply, or a refusal.
 pub data Outcome (S R C : Type 0) : Type 0 where
@@ -108,6 +108,19 @@ module _ {S R C : Type 0} where
   IsAccepted (Accepted t r) = Unit {0}
   IsAccepted (Refused cause) = ⊥
 
+module _ {R C : Type 0} where
+  -- the answer of a reading, or a refusal
+  abbrev pub IsIdle : Answer R C → Type 0
+  IsIdle (Replied r) = ⊥
+  IsIdle Moved = ⊥
+  IsIdle _ = Unit {0}
+
+module _ {X R C : Type 0} where
+  -- each of these calls is a reading, or was refused
+  abbrev pub AllAreIdle : List (Heard X R C) → Type 0
+  AllAreIdle [] = Unit {0}
+  AllAreIdle (h ∷ hs) = IsIdle h.answer × AllAreIdle hs
+
 module _ {S X R C : Type 0} (first : S) (step : S → X → Outcome S R C) where
   -- The machine after a list of statements alone, the newest first,
   abbrev pub alone : List X → S
@@ -159,6 +172,11 @@ module _ {S X R C : Type 0} (step : S → X → Outcome S R C) (limit : ℕ) whe
   plain_after b (Forward n) = if nat_le n (length b.later) then moved_forward n b.past b.present b.later else b
   plain_after b Look = b
 
+  -- the bench behind a list of calls
+  abbrev pub plain_after_all : Bench S → List (Call X) → Bench S
+  plain_after_all b [] = b
+  plain_after_all b (x ∷ xs) = plain_after_all (plain_after b x) xs
+
   -- The answers to a list of calls, with the numbers of states behind and before the bench after each.
   abbrev pub plain_answers : Bench S → List (Call X) → List (Answer R C × (ℕ × ℕ))
   plain_answers b [] = []
@@ -178,3 +196,21 @@ module _ {S X R C : Type 0} (first : S) (step : S → X → Outcome S R C) (limi
   abbrev pub StaysWithin : Type 0
   StaysWithin =
       (calls : List (Heard X R C)) (c : Bench S) → Leads step limit (new_bench first) calls c → length c.past + length c.later ≤ limit
+
+module _ {S X R C : Type 0} (step : S → X → Outcome S R C) (limit : ℕ) where
+  -- The answer with ample memory, and the bench that it leaves, are ones that the relation of a call allows,
+  abbrev pub PlainKeeps : Type 0
+  PlainKeeps = (b : Bench S) (x : Call X) → Keeps step limit b x (plain_answer step limit b x) (plain_after step limit b x)
+
+  -- and it allows no others, but for the refusal for want of memory.
+  abbrev pub KeepsPlain : Type 0
+  KeepsPlain =
+      (b c : Bench S) (x : Call X) (answer : Answer R C) → Keeps step limit b x answer c →
+      (answer ≡ NoMemory) ⊎ ((answer ≡ plain_answer step limit b x) × (c ≡ plain_after step limit b x))
+
+  -- After a step back, and readings and refused calls, as many statements forward are accepted and give the bench back.
+  abbrev pub GoesForwardAgain : Type 0
+  GoesForwardAgain =
+      (b back idle c : Bench S) (n : ℕ) (calls : List (Heard X R C)) (answer : Answer R C) →
+      Keeps step limit b (Back n) Moved back → Leads step limit back calls idle → AllAreIdle calls →
+      Keeps step limit idle (Forward n) answer c → (answer ≡ Moved) × (c ≡ b)

@@ -1,5 +1,23 @@
 //! Laws of the definitions: each is the contract of a function that does nothing.
-ghost use Rattle.vsm_model.specs.WellFormed.{FirstIsWellFormed, StaysWellFormed, ReachedIsWellFormed};
+ghost use Rattle.vsm_model.specs.Runs.{RunsAreMaximal, RunsAreOnly, RunsAscend};
+ghost use Rattle.vsm_model.specs.Search.{AllPassIsAll, LeastIsLeast, LeastIsOnly};
+ghost use Rattle.vsm_model.specs.Step.{AllowedAnswersArePlain, ForwardUndoesBack, PlainAnswersAreAllowed};
+ghost use Rattle.vsm_model.specs.WellFormed.{FirstIsWellFormed, ReachedIsWellFormed, StaysWellFormed};
+
+/// The search of a place gives the least number that passes its test, and an answer that is the least is the search's.
+pub fn least_among()
+    ensures least { LeastIsLeast }
+    ensures only { LeastIsOnly }
+    ensures all { AllPassIsAll }
+{}
+
+/// The runs of passing numbers, of which extents and free areas are made, are just the longest ones, in ascending order with
+/// a number between each two; and a list like that is theirs.
+pub fn maximal_runs()
+    ensures maximal { RunsAreMaximal }
+    ensures ascending { RunsAscend }
+    ensures only { RunsAreOnly }
+{}
 
 /// The first state is well-formed, an accepted statement leaves a well-formed state well-formed, and so each state that
 /// statements reach is.
@@ -7,5 +25,17 @@ pub fn well_formed()
     ensures first { FirstIsWellFormed }
     ensures kept { StaysWellFormed }
     ensures reached { ReachedIsWellFormed }
-{
-}
+{}
+
+/// With ample memory each call of a bench has an answer, and leaves a bench, that the relation of one call allows; the relation
+/// allows nothing else but the refusal for want of memory.
+pub fn plain_keeps()
+    ensures allowed { PlainAnswersAreAllowed }
+    ensures only { AllowedAnswersArePlain }
+{}
+
+/// After a step back, and readings and refused calls, a step forward over as many statements is accepted and gives the bench
+/// from before the step back.
+pub fn forward_undoes_back()
+    ensures { ForwardUndoesBack }
+{}

@@ -1,8 +1,9 @@
 //! The plain machine of z/OS virtual storage: what a storage service does, as definitions over sets, maps and lists
-//! (`specs/`), with the types that they speak of, and the laws of the definitions (`laws`).
+//! (`specs/`), with the types that they speak of, the laws of the definitions (`laws`) and worked examples (`examples`).
 #![tactic(auto)]
 
 mod causes;
+pub mod examples;
 pub mod laws;
 mod limits;
 mod replies;

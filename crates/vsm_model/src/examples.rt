@@ -1,0 +1,79 @@
+//! Worked examples, computed from the definitions: each is the contract of a function that does nothing.
+ghost use Rattle.vsm_model.specs.Examples.{
+  AHistoryOfOneChange,
+  ARefusedStatementIsNotKept,
+  AnAreaReleasedInParts,
+  CompletionCodesAsTexts,
+  ForwardGivesTheBenchBack,
+  ForwardUntilANewStatement,
+  OneByteTakesADoubleword,
+  ReleasesThatAreRefused,
+  RepliesAsTexts,
+  TheOldestChangeIsForgotten,
+  ThreeAreasReleasedAndOneStepBack,
+  TwoSubpoolsNeverShareAPage,
+};
+
+/// An obtain of one byte gets the doubleword at the first address of the region.
+pub fn one_byte_takes_a_doubleword()
+    ensures { OneByteTakesADoubleword }
+{}
+
+/// Two areas of 8 bytes, in subpools 1 and 2, are in two pages.
+pub fn two_subpools_never_share_a_page()
+    ensures { TwoSubpoolsNeverShareAPage }
+{}
+
+/// Three areas are obtained and released, the last release empties their page, and BACK 1 takes that release back: the next
+/// area of 16 bytes is the first free one, at the page's first byte.
+pub fn three_areas_released_and_one_step_back()
+    ensures { ThreeAreasReleasedAndOneStepBack }
+{}
+
+/// An area of 64 bytes is released in three parts; a fourth release finds free storage and is refused.
+pub fn an_area_released_in_parts()
+    ensures { AnAreaReleasedInParts }
+{}
+
+/// A release off a doubleword boundary, one of free storage, and one of an area in a page of another subpool are refused, each
+/// for its own cause.
+pub fn releases_that_are_refused()
+    ensures { ReleasesThatAreRefused }
+{}
+
+/// A release of zero bytes is refused and not kept; BACK 9 with three changes kept is refused with that number; BACK 1 goes back
+/// by one.
+pub fn a_refused_statement_is_not_kept()
+    ensures { ARefusedStatementIsNotKept }
+{}
+
+/// BACK 2 and FORWARD 2 go back and forth; a statement that is accepted after BACK 2 discards what was undone.
+pub fn forward_until_a_new_statement()
+    ensures { ForwardUntilANewStatement }
+{}
+
+/// After BACK 2 and FORWARD 2 the bench, with all its states, is the one from before.
+pub fn forward_gives_the_bench_back()
+    ensures { ForwardGivesTheBenchBack }
+{}
+
+/// With a history of two changes, the third accepted statement forgets the first: BACK 3 is refused, BACK 2 leaves the state
+/// behind the forgotten statement.
+pub fn the_oldest_change_is_forgotten()
+    ensures { TheOldestChangeIsForgotten }
+{}
+
+/// With a history of one change, BACK 2 is refused, and BACK 1 and FORWARD 1 go back and forth.
+pub fn a_history_of_one_change()
+    ensures { AHistoryOfOneChange }
+{}
+
+/// The completion codes of all causes for STORAGE, as they are printed.
+pub fn completion_codes_as_texts()
+    ensures { CompletionCodesAsTexts }
+{}
+
+/// Replies as they are printed: eight upper case hexadecimal digits for an address and a length.
+pub fn replies_as_texts()
+    ensures { RepliesAsTexts }
+{}
