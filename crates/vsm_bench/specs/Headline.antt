@@ -3,8 +3,7 @@ use Rattle.std.specs.Prelude.{◌≡◌, ℕ, true}
 use Rattle.vsm_model.specs.declared.limits.Settings.{Settings}
 use Rattle.vsm_model.specs.Regions.{settings_valid}
 use Rattle.vsm_model.specs.State.{first_state}
-use Rattle.vsm_model.specs.Standing.{StandsAlone, StaysWithin}
-use Rattle.vsm_model.specs.Steps.{ForwardAgain}
+use Rattle.vsm_model.specs.Standing.{StandsAlone, StaysWithin, GoesForwardAgain}
 use Rattle.vsm_bench.specs.Machine.{statement_step}
 
 -- The present state and the replies that stand are those of the standing statements run alone on the plain machine, and what is
@@ -18,4 +17,4 @@ StaysWithinLimit = (settings : Settings) → settings_valid settings ≡ true �
 
 -- Steps forward after as many steps back give what was there before.
 abbrev pub ForwardGivesBack : Type 0
-ForwardGivesBack = (settings : Settings) → settings_valid settings ≡ true → ForwardAgain (statement_step settings) settings.history
+ForwardGivesBack = (settings : Settings) → settings_valid settings ≡ true → GoesForwardAgain (statement_step settings) settings.history
