@@ -2,3 +2,9 @@ pub mod Trails
 pub mod Moves
 pub mod Applied
 pub mod Known
+pub mod Columns
+pub mod Feeds
+pub mod Gathering
+pub mod Standings
+pub mod Takes
+pub mod Runs

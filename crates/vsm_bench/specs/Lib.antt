@@ -3,5 +3,9 @@ pub mod Changes
 pub mod Stands
 pub mod Headline
 pub mod Responses
-pub mod Writing
 pub mod Output
+pub mod Answers
+pub mod Script
+pub mod Taken
+pub mod Writing
+pub mod Run

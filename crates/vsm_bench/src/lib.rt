@@ -1,14 +1,21 @@
 //! A bench of z/OS virtual storage: it carries out statements, steps back and forward, and runs scripts.
 #![tactic(auto)]
 
+mod answers;
 mod bench;
+mod driver;
+mod faults;
 pub mod laws;
+mod lines;
 mod machine;
 mod refusals;
 mod responses;
+mod session;
 mod writing;
 
 pub use bench::Bench;
+pub use driver::run;
+pub use faults::{RunFault, RunTotals};
 pub use macro_reader::{Statement, Value};
 pub use refusals::{NewFault, Refusal};
 pub use step_history::{TooFar, TooFarAhead};
