@@ -95,7 +95,12 @@ first_is_well_formed settings = record {
       chosen ((task == 1) && (number == 0)) (Some 1) None (Some owner) _ e
       (λ own is. and_from (number == 0) (owner == 1) (and_parts (task == 1) (number == 0) own).1 (eq-eqb owner 1 (sym (same_some 1 owner is))))
       (λ _ none. absurd (none_some owner none));
-  sees_zero = refl;
+  owner_is_task = λ number owner there. (and_parts (number == 0) (owner == 1) there).1;
+  seer_is_task = λ task number owner e.
+      chosen ((task == 1) && (number == 0)) (Some 1) None (Some owner) _ e
+      (λ own _. (and_parts (task == 1) (number == 0) own).0) (λ _ none. absurd (none_some owner none));
+  sees_zero = λ task is. cond-true _ _ _ (and_from (task == 1) (0 == 0) is refl) ∙ ap Some (sym (eqb-true task 1 is));
+  current_is_task = refl;
 }
 
 -- each state that the machine reaches
