@@ -31,10 +31,10 @@ same_some x y e = cc
 pub none_some : {A : Type 0} (y : A) → ◌≡◌ {A = Option A} None (Some y) → ⊥
 none_some y e = cc
 
-among-in : (a n k : ℕ) → among a n k ≡ true → (a ≤ k) × (k < a + n)
+pub among-in : (a n k : ℕ) → among a n k ≡ true → (a ≤ k) × (k < a + n)
 among-in a n k e = let parts = and_parts (nat_le a k) (nat_lt k (a + n)) e in (leb-true a k parts.0, ltb-true k (a + n) parts.1)
 
-in-among : (a n k : ℕ) → a ≤ k → k < a + n → among a n k ≡ true
+pub in-among : (a n k : ℕ) → a ≤ k → k < a + n → among a n k ≡ true
 in-among a n k low high = and_from (nat_le a k) (nat_lt k (a + n)) (le-leb a k low) (lt-ltb k (a + n) high)
 
 -- what holds of the page that a test picks, and of the others

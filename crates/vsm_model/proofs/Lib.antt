@@ -6,3 +6,5 @@ pub mod Reached
 pub mod Maximal
 pub mod Steps
 pub mod Worked
+pub mod Grants
+pub mod Returns

@@ -19,6 +19,7 @@ pub record Standing (X R : Type 0) : Type 0 where
   pub kept : ℕ
   pub undone : List (Stood X R)
 
+-- What a bench is asked: a statement, a step back or forward over so many statements, or a reading.
 pub data Call (X : Type 0) : Type 0 where
   Apply : X → Call X
   Back : ℕ → Call X
@@ -26,6 +27,7 @@ pub data Call (X : Type 0) : Type 0 where
   -- a reading, as of a byte or of the map
   Look : Call X
 
+-- What it answers.
 pub data Answer (R C : Type 0) : Type 0 where
   Replied : R → Answer R C
   RefusedFor : C → Answer R C
@@ -36,6 +38,7 @@ pub data Answer (R C : Type 0) : Type 0 where
   TooFar : ℕ → Answer R C
   Shown : Answer R C
 
+-- A call with the answer that it was given.
 pub record Heard (X R C : Type 0) : Type 0 where
   pub call : Call X
   pub answer : Answer R C
@@ -47,10 +50,12 @@ pub record Bench (S : Type 0) : Type 0 where
   pub present : S
   pub later : List S
 
+-- the bench before the first call
 abbrev pub new_bench : {S : Type 0} → S → Bench S
 new_bench first = record { past = []; present = first; later = [] }
 
 module _ {X R : Type 0} where
+  -- before the first call
   abbrev pub nothing_stands : Standing X R
   nothing_stands = record { stood = []; kept = 0; undone = [] }
 
@@ -70,31 +75,37 @@ module _ {X R C : Type 0} (limit : ℕ) where
   -- An accepted statement stands, and what was undone is gone; at the limit the number kept stays. A step that was made moves
   -- statements between the two lists. Nothing else changes what stands.
   abbrev pub stand : Standing X R → Call X → Answer R C → Standing X R
-  stand l (Apply x) (Replied r) = record { stood = record { statement = x; reply = r } ∷ l.stood; kept = min limit (suc l.kept); undone = [] }
+  stand l (Apply x) (Replied r) =
+      record { stood = record { statement = x; reply = r } ∷ l.stood; kept = min limit (suc l.kept); undone = [] }
   stand l (Back n) Moved = undo n l.stood l.kept l.undone
   stand l (Forward n) Moved = redo n l.stood l.kept l.undone
   stand l _ _ = l
 
+  -- what stands after a list of calls
   abbrev pub stand_all : Standing X R → List (Heard X R C) → Standing X R
   stand_all l [] = l
   stand_all l (h ∷ hs) = stand_all (stand l h.call h.answer) hs
 
 module _ {S : Type 0} where
+  -- n states further back
   abbrev pub moved_back : ℕ → List S → S → List S → Bench S
   moved_back zero past s later = record { past = past; present = s; later = later }
   moved_back (suc n) [] s later = record { past = []; present = s; later = later }
   moved_back (suc n) (p ∷ past) s later = moved_back n past p (s ∷ later)
 
+  -- n states further forward
   abbrev pub moved_forward : ℕ → List S → S → List S → Bench S
   moved_forward zero past s later = record { past = past; present = s; later = later }
   moved_forward (suc n) past s [] = record { past = past; present = s; later = [] }
   moved_forward (suc n) past s (t ∷ later) = moved_forward n (s ∷ past) t later
 
 module _ {S R C : Type 0} where
+  -- a refused statement leaves the state as it was
   abbrev pub state_after : S → Outcome S R C → S
   state_after s (Accepted t r) = t
   state_after s (Refused cause) = s
 
+  -- the reply of an accepted statement
   abbrev pub reply_in : Outcome S R C → Option R
   reply_in (Accepted t r) = Some r
   reply_in (Refused cause) = None
@@ -129,12 +140,15 @@ module _ {S X R C : Type 0} (first : S) (step : S → X → Outcome S R C) where
 
   -- The state is the one after the standing statements alone, and their replies are those that were given.
   abbrev pub IsAlone : S → List (Stood X R) → Type 0
-  IsAlone s stood = (s ≡ alone (map (λ x. x.statement) stood)) × (alone_replies (map (λ x. x.statement) stood) ≡ map (λ x. Some x.reply) stood)
+  IsAlone s stood =
+      (s ≡ alone (map (λ x. x.statement) stood))
+      × (alone_replies (map (λ x. x.statement) stood) ≡ map (λ x. Some x.reply) stood)
 
 module _ {S X R C : Type 0} (step : S → X → Outcome S R C) (limit : ℕ) where
   -- From b, a call may be given this answer and leave c.
   abbrev pub Keeps : Bench S → Call X → Answer R C → Bench S → Type 0
-  Keeps b (Apply x) (Replied r) c = (step b.present x ≡ Accepted c.present r) × (c.past ≡ take limit (b.present ∷ b.past)) × (c.later ≡ [])
+  Keeps b (Apply x) (Replied r) c =
+      (step b.present x ≡ Accepted c.present r) × (c.past ≡ take limit (b.present ∷ b.past)) × (c.later ≡ [])
   Keeps b (Apply x) (RefusedFor cause) c = (step b.present x ≡ Refused cause) × (c ≡ b)
   Keeps b (Apply x) NoMemory c = IsAccepted (step b.present x) × (c ≡ b)
   Keeps b (Back n) Moved c = (n ≤ length b.past) × (c ≡ moved_back n b.past b.present b.later)
@@ -179,7 +193,8 @@ module _ {S X R C : Type 0} (step : S → X → Outcome S R C) (limit : ℕ) whe
   -- The answers to a list of calls, with the numbers of states behind and before the bench after each.
   abbrev pub plain_answers : Bench S → List (Call X) → List (Answer R C × (ℕ × ℕ))
   plain_answers b [] = []
-  plain_answers b (x ∷ xs) = (plain_answer b x, (length (plain_after b x).past, length (plain_after b x).later)) ∷ plain_answers (plain_after b x) xs
+  plain_answers b (x ∷ xs) =
+      (plain_answer b x, (length (plain_after b x).past, length (plain_after b x).later)) ∷ plain_answers (plain_after b x) xs
 
 module _ {S X R C : Type 0} (first : S) (step : S → X → Outcome S R C) (limit : ℕ) where
   -- The law over lists of calls: the present state and the replies are those of the standing statements alone,
@@ -194,7 +209,8 @@ module _ {S X R C : Type 0} (first : S) (step : S → X → Outcome S R C) (limi
   -- Both numbers together never pass the limit.
   abbrev pub StaysWithin : Type 0
   StaysWithin =
-      (calls : List (Heard X R C)) (c : Bench S) → Leads step limit (new_bench first) calls c → length c.past + length c.later ≤ limit
+      (calls : List (Heard X R C)) (c : Bench S) →
+      Leads step limit (new_bench first) calls c → length c.past + length c.later ≤ limit
 
 module _ {S X R C : Type 0} (step : S → X → Outcome S R C) (limit : ℕ) where
   -- The answer with ample memory, and the bench that it leaves, are ones that the relation of a call allows,

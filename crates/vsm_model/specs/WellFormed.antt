@@ -25,9 +25,11 @@ pub record IsWellFormed (low : Region) (s : State) : Type 0 where
   pub sees_zero : (task : ℕ) → is_task s task ≡ true → s.sight task 0 ≡ Some task
   pub current_is_task : is_task s s.current ≡ true
 
+-- The first state is well-formed,
 abbrev pub FirstIsWellFormed : Type 0
 FirstIsWellFormed = (settings : Settings) → IsWellFormed (low_region settings) first_state
 
+-- and an accepted statement leaves a well-formed state well-formed.
 abbrev pub StaysWellFormed : Type 0
 StaysWellFormed =
     (settings : Settings) (s t : State) (x : Service) (r : Reply) →
