@@ -110,6 +110,7 @@ module _ {S R C : Type 0} where
   reply_in (Accepted t r) = Some r
   reply_in (Refused cause) = None
 
+  -- the statement isn't refused
   abbrev pub IsAccepted : Outcome S R C → Type 0
   IsAccepted (Accepted t r) = Unit {0}
   IsAccepted (Refused cause) = ⊥
