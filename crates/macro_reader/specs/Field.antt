@@ -7,7 +7,7 @@ abbrev pub outside : Nesting
 outside = record { quoted = false; depth = 0 }
 
 -- A byte of the field opens or closes an apostrophe, or outside apostrophes a parenthesis (High Level Assembler Language Reference,
--- "Operand entry").
+-- "Operand entries").
 abbrev pub past : Nesting → ℕ → Nesting
 past n c =
     if c == 39 then record { quoted = not n.quoted; depth = n.depth }
@@ -17,7 +17,7 @@ past n c =
     else n
 
 -- The field goes up to the first blank outside apostrophes; what follows is remarks (High Level Assembler Language Reference, "Remarks
--- entry").
+-- entries").
 abbrev pub field_len : Nesting → List ℕ → ℕ
 field_len n [] = 0
 field_len n (c ∷ cs) = if c == 32 && not n.quoted then 0 else 1 + field_len (past n c) cs

@@ -6,5 +6,6 @@ pub mod Keywords
 pub mod Rows
 pub mod Requests
 pub mod Statements
+pub mod KeywordSets
 pub mod Scripts
 pub mod Modes

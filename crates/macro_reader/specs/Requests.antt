@@ -1,5 +1,6 @@
 -- What a statement asks for, as it is spelled.
-use Rattle.std.specs.Prelude.{ℕ, ◌^◌, ◌<◌, Result, Ok, Err}
+use Rattle.std.specs.Prelude.{◌≡◌, ℕ, ◌^◌, ◌<◌, List, Some, Result, Ok, Err}
+use Rattle.macro_reader.specs.Values.{number_of}
 use Rattle.macro_reader.specs.declared.faults.FaultKind.{FaultKind}
 use Rattle.macro_reader.specs.declared.requests.Value.{Value}
 use Rattle.macro_reader.specs.declared.requests.Value.TheVariants as code_value
@@ -41,17 +42,21 @@ abbrev pub seen : Result Request FaultKind → Result Asked FaultKind
 seen (Ok r) = Ok (asked_in r)
 seen (Err e) = Err e
 
--- A value that a statement can spell: a number of 32 bits.
+-- A value that can be written: a number of 32 bits.
 abbrev pub IsValue : Written → Type 0
 IsValue (number n) = n < 2 ^ 32
 
--- A statement that a line can spell: each of its values is one.
+-- A statement that can be written: each of its values is one.
 abbrev pub IsValidAct : Act → Type 0
 IsValidAct (obtain length subpool) = IsValue length × IsValue subpool
 IsValidAct (release length address subpool) = IsValue length × IsValue address × IsValue subpool
 
--- A request that a line can spell.
+-- A request that can be written.
 abbrev pub IsValidAsked : Asked → Type 0
 IsValidAsked (act a) = IsValidAct a
 IsValidAsked (back n) = n < 2 ^ 32
 IsValidAsked (forward n) = n < 2 ^ 32
+
+-- A text spells this value.
+abbrev pub Spells : List ℕ → Written → Type 0
+Spells text (number n) = number_of text ≡ Some n

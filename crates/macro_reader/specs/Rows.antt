@@ -1,51 +1,46 @@
 -- The operands of each form: its keywords with the kinds of their values, and those that are left out.
-use Rattle.std.specs.Prelude.{ℕ, Bool, ◌||◌, ◌==◌, if◌then◌else◌, List, [], ◌∷◌, Option, Some, None, is_some}
+use Rattle.std.specs.Prelude.{ℕ, Bool, ◌||◌, if◌then◌else◌, List, [], ◌∷◌, Option, Some, None, is_some, codes}
 use Rattle.std.specs.List.{list_any}
-use Rattle.macro_reader.specs.Keywords.{length_key, addr_key, sp_key, bndry_key, loc_key, cond_key, related_key, linkage_key, regs_key, key_key, callrky_key, tcbaddr_key, owner_key, executable_key, checkzero_key, startbdy_key, contbdy_key, inaddr_key, rtcd_key, branch_key, tcb_key, mf_key}
+use Rattle.std.specs.Str.{bytes_eq}
 use Rattle.macro_reader.specs.Values.{number_of, is_value, is_pair}
 use Rattle.macro_reader.specs.declared.faults.FaultKind.{FaultKind}
 use Rattle.macro_reader.specs.declared.faults.FaultKind.TheVariants as fault
-use Rattle.macro_reader.specs.declared.keywords.Keywords.{Keywords}
 use Rattle.macro_reader.specs.declared.rows.Kind.{Kind}
 use Rattle.macro_reader.specs.declared.rows.Kind.TheVariants as kind
-use Rattle.macro_reader.specs.declared.rows.Entry.{Entry}
 
--- A keyword with the kind of its value.
-abbrev pub entry : ℕ → Kind → Entry
-entry key k = record { keyword = record { 0 = key }; kind = k }
+-- A row has keywords, each with the kind of its value.
+abbrev pub Row : Type 0
+Row = List (List ℕ × Kind)
 
 -- STORAGE OBTAIN has LENGTH and SP (Assembler Services Reference, "STORAGE - Obtain and release storage", OBTAIN option).
-abbrev pub obtain_row : List Entry
-obtain_row = entry length_key kind.Length ∷ entry sp_key kind.Value ∷ []
+abbrev pub obtain_row : Row
+obtain_row = (codes "LENGTH", kind.Length) ∷ (codes "SP", kind.Value) ∷ []
 
 -- STORAGE RELEASE has LENGTH, ADDR and SP (there, RELEASE option).
-abbrev pub release_row : List Entry
-release_row = entry length_key kind.Value ∷ entry addr_key kind.Value ∷ entry sp_key kind.Value ∷ []
+abbrev pub release_row : Row
+release_row = (codes "LENGTH", kind.Value) ∷ (codes "ADDR", kind.Value) ∷ (codes "SP", kind.Value) ∷ []
 
--- Keywords as sets of one.
-abbrev pub keyword : ℕ → Keywords
-keyword key = record { 0 = key }
-
--- The keywords of STORAGE that are left out: storage keys, other tasks' storage, exact boundaries, lists of operands, and conditions,
--- boundaries and places, which aren't supported.
-abbrev pub storage_left_out : List Keywords
+-- The keywords of STORAGE that are left out: boundaries, places, conditions and what has no effect, which aren't supported; storage keys,
+-- the storage of other tasks, exact boundaries, and lists of operands.
+abbrev pub storage_left_out : List (List ℕ)
 storage_left_out =
-    keyword bndry_key ∷ keyword loc_key ∷ keyword cond_key ∷ keyword related_key ∷ keyword linkage_key ∷ keyword regs_key ∷ keyword key_key
-    ∷ keyword callrky_key ∷ keyword tcbaddr_key ∷ keyword owner_key ∷ keyword executable_key ∷ keyword checkzero_key ∷ keyword startbdy_key
-    ∷ keyword contbdy_key ∷ keyword inaddr_key ∷ keyword rtcd_key ∷ keyword branch_key ∷ keyword tcb_key ∷ keyword mf_key ∷ []
+    codes "BNDRY" ∷ codes "LOC" ∷ codes "COND" ∷ codes "RELATED" ∷ codes "LINKAGE" ∷ codes "REGS"
+    ∷ codes "KEY" ∷ codes "CALLRKY" ∷ codes "TCBADDR" ∷ codes "OWNER" ∷ codes "EXECUTABLE" ∷ codes "CHECKZERO"
+    ∷ codes "STARTBDY" ∷ codes "CONTBDY" ∷ codes "INADDR" ∷ codes "RTCD" ∷ codes "BRANCH" ∷ codes "TCB"
+    ∷ codes "MF" ∷ []
 
 -- OBTAIN leaves ADDR out besides.
-abbrev pub obtain_left_out : List Keywords
-obtain_left_out = keyword addr_key ∷ storage_left_out
+abbrev pub obtain_left_out : List (List ℕ)
+obtain_left_out = codes "ADDR" ∷ storage_left_out
 
--- A list of keywords has this one.
-abbrev pub is_among : List Keywords → ℕ → Bool
-is_among keys key = list_any (λ k. k.0 == key) keys
+-- A keyword is one of these.
+abbrev pub is_among : List (List ℕ) → List ℕ → Bool
+is_among keys key = list_any (λ k. bytes_eq k key) keys
 
 -- The kind of value that a keyword takes, where the row has it.
-abbrev pub kind_in : List Entry → ℕ → Option Kind
+abbrev pub kind_in : Row → List ℕ → Option Kind
 kind_in [] key = None
-kind_in (e ∷ row) key = if e.keyword.0 == key then Some e.kind else kind_in row key
+kind_in (e ∷ row) key = if bytes_eq e.0 key then Some e.1 else kind_in row key
 
 -- A text is a value of this kind.
 abbrev pub is_of_kind : Kind → List ℕ → Bool

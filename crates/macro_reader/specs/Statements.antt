@@ -1,32 +1,31 @@
 -- The request of a statement, or its first fault.
 use Rattle.std.specs.Prelude.{ℕ, Bool, false, not, ◌&&◌, ◌||◌, ◌==◌, nat_lt, if◌then◌else◌, List, [], ◌∷◌, length, take, Option, Some, None, Result, Ok, Err, codes, unwrap_or, option_and_then}
+use Rattle.std.specs.Str.{bytes_eq}
 use Rattle.macro_reader.specs.Words.{is_word, is_name, word, word_len, after_word, after_blanks}
 use Rattle.macro_reader.specs.Field.{outside, operands, field_len, is_balanced}
-use Rattle.macro_reader.specs.Keywords.{length_key, addr_key, sp_key, key_of, value_text, is_keyword_operand, has, with_key}
+use Rattle.macro_reader.specs.Keywords.{key_of, value_text, is_keyword_operand}
 use Rattle.macro_reader.specs.Values.{number_of}
-use Rattle.macro_reader.specs.Rows.{obtain_row, release_row, storage_left_out, obtain_left_out, is_among, kind_in, value_fault}
+use Rattle.macro_reader.specs.Rows.{Row, obtain_row, release_row, storage_left_out, obtain_left_out, is_among, kind_in, value_fault}
 use Rattle.macro_reader.specs.Requests.{Written, number, obtain, release, Asked, act, back, forward}
 use Rattle.macro_reader.specs.declared.faults.FaultKind.{FaultKind}
 use Rattle.macro_reader.specs.declared.faults.FaultKind.TheVariants as fault
-use Rattle.macro_reader.specs.declared.keywords.Keywords.{Keywords}
 use Rattle.macro_reader.specs.declared.rows.Kind.{Kind}
-use Rattle.macro_reader.specs.declared.rows.Entry.{Entry}
 use Rattle.macro_reader.specs.declared.statements.Operation.{Operation}
 use Rattle.macro_reader.specs.declared.statements.Operation.TheVariants as operation
 
--- What is wrong with an operand whose keyword the row has with this kind, or hasn't, behind those with these keywords.
-abbrev pub kind_fault : ℕ → ℕ → Option Kind → List ℕ → Option FaultKind
+-- What is wrong with an operand whose keyword the row has with this kind, or hasn't, behind operands with these keywords.
+abbrev pub kind_fault : List (List ℕ) → List ℕ → Option Kind → List ℕ → Option FaultKind
 kind_fault before key None value = Some fault.Operand
-kind_fault before key (Some k) value = if has before key then Some fault.Repeated else value_fault k value
+kind_fault before key (Some k) value = if is_among before key then Some fault.Repeated else value_fault k value
 
 -- What is wrong with an operand with this keyword: it is left out, or the row hasn't it, or it was written before, or its value.
-abbrev pub key_fault : List Keywords → List Entry → ℕ → Option ℕ → List ℕ → Option FaultKind
+abbrev pub key_fault : List (List ℕ) → Row → List (List ℕ) → Option (List ℕ) → List ℕ → Option FaultKind
 key_fault left_out row before None value = Some fault.Operand
 key_fault left_out row before (Some key) value =
     if is_among left_out key then Some fault.LeftOut else kind_fault before key (kind_in row key) value
 
--- What is wrong with an operand behind those with these keywords.
-abbrev pub operand_fault : List Keywords → List Entry → ℕ → List ℕ → Option FaultKind
+-- What is wrong with an operand behind operands with these keywords.
+abbrev pub operand_fault : List (List ℕ) → Row → List (List ℕ) → List ℕ → Option FaultKind
 operand_fault left_out row before text = key_fault left_out row before (key_of text) (value_text text)
 
 -- The earlier of two faults.
@@ -34,8 +33,13 @@ abbrev pub earlier : Option FaultKind → Option FaultKind → Option FaultKind
 earlier None g = g
 earlier (Some f) g = Some f
 
--- The first fault of the operands from left to right, behind those with these keywords.
-abbrev pub first_fault : List Keywords → List Entry → ℕ → List (List ℕ) → Option FaultKind
+-- The keywords written before, with that of one operand more.
+abbrev pub with_key : List (List ℕ) → Option (List ℕ) → List (List ℕ)
+with_key before None = before
+with_key before (Some key) = key ∷ before
+
+-- The first fault of the operands from left to right, behind operands with these keywords.
+abbrev pub first_fault : List (List ℕ) → Row → List (List ℕ) → List (List ℕ) → Option FaultKind
 first_fault left_out row before [] = None
 first_fault left_out row before (o ∷ os) =
     earlier (operand_fault left_out row before o) (first_fault left_out row (with_key before (key_of o)) os)
@@ -46,22 +50,22 @@ unless_fault None r = r
 unless_fault (Some f) r = Err f
 
 -- An operand has this keyword.
-abbrev pub is_key : ℕ → Option ℕ → Bool
+abbrev pub is_key : List ℕ → Option (List ℕ) → Bool
 is_key key None = false
-is_key key (Some k) = k == key
+is_key key (Some k) = bytes_eq key k
 
 -- The text of the value of the operand that has this keyword.
-abbrev pub text_at : ℕ → List (List ℕ) → Option (List ℕ)
+abbrev pub text_at : List ℕ → List (List ℕ) → Option (List ℕ)
 text_at key [] = None
 text_at key (o ∷ os) = if is_key key (key_of o) then Some (value_text o) else text_at key os
 
 -- The number of the operand that has this keyword.
-abbrev pub number_at : ℕ → List (List ℕ) → Option ℕ
+abbrev pub number_at : List ℕ → List (List ℕ) → Option ℕ
 number_at key os = option_and_then number_of (text_at key os)
 
 -- SP is 0 where it is left out.
 abbrev pub subpool_at : List (List ℕ) → Written
-subpool_at os = number (unwrap_or (number_at sp_key os) 0)
+subpool_at os = number (unwrap_or (number_at (codes "SP") os) 0)
 
 -- LENGTH is required.
 abbrev pub obtain_with : Option ℕ → Written → Result Asked FaultKind
@@ -76,17 +80,17 @@ release_with (Some length) (Some address) subpool = Ok (act (release (number len
 
 -- STORAGE OBTAIN with the operands behind its form (Assembler Services Reference, "STORAGE - Obtain and release storage").
 abbrev pub obtain_of : List (List ℕ) → Result Asked FaultKind
-obtain_of os = unless_fault (first_fault obtain_left_out obtain_row 0 os) (obtain_with (number_at length_key os) (subpool_at os))
+obtain_of os = unless_fault (first_fault obtain_left_out obtain_row [] os) (obtain_with (number_at (codes "LENGTH") os) (subpool_at os))
 
 -- STORAGE RELEASE with the operands behind its form (there).
 abbrev pub release_of : List (List ℕ) → Result Asked FaultKind
 release_of os =
-    unless_fault (first_fault storage_left_out release_row 0 os)
-    (release_with (number_at length_key os) (number_at addr_key os) (subpool_at os))
+    unless_fault (first_fault storage_left_out release_row [] os)
+    (release_with (number_at (codes "LENGTH") os) (number_at (codes "ADDR") os) (subpool_at os))
 
 -- What is wrong with a first operand that is no form: it may have a keyword that is left out.
-abbrev pub form_fault : List Keywords → List ℕ → FaultKind
-form_fault left_out form = unwrap_or (operand_fault left_out [] 0 form) fault.Operand
+abbrev pub form_fault : List (List ℕ) → List ℕ → FaultKind
+form_fault left_out form = unwrap_or (operand_fault left_out [] [] form) fault.Operand
 
 -- STORAGE has a form, OBTAIN or RELEASE, and operands behind it.
 abbrev pub storage : List (List ℕ) → Result Asked FaultKind
@@ -144,7 +148,7 @@ abbrev pub field : List ℕ → List ℕ
 field text = take (field_len outside text) text
 
 -- A statement whose first line has these columns and whose operand field is this text. A name may stand from column 1; the operation
--- comes behind blanks (High Level Assembler Language Reference, "Assembler instruction statement format").
+-- comes behind blanks (High Level Assembler Language Reference, "Instruction statement format").
 abbrev pub statement_with : List ℕ → List ℕ → Result Asked FaultKind
 statement_with card text =
     if nat_lt 0 (word_len card) && not (is_name (word card)) then Err fault.Column

@@ -1,26 +1,17 @@
 -- Values as operands spell them: numbers, names, registers and pairs.
-use Rattle.std.specs.Prelude.{ℕ, ◌+◌, ◌-◌, ◌*◌, ◌^◌, Bool, false, ◌&&◌, ◌||◌, ◌==◌, nat_lt, nat_le, if◌then◌else◌, List, [], ◌∷◌, length, drop, Option, Some, None, is_some, slice_index, slice_range}
-use Rattle.std.specs.Char.{to_ascii_uppercase}
+use Rattle.std.specs.Prelude.{ℕ, ◌-◌, ◌^◌, Bool, false, ◌&&◌, ◌||◌, ◌==◌, nat_lt, nat_le, if◌then◌else◌, List, [], ◌∷◌, length, drop, Option, Some, None, is_some, slice_index, slice_range}
+use Rattle.std.specs.List.{list_all}
+use Rattle.std.specs.Char.{to_ascii_uppercase, is_digit}
+use Rattle.std.specs.Str.Parse.{digits_value}
 use Rattle.macro_reader.specs.Words.{is_name}
 use Rattle.macro_reader.specs.Field.{outside, operands_from}
 
--- The value of a digit, and 99 for any other byte.
-abbrev pub digit_of : ℕ → ℕ
-digit_of c =
-    if nat_le 48 c && nat_le c 57 then c - 48
-    else if nat_le 65 c && nat_le c 70 then c - 55
-    else if nat_le 97 c && nat_le c 102 then c - 87
-    else 99
-
--- The number that digits spell behind those of a number, where all are digits of the radix and it stays below 2 ^ 32.
-abbrev pub number_from : ℕ → ℕ → List ℕ → Option ℕ
-number_from radix n [] = Some n
-number_from radix n (c ∷ cs) =
-    if nat_lt (digit_of c) radix && nat_lt (n * radix + digit_of c) (2 ^ 32) then number_from radix (n * radix + digit_of c) cs else None
-
--- The number that one digit or more spell, up to this many.
+-- The number that one digit or more of a radix spell, up to this many, where it is below 2 ^ 32.
 abbrev pub digits_number : ℕ → ℕ → List ℕ → Option ℕ
-digits_number radix most text = if nat_le 1 (length text) && nat_le (length text) most then number_from radix 0 text else None
+digits_number radix most text =
+    if nat_le 1 (length text) && nat_le (length text) most && list_all (λ c. is_digit c radix) text && nat_lt (digits_value radix text) (2 ^ 32)
+    then Some (digits_value radix text)
+    else None
 
 -- A text is this letter, in either case, and something between apostrophes.
 abbrev pub is_quoted : ℕ → List ℕ → Bool
@@ -54,7 +45,7 @@ is_enclosed text = nat_le 2 (length text) && (slice_index text 0 == 40) && (slic
 abbrev pub enclosed : List ℕ → List ℕ
 enclosed text = slice_range text 1 (length text - 1)
 
--- A register is written `(n)` or `(Rn)` (Assembler Services Reference, "How to read macro parameters": register notation).
+-- A register is written `(n)` or `(Rn)` (Assembler Services Reference, "Coding the macros").
 abbrev pub is_register : List ℕ → Bool
 is_register text = is_enclosed text && is_register_number (without_r (enclosed text))
 

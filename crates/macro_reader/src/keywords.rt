@@ -1,8 +1,12 @@
 //! Keywords of operands, and sets of them.
 
-ghost use Rattle.std.specs.Prelude.{⊤, ◌≡◌, ◌==◌, position};
+ghost use Rattle.std.specs.Prelude.{⊤, ◌≡◌, ◌==◌, IsTrue, map, position};
 ghost use Rattle.std.specs.Option.{option_map};
-ghost use Rattle.macro_reader.specs.Keywords.{keywords, keyword_of, upper_text, key_of, key_text, value_text, is_keyword_operand};
+ghost use Rattle.std.specs.Char.{to_ascii_uppercase};
+ghost use Rattle.std.specs.Str.{IsAscii};
+ghost use Rattle.macro_reader.specs.Words.{is_name};
+ghost use Rattle.macro_reader.specs.Keywords.{key_of, value_text, is_keyword_operand};
+ghost use Rattle.macro_reader.specs.KeywordSets.{keywords, bit_of};
 
 use crate::words::is_name;
 use arrayvec::ArrayString;
@@ -61,31 +65,17 @@ impl Flags for Keywords {
     }
 }
 
-/// A text in upper case, where it can be a keyword.
-fn upper_text(text: &[u8]) -> Option<ArrayString<10>>
-    ensures { option_map (λ s. s.bytes) result ≡ upper_text text.now }
+/// A name in upper case.
+fn upper_name(text: &[u8]) -> ArrayString<63>
+    requires name { IsTrue (is_name text.now) }
+    requires ascii { IsAscii text.now }
+    ensures { result.bytes ≡ map to_ascii_uppercase text.now }
 {
-    if text.len() > 10 {
-        return None;
-    }
-    let mut upper = ArrayString::<10>::new();
+    let mut name = ArrayString::<63>::new();
     for byte in text {
-        if !byte.is_ascii() {
-            return None;
-        }
-        upper.push(char::from(byte.to_ascii_uppercase()));
+        name.push(char::from(byte.to_ascii_uppercase()));
     }
-    Some(upper)
-}
-
-/// The keyword that a text spells, in either case.
-fn keyword_of(text: &[u8]) -> Option<Keywords>
-    ensures { option_map (λ k. k.0) result ≡ keyword_of text.now }
-{
-    match upper_text(text) {
-        Some(upper) => Keywords::from_name(upper.as_str()),
-        None => None,
-    }
+    name
 }
 
 /// Where the equals sign of an operand stands.
@@ -93,16 +83,6 @@ fn equals_at(text: &[u8]) -> Option<usize>
     ensures { result ≡ position (λ c. c == 61) text.now }
 {
     text.iter().position(|byte| *byte == b'=')
-}
-
-/// The keyword of an operand.
-pub fn key_of(text: &[u8]) -> Option<Keywords>
-    ensures { option_map (λ k. k.0) result ≡ key_of text.now }
-{
-    match equals_at(text) {
-        Some(i) => keyword_of(&text[..i]),
-        None => None,
-    }
 }
 
 /// What stands behind the equals sign of an operand.
@@ -122,5 +102,18 @@ pub fn is_keyword_operand(text: &[u8]) -> bool
     match equals_at(text) {
         Some(i) => is_name(&text[..i]),
         None => false,
+    }
+}
+
+/// The keyword of an operand, where a statement has it.
+pub fn key_of(text: &[u8]) -> Option<Keywords>
+    ensures { option_map (λ k. k.0) result ≡ bit_of (key_of text.now) }
+{
+    let i = equals_at(text)?;
+    let name = &text[..i];
+    if is_name(name) {
+        Keywords::from_name(upper_name(name).as_str())
+    } else {
+        None
     }
 }

@@ -1,7 +1,8 @@
 //! Laws of the grammar.
 
-ghost use Rattle.std.specs.Prelude.{◌≡◌, List};
+ghost use Rattle.std.specs.Prelude.{◌≡◌, ◌↔◌, ℕ, List};
 ghost use Rattle.macro_reader.specs.Columns.{Line};
+ghost use Rattle.macro_reader.specs.Requests.{Written, IsValue, Spells};
 ghost use Rattle.macro_reader.specs.Scripts.{Answer, Answers};
 
 /// A list of lines has one list of answers: any two are the same.
@@ -12,4 +13,9 @@ pub fn one_reading()
 /// Every list of lines has a list of answers.
 pub fn every_script_is_read()
     ensures { (lines : List Line) → (answers : List Answer) × Answers lines answers }
+{}
+
+/// A value is valid exactly where some text spells it.
+pub fn valid_values_are_spelled()
+    ensures { (value : Written) → IsValue value ↔ ((text : List ℕ) × Spells text value) }
 {}

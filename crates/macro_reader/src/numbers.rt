@@ -1,23 +1,12 @@
 //! Numbers as they are spelled.
 
 ghost use Rattle.std.specs.Prelude.{◌≡◌, ◌≤◌, length};
-ghost use Rattle.macro_reader.specs.Values.{digit_of, number_from, digits_number, is_quoted, number_of};
+ghost use Rattle.macro_reader.specs.Values.{digits_number, is_quoted, number_of};
 
-/// The value of a digit, and 99 for any other byte.
-fn digit_of(byte: u8) -> u32
-    ensures { result ≡ digit_of byte }
-{
-    match byte {
-        b'0'..=b'9' => u32::from(byte - b'0'),
-        b'A'..=b'F' => u32::from(byte - b'A') + 10,
-        b'a'..=b'f' => u32::from(byte - b'a') + 10,
-        _ => 99,
-    }
-}
-
-/// The number that one to `most` digits spell.
+/// The number that one to `most` digits spell, where it has 32 bits.
 fn digits_number(radix: u32, most: usize, text: &[u8]) -> Option<u32>
-    requires { radix ≤ 16 }
+    requires least { 2 ≤ radix }
+    requires greatest { radix ≤ 36 }
     ensures { result ≡ digits_number radix most text.now }
 {
     if text.is_empty() || text.len() > most {
@@ -25,15 +14,8 @@ fn digits_number(radix: u32, most: usize, text: &[u8]) -> Option<u32>
     }
     let mut number = 0u32;
     for byte in text {
-        let digit = digit_of(*byte);
-        if digit >= radix {
-            return None;
-        }
-        let next = u64::from(number) * u64::from(radix) + u64::from(digit);
-        if next > 0xffff_ffff {
-            return None;
-        }
-        number = next as u32;
+        let digit = char::from(*byte).to_digit(radix)?;
+        number = number.checked_mul(radix)?.checked_add(digit)?;
     }
     Some(number)
 }

@@ -1,10 +1,11 @@
 //! The operands of a form.
 
-ghost use Rattle.std.specs.Prelude.{◌≡◌};
+ghost use Rattle.std.specs.Prelude.{◌≡◌, [], IsTrue};
 ghost use Rattle.std.specs.Option.{option_copied};
 ghost use Rattle.macro_reader.specs.Field.{outside, operands_from, operands_behind};
-ghost use Rattle.macro_reader.specs.Keywords.{key_of, with_key};
-ghost use Rattle.macro_reader.specs.Statements.{operand_fault, first_fault, text_at, number_at};
+ghost use Rattle.macro_reader.specs.Keywords.{key_of};
+ghost use Rattle.macro_reader.specs.Statements.{operand_fault, first_fault, text_at, number_at, form_fault};
+ghost use Rattle.macro_reader.specs.KeywordSets.{is_known, are_known, are_known_entries, name_of, names, row_in, bit_of, with_bit, operand_bit_fault, first_bit_fault, text_by_bit};
 
 use crate::faults::FaultKind;
 use crate::keywords::{Keywords, key_of, value_text};
@@ -14,13 +15,13 @@ use crate::rows::{Entry, is_among, kind_in, value_fault};
 use bitflags::Flags;
 
 /// What is wrong with an operand behind those with the keywords that were seen.
-pub fn operand_fault(
+fn operand_fault(
     left_out: &[Keywords],
     row: &[Entry],
     seen: Keywords,
     text: &[u8],
 ) -> Option<FaultKind>
-    ensures { result ≡ operand_fault left_out.now row.now seen.0 text.now }
+    ensures { result ≡ operand_bit_fault left_out.now row.now seen.0 text.now }
 {
     let Some(key) = key_of(text) else {
         return Some(FaultKind::Operand);
@@ -39,7 +40,7 @@ pub fn operand_fault(
 
 /// The keywords that were seen, with that of one operand more.
 fn with_key(seen: Keywords, text: &[u8]) -> Keywords
-    ensures { result.0 ≡ with_key seen.0 (key_of text.now) }
+    ensures { result.0 ≡ with_bit seen.0 (bit_of (key_of text.now)) }
 {
     let mut all = seen;
     if let Some(key) = key_of(text) {
@@ -50,7 +51,7 @@ fn with_key(seen: Keywords, text: &[u8]) -> Keywords
 
 /// The first fault of the operands of a text, from left to right.
 fn first_fault_in(left_out: &[Keywords], row: &[Entry], text: &[u8]) -> Option<FaultKind>
-    ensures { result ≡ first_fault left_out.now row.now 0 (operands_from outside text.now) }
+    ensures { result ≡ first_bit_fault left_out.now row.now 0 (operands_from outside text.now) }
 {
     let mut seen = Keywords(0);
     let mut rest = text;
@@ -69,7 +70,9 @@ fn first_fault_in(left_out: &[Keywords], row: &[Entry], text: &[u8]) -> Option<F
 
 /// The first fault of the operands behind a form.
 pub fn first_fault(left_out: &[Keywords], row: &[Entry], text: Option<&[u8]>) -> Option<FaultKind>
-    ensures { result ≡ first_fault left_out.now row.now 0 (operands_behind (option_copied text.entry)) }
+    requires left_out { IsTrue (are_known left_out.now) }
+    requires row { IsTrue (are_known_entries row.now) }
+    ensures { result ≡ first_fault (names left_out.now) (row_in row.now) [] (operands_behind (option_copied text.entry)) }
 {
     match text {
         Some(text) => first_fault_in(left_out, row, text),
@@ -79,7 +82,7 @@ pub fn first_fault(left_out: &[Keywords], row: &[Entry], text: Option<&[u8]>) ->
 
 /// The value's text of the operand of a text that has this keyword.
 fn text_in(key: Keywords, text: &[u8]) -> Option<&[u8]>
-    ensures { option_copied result ≡ text_at key.0 (operands_from outside text.now) }
+    ensures { option_copied result ≡ text_by_bit key.0 (operands_from outside text.now) }
 {
     let mut rest = text;
     'operands: loop {
@@ -94,9 +97,32 @@ fn text_in(key: Keywords, text: &[u8]) -> Option<&[u8]>
     }
 }
 
+/// The value's text of the operand behind a form that has this keyword.
+fn text_at(key: Keywords, text: Option<&[u8]>) -> Option<&[u8]>
+    requires { IsTrue (is_known key.0) }
+    ensures { option_copied result ≡ text_at (name_of key.0) (operands_behind (option_copied text.entry)) }
+{
+    match text {
+        Some(text) => text_in(key, text),
+        None => None,
+    }
+}
+
 /// The number of the operand behind a form that has this keyword.
 pub fn number_at(key: Keywords, text: Option<&[u8]>) -> Option<u32>
-    ensures { result ≡ number_at key.0 (operands_behind (option_copied text.entry)) }
+    requires { IsTrue (is_known key.0) }
+    ensures { result ≡ number_at (name_of key.0) (operands_behind (option_copied text.entry)) }
 {
-    number_of(text_in(key, text?)?)
+    match text_at(key, text) {
+        Some(value) => number_of(value),
+        None => None,
+    }
+}
+
+/// What is wrong with a first operand that is no form.
+pub fn form_fault(left_out: &[Keywords], form: &[u8]) -> FaultKind
+    requires { IsTrue (are_known left_out.now) }
+    ensures { result ≡ form_fault (names left_out.now) form.now }
+{
+    operand_fault(left_out, &[], Keywords(0), form).unwrap_or(FaultKind::Operand)
 }

@@ -1,7 +1,8 @@
 //! The operands of each form.
 
 ghost use Rattle.std.specs.Prelude.{◌≡◌};
-ghost use Rattle.macro_reader.specs.Rows.{is_among, kind_in, is_of_kind, value_fault};
+ghost use Rattle.macro_reader.specs.Rows.{is_of_kind, value_fault};
+ghost use Rattle.macro_reader.specs.KeywordSets.{has_bit, kind_at};
 
 use crate::faults::FaultKind;
 use crate::keywords::Keywords;
@@ -101,7 +102,7 @@ pub const OBTAIN_LEFT_OUT: [Keywords; 20] = [
 
 /// The kind of value that a keyword takes, where the row has it.
 pub fn kind_in(row: &[Entry], key: Keywords) -> Option<Kind>
-    ensures { result ≡ kind_in row.now key.0 }
+    ensures { result ≡ kind_at row.now key.0 }
 {
     for entry in row {
         if entry.keyword == key {
@@ -113,7 +114,7 @@ pub fn kind_in(row: &[Entry], key: Keywords) -> Option<Kind>
 
 /// Whether a keyword is one of these.
 pub fn is_among(keywords: &[Keywords], key: Keywords) -> bool
-    ensures { result ≡ is_among keywords.now key.0 }
+    ensures { result ≡ has_bit keywords.now key.0 }
 {
     keywords.iter().any(|k| *k == key)
 }

@@ -4,13 +4,13 @@ ghost use Rattle.std.specs.Prelude.{◌≡◌, IfOk};
 ghost use Rattle.std.specs.Option.{option_copied};
 ghost use Rattle.macro_reader.specs.Field.{operands, operands_behind};
 ghost use Rattle.macro_reader.specs.Requests.{seen, written_in, asked_in, IsValue, IsValidAsked};
-ghost use Rattle.macro_reader.specs.Statements.{subpool_at, obtain_of, release_of, storage, form_fault, count_in, operation_of, asked_of, of_operation, from_operation, from_operands, field, statement_with, statement};
+ghost use Rattle.macro_reader.specs.Statements.{subpool_at, obtain_of, release_of, storage, count_in, operation_of, asked_of, of_operation, from_operation, from_operands, field, statement_with, statement};
 
 use crate::faults::FaultKind;
 use crate::keywords::{Keywords, is_keyword_operand};
 use crate::nesting::{field_len, is_balanced, split};
 use crate::numbers::number_of;
-use crate::operands::{first_fault, number_at, operand_fault};
+use crate::operands::{first_fault, form_fault, number_at};
 use crate::requests::{Request, Statement, Value};
 use crate::rows::{OBTAIN, OBTAIN_LEFT_OUT, RELEASE, STORAGE_LEFT_OUT};
 use crate::words::{after_blanks, after_word, is_name, is_word, word, word_len};
@@ -82,13 +82,6 @@ fn release(text: Option<&[u8]>) -> Result<Request, FaultKind>
         address: Value::Number(address),
         subpool: subpool_at(text),
     }))
-}
-
-/// What is wrong with a first operand that is no form.
-fn form_fault(left_out: &[Keywords], form: &[u8]) -> FaultKind
-    ensures { result ≡ form_fault left_out.now form.now }
-{
-    operand_fault(left_out, &[], Keywords(0), form).unwrap_or(FaultKind::Operand)
 }
 
 /// STORAGE with its operand field.

@@ -1,5 +1,5 @@
 -- Plans against the outcomes of the plain machine.
-use Rattle.std.proofs.Common.{◌≡◌, ℕ, ◌≤◌, Bool, true, false, if◌then◌else◌, Some, None, Result, Ok, Err, IfOk, IfErr, sym, ◌∙◌, ap, ◌≢◌}
+use Rattle.std.proofs.Common.{◌≡◌, ℕ, ◌≤◌, Bool, if◌then◌else◌, Option, Some, None, is_none, unwrap_or, Result, Ok, Err, IfOk, IfErr, sym, ◌∙◌, ap, subst, ◌≢◌}
 use Rattle.vsm_model.specs.declared.Subpool.{Subpool}
 use Rattle.vsm_model.specs.declared.causes.Cause.{Cause}
 use Rattle.vsm_model.specs.declared.replies.Reply.{Reply}
@@ -15,12 +15,12 @@ use Rattle.storage_core.specs.Planned.{planned, acted}
 module _ (outcome : Outcome State Reply Cause) (s : State) (subpool : Subpool) (is_new : Bool) (n : ℕ) (at : Place) where
   pub planned_is : outcome ≡ obtained (if is_new then with_subpool s subpool.number subpool.owner else s) subpool n at →
       (r : Result Plan Cause) → IfOk r (λ plan. (t : State) → obtained t subpool n at ≡ Accepted (acted t subpool plan.action) plan.reply) →
-      IfOk r (λ plan. (plan.subpool ≡ subpool) × (plan.is_new ≡ is_new)) →
+      IfOk r (λ plan. plan.subpool ≡ subpool) → IfOk r (λ plan. plan.is_new ≡ is_new) →
       IfOk r (λ plan. outcome ≡ Accepted (planned s plan) plan.reply)
-  planned_is e (Ok plan) h k =
+  planned_is e (Ok plan) h same made =
       e ∙ h (if is_new then with_subpool s subpool.number subpool.owner else s)
-      ∙ λ i. Accepted (acted (if sym k.1 i then with_subpool s (sym k.0 i).number (sym k.0 i).owner else s) (sym k.0 i) plan.action) plan.reply
-  planned_is e (Err cause) h k = h
+      ∙ λ i. Accepted (acted (if sym made i then with_subpool s (sym same i).number (sym same i).owner else s) (sym same i) plan.action) plan.reply
+  planned_is e (Err cause) h same made = h
 
   pub refused_is : outcome ≡ obtained (if is_new then with_subpool s subpool.number subpool.owner else s) subpool n at →
       (r : Result Plan Cause) → IfErr r (λ cause. (t : State) → obtained t subpool n at ≡ Refused cause) →
@@ -32,14 +32,18 @@ module _ (low : Region) (s : State) (length number : ℕ) where
   abbrev Is : ℕ → ℕ → Bool → Subpool → Type 0
   Is n count is_new subpool = obtain low s length number ≡ obtained (if is_new then with_subpool s subpool.number subpool.owner else s) subpool count (place s low subpool count 1)
 
-  pub obtains_in : (n count owner : ℕ) → number ≤ 127 → length ≢ 0 → n ≡ number → count ≡ doublewords length → Some owner ≡ s.sight s.current n →
-      Is n count false (record { number = n; owner = owner })
-  obtains_in n count owner small some is n_is seen =
+  obtains_in : (n count : ℕ) (o : Option ℕ) → number ≤ 127 → length ≢ 0 → n ≡ number → count ≡ doublewords length → o ≡ s.sight s.current n →
+      Is n count (is_none o) (record { number = n; owner = unwrap_or o s.current })
+  obtains_in n count (Some owner) small some is n_is seen =
       obtain_in_seen low s length number (Some owner) small some (ap (s.sight s.current) (sym is) ∙ sym seen)
       ∙ λ i. obtained s (record { number = sym is i; owner = owner }) (sym n_is i) (place s low (record { number = sym is i; owner = owner }) (sym n_is i) 1)
-
-  pub obtains_new : (n count : ℕ) → number ≤ 127 → length ≢ 0 → n ≡ number → count ≡ doublewords length → None ≡ s.sight s.current n →
-      Is n count true (record { number = n; owner = s.current })
-  obtains_new n count small some is n_is seen =
+  obtains_in n count None small some is n_is seen =
       obtain_in_seen low s length number None small some (ap (s.sight s.current) (sym is) ∙ sym seen)
       ∙ λ i. obtained (with_subpool s (sym is i) s.current) (record { number = sym is i; owner = s.current }) (sym n_is i) (place s low (record { number = sym is i; owner = s.current }) (sym n_is i) 1)
+
+  -- what an obtain is, by the subpool that is seen or made
+  pub obtains : (n count : ℕ) (o : Option ℕ) (owner : ℕ) (is_new : Bool) → number ≤ 127 → length ≢ 0 → n ≡ number → count ≡ doublewords length → o ≡ s.sight s.current n →
+      owner ≡ unwrap_or o s.current → is_new ≡ is_none o → Is n count is_new (record { number = n; owner = owner })
+  obtains n count o owner is_new small some is n_is seen its new =
+      subst (λ b. Is n count b (record { number = n; owner = owner })) (sym new)
+      (subst (λ x. Is n count (is_none o) (record { number = n; owner = x })) (sym its) (obtains_in n count o small some is n_is seen))

@@ -6,7 +6,7 @@ use Rattle.vsm_model.specs.Regions.{among}
 pub inside_region : (d pages : ℕ) → d < 512 * pages → among 6 pages ((3072 + d) / 512) ≡ true
 inside_region d pages h = grind (arith, nat_tests)
 
-pub past_region : (pages : ℕ) → among 6 pages ((3072 + 512 * pages) / 512) ≡ false
+pub past_region : (pages : ℕ) → among 6 pages ((3072 + pages * 512) / 512) ≡ false
 past_region pages = grind (arith, nat_tests)
 
 pub past_pages : (pages : ℕ) → among 6 pages (6 + pages) ≡ false

@@ -3,6 +3,7 @@ use Rattle.std.specs.Prelude.{ℕ, ◌-◌, Bool, false, ◌&&◌, if◌then◌e
 use Rattle.std.specs.List.{list_any}
 use Rattle.vsm_model.specs.declared.Subpool.{Subpool}
 use Rattle.vsm_model.specs.declared.limits.Settings.{Settings}
+use Rattle.vsm_model.specs.Regions.{Region, low_region}
 use Rattle.vsm_model.specs.State.{State}
 use Rattle.vsm_model.specs.Areas.{same_subpool}
 use Rattle.storage_core.specs.declared.TheConstants.{FIRST_PAGE, FIRST_DOUBLEWORD}
@@ -38,9 +39,13 @@ state_of s =
       taken = is_taken_at s.taken.items;
     }
 
--- the settings that it was made with, by which its region is `low_region (settings_of s)`
+-- the settings that it was made with
 abbrev pub settings_of : Storage → Settings
 settings_of s = s.settings
+
+-- the region that these lay out
+abbrev pub region_of : Storage → Region
+region_of s = low_region (settings_of s)
 
 -- the storage that a change exchanges
 abbrev pub storage_in : Change → Storage

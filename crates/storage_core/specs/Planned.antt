@@ -1,12 +1,12 @@
 -- What a plan leaves, and the storages that it can be carried out on.
-use Rattle.std.specs.Prelude.{◌≡◌, ℕ, ◌+◌, ◌*◌, ◌≤◌, if◌then◌else◌, true, None}
+use Rattle.std.specs.Prelude.{◌≡◌, ◌+◌, ◌*◌, ◌≤◌, if◌then◌else◌, true, None}
 use Rattle.vsm_model.specs.declared.Subpool.{Subpool}
 use Rattle.vsm_model.specs.declared.replies.Reply.{Reply}
-use Rattle.vsm_model.specs.Regions.{Region, low_region}
+use Rattle.vsm_model.specs.Regions.{Region}
 use Rattle.vsm_model.specs.State.{State}
 use Rattle.vsm_model.specs.Areas.{pages_for}
 use Rattle.vsm_model.specs.Storage.{with_subpool, with_taken, with_pages, released}
-use Rattle.storage_core.specs.Meaning.{state_of, settings_of}
+use Rattle.storage_core.specs.Meaning.{state_of, region_of}
 use Rattle.storage_core.specs.declared.TheConstants.{FIRST_PAGE, FIRST_DOUBLEWORD}
 use Rattle.storage_core.specs.declared.Storage.{Storage}
 use Rattle.storage_core.specs.declared.plans.Action.{Action}
@@ -35,7 +35,7 @@ IsWithin r (GiveBack first count) = first + count ≤ 512 * r.count
 
 -- the plan can be carried out on this storage
 pub record FitsStorage (s : Storage) (plan : Plan) : Type 0 where
-  pub within : IsWithin (low_region (settings_of s)) plan.action
+  pub within : IsWithin (region_of s) plan.action
   -- a subpool that is made is the current task's, which doesn't see one of its number
   pub unseen : plan.is_new ≡ true → (state_of s).sight (state_of s).current plan.subpool.number ≡ None
   pub own : plan.is_new ≡ true → plan.subpool.owner ≡ (state_of s).current

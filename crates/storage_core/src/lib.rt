@@ -11,20 +11,20 @@ mod marks;
 mod plans;
 mod reserve;
 mod search;
-mod start;
 
 pub use changes::Change;
 pub use plans::Plan;
+use std::alloc::{AllocError, Global};
 pub use vsm_model::{Cause, Code, Reply, Residence, Service, Settings, Subpool};
 
+/// The doublewords of a page of 4096 bytes.
+const PAGE_DOUBLEWORDS: usize = 512;
+
 /// The first page of the region below the line, whose addresses begin at X'6000'.
-pub const FIRST_PAGE: usize = 6;
+const FIRST_PAGE: usize = 6;
 
-/// The doublewords of a page.
-pub const PAGE_DOUBLEWORDS: usize = 512;
-
-/// The first doubleword of the region below the line.
-pub const FIRST_DOUBLEWORD: usize = 3072;
+/// The first doubleword of that page.
+const FIRST_DOUBLEWORD: usize = PAGE_DOUBLEWORDS * FIRST_PAGE;
 
 /// A row of sight: the task sees the subpool of this number that the owner has.
 #[derive(Clone, Copy, Debug, PartialEq, Eq)]
@@ -37,8 +37,9 @@ struct Sight {
 /// Subpools, pages and doublewords of the region below the 16 MB line (*Assembler Services Guide*, "Virtual storage
 /// management").
 ///
-/// A contract sees it by two words of `specs/Meaning.antt`: `state_of`, a state of the plain machine, and `settings_of`,
-/// which lay out the region. A page and a doubleword are counted from the first of the region.
+/// A contract sees it by two words of `specs/Meaning.antt`: `state_of`, the state of the plain machine that it is in, and
+/// `settings_of`, the settings that lay out its region. In its lists a page or a doubleword is counted from the region's
+/// first one.
 #[derive(Drop)]
 pub struct Storage {
     settings: Settings,
@@ -50,7 +51,64 @@ pub struct Storage {
     pages: Vec<Option<Subpool>>,
     /// Whether each doubleword is taken.
     taken: Vec<bool>,
+    // The region has at most 16,360K, so that each address in it is below 2 ^ 24.
     ghost few_pages: { length pages.items ≤ 4090 },
     ghost all_pages: { length pages.items ≡ settings.low_k / 4 },
     ghost all_doublewords: { length taken.items ≡ 512 * length pages.items },
+}
+
+impl Storage {
+    ghost use Rattle.std.specs.Prelude.{◌≡◌, IsTrue, IfOk};
+    ghost use Rattle.vsm_model.specs.Regions.{settings_valid};
+    ghost use Rattle.vsm_model.specs.State.{first_state};
+    ghost use Rattle.storage_core.specs.Meaning.{state_of, settings_of};
+
+    /// The storage of the region that the settings lay out: task 1 is current, and owns and sees an empty subpool 0.
+    /// `AllocError` where the memory for it isn't there.
+    pub fn new(alloc: Global, settings: Settings) -> Result<Storage, AllocError>
+        requires { IsTrue (settings_valid settings) }
+        ensures state { IfOk result (λ s. state_of s ≡ first_state) }
+        ensures settings { IfOk result (λ s. settings_of s ≡ settings) }
+    {
+        let own = Subpool {
+            number: 0,
+            owner: 1,
+        };
+        let seen = Sight {
+            task: 1,
+            number: 0,
+            owner: 1,
+        };
+        let pages = (settings.low_k / 4) as usize;
+        Ok(Storage {
+            settings,
+            current: 1,
+            subpools: vec![in alloc; own]?,
+            sight: vec![in alloc; seen]?,
+            pages: vec![in alloc; None; pages]?,
+            taken: vec![in alloc; false; PAGE_DOUBLEWORDS * pages]?,
+        })
+    }
+
+    /// The settings that it was made with.
+    pub fn settings(&self) -> Settings
+        ensures { result ≡ settings_of self.now }
+    {
+        self.settings
+    }
+
+    /// An equal storage. `AllocError` where the memory for it isn't there.
+    pub fn copy(&self) -> Result<Storage, AllocError>
+        ensures state { IfOk result (λ s. state_of s ≡ state_of self.now) }
+        ensures settings { IfOk result (λ s. settings_of s ≡ settings_of self.now) }
+    {
+        Ok(Storage {
+            settings: self.settings,
+            current: self.current,
+            subpools: self.subpools.clone()?,
+            sight: self.sight.clone()?,
+            pages: self.pages.clone()?,
+            taken: self.taken.clone()?,
+        })
+    }
 }

@@ -6,13 +6,14 @@ ghost use Rattle.vsm_model.specs.Storage.{is_idle, with_subpool, with_taken, wit
 ghost use Rattle.storage_core.specs.Meaning.{state_of, settings_of};
 ghost use Rattle.storage_core.specs.Idle.{without_page_if_idle};
 
-use super::{PAGE_DOUBLEWORDS, Sight, Storage, Subpool};
+use super::{FIRST_DOUBLEWORD, FIRST_PAGE, PAGE_DOUBLEWORDS, Sight, Storage, Subpool};
 use std::alloc::AllocError;
 
 /// Writes a value into a run of elements.
 fn set_run<T: Copy>(items: &mut [T], first: usize, count: usize, value: T)
     requires { first + count ≤ length items.old }
-    ensures { (k : ℕ) (d : T) → slice_index_or items.new k d ≡ (if among first count k then value else slice_index_or items.old k d) }
+    ensures { (k : ℕ) (d : T) →
+        slice_index_or items.new k d ≡ (if among first count k then value else slice_index_or items.old k d) }
 {
     for k in 0..count {
         items[first + k] = value;
@@ -23,7 +24,7 @@ impl Storage {
     /// The doublewords are taken from now on.
     pub(crate) fn mark_taken(&mut self, first: usize, count: usize)
         requires { first + count ≤ length self.old.taken.items }
-        ensures state { state_of self.new ≡ with_taken (state_of self.old) (3072 + first) count }
+        ensures state { state_of self.new ≡ with_taken (state_of self.old) (FIRST_DOUBLEWORD + first) count }
         ensures settings { settings_of self.new ≡ settings_of self.old }
     {
         set_run(&mut self.taken, first, count, true);
@@ -32,7 +33,7 @@ impl Storage {
     /// The doublewords are not taken any more.
     pub(crate) fn unmark_taken(&mut self, first: usize, count: usize)
         requires { first + count ≤ length self.old.taken.items }
-        ensures state { state_of self.new ≡ without_taken (state_of self.old) (3072 + first) count }
+        ensures state { state_of self.new ≡ without_taken (state_of self.old) (FIRST_DOUBLEWORD + first) count }
         ensures settings { settings_of self.new ≡ settings_of self.old }
     {
         set_run(&mut self.taken, first, count, false);
@@ -41,7 +42,7 @@ impl Storage {
     /// The pages are assigned to the subpool from now on.
     pub(crate) fn assign_pages(&mut self, subpool: Subpool, page: usize, count: usize)
         requires { page + count ≤ length self.old.pages.items }
-        ensures state { state_of self.new ≡ with_pages (state_of self.old) subpool (6 + page) count }
+        ensures state { state_of self.new ≡ with_pages (state_of self.old) subpool (FIRST_PAGE + page) count }
         ensures settings { settings_of self.new ≡ settings_of self.old }
     {
         set_run(&mut self.pages, page, count, Some(subpool));
@@ -50,7 +51,8 @@ impl Storage {
     /// The current task has a subpool of the number from now on, and sees it.
     pub(crate) fn add_subpool(&mut self, number: u8) -> Result<(), AllocError>
         requires { (state_of self.old).sight (state_of self.old).current number ≡ None }
-        ensures ok { OnOk result (state_of self.new ≡ with_subpool (state_of self.old) number (state_of self.old).current) }
+        ensures ok { OnOk result (state_of self.new
+            ≡ with_subpool (state_of self.old) number (state_of self.old).current) }
         ensures err { OnErr result (state_of self.new ≡ state_of self.old) }
         ensures settings { settings_of self.new ≡ settings_of self.old }
     {
@@ -61,6 +63,7 @@ impl Storage {
             owner,
         })?;
         if self.subpools.push(Subpool { number, owner }).is_err() {
+            // What is seen must be there, so the row goes again.
             let _ = self.sight.pop();
             return Err(AllocError);
         }
@@ -70,7 +73,7 @@ impl Storage {
     /// Whether the page is assigned to the subpool.
     pub(crate) fn belongs(&self, subpool: Subpool, page: usize) -> bool
         requires { page < length self.now.pages.items }
-        ensures { result ≡ belongs subpool ((state_of self.now).pages (6 + page)) }
+        ensures { result ≡ belongs subpool ((state_of self.now).pages (FIRST_PAGE + page)) }
     {
         match self.pages[page] {
             Some(assigned) => assigned == subpool,
@@ -81,7 +84,7 @@ impl Storage {
     /// Whether no doubleword of the page is taken.
     fn is_idle(&self, page: usize) -> bool
         requires { page < length self.now.pages.items }
-        ensures { result ≡ is_idle (state_of self.now).taken (6 + page) }
+        ensures { result ≡ is_idle (state_of self.now).taken (FIRST_PAGE + page) }
     {
         for k in 0..PAGE_DOUBLEWORDS {
             if self.taken[PAGE_DOUBLEWORDS * page + k] {
@@ -94,7 +97,7 @@ impl Storage {
     /// The page is assigned to no subpool from now on, if it is the subpool's and no doubleword of it is taken.
     fn drop_if_idle(&mut self, subpool: Subpool, page: usize)
         requires { page < length self.old.pages.items }
-        ensures state { state_of self.new ≡ without_page_if_idle (state_of self.old) subpool (6 + page) }
+        ensures state { state_of self.new ≡ without_page_if_idle (state_of self.old) subpool (FIRST_PAGE + page) }
         ensures settings { settings_of self.new ≡ settings_of self.old }
     {
         if self.belongs(subpool, page) && self.is_idle(page) {

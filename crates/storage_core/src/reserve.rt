@@ -1,7 +1,6 @@
 //! Plans made into changes.
 ghost use Rattle.std.specs.Prelude.{◌≡◌, IfOk};
-ghost use Rattle.vsm_model.specs.Regions.{low_region};
-ghost use Rattle.storage_core.specs.Meaning.{state_of, settings_of, storage_in};
+ghost use Rattle.storage_core.specs.Meaning.{state_of, settings_of, region_of, storage_in};
 ghost use Rattle.storage_core.specs.Planned.{planned, acted, IsWithin, FitsStorage};
 
 use super::changes::Change;
@@ -14,7 +13,8 @@ impl Plan {
     /// answer; `AllocError` where the memory isn't there.
     pub fn reserve(self, storage: &mut Storage) -> Result<Change, AllocError>
         requires { FitsStorage storage.old self }
-        ensures state { IfOk result (λ change. state_of (storage_in change) ≡ planned (state_of storage.old) self) }
+        ensures state { IfOk result (λ change.
+            state_of (storage_in change) ≡ planned (state_of storage.old) self) }
         ensures settings { IfOk result (λ change. settings_of (storage_in change) ≡ settings_of storage.old) }
         ensures kept { storage.new ≡ storage.old }
     {
@@ -30,7 +30,7 @@ impl Plan {
 impl Storage {
     /// Does what a plan says to the area.
     fn act(&mut self, subpool: Subpool, action: Action)
-        requires { IsWithin (low_region (settings_of self.old)) action }
+        requires { IsWithin (region_of self.old) action }
         ensures state { state_of self.new ≡ acted (state_of self.old) subpool action }
         ensures settings { settings_of self.new ≡ settings_of self.old }
     {

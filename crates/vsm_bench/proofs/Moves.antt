@@ -52,8 +52,7 @@ step_forward p q step h =
     let split : Alike p.state (p.kept ++ c ∷ q.undone) = subst (λ us. Alike p.state (p.kept ++ us)) step.first h in
     let picked = all_pick p.kept q.undone c p.state split in
     let first = and_parts (is_alike p.state c) (all_alike p.state (p.kept ++ q.undone)) picked in
-    let put = all_put p.kept q.undone d q.state (swap_alike p.state q.state c d (p.kept ++ q.undone) picked step.swapped) in
-    (
+    let put = all_put p.kept q.undone d q.state (swap_alike p.state q.state c d (p.kept ++ q.undone) picked step.swapped) in (
       swap_settings p.state q.state c d first.0 step.swapped,
       subst (Alike q.state) (sym (ap (λ ks. ks ++ q.undone) step.last ∙ append_assoc p.kept (d ∷ []) q.undone)) put,
     )
@@ -102,15 +101,13 @@ module _ (settings : Settings) (n : ℕ) (old new : Log Change) (s t : Machine) 
       OnOk r (length new.kept + n ≡ length old.kept) → IfErr r (λ e. e.kept ≡ length old.kept) → OnErr r ((new ≡ old) × (t ≡ s)) →
       Keeps (statement_step settings) settings.history (bench_at old.kept s old.undone) (Back n) (answer_to_back r) (bench_at new.kept t new.undone)
   back_keeps (Ok u) f g states accepted steps err same =
-      let count = past_is old.kept old.undone s f in
-      (
+      let count = past_is old.kept old.undone s f in (
         omega (arith, count, steps),
         moves_back n (trail_of shown machine_states old.kept s old.undone) (trail_of shown machine_states new.kept t new.undone)
-        (trail_back machine_laws n old.kept old.undone new.kept new.undone s t f g states steps),
+            (trail_back machine_laws n old.kept old.undone new.kept new.undone s t f g states steps),
       )
   back_keeps (Err e) f g states accepted steps err same =
-      let count = past_is old.kept old.undone s f in
-      (
+      let count = past_is old.kept old.undone s f in (
         elim (cases_lt (length old.kept) n) [
           | inl less ↦ omega (arith, count, less)
           | inr more ↦ absurd (true≢false (sym (accepted.1 more)))
@@ -125,15 +122,13 @@ module _ (settings : Settings) (n : ℕ) (old new : Log Change) (s t : Machine) 
       Keeps (statement_step settings) settings.history (bench_at old.kept s old.undone) (Forward n) (answer_to_forward r) (bench_at new.kept t new.undone)
   forward_keeps (Ok u) f g states accepted steps err same =
       let count = later_is old.kept old.undone s f in
-      let few : n ≤ length old.undone = accepted.0 refl in
-      (
+      let few : n ≤ length old.undone = accepted.0 refl in (
         omega (arith, count, few),
         moves_forward n (trail_of shown machine_states old.kept s old.undone) (trail_of shown machine_states new.kept t new.undone)
-        (trail_back machine_laws n new.kept new.undone old.kept old.undone t s g f (sym states) steps),
+            (trail_back machine_laws n new.kept new.undone old.kept old.undone t s g f (sym states) steps),
       )
   forward_keeps (Err e) f g states accepted steps err same =
-      let count = later_is old.kept old.undone s f in
-      (
+      let count = later_is old.kept old.undone s f in (
         elim (cases_lt (length old.undone) n) [
           | inl less ↦ omega (arith, count, less)
           | inr more ↦ absurd (true≢false (sym (accepted.1 more)))

@@ -134,8 +134,7 @@ module _ (settings : Settings) where
       (unmet : Bool) × Led settings (xs ++ marked line what unmet ∷ []) c × (told ≡ responded settings (stands_all settings nothing_stands xs) unmet what)
   led_one xs b c line (Err kind) told led (is, same) =
       let m = marked line (Err kind) false in
-      let heard : heard_all settings nothing_stands (xs ++ m ∷ []) ≡ heard_all settings nothing_stands xs = heard_push nothing_stands xs (m ∷ []) ∙ append-nil _ in
-      (
+      let heard : heard_all settings nothing_stands (xs ++ m ∷ []) ≡ heard_all settings nothing_stands xs = heard_push nothing_stands xs (m ∷ []) ∙ append-nil _ in (
         false,
         record {
           leads = subst (λ hs. Leads (statement_step settings) settings.history (new_bench first_state) hs c) (sym heard)
@@ -158,8 +157,7 @@ module _ (settings : Settings) where
         met = met_push nothing_stands xs (m ∷ []) led.met (was_met l b c s asked answer keeps, tt);
       } in
       let t = stands_for (xs ++ m ∷ []) c after in
-      let kept : length c.past ≡ (stands_with settings l unmet (Ok asked)).kept = t.kept ∙ ap (λ k. k.kept) (stands_push nothing_stands xs (m ∷ [])) in
-      (
+      let kept : length c.past ≡ (stands_with settings l unmet (Ok asked)).kept = t.kept ∙ ap (λ k. k.kept) (stands_push nothing_stands xs (m ∷ [])) in (
         unmet,
         after,
         is ∙ ap (λ a. response_to (call_in asked) a (length c.past)) (sym same) ∙ ap (response_to (call_in asked) (answer_to settings l unmet asked)) kept,

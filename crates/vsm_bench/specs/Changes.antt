@@ -131,7 +131,7 @@ swap_alike m n c d xs h w =
 
 pub machine_steps : SingleSteps any_copy the_copy the_state shown led_to Alike always CanSwap Swaps Discards
 machine_steps = record {
-  inverts = record { fits_back = λ s d h. tt; leads_back = λ s d h. refl };
+  inverts = record { fits_back = λ s d h. tt; leads_back = λ s d h. refl; turns_back = λ s d h. refl };
   can = λ m c f h. (and_parts (is_alike m c) (all_alike m []) h).0;
   swap_shows = λ m n c d w. ap state_of w.0;
   swap_means = λ m n c d w. ap state_of w.1;

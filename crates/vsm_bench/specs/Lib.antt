@@ -9,3 +9,4 @@ pub mod Script
 pub mod Taken
 pub mod Writing
 pub mod Run
+pub mod Command

@@ -18,7 +18,11 @@ use std::io::{Read, Write};
 use storage_core::Settings;
 
 /// Gathers the line of a response, if there is one.
-fn tell<W: Write>(gathered: &mut Gathered, writer: &mut W, told: Option<(u32, Response)>) -> Result<(), WriteFault>
+fn tell<W: Write>(
+    gathered: &mut Gathered,
+    writer: &mut W,
+    told: Option<(u32, Response)>,
+) -> Result<(), WriteFault>
     ensures { (first : Option (List ℕ)) (text : List ℕ) → Holds first (W.contents writer.old) gathered.old.text.items text
         → Gathers first (W.contents writer.new) gathered.new.text.items (text ++ told_text told) result }
 {
@@ -47,7 +51,11 @@ fn before_feed(bytes: &[u8]) -> usize
 }
 
 /// Takes a line feed, and tells the response to the line that it ends.
-fn take_feed<W: Write>(session: &mut Session, gathered: &mut Gathered, writer: &mut W) -> Result<(), RunFault>
+fn take_feed<W: Write>(
+    session: &mut Session,
+    gathered: &mut Gathered,
+    writer: &mut W,
+) -> Result<(), RunFault>
     ensures { (settings : Settings) (first : Option (List ℕ)) (given : List ℕ) → Runs settings first (W.contents writer.old) gathered.old.text.items given session.old
         → Takes settings first (W.contents writer.new) gathered.new.text.items (given ++ 10 ∷ []) session.new result }
 {
@@ -62,7 +70,12 @@ fn take_feed<W: Write>(session: &mut Session, gathered: &mut Gathered, writer: &
 }
 
 /// Takes the bytes up to the first line feed, and that; or all bytes where there is none. Gives how many these are.
-fn take_line<W: Write>(session: &mut Session, gathered: &mut Gathered, writer: &mut W, rest: &[u8]) -> Result<usize, RunFault>
+fn take_line<W: Write>(
+    session: &mut Session,
+    gathered: &mut Gathered,
+    writer: &mut W,
+    rest: &[u8],
+) -> Result<usize, RunFault>
     requires { 0 < length rest.now }
     ensures takes { (settings : Settings) (first : Option (List ℕ)) (given : List ℕ) → Runs settings first (W.contents writer.old) gathered.old.text.items given session.old
         → TakesLine settings first (W.contents writer.new) gathered.new.text.items given rest.now session.new result }
@@ -83,7 +96,12 @@ fn take_line<W: Write>(session: &mut Session, gathered: &mut Gathered, writer: &
 }
 
 /// Takes the bytes of one read.
-fn take_piece<W: Write>(session: &mut Session, gathered: &mut Gathered, writer: &mut W, piece: &[u8]) -> Result<(), RunFault>
+fn take_piece<W: Write>(
+    session: &mut Session,
+    gathered: &mut Gathered,
+    writer: &mut W,
+    piece: &[u8],
+) -> Result<(), RunFault>
     ensures { (settings : Settings) (first : Option (List ℕ)) (given : List ℕ) → Runs settings first (W.contents writer.old) gathered.old.text.items given session.old
         → Takes settings first (W.contents writer.new) gathered.new.text.items (given ++ piece.now) session.new result }
 {
@@ -112,7 +130,12 @@ fn end_at<W: Write>(gathered: &mut Gathered, writer: &mut W, fault: RunFault) ->
 }
 
 /// Takes the bytes of one read, and hands out what they bring.
-fn take_read<W: Write>(session: &mut Session, gathered: &mut Gathered, writer: &mut W, piece: &[u8]) -> Result<(), RunFault>
+fn take_read<W: Write>(
+    session: &mut Session,
+    gathered: &mut Gathered,
+    writer: &mut W,
+    piece: &[u8],
+) -> Result<(), RunFault>
     ensures takes { (settings : Settings) (first : Option (List ℕ)) (given : List ℕ) → Runs settings first (W.contents writer.old) gathered.old.text.items given session.old
         → TakesRead settings first (W.contents writer.new) (given ++ piece.now) session.new result }
     ensures nothing { OnOk result (gathered.new.text.items ≡ []) }
@@ -127,7 +150,11 @@ fn take_read<W: Write>(session: &mut Session, gathered: &mut Gathered, writer: &
 }
 
 /// Tells what the end of a script brings, and hands out all that is gathered.
-fn tell_ending<W: Write>(gathered: &mut Gathered, writer: &mut W, ending: Ending) -> Result<(), WriteFault>
+fn tell_ending<W: Write>(
+    gathered: &mut Gathered,
+    writer: &mut W,
+    ending: Ending,
+) -> Result<(), WriteFault>
     ensures { (first : Option (List ℕ)) (text : List ℕ) → Holds first (W.contents writer.old) gathered.old.text.items text
         → Gathers first (W.contents writer.new) [] (text ++ (told_text ending.last ++ told_text ending.open_statement)) result }
 {
@@ -141,7 +168,11 @@ fn tell_ending<W: Write>(gathered: &mut Gathered, writer: &mut W, ending: Ending
 }
 
 /// Takes the end of the script.
-fn finish<W: Write>(session: Session, gathered: &mut Gathered, writer: &mut W) -> Result<RunTotals, RunFault>
+fn finish<W: Write>(
+    session: Session,
+    gathered: &mut Gathered,
+    writer: &mut W,
+) -> Result<RunTotals, RunFault>
     ensures { (settings : Settings) (first : Option (List ℕ)) (given : List ℕ) → Runs settings first (W.contents writer.old) gathered.old.text.items given session
         → Finishes settings first (W.contents writer.new) given result }
 {
@@ -158,7 +189,12 @@ fn finish<W: Write>(session: Session, gathered: &mut Gathered, writer: &mut W) -
 /// A line ends at a line feed, which isn't part of it, nor is a carriage return before it; bytes after the last line feed are a
 /// line where there are any. Output is gathered, and handed out when there is no room for more and before each read. After
 /// `Read`, `Write` or `TooLong` the output stands for the statements that were complete; after `New` nothing was read or written.
-pub fn run<R: Read, W: Write>(alloc: Global, reader: &mut R, writer: &mut W, settings: Settings) -> Result<RunTotals, RunFault>
+pub fn run<R: Read, W: Write>(
+    alloc: Global,
+    reader: &mut R,
+    writer: &mut W,
+    settings: Settings,
+) -> Result<RunTotals, RunFault>
     ensures { Ran settings (R.remaining reader.old) (R.remaining reader.new) (W.contents writer.old) (W.contents writer.new) result }
 {
     let bench = match Bench::new(alloc, settings) {

@@ -11,6 +11,7 @@ mod machine;
 mod refusals;
 mod responses;
 mod session;
+mod words;
 mod writing;
 
 pub use bench::Bench;
@@ -20,3 +21,4 @@ pub use macro_reader::{Statement, Value};
 pub use refusals::{NewFault, Refusal};
 pub use step_history::{TooFar, TooFarAhead};
 pub use storage_core::{Code, Reply, Residence, Settings};
+pub use words::{DEFAULT_SETTINGS, command};

@@ -57,10 +57,15 @@ fn columns(kept: &[u8], size: u32) -> &[u8]
 }
 
 /// The response to a last line of so many bytes, of which the first 80 are kept: to none where there are no bytes.
-fn take_last(reader: &mut Reader, bench: &mut Bench, kept: &[u8], size: u32) -> Option<(u32, Response)>
+fn take_last(
+    reader: &mut Reader,
+    bench: &mut Bench,
+    kept: &[u8],
+    size: u32,
+) -> Option<(u32, Response)>
     ensures tells { (lines : List Line) (answers : List Answer) (rest : List ℕ) → IsBehind lines answers reader.old → size ≡ length rest → kept.now ≡ take 80 rest
         → (more : List Answer) × IsBehind (lines ++ last_line rest) (answers ++ more) reader.new
-            × Tells (settings_in bench.old) (bench_of bench.old) more result (bench_of bench.new) }
+        × Tells (settings_in bench.old) (bench_of bench.old) more result (bench_of bench.new) }
     ensures settings { settings_in bench.new ≡ settings_in bench.old }
 {
     if size == 0 {
@@ -125,7 +130,7 @@ impl Session {
     pub(crate) fn end(self) -> Ending
         ensures { (settings : Settings) (given : List ℕ) (answers : List Marked) → Took settings given answers self
             → (more : List Marked) × IsTold settings answers more (told_text result.last ++ told_text result.open_statement)
-                × Ended settings given (answers ++ more) × Counts settings (answers ++ more) result.totals }
+            × Ended settings given (answers ++ more) × Counts settings (answers ++ more) result.totals }
     {
         let Session {
             mut reader,

@@ -4,7 +4,7 @@ use Rattle.std.proofs.lemmas.Bool.{cases_Bool, and_parts, or_cases, and_from, or
 use Rattle.vsm_model.specs.declared.Subpool.{Subpool}
 use Rattle.vsm_model.specs.Search.{all_pass}
 use Rattle.vsm_model.specs.Regions.{Region, among, within}
-use Rattle.vsm_model.specs.State.{State}
+use Rattle.vsm_model.specs.State.{State, is_task}
 use Rattle.vsm_model.specs.Areas.{belongs, is_free, is_open_run, pages_for}
 use Rattle.vsm_model.specs.Storage.{with_subpool, with_taken, with_pages, is_idle, released}
 use Rattle.vsm_model.specs.WellFormed.{IsWellFormed}
@@ -31,10 +31,10 @@ same_some x y e = cc
 pub none_some : {A : Type 0} (y : A) → ◌≡◌ {A = Option A} None (Some y) → ⊥
 none_some y e = cc
 
-among-in : (a n k : ℕ) → among a n k ≡ true → (a ≤ k) × (k < a + n)
+pub among-in : (a n k : ℕ) → among a n k ≡ true → (a ≤ k) × (k < a + n)
 among-in a n k e = let parts = and_parts (nat_le a k) (nat_lt k (a + n)) e in (leb-true a k parts.0, ltb-true k (a + n) parts.1)
 
-in-among : (a n k : ℕ) → a ≤ k → k < a + n → among a n k ≡ true
+pub in-among : (a n k : ℕ) → a ≤ k → k < a + n → among a n k ≡ true
 in-among a n k low high = and_from (nat_le a k) (nat_lt k (a + n)) (le-leb a k low) (lt-ltb k (a + n) high)
 
 -- what holds of the page that a test picks, and of the others
@@ -47,6 +47,9 @@ is_some_of true x y f g = f refl
 is_some_of false x y f g = g refl
 
 module _ (low : Region) (s : State) (w : IsWellFormed low s) where
+  task_at : (t : ℕ) → t ≡ s.current → is_task s t ≡ true
+  task_at t is = subst (λ k. is_task s k ≡ true) (sym is) w.current_is_task
+
   -- a subpool more
   pub subpool_kept : (n : ℕ) → IsWellFormed low (with_subpool s n s.current)
   subpool_kept n = record {
@@ -69,7 +72,21 @@ module _ (low : Region) (s : State) (w : IsWellFormed low s) where
         (λ own is. or_left ((m == n) && (v == s.current)) (s.subpools m v)
         (and_from (m == n) (v == s.current) (and_parts (t == s.current) (m == n) own).1 (eq-eqb v s.current (sym (same_some s.current v is)))))
         (λ _ old. or_right ((m == n) && (v == s.current)) (s.subpools m v) (w.seen_is_there t m v old));
-    sees_zero = is_some_of ((s.current == s.current) && (0 == n)) (Some s.current) (s.sight s.current 0) (λ _. refl) (λ _. w.sees_zero);
+    owner_is_task = λ m t there.
+        elim (or_cases ((m == n) && (t == s.current)) (s.subpools m t) there) [
+          | inl new ↦ task_at t (eqb-true t s.current (and_parts (m == n) (t == s.current) new).1)
+          | inr old ↦ w.owner_is_task m t old
+        ];
+    seer_is_task = λ t m v e.
+        chosen ((t == s.current) && (m == n)) (Some s.current) (s.sight t m) (Some v) _ e
+        (λ own _. task_at t (eqb-true t s.current (and_parts (t == s.current) (m == n) own).0))
+        (λ _ old. w.seer_is_task t m v old);
+    sees_zero = λ t is.
+        elim (cases_Bool ((t == s.current) && (0 == n))) [
+          | inl own ↦ cond-true _ _ _ own ∙ ap Some (sym (eqb-true t s.current (and_parts (t == s.current) (0 == n) own).0))
+          | inr other ↦ cond-false _ _ _ other ∙ w.sees_zero t is
+        ];
+    current_is_task = w.current_is_task;
   }
 
   -- an area of free doublewords is taken
@@ -88,7 +105,10 @@ module _ (low : Region) (s : State) (w : IsWellFormed low s) where
         ];
     owner_sees = w.owner_sees;
     seen_is_there = w.seen_is_there;
+    owner_is_task = w.owner_is_task;
+    seer_is_task = w.seer_is_task;
     sees_zero = w.sees_zero;
+    current_is_task = w.current_is_task;
   }
 
   -- an area in new pages is taken
@@ -118,7 +138,10 @@ module _ (low : Region) (s : State) (w : IsWellFormed low s) where
         ]);
     owner_sees = w.owner_sees;
     seen_is_there = w.seen_is_there;
+    owner_is_task = w.owner_is_task;
+    seer_is_task = w.seer_is_task;
     sees_zero = w.sees_zero;
+    current_is_task = w.current_is_task;
   }
 
   -- an area in use is given back
@@ -158,5 +181,8 @@ module _ (low : Region) (s : State) (w : IsWellFormed low s) where
             (λ _. w.in_page j (and_parts (not (among d count j)) (s.taken j) taken).1);
         owner_sees = w.owner_sees;
         seen_is_there = w.seen_is_there;
+        owner_is_task = w.owner_is_task;
+        seer_is_task = w.seer_is_task;
         sees_zero = w.sees_zero;
+        current_is_task = w.current_is_task;
       }

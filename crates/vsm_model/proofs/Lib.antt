@@ -6,3 +6,5 @@ pub mod Kept
 pub mod Reached
 pub mod Maximal
 pub mod Worked
+pub mod Grants
+pub mod Returns

@@ -20,17 +20,17 @@ use Rattle.vsm_model.specs.WellFormed.{IsWellFormed, FirstIsWellFormed, StaysWel
 use Rattle.vsm_model.proofs.Least.{least_among}
 use Rattle.vsm_model.proofs.Kept.{same_some, none_some, chosen, subpool_kept, taken_kept, fresh_kept, released_kept}
 
-abbrev Stepped : Type 0
+abbrev pub Stepped : Type 0
 Stepped = Outcome State Reply Cause
 
-accepted_is : (s t : State) (q r : Reply) → ◌≡◌ {A = Stepped} (Accepted s q) (Accepted t r) → s ≡ t
+pub accepted_is : (s t : State) (q r : Reply) → ◌≡◌ {A = Stepped} (Accepted s q) (Accepted t r) → s ≡ t
 accepted_is s t q r e = cc
 
-refused_is_not : (cause : Cause) (t : State) (r : Reply) → ◌≡◌ {A = Stepped} (Refused cause) (Accepted t r) → ⊥
+pub refused_is_not : (cause : Cause) (t : State) (r : Reply) → ◌≡◌ {A = Stepped} (Refused cause) (Accepted t r) → ⊥
 refused_is_not cause t r e = cc
 
 -- an accepted outcome is past each cause
-past : (b : Bool) (cause : Cause) (o : Stepped) (t : State) (r : Reply) (P : Type 0) → when b cause o ≡ Accepted t r → (b ≡ false → o ≡ Accepted t r → P) → P
+pub past : (b : Bool) (cause : Cause) (o : Stepped) (t : State) (r : Reply) (P : Type 0) → when b cause o ≡ Accepted t r → (b ≡ false → o ≡ Accepted t r → P) → P
 past true cause o t r P e f = absurd (refused_is_not cause t r e)
 past false cause o t r P e f = f refl e
 
@@ -95,7 +95,12 @@ first_is_well_formed settings = record {
       chosen ((task == 1) && (number == 0)) (Some 1) None (Some owner) _ e
       (λ own is. and_from (number == 0) (owner == 1) (and_parts (task == 1) (number == 0) own).1 (eq-eqb owner 1 (sym (same_some 1 owner is))))
       (λ _ none. absurd (none_some owner none));
-  sees_zero = refl;
+  owner_is_task = λ number owner there. (and_parts (number == 0) (owner == 1) there).1;
+  seer_is_task = λ task number owner e.
+      chosen ((task == 1) && (number == 0)) (Some 1) None (Some owner) _ e
+      (λ own _. (and_parts (task == 1) (number == 0) own).0) (λ _ none. absurd (none_some owner none));
+  sees_zero = λ task is. cond-true _ _ _ (and_from (task == 1) (0 == 0) is refl) ∙ ap Some (sym (eqb-true task 1 is));
+  current_is_task = refl;
 }
 
 -- each state that the machine reaches

@@ -7,6 +7,7 @@ use Rattle.vsm_model.specs.Runs.{runs}
 use Rattle.vsm_model.specs.Regions.{Region, within}
 use Rattle.vsm_model.specs.State.{State}
 
+-- two subpools are one: they have the same number and the same owner
 abbrev pub same_subpool : Subpool → Subpool → Bool
 same_subpool p q = (p.number == q.number) && (p.owner == q.owner)
 
@@ -45,6 +46,7 @@ pub data Place : Type 0 where
   Fresh : ℕ → Place
   Nowhere : Place
 
+-- the doubleword, where there is one; else the page, where there is one
 abbrev pub or_fresh : Option ℕ → Option ℕ → Place
 or_fresh (Some d) pages = Inside d
 or_fresh None (Some page) = Fresh page

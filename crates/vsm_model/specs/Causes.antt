@@ -26,10 +26,11 @@ storage_code OverlapsFree = System 2680
 abbrev pub when : Bool → Cause → Outcome State Reply Cause → Outcome State Reply Cause
 when condition cause otherwise = if condition then Refused cause else otherwise
 
--- a subpool number above 127
+-- the cause of a subpool number above 127: 131 and 132 need operands that are left out here, others aren't allowed
 abbrev pub number_cause : ℕ → Cause
 number_cause number = if (number == 131) || (number == 132) then UnsupportedSubpool else SubpoolNotAllowed
 
+-- the numbers from 0 to 127 are those of private storage
 abbrev pub number_refused : ℕ → Outcome State Reply Cause → Outcome State Reply Cause
 number_refused number otherwise = when (nat_lt 127 number) (number_cause number) otherwise
 

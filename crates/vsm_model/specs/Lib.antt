@@ -9,4 +9,5 @@ pub mod Storage
 pub mod Step
 pub mod WellFormed
 pub mod Texts
+pub mod Promises
 pub mod Examples

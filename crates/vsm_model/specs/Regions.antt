@@ -12,6 +12,7 @@ pub record Region : Type 0 where
 abbrev pub among : ℕ → ℕ → ℕ → Bool
 among first count k = nat_le first k && nat_lt k (first + count)
 
+-- the page is one of the region's
 abbrev pub within : Region → ℕ → Bool
 within r page = among r.first r.count page
 
@@ -19,8 +20,11 @@ within r page = among r.first r.count page
 abbrev pub size_valid : ℕ → ℕ → Bool
 size_valid most size = nat_le 4 size && nat_le size most && ((size % 4) == 0)
 
+-- The region below the line has at most 16,360K, the one above it 1,572,864K, and the history 1 to 65,536 changes.
 abbrev pub settings_valid : Settings → Bool
-settings_valid settings = size_valid 16360 settings.low_k && size_valid 1572864 settings.high_k && (nat_le 1 settings.history && nat_le settings.history 65536)
+settings_valid settings =
+    size_valid 16360 settings.low_k && size_valid 1572864 settings.high_k
+    && (nat_le 1 settings.history && nat_le settings.history 65536)
 
 -- the region below the line begins at the address X'6000', which is that of page 6
 abbrev pub low_region : Settings → Region

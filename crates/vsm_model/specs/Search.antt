@@ -11,7 +11,8 @@ abbrev pub all_pass : (ℕ → Bool) → ℕ → ℕ → Bool
 all_pass passes first zero = true
 all_pass passes first (suc count) = passes first && all_pass passes (suc first) count
 
--- What "the least among these" means, with no search in it: the answer passes, and nothing below it does; without an answer none passes.
+-- What "the least among these" means, with no search in it: the answer passes, and nothing below it does; without an answer
+-- none passes.
 abbrev pub IsLeastAmong : (ℕ → Bool) → ℕ → ℕ → Option ℕ → Type 0
 IsLeastAmong passes first count None = (k : ℕ) → first ≤ k → k < first + count → passes k ≡ false
 IsLeastAmong passes first count (Some d) =
@@ -28,7 +29,8 @@ LeastIsLeast = (passes : ℕ → Bool) (first count : ℕ) → IsLeastAmong pass
 
 abbrev pub LeastIsOnly : Type 0
 LeastIsOnly =
-    (passes : ℕ → Bool) (first count : ℕ) (answer : Option ℕ) → IsLeastAmong passes first count answer → answer ≡ least passes first count
+    (passes : ℕ → Bool) (first count : ℕ) (answer : Option ℕ) →
+    IsLeastAmong passes first count answer → answer ≡ least passes first count
 
 -- and the test over a run of numbers holds just where each of them passes.
 abbrev pub AllPassIsAll : Type 0

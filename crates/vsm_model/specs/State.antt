@@ -17,6 +17,10 @@ pub record State : Type 0 where
   -- whether a doubleword is taken: a doubleword is an address divided by 8
   pub taken : ℕ → Bool
 
+-- The tasks that are there: task 1 alone.
+abbrev pub is_task : State → ℕ → Bool
+is_task s task = task == 1
+
 -- Task 1 is current, and owns and sees an empty subpool 0; nothing else is there.
 abbrev pub first_state : State
 first_state =

@@ -10,6 +10,7 @@ use Rattle.vsm_model.specs.State.{State}
 use Rattle.vsm_model.specs.Standing.{Outcome, PlainKeeps, KeepsPlain, GoesForwardAgain}
 use Rattle.vsm_model.specs.Storage.{obtain, release}
 
+-- a service at these settings, with its storage below the line
 abbrev pub step : Settings → State → Service → Outcome State Reply Cause
 step settings s (Obtain length number) = obtain (low_region settings) s length number
 step settings s (Release length address number) = release (low_region settings) s length address number

@@ -67,7 +67,7 @@ obtained s p count (Fresh page) =
     Accepted (with_taken (with_pages s p page (pages_for count)) (512 * page) count) (Obtained (4096 * page) (8 * count))
 obtained s p count Nowhere = Refused NoStorage
 
--- STORAGE OBTAIN
+-- STORAGE OBTAIN of a length in bytes from the subpool of this number
 abbrev pub obtain : Region → State → ℕ → ℕ → Outcome State Reply Cause
 obtain low s length number =
     number_refused number
@@ -76,17 +76,19 @@ obtain low s length number =
     let subpool = seen_or_own s.current number (s.sight s.current number) in
     obtained after subpool (doublewords length) (place after low subpool (doublewords length) 1)))
 
+-- A release in a subpool: refused where a doubleword is another's, and then where one is free storage.
 abbrev pub release_in : State → Region → Subpool → ℕ → ℕ → Outcome State Reply Cause
 release_in s r p d count =
     when (not (all_pass (λ k. not (is_foreign s r p k)) d count)) NotInSubpool
     (when (not (all_pass (is_taken_in s p) d count)) OverlapsFree
     (Accepted (released s p d count) (Returned 0)))
 
+-- The same in the subpool that the task sees, given by its owner; one that it doesn't see has no area.
 abbrev pub release_from : State → Region → ℕ → Option ℕ → ℕ → ℕ → Outcome State Reply Cause
 release_from s r number None d count = Refused NotInSubpool
 release_from s r number (Some owner) d count = release_in s r (record { number = number; owner = owner }) d count
 
--- STORAGE RELEASE of an area
+-- STORAGE RELEASE of a length in bytes at an address from the subpool of this number
 abbrev pub release : Region → State → ℕ → ℕ → ℕ → Outcome State Reply Cause
 release low s length address number =
     number_refused number

@@ -5,7 +5,7 @@ use Rattle.vsm_model.specs.declared.Service.{Service}
 use Rattle.vsm_model.specs.declared.limits.Settings.{Settings}
 use Rattle.vsm_model.specs.declared.replies.Reply.{Reply}
 use Rattle.vsm_model.specs.Regions.{Region, low_region, within}
-use Rattle.vsm_model.specs.State.{State, first_state}
+use Rattle.vsm_model.specs.State.{State, is_task, first_state}
 use Rattle.vsm_model.specs.Standing.{Accepted, alone}
 use Rattle.vsm_model.specs.Step.{step}
 
@@ -16,14 +16,20 @@ pub record IsWellFormed (low : Region) (s : State) : Type 0 where
   pub has_taken : (k : ℕ) (p : Subpool) → s.pages k ≡ Some p → (d : ℕ) × (d / 512 ≡ k) × (s.taken d ≡ true)
   -- each taken doubleword lies in an assigned page
   pub in_page : (d : ℕ) → s.taken d ≡ true → is_some (s.pages (d / 512)) ≡ true
-  -- an owner sees its subpool, what is seen is there, and the current task sees a subpool 0
+  -- each subpool's owner is a task and sees it; who sees a subpool is a task, and the subpool is there
+  pub owner_is_task : (number owner : ℕ) → s.subpools number owner ≡ true → is_task s owner ≡ true
   pub owner_sees : (number owner : ℕ) → s.subpools number owner ≡ true → s.sight owner number ≡ Some owner
+  pub seer_is_task : (task number owner : ℕ) → s.sight task number ≡ Some owner → is_task s task ≡ true
   pub seen_is_there : (task number owner : ℕ) → s.sight task number ≡ Some owner → s.subpools number owner ≡ true
-  pub sees_zero : is_some (s.sight s.current 0) ≡ true
+  -- each task sees the subpool 0 that it owns, and the current task is one
+  pub sees_zero : (task : ℕ) → is_task s task ≡ true → s.sight task 0 ≡ Some task
+  pub current_is_task : is_task s s.current ≡ true
 
+-- The first state is well-formed,
 abbrev pub FirstIsWellFormed : Type 0
 FirstIsWellFormed = (settings : Settings) → IsWellFormed (low_region settings) first_state
 
+-- and an accepted statement leaves a well-formed state well-formed.
 abbrev pub StaysWellFormed : Type 0
 StaysWellFormed =
     (settings : Settings) (s t : State) (x : Service) (r : Reply) →

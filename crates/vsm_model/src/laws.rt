@@ -1,4 +1,5 @@
 //! Laws of the definitions: each is the contract of a function that does nothing.
+ghost use Rattle.vsm_model.specs.Promises.{ObtainGrantsFreeStorage, ReleaseGivesTakenStorageBack};
 ghost use Rattle.vsm_model.specs.Runs.{RunsAreMaximal, RunsAreOnly, RunsAscend};
 ghost use Rattle.vsm_model.specs.Search.{AllPassIsAll, LeastIsLeast, LeastIsOnly};
 ghost use Rattle.vsm_model.specs.Step.{AllowedAnswersArePlain, ForwardUndoesBack, PlainAnswersAreAllowed};
@@ -25,6 +26,14 @@ pub fn well_formed()
     ensures first { FirstIsWellFormed }
     ensures kept { StaysWellFormed }
     ensures reached { ReachedIsWellFormed }
+{}
+
+/// An accepted obtain grants an area of storage that was free, in pages of the subpool that the task sees then, and changes
+/// nothing else of what is taken and of what was assigned; an accepted release gives back an area that was taken, and each page
+/// in which something is still taken stays with its subpool.
+pub fn granted_and_given_back()
+    ensures granted { ObtainGrantsFreeStorage }
+    ensures given_back { ReleaseGivesTakenStorageBack }
 {}
 
 /// With ample memory each call of a bench has an answer, and leaves a bench, that the relation of one call allows; the relation

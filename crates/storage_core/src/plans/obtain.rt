@@ -1,12 +1,11 @@
 //! Plans of STORAGE OBTAIN.
-ghost use Rattle.std.specs.Prelude.{◌≡◌, ℕ, ◌≤◌, ◌^◌, IfOk, IfErr};
+ghost use Rattle.std.specs.Prelude.{◌≡◌, ℕ, ◌<◌, ◌≤◌, ◌^◌, IfOk, IfErr};
 ghost use Rattle.vsm_model.specs.State.{State};
-ghost use Rattle.vsm_model.specs.Regions.{low_region};
 ghost use Rattle.vsm_model.specs.Areas.{place};
 ghost use Rattle.vsm_model.specs.Standing.{Accepted, Refused};
 ghost use Rattle.vsm_model.specs.Storage.{obtained};
 ghost use Rattle.vsm_model.specs.Step.{step};
-ghost use Rattle.storage_core.specs.Meaning.{state_of, settings_of};
+ghost use Rattle.storage_core.specs.Meaning.{state_of, settings_of, region_of};
 ghost use Rattle.storage_core.specs.Planned.{planned, acted, reply_of, IsWithin, FitsStorage};
 
 use super::{Action, Plan, check_number};
@@ -17,12 +16,16 @@ use crate::{
 impl Storage {
     /// A plan for an area in the subpool, or the cause where there is no place for it.
     fn plan_area(&self, subpool: Subpool, is_new: bool, count: usize) -> Result<Plan, Cause>
-        requires { count ≤ 2 ^ 29 }
-        ensures ok { IfOk result (λ plan. (s : State) → obtained s subpool count (place (state_of self.now) (low_region (settings_of self.now)) subpool count 1)
+        requires some { 0 < count }
+        requires few { count ≤ 2 ^ 29 }
+        ensures ok { IfOk result (λ plan. (s : State) →
+            obtained s subpool count (place (state_of self.now) (region_of self.now) subpool count 1)
             ≡ Accepted (acted s subpool plan.action) plan.reply) }
-        ensures kept { IfOk result (λ plan. (plan.subpool ≡ subpool) × (plan.is_new ≡ is_new)) }
-        ensures within { IfOk result (λ plan. IsWithin (low_region (settings_of self.now)) plan.action) }
-        ensures err { IfErr result (λ cause. (s : State) → obtained s subpool count (place (state_of self.now) (low_region (settings_of self.now)) subpool count 1) ≡ Refused cause) }
+        ensures subpool { IfOk result (λ plan. plan.subpool ≡ subpool) }
+        ensures is_new { IfOk result (λ plan. plan.is_new ≡ is_new) }
+        ensures within { IfOk result (λ plan. IsWithin (region_of self.now) plan.action) }
+        ensures err { IfErr result (λ cause. (s : State) →
+            obtained s subpool count (place (state_of self.now) (region_of self.now) subpool count 1) ≡ Refused cause) }
     {
         if let Some(first) = self.least_fit(subpool, count) {
             return Ok(Plan {
@@ -49,24 +52,26 @@ impl Storage {
         })
     }
 
-    /// A plan for an area of so many bytes in the subpool of this number, or the first cause that refuses it
-    /// (*Assembler Services Reference*, STORAGE). Reads alone, and takes no memory.
+    /// A plan for an area of `length` bytes in the subpool of this number (*Assembler Services Reference*, STORAGE).
+    /// Reads alone, and takes no memory.
+    ///
+    /// The causes that refuse it, in order: a number above 127 (`UnsupportedSubpool` for 131 and 132, else
+    /// `SubpoolNotAllowed`), `ZeroLength`, and `NoStorage` where the area fits nowhere.
     pub fn plan_obtain(&self, length: u32, subpool: u32) -> Result<Plan, Cause>
-        ensures ok { IfOk result (λ plan. step (settings_of self.now) (state_of self.now) (Service.Obtain length subpool) ≡ Accepted (planned (state_of self.now) plan) (reply_of plan)) }
+        ensures ok { IfOk result (λ plan.
+            step (settings_of self.now) (state_of self.now) (Service.Obtain length subpool)
+            ≡ Accepted (planned (state_of self.now) plan) (reply_of plan)) }
         ensures fits { IfOk result (λ plan. FitsStorage self.now plan) }
-        ensures err { IfErr result (λ cause. step (settings_of self.now) (state_of self.now) (Service.Obtain length subpool) ≡ Refused cause) }
+        ensures err { IfErr result (λ cause.
+            step (settings_of self.now) (state_of self.now) (Service.Obtain length subpool) ≡ Refused cause) }
     {
         let number = check_number(subpool)?;
         if length == 0 {
             return Err(Cause::ZeroLength);
         }
         let count = length.div_ceil(8) as usize;
-        match self.owner_seen(self.current, number) {
-            Some(owner) => self.plan_area(Subpool { number, owner }, false, count),
-            None => {
-                let owner = self.current;
-                self.plan_area(Subpool { number, owner }, true, count)
-            }
-        }
+        let seen = self.owner_seen(self.current, number);
+        let owner = seen.unwrap_or(self.current);
+        self.plan_area(Subpool { number, owner }, seen.is_none(), count)
     }
 }

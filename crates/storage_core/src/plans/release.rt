@@ -1,11 +1,10 @@
 //! Plans of STORAGE RELEASE.
 ghost use Rattle.std.specs.Prelude.{◌≡◌, ◌+◌, ◌*◌, ◌/◌, ◌^◌, ◌<◌, ◌≤◌, length, not, IfOk, IfErr, IsTrue};
 ghost use Rattle.vsm_model.specs.Search.{all_pass};
-ghost use Rattle.vsm_model.specs.Regions.{low_region};
 ghost use Rattle.vsm_model.specs.Causes.{is_foreign, is_taken_in};
 ghost use Rattle.vsm_model.specs.Standing.{Accepted, Refused};
 ghost use Rattle.vsm_model.specs.Step.{step};
-ghost use Rattle.storage_core.specs.Meaning.{state_of, settings_of};
+ghost use Rattle.storage_core.specs.Meaning.{state_of, settings_of, region_of};
 ghost use Rattle.storage_core.specs.Planned.{planned, reply_of, FitsStorage};
 
 use super::{Action, Plan, check_number};
@@ -15,30 +14,36 @@ use crate::{
 
 impl Storage {
     /// Whether the doubleword of the region, by its address divided by 8, lies in a page of another subpool.
-    fn is_foreign(&self, subpool: Subpool, first: usize) -> bool
-        requires { (3072 ≤ first) × (first < 3072 + length self.now.taken.items) }
-        ensures { result ≡ is_foreign (state_of self.now) (low_region (settings_of self.now)) subpool first }
+    fn is_foreign(&self, subpool: Subpool, doubleword: usize) -> bool
+        requires low { FIRST_DOUBLEWORD ≤ doubleword }
+        requires high { doubleword < FIRST_DOUBLEWORD + length self.now.taken.items }
+        ensures { result ≡ is_foreign (state_of self.now) (region_of self.now) subpool doubleword }
     {
-        match self.pages[first / PAGE_DOUBLEWORDS - FIRST_PAGE] {
+        match self.pages[doubleword / PAGE_DOUBLEWORDS - FIRST_PAGE] {
             Some(assigned) => assigned != subpool,
             None => false,
         }
     }
 
     /// Whether the doubleword of the region, by its address divided by 8, is taken in the subpool.
-    fn is_taken_in(&self, subpool: Subpool, first: usize) -> bool
-        requires { (3072 ≤ first) × (first < 3072 + length self.now.taken.items) }
-        ensures { result ≡ is_taken_in (state_of self.now) subpool first }
+    fn is_taken_in(&self, subpool: Subpool, doubleword: usize) -> bool
+        requires low { FIRST_DOUBLEWORD ≤ doubleword }
+        requires high { doubleword < FIRST_DOUBLEWORD + length self.now.taken.items }
+        ensures { result ≡ is_taken_in (state_of self.now) subpool doubleword }
     {
-        self.belongs(subpool, first / PAGE_DOUBLEWORDS - FIRST_PAGE)
-            && self.taken[first - FIRST_DOUBLEWORD]
+        self.belongs(subpool, doubleword / PAGE_DOUBLEWORDS - FIRST_PAGE)
+            && self.taken[doubleword - FIRST_DOUBLEWORD]
     }
 
     /// Whether each doubleword of the area lies in the region, in a page that is no other subpool's.
     fn is_own(&self, subpool: Subpool, first: usize, count: usize) -> bool
-        requires { (0 < count) × (count ≤ 2 ^ 29) × (first ≤ 2 ^ 29) }
-        ensures within { IsTrue result → (3072 ≤ first) × (first + count ≤ 3072 + length self.now.taken.items) }
-        ensures value { result ≡ all_pass (λ k. not (is_foreign (state_of self.now) (low_region (settings_of self.now)) subpool k)) first count }
+        requires some { 0 < count }
+        requires few { count ≤ 2 ^ 29 }
+        requires low { first ≤ 2 ^ 29 }
+        ensures begins { IsTrue result → FIRST_DOUBLEWORD ≤ first }
+        ensures ends { IsTrue result → first + count ≤ FIRST_DOUBLEWORD + length self.now.taken.items }
+        ensures value { result
+            ≡ all_pass (λ k. not (is_foreign (state_of self.now) (region_of self.now) subpool k)) first count }
     {
         if first < FIRST_DOUBLEWORD {
             return false;
@@ -56,7 +61,8 @@ impl Storage {
 
     /// Whether each doubleword of the area is taken in the subpool.
     fn is_taken(&self, subpool: Subpool, first: usize, count: usize) -> bool
-        requires { (3072 ≤ first) × (first + count ≤ 3072 + length self.now.taken.items) }
+        requires begins { FIRST_DOUBLEWORD ≤ first }
+        requires ends { first + count ≤ FIRST_DOUBLEWORD + length self.now.taken.items }
         ensures { result ≡ all_pass (is_taken_in (state_of self.now) subpool) first count }
     {
         for k in 0..count {
@@ -67,12 +73,19 @@ impl Storage {
         true
     }
 
-    /// A plan for the release of an area of so many bytes at the address, in the subpool of this number, or the first
-    /// cause that refuses it (*Assembler Services Reference*, STORAGE). Reads alone, and takes no memory.
+    /// A plan for the release of the area of `length` bytes at the address in the subpool of this number (*Assembler
+    /// Services Reference*, STORAGE). Reads alone, and takes no memory.
+    ///
+    /// The causes that refuse it, in order: a number above 127 (`UnsupportedSubpool` for 131 and 132, else
+    /// `SubpoolNotAllowed`), `ZeroLength`, `Misaligned`, `NotInSubpool` where the task doesn't see the subpool or a
+    /// doubleword of the area lies outside the region or in a page of another subpool, and `OverlapsFree`.
     pub fn plan_release(&self, length: u32, address: u32, subpool: u32) -> Result<Plan, Cause>
-        ensures ok { IfOk result (λ plan. step (settings_of self.now) (state_of self.now) (Service.Release length address subpool) ≡ Accepted (planned (state_of self.now) plan) (reply_of plan)) }
+        ensures ok { IfOk result (λ plan.
+            step (settings_of self.now) (state_of self.now) (Service.Release length address subpool)
+            ≡ Accepted (planned (state_of self.now) plan) (reply_of plan)) }
         ensures fits { IfOk result (λ plan. FitsStorage self.now plan) }
-        ensures err { IfErr result (λ cause. step (settings_of self.now) (state_of self.now) (Service.Release length address subpool) ≡ Refused cause) }
+        ensures err { IfErr result (λ cause.
+            step (settings_of self.now) (state_of self.now) (Service.Release length address subpool) ≡ Refused cause) }
     {
         let number = check_number(subpool)?;
         if length == 0 {

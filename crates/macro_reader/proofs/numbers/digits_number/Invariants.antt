@@ -1,9 +1,12 @@
-use Rattle.std.proofs.Common.{◌≡◌, ◌<◌, ◌^◌, drop}
-use Rattle.macro_reader.specs.Values.{number_from}
+use Rattle.std.proofs.Common.{◌≡◌, ◌<◌, ◌^◌, take, true}
+use Rattle.std.specs.List.{list_all}
+use Rattle.std.specs.Char.{is_digit}
+use Rattle.std.specs.Str.Parse.{digits_value}
 use Rattle.macro_reader.proofs.numbers.digits_number.Given as goal
 
 abbrev pub invariant-loop-byte : goal.invariant-loop-byte
 invariant-loop-byte l = record {
-  rest : number_from l.radix l.number (drop l.byte-index l.text) ≡ number_from l.radix 0 l.text;
+  value : l.number ≡ digits_value l.radix (take l.byte-index l.text);
   small : l.number < 2 ^ 32;
+  all : list_all (λ c. is_digit c l.radix) (take l.byte-index l.text) ≡ true;
 }

@@ -1,10 +1,10 @@
 use Rattle.std.proofs.Common.{◌≡◌, length}
 use Rattle.macro_reader.specs.Field.{outside, operands_from}
-use Rattle.macro_reader.specs.Statements.{text_at}
+use Rattle.macro_reader.specs.KeywordSets.{text_by_bit}
 use Rattle.macro_reader.proofs.operands.text_in.Given as goal
 
 abbrev pub invariant-operands : goal.invariant-operands
-invariant-operands l = text_at l.key.0 (operands_from outside l.rest) ≡ text_at l.key.0 (operands_from outside l.text)
+invariant-operands l = text_by_bit l.key.0 (operands_from outside l.rest) ≡ text_by_bit l.key.0 (operands_from outside l.text)
 
 abbrev pub decreases-operands : goal.decreases-operands
 decreases-operands l = length l.rest

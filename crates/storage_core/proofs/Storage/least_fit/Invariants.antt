@@ -1,9 +1,7 @@
-use Rattle.std.proofs.Common.{◌≡◌, ℕ, ◌+◌, ◌<◌, false}
-use Rattle.vsm_model.specs.Areas.{fits}
-use Rattle.vsm_model.specs.Regions.{low_region}
-use Rattle.storage_core.specs.Meaning.{state_of, settings_of}
+use Rattle.std.proofs.Common.{◌/◌}
+use Rattle.storage_core.specs.Meaning.{state_of}
+use Rattle.storage_core.proofs.Searches.{Searched, is_free_here}
 use Rattle.storage_core.proofs.Storage.least_fit.Given as goal
 
--- none so far fits
-abbrev pub invariant-loop-first : goal.invariant-loop-first
-invariant-loop-first l = (k : ℕ) → k < l.first → fits (state_of l.self) (low_region (settings_of l.self)) l.subpool l.count 1 (3072 + k) ≡ false
+abbrev pub invariant-loop-last : goal.invariant-loop-last
+invariant-loop-last l = Searched (is_free_here (state_of l.self) (l.self.settings.low_k / 4) l.subpool) 3072 l.count l.first l.last

@@ -1,8 +1,7 @@
-use Rattle.std.proofs.Common.{◌≡◌, ℕ, ◌+◌, ◌<◌, false}
-use Rattle.vsm_model.specs.Areas.{is_open_run}
-use Rattle.vsm_model.specs.Regions.{low_region}
-use Rattle.storage_core.specs.Meaning.{state_of, settings_of}
+use Rattle.std.proofs.Common.{◌/◌}
+use Rattle.storage_core.specs.Meaning.{state_of}
+use Rattle.storage_core.proofs.Searches.{Searched, is_open_here}
 use Rattle.storage_core.proofs.Storage.least_run.Given as goal
 
-abbrev pub invariant-loop-page : goal.invariant-loop-page
-invariant-loop-page l = (k : ℕ) → k < l.page → is_open_run (state_of l.self) (low_region (settings_of l.self)) l.count (6 + k) ≡ false
+abbrev pub invariant-loop-last : goal.invariant-loop-last
+invariant-loop-last l = Searched (is_open_here (state_of l.self) (l.self.settings.low_k / 4)) 6 l.count l.first l.last

@@ -32,8 +32,7 @@ returns c = λ settings given answers h.
     ∙ sym (map-append _ answers more) in
     let size = length-append answers more in
     let size2 = length-append t.more u.more in
-    let refused = refused_both settings answers t.more u.more in
-    (
+    let refused = refused_both settings answers t.more u.more in (
       more,
       told_both settings answers t.more u.more (told_text shown) (told_text shown2) t.text u.text,
       record {

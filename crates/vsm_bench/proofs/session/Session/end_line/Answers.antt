@@ -20,8 +20,7 @@ returns c = λ settings given answers h.
     let shown : c.columns.result.now ≡ columns h.rest = c.columns.ensures h.rest h.long (c.as_slice.ensures.value ∙ h.kept) in
     let lines : map columns h.lines ++ c.columns.result.now ∷ [] ≡ map columns (h.lines ++ h.rest ∷ []) =
     ap (λ x. map columns h.lines ++ x ∷ []) shown ∙ sym (map_push columns h.lines h.rest) in
-    let all : answers_of answers ++ told ≡ answers_of (answers ++ t.more) = ap (λ x. answers_of answers ++ x) (sym t.answers) ∙ sym (map-append _ answers t.more) in
-    (
+    let all : answers_of answers ++ told ≡ answers_of (answers ++ t.more) = ap (λ x. answers_of answers ++ x) (sym t.answers) ∙ sym (map-append _ answers t.more) in (
       t.more,
       t.text,
       record {

@@ -1,0 +1,63 @@
+-- What a caller can rely on when an obtain or a release is accepted, by the storage before and after, with no word on how
+-- an area is found.
+-- Assembler Services Guide, "Virtual storage management", "Explicit requests for virtual storage" and "Subpool handling".
+use Rattle.std.specs.Prelude.{◌≡◌, ℕ, ◌+◌, ◌/◌, ◌%◌, ◌<◌, ◌≤◌, ◌&&◌, ◌||◌, not, true, false, Some}
+use Rattle.vsm_model.specs.declared.Subpool.{Subpool}
+use Rattle.vsm_model.specs.declared.Service.TheVariants.{Obtain, Release}
+use Rattle.vsm_model.specs.declared.limits.Settings.{Settings}
+use Rattle.vsm_model.specs.declared.replies.Reply.{Reply}
+use Rattle.vsm_model.specs.declared.replies.Reply.TheVariants.{Obtained, Returned}
+use Rattle.vsm_model.specs.Regions.{Region, among, within, low_region}
+use Rattle.vsm_model.specs.State.{State}
+use Rattle.vsm_model.specs.Standing.{Accepted}
+use Rattle.vsm_model.specs.Storage.{doublewords}
+use Rattle.vsm_model.specs.Step.{step}
+use Rattle.vsm_model.specs.WellFormed.{IsWellFormed}
+
+-- From s to t, an area of so many bytes at the address was granted for a length, from the subpool of this number.
+pub record IsGranted (low : Region) (s t : State) (length number address given : ℕ) : Type 0 where
+  -- the length is rounded up to the next multiple of 8, and the area begins on a doubleword
+  pub long_enough : length ≤ given
+  pub no_longer : given < length + 8
+  pub whole : given % 8 ≡ 0
+  pub on_doubleword : address % 8 ≡ 0
+  -- each doubleword of the area lies in the region and wasn't taken before
+  pub in_region : (d : ℕ) → among (address / 8) (given / 8) d ≡ true → within low (d / 512) ≡ true
+  pub was_free : (d : ℕ) → among (address / 8) (given / 8) d ≡ true → s.taken d ≡ false
+  -- those of the area are taken now, and all others are as they were
+  pub taken : (d : ℕ) → t.taken d ≡ (among (address / 8) (given / 8) d || s.taken d)
+  -- the area lies in pages of the subpool that the task now sees at the number
+  pub in_subpool :
+      (d : ℕ) → among (address / 8) (given / 8) d ≡ true →
+      (owner : ℕ) × (t.sight t.current number ≡ Some owner) × (t.pages (d / 512) ≡ Some (record { number = number; owner = owner }))
+  -- no assigned page changes its subpool
+  pub others : (k : ℕ) (p : Subpool) → s.pages k ≡ Some p → t.pages k ≡ Some p
+
+abbrev pub ObtainGrantsFreeStorage : Type 0
+ObtainGrantsFreeStorage =
+    (settings : Settings) (s t : State) (length number address given : ℕ) → IsWellFormed (low_region settings) s →
+    step settings s (Obtain length number) ≡ Accepted t (Obtained address given) →
+    IsGranted (low_region settings) s t length number address given
+
+-- From s to t, the area of so many bytes at the address was given back to the subpool of this number.
+pub record IsGivenBack (s t : State) (length address number : ℕ) : Type 0 where
+  pub on_doubleword : address % 8 ≡ 0
+  -- each doubleword of the rounded area was taken, in a page of the subpool that the task sees at the number
+  pub was_taken : (d : ℕ) → among (address / 8) (doublewords length) d ≡ true → s.taken d ≡ true
+  pub in_subpool :
+      (d : ℕ) → among (address / 8) (doublewords length) d ≡ true →
+      (owner : ℕ) × (s.sight s.current number ≡ Some owner) × (s.pages (d / 512) ≡ Some (record { number = number; owner = owner }))
+  -- those of the area aren't taken now, and all others are as they were
+  pub taken : (d : ℕ) → t.taken d ≡ (not (among (address / 8) (doublewords length) d) && s.taken d)
+  -- a page in which a doubleword is taken stays with its subpool, and no page is assigned
+  pub stays : (k : ℕ) (p : Subpool) (d : ℕ) → s.pages k ≡ Some p → d / 512 ≡ k → t.taken d ≡ true → t.pages k ≡ Some p
+  pub none_new : (k : ℕ) (p : Subpool) → t.pages k ≡ Some p → s.pages k ≡ Some p
+  -- sight and subpools stay, of an emptied subpool too
+  pub same_subpools : t.subpools ≡ s.subpools
+  pub same_sight : t.sight ≡ s.sight
+
+abbrev pub ReleaseGivesTakenStorageBack : Type 0
+ReleaseGivesTakenStorageBack =
+    (settings : Settings) (s t : State) (length address number : ℕ) (reply : Reply) →
+    step settings s (Release length address number) ≡ Accepted t reply →
+    IsGivenBack s t length address number × (reply ≡ Returned 0)
