@@ -1,5 +1,5 @@
 -- A change that is applied and kept.
-use Rattle.std.proofs.Common.{◌≡◌, ℕ, suc, ◌-◌, true, List, [], ◌∷◌, ◌++◌, length, take, drop, reverse, sym, ◌∙◌, ap, subst, refl, arith, append_assoc}
+use Rattle.std.proofs.Common.{◌≡◌, ℕ, suc, ◌-◌, List, [], ◌∷◌, ◌++◌, length, take, drop, sym, ◌∙◌, ap, subst, refl, arith, append_assoc}
 use Rattle.std.proofs.lemmas.Bool.{and_from}
 use Rattle.std.proofs.lemmas.List.{append-nil, length_push}
 use Rattle.vsm_model.specs.declared.limits.Settings.{Settings}
@@ -9,9 +9,9 @@ use Rattle.vsm_model.specs.Standing.{Accepted}
 use Rattle.macro_reader.specs.Requests.{Act}
 use Rattle.storage_core.specs.Meaning.{state_of, settings_of, storage_in}
 use Rattle.storage_core.specs.declared.changes.Change.{Change}
-use Rattle.step_history.specs.Log.{Log, latest}
+use Rattle.step_history.specs.Log.{Log}
 use Rattle.step_history.specs.Single.{steps_next}
-use Rattle.step_history.specs.Trail.{trail, trail_of, trail_kept}
+use Rattle.step_history.specs.Trail.{trail_of, trail_kept}
 use Rattle.vsm_model.specs.declared.Service.{Service}
 use Rattle.vsm_model.specs.Step.{step}
 use Rattle.vsm_bench.specs.Machine.{service_in, with_code, statement_step}

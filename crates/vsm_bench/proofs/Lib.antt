@@ -7,4 +7,5 @@ pub mod Feeds
 pub mod Gathering
 pub mod Standings
 pub mod Takes
+pub mod Extends
 pub mod Runs

@@ -1,15 +1,15 @@
 -- A machine that moves along its history.
-use Rattle.std.proofs.Common.{◌≡◌, ℕ, zero, suc, ◌+◌, ◌-◌, ◌<◌, ◌≤◌, ◌↔◌, true, List, [], ◌∷◌, ◌++◌, length, take, drop, reverse, map, Result, Ok, Err, OnOk, OnErr, IfErr, IsOk, sym, ◌∙◌, ap, subst, refl, arith, append_assoc, inl, inr, true≢false}
-use Rattle.std.proofs.lemmas.Bool.{and_parts, and_from, cases_lt}
-use Rattle.std.proofs.lemmas.List.{length-reverse, append-nil}
+use Rattle.std.proofs.Common.{◌≡◌, ℕ, zero, suc, ◌+◌, ◌≤◌, ◌↔◌, List, [], ◌∷◌, ◌++◌, length, map, Result, Ok, Err, OnOk, OnErr, IfErr, IsOk, sym, ◌∙◌, ap, subst, refl, arith, append_assoc, inl, inr, true≢false}
+use Rattle.std.proofs.lemmas.Bool.{and_parts, cases_lt}
+use Rattle.std.proofs.lemmas.List.{length-reverse}
 use Rattle.vsm_model.specs.declared.limits.Settings.{Settings}
 use Rattle.vsm_model.specs.State.{State}
-use Rattle.vsm_model.specs.Standing.{Keeps, Apply, Back, Forward}
+use Rattle.vsm_model.specs.Standing.{Keeps, Back, Forward}
 use Rattle.storage_core.specs.Meaning.{settings_of}
 use Rattle.storage_core.specs.declared.changes.Change.{Change}
 use Rattle.step_history.specs.Chain.{FitsBefore, FitsAfter}
 use Rattle.step_history.specs.Log.{Log}
-use Rattle.step_history.specs.Trail.{Trail, trail_of, trail_back, past_count, later_count}
+use Rattle.step_history.specs.Trail.{trail_of, trail_back, past_count, later_count}
 use Rattle.step_history.specs.Walk.{Moment, moment, Times, StepsBack, StepsForward, DiscardsAll}
 use Rattle.step_history.specs.declared.too_far.TooFar.{TooFar}
 use Rattle.step_history.specs.declared.too_far.TooFarAhead.{TooFarAhead}

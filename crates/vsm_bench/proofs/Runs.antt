@@ -1,15 +1,16 @@
 -- A run, one piece more.
-use Rattle.std.proofs.Common.{◌≡◌, ◌≢◌, ℕ, ◌<◌, List, [], ◌∷◌, ◌++◌, length, take, Option, Result, Ok, Err, MatchResult, sym, ◌∙◌, ap, subst, refl, arith, append_assoc, inl, inr}
+use Rattle.std.proofs.Common.{◌≡◌, ◌≢◌, ℕ, List, [], ◌∷◌, ◌++◌, length, take, Option, Result, Ok, Err, sym, ◌∙◌, ap, subst, refl, arith, append_assoc, inr}
 use Rattle.std.proofs.lemmas.List.{append-nil}
-use Rattle.std.specs.Io.KnownBytes.{Appends, Consumes, IsAtEnd}
+use Rattle.std.specs.Io.KnownBytes.{Consumes, IsAtEnd}
 use Rattle.vsm_model.specs.declared.limits.Settings.{Settings}
-use Rattle.vsm_bench.specs.Output.{Marked, output}
+use Rattle.vsm_bench.specs.Output.{Marked, output, texts, stands_all}
 use Rattle.vsm_bench.specs.Script.{last_line}
 use Rattle.vsm_model.specs.Standing.{nothing_stands}
-use Rattle.vsm_bench.specs.Taken.{Took, Ended, Unended, PassesBound, IsTold}
+use Rattle.vsm_bench.specs.Taken.{Took, Unended, PassesBound, IsTold}
 use Rattle.vsm_bench.proofs.Standings.{texts_push}
+use Rattle.vsm_bench.proofs.Extends.{extends}
 use Rattle.vsm_bench.specs.Writing.{AppendsFront, Holds}
-use Rattle.vsm_bench.specs.Run.{Runs, FaultAt, FaultIn, Takes, TakesLine, Finishes, Ran}
+use Rattle.vsm_bench.specs.Run.{Runs, FaultAt, FaultIn, Finishes, Ran}
 use Rattle.vsm_bench.specs.declared.faults.RunFault.{RunFault}
 use Rattle.vsm_bench.specs.declared.faults.RunFault.TheVariants as fault
 use Rattle.vsm_bench.specs.declared.faults.RunTotals.{RunTotals}
@@ -27,21 +28,22 @@ module _ (settings : Settings) where
   pub bound_passed : (given : List ℕ) (answers : List Marked) → ((behind : List ℕ) → PassesBound settings (given ++ behind) answers) → PassesBound settings given answers
   bound_passed given answers h = subst (λ g. PassesBound settings g answers) (append-nil given) (h [])
 
-  -- the bytes before the one that passes a bound pass none
-  pub bound_unended : (given : List ℕ) (answers : List Marked) → PassesBound settings given answers →
-      (front behind : List ℕ) × (given ≡ front ++ behind) × Unended settings front answers
-  bound_unended given answers h = (
-    h.front,
-    h.byte ∷ h.more,
-    h.split,
-    record { lines = h.lines; rest = h.rest; within = h.within; told = h.told; met = h.met },
-  )
-
   module _ (first : Option (List ℕ)) where
     -- a write fault, whatever stands behind it
     pub write_fault : (now : Option (List ℕ)) (given : List ℕ) (answers : List Marked) (gathered : List ℕ) → Unended settings given answers →
         AppendsFront first now (output settings answers) → FaultIn settings first now gathered given fault.Write
-    write_fault now given answers gathered u w behind = (given, behind, refl, answers, inl u, w)
+    write_fault now given answers gathered u (front, rest, e, out) behind =
+        let x = extends settings behind given answers u in
+        let more = output_more answers x.0 (texts settings (stands_all settings nothing_stands answers) x.0) refl in (
+          answers ++ x.0,
+          inr x.1,
+          (
+            front,
+            rest ++ texts settings (stands_all settings nothing_stands answers) x.0,
+            more ∙ ap (λ t. t ++ texts settings (stands_all settings nothing_stands answers) x.0) e ∙ append_assoc front rest _,
+            out,
+          ),
+        )
 
     -- bytes of a line were taken, or one of them passes a bound
     pub bytes_taken : (now : Option (List ℕ)) (gathered given : List ℕ) (answers : List Marked) (s : Session) → Took settings given answers s →

@@ -1,7 +1,7 @@
 -- What stands after a list of answers, one answer more.
-use Rattle.std.proofs.Common.{◌≡◌, ℕ, ◌+◌, ◌<◌, ◌≤◌, nat_le, Bool, true, false, List, [], ◌∷◌, ◌++◌, length, map, Option, Some, None, Result, Ok, Err, sym, ◌∙◌, ap, subst, refl, arith, append_assoc, if◌then◌else◌}
+use Rattle.std.proofs.Common.{◌≡◌, ℕ, ◌+◌, nat_le, Bool, true, false, List, [], ◌∷◌, ◌++◌, length, Option, Some, None, Result, Ok, Err, sym, ◌∙◌, ap, subst, refl, arith, append_assoc, if◌then◌else◌}
 use Rattle.std.proofs.lemmas.Bool.{cond-true, cond-false, le-leb, lt-leb}
-use Rattle.std.proofs.lemmas.List.{append-nil, map-append, length-append}
+use Rattle.std.proofs.lemmas.List.{append-nil}
 use Rattle.macro_reader.specs.declared.faults.FaultKind.{FaultKind}
 use Rattle.macro_reader.specs.Requests.{Act, Asked, act, back, forward}
 use Rattle.macro_reader.specs.Scripts as grammar
@@ -9,7 +9,7 @@ use Rattle.vsm_model.specs.declared.limits.Settings.{Settings}
 use Rattle.vsm_model.specs.declared.replies.Reply.{Reply}
 use Rattle.vsm_model.specs.declared.causes.Code.{Code}
 use Rattle.vsm_model.specs.State.{State, first_state}
-use Rattle.vsm_model.specs.Standing.{Outcome, Accepted, Refused, Bench, Standing, Call, Apply, Back, Forward, Look, Answer, Replied, RefusedFor, NoMemory, Moved, TooFar, Shown, Heard, Keeps, Leads, IsAlone, IsAccepted, new_bench, nothing_stands, stand, stand_all, alone, outcome_answer}
+use Rattle.vsm_model.specs.Standing.{Bench, Standing, Answer, Replied, RefusedFor, NoMemory, Moved, TooFar, Shown, Heard, Keeps, Leads, IsAccepted, new_bench, nothing_stands, stand_all, outcome_answer}
 use Rattle.vsm_model.proofs.Alone.{stands_alone}
 use Rattle.vsm_bench.specs.Machine.{statement_step}
 use Rattle.vsm_bench.specs.Responses.{response_to, response_text, is_refused, numbered}
@@ -39,7 +39,7 @@ module _ (settings : Settings) where
   refusals_push l [] ys = omega arith
   refusals_push l (x ∷ xs) ys = let e = refusals_push (stands_after settings l x) xs ys in omega (arith, e)
 
-  met_push : (l : Stood) (xs ys : List Marked) → AllMet settings l xs → AllMet settings (stands_all settings l xs) ys → AllMet settings l (xs ++ ys)
+  pub met_push : (l : Stood) (xs ys : List Marked) → AllMet settings l xs → AllMet settings (stands_all settings l xs) ys → AllMet settings l (xs ++ ys)
   met_push l [] ys h k = k
   met_push l (x ∷ xs) ys h k = (h.0, met_push (stands_after settings l x) xs ys h.1 k)
 

@@ -1,7 +1,7 @@
 -- What a session took, some bytes or a line feed more.
-use Rattle.std.proofs.Common.{◌≡◌, ◌≢◌, ℕ, zero, suc, ◌+◌, ◌-◌, ◌<◌, ◌≤◌, min, List, [], ◌∷◌, ◌++◌, length, take, drop, get_or, map, refl, arith, ap, subst, ◌∙◌, sym, append_assoc, inl, inr}
+use Rattle.std.proofs.Common.{◌≡◌, ◌≢◌, ℕ, zero, suc, ◌+◌, ◌-◌, ◌<◌, ◌≤◌, min, List, [], ◌∷◌, ◌++◌, length, take, drop, get_or, refl, arith, ap, ◌∙◌, sym, append_assoc, inl, inr}
 use Rattle.std.proofs.lemmas.Bool.{cases_lt}
-use Rattle.std.proofs.lemmas.List.{take_all, length-take, length-take-le, length-append, length_push, take-append-le, append-nil, flat_map_more, map-append}
+use Rattle.std.proofs.lemmas.List.{take_all, length-take-le, length-append, length_push, take-append-le, append-nil, flat_map_more}
 use Rattle.std.proofs.Math.Seq.{take-append-add}
 use Rattle.std.specs.List.{flat_map, AllByRecursion}
 use Rattle.vsm_model.specs.declared.limits.Settings.{Settings}

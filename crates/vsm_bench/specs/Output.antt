@@ -1,5 +1,5 @@
 -- The output of a script: each response is that of the plain machine, run alone over the statements that stand there.
-use Rattle.std.specs.Prelude.{◌≡◌, ℕ, ◌+◌, List, [], ◌∷◌, ◌++◌, length, map, Bool, true, false, nat_le, if◌then◌else◌, Result, Ok, Err}
+use Rattle.std.specs.Prelude.{ℕ, ◌+◌, List, [], ◌∷◌, ◌++◌, length, map, Bool, true, false, nat_le, if◌then◌else◌, Result, Ok, Err}
 use Rattle.macro_reader.specs.declared.faults.FaultKind.{FaultKind}
 use Rattle.macro_reader.specs.Requests.{Act, Asked, act, back, forward}
 use Rattle.macro_reader.specs.Scripts as grammar
@@ -7,7 +7,7 @@ use Rattle.vsm_model.specs.declared.limits.Settings.{Settings}
 use Rattle.vsm_model.specs.declared.replies.Reply.{Reply}
 use Rattle.vsm_model.specs.declared.causes.Code.{Code}
 use Rattle.vsm_model.specs.State.{State, first_state}
-use Rattle.vsm_model.specs.Standing.{Outcome, Standing, Call, Apply, Back, Forward, Answer, NoMemory, Moved, TooFar, Heard, IsAccepted, nothing_stands, stand, alone, outcome_answer}
+use Rattle.vsm_model.specs.Standing.{Standing, Call, Apply, Back, Forward, Answer, NoMemory, Moved, TooFar, Heard, IsAccepted, nothing_stands, stand, alone, outcome_answer}
 use Rattle.vsm_bench.specs.Machine.{statement_step}
 use Rattle.vsm_bench.specs.Responses.{response_to, response_text, is_refused, numbered}
 use Rattle.vsm_bench.specs.declared.responses.Response.{Response}

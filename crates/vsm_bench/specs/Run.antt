@@ -1,5 +1,5 @@
 -- What a run did to its reader and its writer.
-use Rattle.std.specs.Prelude.{◌≡◌, ◌⊎◌, ℕ, ◌<◌, ◌≤◌, List, [], ◌++◌, take, length, true, false, Option, Result, Ok, Err}
+use Rattle.std.specs.Prelude.{◌≡◌, ◌⊎◌, ℕ, List, [], ◌++◌, take, true, false, Option, Result, Ok, Err}
 use Rattle.std.specs.Io.KnownBytes.{Consumes, Appends, IsAtEnd}
 use Rattle.vsm_model.specs.declared.limits.Settings.{Settings}
 use Rattle.vsm_model.specs.Regions.{settings_valid}
@@ -23,13 +23,13 @@ abbrev pub IsNewFault : Settings → NewFault → Type 0
 IsNewFault settings new_fault.Setting = settings_valid settings ≡ false
 IsNewFault settings new_fault.NoMemory = settings_valid settings ≡ true
 
--- After a read fault the text is that of the complete lines. After a write fault what went out is a front of the text of a front
--- of the bytes. Where a byte passes a bound the text is that of the lines before it. Where no bench could be made nothing was
--- read or written.
+-- After a read fault the text is that of the complete lines. After a write fault what went out is a front of the text of the bytes
+-- read: of all of them where their end was met, and else of the complete lines, up to a byte that passes a bound. Where a byte passes
+-- a bound the text is that of the lines before it. Where no bench could be made nothing was read or written.
 abbrev pub FaultAt : Settings → Option (List ℕ) → Option (List ℕ) → List ℕ → RunFault → Type 0
 FaultAt settings at_first now given fault.Read = (answers : List Marked) × Unended settings given answers × Appends at_first now (output settings answers)
-FaultAt settings at_first now given fault.Write = (front behind : List ℕ) × (given ≡ front ++ behind) × (answers : List Marked)
-    × (Unended settings front answers ⊎ Ended settings front answers) × AppendsFront at_first now (output settings answers)
+FaultAt settings at_first now given fault.Write = (answers : List Marked)
+    × (Ended settings given answers ⊎ (Unended settings given answers ⊎ PassesBound settings given answers)) × AppendsFront at_first now (output settings answers)
 FaultAt settings at_first now given fault.TooLong = (answers : List Marked) × PassesBound settings given answers × Appends at_first now (output settings answers)
 FaultAt settings at_first now given (fault.New f) = (given ≡ []) × IsNewFault settings f × Appends at_first now []
 

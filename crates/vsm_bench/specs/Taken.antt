@@ -1,5 +1,5 @@
 -- The bytes of a script that a run has taken, and the answers that it gave to them.
-use Rattle.std.specs.Prelude.{◌≡◌, ℕ, List, [], ◌∷◌, ◌++◌, length, take, map, Option, Result, Ok, Err}
+use Rattle.std.specs.Prelude.{◌≡◌, ℕ, List, ◌∷◌, ◌++◌, length, take, map, Result, Ok, Err}
 use Rattle.macro_reader.specs.Scripts as grammar
 use Rattle.vsm_model.specs.declared.limits.Settings.{Settings}
 use Rattle.vsm_model.specs.State.{State, first_state}
@@ -8,11 +8,9 @@ use Rattle.vsm_bench.specs.Machine.{statement_step}
 use Rattle.vsm_bench.specs.Output.{Marked, AllMet, heard_all, refusals, stands_all, texts}
 use Rattle.vsm_bench.specs.Script.{columns, Within, IsPast, last_line}
 use Rattle.vsm_bench.specs.Stands.{bench_of, settings_in}
-use Rattle.vsm_bench.specs.Answers.{told_text}
 use Rattle.vsm_bench.specs.declared.faults.RunFault.{RunFault}
 use Rattle.vsm_bench.specs.declared.faults.RunFault.TheVariants as fault
 use Rattle.vsm_bench.specs.declared.faults.RunTotals.{RunTotals}
-use Rattle.vsm_bench.specs.declared.responses.Response.{Response}
 use Rattle.vsm_bench.specs.declared.session.Session.{Session}
 
 abbrev pub answers_of : List Marked → List grammar.Answer

@@ -1,7 +1,7 @@
-use Rattle.std.proofs.Common.{inl}
+use Rattle.std.proofs.Common.{inr}
 use Rattle.vsm_bench.specs.Output.{output}
 use Rattle.vsm_bench.proofs.Gathering.{all_out}
-use Rattle.vsm_bench.proofs.Runs.{bound_passed, bound_unended, fault_here}
+use Rattle.vsm_bench.proofs.Runs.{bound_passed, fault_here}
 use Rattle.vsm_bench.proofs.driver.end_at.Goals as goal
 
 pub returns-in-Ok : goal.returns-in-Ok
@@ -12,8 +12,7 @@ returns-in-Ok g c = λ settings first given h.
 pub returns-in-Err : goal.returns-in-Err
 returns-in-Err g c = λ settings first given h.
     let f = rw c.in-TooLong.is at h in
-    let u = bound_unended settings given f.0 (bound_passed settings given f.0 f.1) in
-    (u.0, u.1, u.2, f.0, inl u.3, c.in-Err.ensures.gathers first (output settings f.0) f.2)
+    (f.0, inr (inr (bound_passed settings given f.0 f.1)), c.in-Err.ensures.gathers first (output settings f.0) f.2)
 
 pub returns-in_default : goal.returns-in_default
 returns-in_default g c = λ settings first given h. fault_here settings first _ c.args.gathered.now.text.items given c.args.fault c.in_default.not-TooLong h

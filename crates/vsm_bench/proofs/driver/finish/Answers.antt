@@ -1,5 +1,4 @@
-use Rattle.std.proofs.Common.{◌≡◌, [], ◌++◌, sym, subst, inr}
-use Rattle.std.proofs.lemmas.List.{append-nil}
+use Rattle.std.proofs.Common.{[], ◌++◌, sym, subst, inl}
 use Rattle.vsm_bench.specs.Output.{output}
 use Rattle.vsm_bench.specs.Writing.{Holds, AppendsFront}
 use Rattle.vsm_bench.proofs.Gathering.{all_out}
@@ -21,4 +20,4 @@ returns-in-Err g c = λ settings first given h.
     let all = h.answers ++ e.0 in
     let more = output_more settings h.answers e.0 _ e.1 in
     let new = g.W.Write.contents c.tell_ending.new.writer in
-    (given, [], sym (append-nil given), all, inr e.2, subst (AppendsFront first new) (sym more) (c.in-Err.ensures first (output settings h.answers) h.out))
+    (all, inl e.2, subst (AppendsFront first new) (sym more) (c.in-Err.ensures first (output settings h.answers) h.out))

@@ -1,4 +1,4 @@
-use Rattle.std.proofs.Common.{◌≡◌, [], ◌++◌, take, arith, subst, sym, refl}
+use Rattle.std.proofs.Common.{◌≡◌, [], ◌++◌, take, arith, subst, sym}
 use Rattle.std.proofs.KnownBytes.{Consumes-trans, Consumes-nil, Appends-nil}
 use Rattle.std.proofs.lemmas.List.{append-nil}
 use Rattle.vsm_bench.specs.Run.{Runs}

@@ -1,4 +1,4 @@
-use Rattle.std.proofs.Common.{◌≡◌, ℕ, List, [], Ok}
+use Rattle.std.proofs.Common.{◌≡◌, ℕ, List, []}
 use Rattle.std.specs.Io.KnownBytes.{Consumes}
 use Rattle.vsm_bench.specs.Run.{Runs}
 use Rattle.vsm_bench.proofs.driver.run.Given as goal

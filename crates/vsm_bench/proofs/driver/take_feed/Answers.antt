@@ -1,4 +1,4 @@
-use Rattle.std.proofs.Common.{◌≡◌, ◌∷◌, [], ◌++◌, sym, subst}
+use Rattle.std.proofs.Common.{◌∷◌, [], ◌++◌, sym, subst}
 use Rattle.vsm_bench.specs.Output.{output}
 use Rattle.vsm_bench.specs.Writing.{Holds, AppendsFront}
 use Rattle.vsm_bench.proofs.Runs.{output_more, unended, write_fault}

@@ -1,4 +1,4 @@
-use Rattle.std.proofs.Common.{◌≡◌, [], ◌++◌, ◌-◌, length, take, drop, sym, subst, ◌∙◌, ap, append_assoc, refl}
+use Rattle.std.proofs.Common.{[], ◌++◌, take, sym, subst, ◌∙◌, ap, append_assoc, refl}
 use Rattle.std.proofs.lemmas.List.{append-nil}
 use Rattle.vsm_bench.specs.Run.{Runs, FaultIn}
 use Rattle.vsm_bench.proofs.Known.{front_more}

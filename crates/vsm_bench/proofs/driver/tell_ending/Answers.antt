@@ -1,4 +1,4 @@
-use Rattle.std.proofs.Common.{[], ◌++◌, sym, subst, append_assoc}
+use Rattle.std.proofs.Common.{[], ◌++◌, subst, append_assoc}
 use Rattle.vsm_bench.specs.Answers.{told_text}
 use Rattle.vsm_bench.specs.Writing.{Gathers, AppendsFront}
 use Rattle.vsm_bench.proofs.Gathering.{front_more}

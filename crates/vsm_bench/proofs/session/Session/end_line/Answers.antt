@@ -1,4 +1,4 @@
-use Rattle.std.proofs.Common.{◌≡◌, ◌+◌, ◌∙◌, ◌++◌, ◌∷◌, [], length, map, ap, sym, subst, refl, arith}
+use Rattle.std.proofs.Common.{◌≡◌, ◌+◌, ◌∙◌, ◌++◌, ◌∷◌, [], map, ap, sym, subst, refl, arith}
 use Rattle.std.proofs.lemmas.List.{length_push, length-append, map_push, map-append}
 use Rattle.vsm_model.specs.Standing.{nothing_stands}
 use Rattle.macro_reader.specs.Scripts.{IsBehind, told_by}

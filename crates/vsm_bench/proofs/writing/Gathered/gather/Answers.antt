@@ -1,4 +1,4 @@
-use Rattle.std.proofs.Common.{◌≡◌, [], ◌++◌, sym, subst, ap}
+use Rattle.std.proofs.Common.{◌++◌, sym, subst, ap}
 use Rattle.vsm_bench.specs.Writing.{Gathers, Holds}
 use Rattle.vsm_bench.proofs.Gathering.{written, front_more}
 use Rattle.vsm_bench.proofs.writing.Gathered.gather.Goals as goal
