@@ -1,0 +1,183 @@
+//! Readers and writers that are slow, and that fail in mid-stream.
+
+use crate::running::outcome_of;
+use std::alloc::Global;
+use std::io;
+use std::io::{Read, Write};
+use std::test::Fail;
+use vsm_bench::{DEFAULT_SETTINGS, RunFault, RunTotals, command, run};
+
+const SCRIPT: &[u8] = b" STORAGE OBTAIN,LENGTH=8,SP=1
+* a comment
+ BACK 9
+ FOO
+ BACK 1
+ FORWARD 1";
+
+const OUTPUT: &[u8] = b"0000001 RC=0 A=00006000 L=00000008
+0000003 REFUSED KEPT=1
+0000004 FAULT OPERATION
+0000005 KEPT=0
+0000006 KEPT=1
+";
+
+/// A reader that gives one byte a call, and then its end or an error.
+#[derive(Drop)]
+struct Slow<'a> {
+    bytes: &'a [u8],
+    fails: bool,
+}
+
+impl<'a> Read for Slow<'a> {
+    fn read(&mut self, buf: &mut [u8]) -> io::Result<usize> {
+        if buf.is_empty() {
+            return Ok(0);
+        }
+        if let Some((first, rest)) = self.bytes.split_first() {
+            buf[0] = *first;
+            self.bytes = rest;
+            return Ok(1);
+        }
+        if self.fails {
+            return Err(io::Error::from(io::ErrorKind::Other));
+        }
+        Ok(0)
+    }
+}
+
+/// A writer that takes one byte a call, and none once it has room for no more; or else fails there.
+#[derive(Drop)]
+struct Narrow {
+    bytes: Vec<u8>,
+    room: usize,
+    fails: bool,
+}
+
+impl Write for Narrow {
+    fn write(&mut self, buf: &[u8]) -> io::Result<usize> {
+        if buf.is_empty() {
+            return Ok(0);
+        }
+        if self.bytes.len() < self.room {
+            self.bytes.push(buf[0])?;
+            return Ok(1);
+        }
+        if self.fails {
+            return Err(io::Error::from(io::ErrorKind::Other));
+        }
+        Ok(0)
+    }
+
+    fn flush(&mut self) -> io::Result<()> {
+        Ok(())
+    }
+}
+
+impl Narrow {
+    fn with_room(alloc: Global, room: usize, fails: bool) -> Narrow {
+        Narrow {
+            bytes: Vec::new(alloc),
+            room,
+            fails,
+        }
+    }
+}
+
+#[test]
+fn byte_by_byte_is_as_at_once(rt: HostRuntime) -> Result<(), Fail> {
+    let mut reader = Slow {
+        bytes: SCRIPT,
+        fails: false,
+    };
+    let mut writer = Narrow::with_room(rt.alloc(), 10_000, false);
+    let totals = run(rt.alloc(), &mut reader, &mut writer, DEFAULT_SETTINGS);
+    assert!(rt;
+        totals
+            == Ok(RunTotals {
+                statements: 5,
+                refused: 2
+            })
+    );
+    assert_eq!(rt; writer.bytes.as_slice(), OUTPUT);
+    Ok(())
+}
+
+#[test]
+fn a_read_error_leaves_the_answers_of_whole_lines(rt: HostRuntime) -> Result<(), Fail> {
+    // The last line has no line feed, so nobody knows that it's whole.
+    let mut reader = Slow {
+        bytes: b" BACK 0\n BACK 0",
+        fails: true,
+    };
+    let mut output = Vec::new(rt.alloc());
+    let totals = run(rt.alloc(), &mut reader, &mut output, DEFAULT_SETTINGS);
+    assert!(rt; totals == Err(RunFault::Read));
+    assert_eq!(rt; output.as_slice(), b"0000001 KEPT=0\n".as_slice());
+    let mut reader = Slow {
+        bytes: SCRIPT,
+        fails: true,
+    };
+    let outcome = outcome_of(rt.alloc(), &mut reader)?;
+    assert_eq!(rt; outcome.errors.as_slice(), b"vsm: read\n".as_slice());
+    assert_eq!(rt; outcome.status, 8);
+    Ok(())
+}
+
+#[test]
+fn a_writer_that_is_full_ends_the_run(rt: HostRuntime) -> Result<(), Fail> {
+    for fails in [false, true] {
+        for room in 0..60_usize {
+            let mut reader = SCRIPT;
+            let mut writer = Narrow::with_room(rt.alloc(), room, fails);
+            let totals = run(rt.alloc(), &mut reader, &mut writer, DEFAULT_SETTINGS);
+            assert!(rt; totals == Err(RunFault::Write), "{room} bytes");
+            assert_eq!(rt;
+                Some(writer.bytes.as_slice()),
+                OUTPUT.get(..room),
+                "{room} bytes"
+            );
+        }
+    }
+    Ok(())
+}
+
+#[test]
+fn a_write_error_has_its_text_and_status(rt: HostRuntime) -> Result<(), Fail> {
+    let mut words = Vec::new(rt.alloc());
+    words.push(String::from_str(rt.alloc(), "vsm")?)?;
+    let mut reader = SCRIPT;
+    let mut writer = Narrow::with_room(rt.alloc(), 9, false);
+    let mut errors = Vec::new(rt.alloc());
+    let status = command(
+        rt.alloc(),
+        words.as_slice(),
+        &mut reader,
+        &mut writer,
+        &mut errors,
+    );
+    assert_eq!(rt; writer.bytes.as_slice(), b"0000001 R".as_slice());
+    assert_eq!(rt; errors.as_slice(), b"vsm: write\n".as_slice());
+    assert_eq!(rt; status, 8);
+    Ok(())
+}
+
+#[test]
+fn a_word_on_the_command_line_is_refused(rt: HostRuntime) -> Result<(), Fail> {
+    let mut words = Vec::new(rt.alloc());
+    words.push(String::from_str(rt.alloc(), "vsm")?)?;
+    words.push(String::from_str(rt.alloc(), "--low")?)?;
+    let mut reader = SCRIPT;
+    let mut output = Vec::new(rt.alloc());
+    let mut errors = Vec::new(rt.alloc());
+    let status = command(
+        rt.alloc(),
+        words.as_slice(),
+        &mut reader,
+        &mut output,
+        &mut errors,
+    );
+    assert!(rt; output.is_empty());
+    assert!(rt; !errors.is_empty());
+    assert_eq!(rt; status, 16);
+    Ok(())
+}
