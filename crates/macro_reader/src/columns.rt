@@ -11,7 +11,7 @@ fn column(line: &[u8], i: usize) -> u8
 }
 
 /// Columns 1 to 71, filled with blanks.
-pub fn used(line: &[u8]) -> [u8; 71]
+pub(crate) fn used(line: &[u8]) -> [u8; 71]
     ensures { result ≡ used line.now }
 {
     let mut card = [b' '; 71];
@@ -22,28 +22,28 @@ pub fn used(line: &[u8]) -> [u8; 71]
 }
 
 /// Whether column 72 isn't blank.
-pub fn is_continued(line: &[u8]) -> bool
+pub(crate) fn is_continued(line: &[u8]) -> bool
     ensures { result ≡ is_continued line.now }
 {
     column(line, 71) != b' '
 }
 
 /// Whether all of these columns are blank.
-pub fn is_blank(card: &[u8]) -> bool
+pub(crate) fn is_blank(card: &[u8]) -> bool
     ensures { result ≡ is_blank card.now }
 {
     card.iter().all(|byte| *byte == b' ')
 }
 
 /// Whether an asterisk stands in column 1.
-pub fn is_comment(card: &[u8]) -> bool
+pub(crate) fn is_comment(card: &[u8]) -> bool
     ensures { result ≡ is_comment card.now }
 {
     !card.is_empty() && card[0] == b'*'
 }
 
 /// Whether a line is a comment or empty.
-pub fn is_skipped(line: &[u8]) -> bool
+pub(crate) fn is_skipped(line: &[u8]) -> bool
     ensures { result ≡ is_skipped line.now }
 {
     let card = used(line);

@@ -86,7 +86,7 @@ fn equals_at(text: &[u8]) -> Option<usize>
 }
 
 /// What stands behind the equals sign of an operand.
-pub fn value_text(text: &[u8]) -> &[u8]
+pub(crate) fn value_text(text: &[u8]) -> &[u8]
     ensures { result.now ≡ value_text text.now }
 {
     match equals_at(text) {
@@ -96,7 +96,7 @@ pub fn value_text(text: &[u8]) -> &[u8]
 }
 
 /// Whether an operand is a name and an equals sign behind it.
-pub fn is_keyword_operand(text: &[u8]) -> bool
+pub(crate) fn is_keyword_operand(text: &[u8]) -> bool
     ensures { result ≡ is_keyword_operand text.now }
 {
     match equals_at(text) {
@@ -106,7 +106,7 @@ pub fn is_keyword_operand(text: &[u8]) -> bool
 }
 
 /// The keyword of an operand, where a statement has it.
-pub fn key_of(text: &[u8]) -> Option<Keywords>
+pub(crate) fn key_of(text: &[u8]) -> Option<Keywords>
     ensures { option_map (λ k. k.0) result ≡ bit_of (key_of text.now) }
 {
     let i = equals_at(text)?;

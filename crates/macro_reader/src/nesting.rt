@@ -12,7 +12,7 @@ pub struct Nesting {
 }
 
 impl Nesting {
-    pub fn outside() -> Nesting
+    pub(crate) fn outside() -> Nesting
         ensures { result ≡ outside }
     {
         Nesting {
@@ -22,7 +22,7 @@ impl Nesting {
     }
 
     /// Where the next byte stands.
-    pub fn past(self, byte: u8) -> Nesting
+    pub(crate) fn past(self, byte: u8) -> Nesting
         requires { self.depth + 1 < 2 ^ 64 }
         ensures value { result ≡ past self byte }
         ensures depth { result.depth ≤ self.depth + 1 }
@@ -48,7 +48,7 @@ impl Nesting {
 }
 
 /// How far the field at the front of a text goes.
-pub fn field_len(text: &[u8]) -> usize
+pub(crate) fn field_len(text: &[u8]) -> usize
     ensures value { result ≡ field_len outside text.now }
     ensures within { result ≤ length text.now }
 {
@@ -63,7 +63,7 @@ pub fn field_len(text: &[u8]) -> usize
 }
 
 /// Whether each apostrophe and parenthesis is closed, and none too often.
-pub fn is_balanced(text: &[u8]) -> bool
+pub(crate) fn is_balanced(text: &[u8]) -> bool
     ensures { result ≡ is_balanced outside text.now }
 {
     let mut at = Nesting::outside();
@@ -77,7 +77,7 @@ pub fn is_balanced(text: &[u8]) -> bool
 }
 
 /// How far the first operand of a field goes.
-pub fn operand_len(text: &[u8]) -> usize
+pub(crate) fn operand_len(text: &[u8]) -> usize
     ensures value { result ≡ operand_len outside text.now }
     ensures within { result ≤ length text.now }
 {
@@ -92,7 +92,7 @@ pub fn operand_len(text: &[u8]) -> usize
 }
 
 /// The first operand of a text, and what stands behind its comma, if it has one.
-pub fn split(text: &[u8]) -> (&[u8], Option<&[u8]>)
+pub(crate) fn split(text: &[u8]) -> (&[u8], Option<&[u8]>)
     ensures operands { operands_from outside text.now ≡ result.0.now ∷ operands_behind (option_copied result.1) }
     ensures shorter { (rest : List ℕ) → option_copied result.1 ≡ Some rest → length rest < length text.now }
 {

@@ -31,7 +31,7 @@ fn is_quoted(letter: u8, text: &[u8]) -> bool
 }
 
 /// The number that a text spells.
-pub fn number_of(text: &[u8]) -> Option<u32>
+pub(crate) fn number_of(text: &[u8]) -> Option<u32>
     ensures { result ≡ number_of text.now }
 {
     if is_quoted(b'X', text) {

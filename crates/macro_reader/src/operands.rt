@@ -69,7 +69,11 @@ fn first_fault_in(left_out: &[Keywords], row: &[Entry], text: &[u8]) -> Option<F
 }
 
 /// The first fault of the operands behind a form.
-pub fn first_fault(left_out: &[Keywords], row: &[Entry], text: Option<&[u8]>) -> Option<FaultKind>
+pub(crate) fn first_fault(
+    left_out: &[Keywords],
+    row: &[Entry],
+    text: Option<&[u8]>,
+) -> Option<FaultKind>
     requires left_out { IsTrue (are_known left_out.now) }
     requires row { IsTrue (are_known_entries row.now) }
     ensures { result ≡ first_fault (names left_out.now) (row_in row.now) [] (operands_behind (option_copied text.entry)) }
@@ -109,7 +113,7 @@ fn text_at(key: Keywords, text: Option<&[u8]>) -> Option<&[u8]>
 }
 
 /// The number of the operand behind a form that has this keyword.
-pub fn number_at(key: Keywords, text: Option<&[u8]>) -> Option<u32>
+pub(crate) fn number_at(key: Keywords, text: Option<&[u8]>) -> Option<u32>
     requires { IsTrue (is_known key.0) }
     ensures { result ≡ number_at (name_of key.0) (operands_behind (option_copied text.entry)) }
 {
@@ -120,7 +124,7 @@ pub fn number_at(key: Keywords, text: Option<&[u8]>) -> Option<u32>
 }
 
 /// What is wrong with a first operand that is no form.
-pub fn form_fault(left_out: &[Keywords], form: &[u8]) -> FaultKind
+pub(crate) fn form_fault(left_out: &[Keywords], form: &[u8]) -> FaultKind
     requires { IsTrue (are_known left_out.now) }
     ensures { result ≡ form_fault (names left_out.now) form.now }
 {

@@ -101,7 +101,7 @@ pub const OBTAIN_LEFT_OUT: [Keywords; 20] = [
 ];
 
 /// The kind of value that a keyword takes, where the row has it.
-pub fn kind_in(row: &[Entry], key: Keywords) -> Option<Kind>
+pub(crate) fn kind_in(row: &[Entry], key: Keywords) -> Option<Kind>
     ensures { result ≡ kind_at row.now key.0 }
 {
     for entry in row {
@@ -113,7 +113,7 @@ pub fn kind_in(row: &[Entry], key: Keywords) -> Option<Kind>
 }
 
 /// Whether a keyword is one of these.
-pub fn is_among(keywords: &[Keywords], key: Keywords) -> bool
+pub(crate) fn is_among(keywords: &[Keywords], key: Keywords) -> bool
     ensures { result ≡ has_bit keywords.now key.0 }
 {
     keywords.iter().any(|k| *k == key)
@@ -130,7 +130,7 @@ fn is_of_kind(kind: Kind, text: &[u8]) -> bool
 }
 
 /// What is wrong with a value of this kind.
-pub fn value_fault(kind: Kind, text: &[u8]) -> Option<FaultKind>
+pub(crate) fn value_fault(kind: Kind, text: &[u8]) -> Option<FaultKind>
     ensures { result ≡ value_fault kind text.now }
 {
     if number_of(text).is_some() {

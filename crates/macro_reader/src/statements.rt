@@ -166,7 +166,7 @@ fn statement_with(card: &[u8], text: &[u8]) -> Result<Request, FaultKind>
 }
 
 /// The request of a statement of one line, columns 1 to 71 of it.
-pub fn statement(card: &[u8]) -> Result<Request, FaultKind>
+pub(crate) fn statement(card: &[u8]) -> Result<Request, FaultKind>
     ensures value { seen result ≡ statement card.now }
     ensures valid { IfOk result (λ r. IsValidAsked (asked_in r)) }
 {

@@ -53,7 +53,7 @@ fn is_register(text: &[u8]) -> bool
 }
 
 /// Whether a text is a number, a name or a register.
-pub fn is_value(text: &[u8]) -> bool
+pub(crate) fn is_value(text: &[u8]) -> bool
     ensures { result ≡ is_value text.now }
 {
     number_of(text).is_some() || is_name(text) || is_register(text)
@@ -75,7 +75,7 @@ fn are_two_values(text: &[u8]) -> bool
 }
 
 /// Whether a text is two values in parentheses.
-pub fn is_pair(text: &[u8]) -> bool
+pub(crate) fn is_pair(text: &[u8]) -> bool
     ensures { result ≡ is_pair text.now }
 {
     is_enclosed(text) && are_two_values(enclosed(text))

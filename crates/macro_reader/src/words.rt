@@ -4,13 +4,13 @@ ghost use Rattle.std.specs.Prelude.{◌≡◌, ◌≤◌, length};
 ghost use Rattle.std.specs.List.{list_all};
 ghost use Rattle.macro_reader.specs.Words.{is_letter, is_name_byte, is_name, is_word, word_len, blank_len, word, after_word, after_blanks};
 
-pub fn is_letter(byte: u8) -> bool
+pub(crate) fn is_letter(byte: u8) -> bool
     ensures { result ≡ is_letter byte }
 {
     matches!(byte, b'A'..=b'Z' | b'a'..=b'z' | b'$' | b'#' | b'@' | b'_')
 }
 
-pub fn is_name_byte(byte: u8) -> bool
+pub(crate) fn is_name_byte(byte: u8) -> bool
     ensures { result ≡ is_name_byte byte }
 {
     is_letter(byte) || matches!(byte, b'0'..=b'9')
@@ -23,14 +23,14 @@ fn all_name_bytes(text: &[u8]) -> bool
 }
 
 /// A letter, and up to 62 letters or digits.
-pub fn is_name(text: &[u8]) -> bool
+pub(crate) fn is_name(text: &[u8]) -> bool
     ensures { result ≡ is_name text.now }
 {
     !text.is_empty() && text.len() <= 63 && is_letter(text[0]) && all_name_bytes(text)
 }
 
 /// Whether a text is this word, in either case.
-pub fn is_word(text: &[u8], word: &[u8]) -> bool
+pub(crate) fn is_word(text: &[u8], word: &[u8]) -> bool
     ensures { result ≡ is_word text.now word.now }
 {
     if text.len() != word.len() {
@@ -45,7 +45,7 @@ pub fn is_word(text: &[u8], word: &[u8]) -> bool
 }
 
 /// How far the word at the front goes.
-pub fn word_len(text: &[u8]) -> usize
+pub(crate) fn word_len(text: &[u8]) -> usize
     ensures value { result ≡ word_len text.now }
     ensures within { result ≤ length text.now }
 {
@@ -58,7 +58,7 @@ pub fn word_len(text: &[u8]) -> usize
 }
 
 /// How far the blanks at the front go.
-pub fn blank_len(text: &[u8]) -> usize
+pub(crate) fn blank_len(text: &[u8]) -> usize
     ensures value { result ≡ blank_len text.now }
     ensures within { result ≤ length text.now }
 {
@@ -71,21 +71,21 @@ pub fn blank_len(text: &[u8]) -> usize
 }
 
 /// The word in front.
-pub fn word(text: &[u8]) -> &[u8]
+pub(crate) fn word(text: &[u8]) -> &[u8]
     ensures { result.now ≡ word text.now }
 {
     &text[..word_len(text)]
 }
 
 /// What stands behind the word in front.
-pub fn after_word(text: &[u8]) -> &[u8]
+pub(crate) fn after_word(text: &[u8]) -> &[u8]
     ensures { result.now ≡ after_word text.now }
 {
     &text[word_len(text)..]
 }
 
 /// What stands behind the blanks in front.
-pub fn after_blanks(text: &[u8]) -> &[u8]
+pub(crate) fn after_blanks(text: &[u8]) -> &[u8]
     ensures { result.now ≡ after_blanks text.now }
 {
     &text[blank_len(text)..]
