@@ -1,0 +1,114 @@
+//! Runs of pages of the default regions: pages X'6' to X'15' below the line, from X'8000' on above it.
+
+ghost use Rattle.std.specs.Prelude.{◌≡◌, ◌+◌, ◌^◌, ◌<◌, ◌≤◌};
+ghost use Rattle.descriptor_queue.specs.Extents.{IsExtents};
+ghost use Rattle.descriptor_queue.specs.Pages.{IsPages};
+
+use super::*;
+use std::process::Abort;
+use std::test::Fail;
+use vsm_elements::Elements;
+
+const LOW: Run = Run { start: 6, len: 16 };
+
+const HIGH: Run = Run {
+    start: 0x8000,
+    len: 16,
+};
+
+fn run(start: u32, len: u32) -> Run
+    ensures { result ≡ record { start = start; len = len } }
+{
+    Run { start, len }
+}
+
+// Page by page, so that the set joins the runs.
+fn join(rt: &impl Abort, elements: &mut Elements, extents: &mut Extents, first: u32, last: u32)
+    requires queue { IsExtents elements.old extents.old }
+    requires range { last < 2 ^ 20 }
+    ensures { IsExtents elements.new extents.new }
+{
+    for page in first..last {
+        assert!(rt; elements.spare() > 0);
+        assert!(rt; !extents.contains(elements, page));
+        extents.insert_run(elements, run(page, 1));
+    }
+}
+
+fn part(rt: &impl Abort, elements: &mut Elements, extents: &mut Extents, page: u32)
+    requires queue { IsExtents elements.old extents.old }
+    requires range { page < 2 ^ 20 }
+    ensures { IsExtents elements.new extents.new }
+{
+    assert!(rt; elements.spare() > 0);
+    assert!(rt; extents.contains(elements, page));
+    extents.remove_run(elements, run(page, 1));
+}
+
+#[test]
+fn extents_are_joined_and_split(rt: HostRuntime) -> Result<(), Fail> {
+    let mut elements = Elements::new(rt.alloc());
+    elements.reserve(8)?;
+    let mut extents = Extents::new();
+    join(&rt, &mut elements, &mut extents, 6, 11);
+    join(&rt, &mut elements, &mut extents, 0x8000, 0x8002);
+    assert_eq!(rt; extents.run_at(&elements, 0), Some(run(6, 5)));
+    assert_eq!(rt; extents.run_at(&elements, 1), Some(run(0x8000, 2)));
+    assert_eq!(rt; extents.run_at(&elements, 2), None);
+    part(&rt, &mut elements, &mut extents, 8);
+    part(&rt, &mut elements, &mut extents, 0x8001);
+    assert!(rt; !extents.contains(&elements, 8) && extents.contains(&elements, 9));
+    let extents = Extents::from_head(extents.head());
+    assert_eq!(rt; extents.run_at(&elements, 0), Some(run(6, 2)));
+    assert_eq!(rt; extents.run_at(&elements, 1), Some(run(9, 2)));
+    assert_eq!(rt; extents.run_at(&elements, 2), Some(run(0x8000, 1)));
+    assert_eq!(rt; elements.spare(), 125);
+    extents.discard(&mut elements);
+    assert_eq!(rt; elements.spare(), 128);
+    Ok(())
+}
+
+// The unassigned pages of one region.
+fn unassigned(elements: &mut Elements, region: Run) -> Pages
+    requires room { 0 < elements.old.spare }
+    requires range { (0 < region.len) × (region.start + region.len ≤ 2 ^ 20) }
+    ensures { IsPages elements.new result }
+{
+    let mut pages = Pages::new();
+    pages.insert_run(elements, region);
+    pages
+}
+
+// The least run of so many pages, which are then assigned.
+fn assign(rt: &impl Abort, elements: &mut Elements, pages: &mut Pages, n: u32) -> Option<Page>
+    requires queue { IsPages elements.old pages.old }
+    requires asked { (0 < n) × (n < 2 ^ 16) }
+    ensures { IsPages elements.new pages.new }
+{
+    let page = pages.least_run(elements, LOW, n)?;
+    assert!(rt; elements.spare() > 0);
+    assert!(rt; page < 0x10000);
+    pages.remove_run(elements, run(page, n));
+    Some(page)
+}
+
+#[test]
+fn the_least_run_is_the_lowest(rt: HostRuntime) -> Result<(), Fail> {
+    let mut elements = Elements::new(rt.alloc());
+    elements.reserve(8)?;
+    assert!(rt; elements.spare() > 0);
+    let mut pages = unassigned(&mut elements, LOW);
+    assert_eq!(rt; pages.longest_run(&elements, LOW), 16);
+    assert_eq!(rt; pages.longest_run(&elements, HIGH), 0);
+    assert_eq!(rt; pages.least_run(&elements, HIGH, 1), None);
+    assert_eq!(rt; assign(&rt, &mut elements, &mut pages, 1), Some(6));
+    assert_eq!(rt; assign(&rt, &mut elements, &mut pages, 4), Some(7));
+    assert_eq!(rt; pages.longest_run(&elements, run(6, 10)), 5);
+    assert_eq!(rt; assign(&rt, &mut elements, &mut pages, 12), None);
+    assert_eq!(rt; assign(&rt, &mut elements, &mut pages, 11), Some(11));
+    assert_eq!(rt; pages.longest_run(&elements, LOW), 0);
+    let pages = Pages::from_head(pages.head());
+    pages.discard(&mut elements);
+    assert_eq!(rt; elements.release(), 1);
+    Ok(())
+}

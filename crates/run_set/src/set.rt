@@ -1,0 +1,243 @@
+ghost use Rattle.std.specs.Prelude.{◌≡◌, ℕ, ◌+◌, ◌^◌, ◌<◌, ◌≤◌, ◌||◌, ◌&&◌, not, [], slice_index_or, slice_get, IfSome, IfNone};
+ghost use Rattle.vsm_elements.specs.Store.{Store};
+ghost use Rattle.vsm_elements.specs.Ownership.{Leaves};
+ghost use Rattle.run_set.specs.Runs.{inside, AllIn, NoneIn, AreRunsOf, IsCover};
+ghost use Rattle.run_set.specs.Fits.{Fits, IsLeastFit, IsLongest};
+
+use crate::clip::clipped;
+use crate::places::Place;
+use crate::run::{Cover, Run};
+use vsm_elements::{Chain, Elements};
+
+/// The head of a set of numbers below 2^29, whose maximal runs stand in elements.
+///
+/// It is kept by value. Every call is handed the elements that it stands in, and changes those of its own
+/// alone. A set that is no longer wanted is discarded: its elements stay live until then.
+#[derive(Clone, Copy, Debug, PartialEq, Eq)]
+pub struct RunSet {
+    pub(crate) chain: Chain,
+}
+
+#[tactic(auto, unfolding(crate::specs::RunSet::runs, crate::specs::RunSet::owned, crate::specs::RunSet::IsRunSet, crate::specs::RunSet::set_of))]
+impl RunSet {
+    ghost use Rattle.run_set.specs.RunSet.{runs, holds, owned, set_of, IsRunSet};
+
+    /// The empty set. It has no element.
+    pub fn new() -> RunSet
+        ensures set { (s : Store) → IsRunSet s result }
+        ensures empty { (s : Store) → runs s result ≡ [] }
+        ensures owned { (s : Store) → owned s result ≡ [] }
+    {
+        RunSet {
+            chain: Chain::new(),
+        }
+    }
+
+    /// The set as two words, to be kept in another element.
+    pub fn head(self) -> [u32; 2]
+        ensures { set_of (slice_index_or result 0 0) (slice_index_or result 1 0) ≡ self }
+    {
+        [self.chain.first, self.chain.count]
+    }
+
+    /// The set whose head was kept in these words.
+    pub fn from_head(head: [u32; 2]) -> RunSet
+        ensures { result ≡ set_of (slice_index_or head 0 0) (slice_index_or head 1 0) }
+    {
+        RunSet {
+            chain: Chain {
+                first: head[0],
+                count: head[1],
+            },
+        }
+    }
+
+    /// Adds a run, of whose numbers none is in the set. It is joined to the runs that it touches.
+    ///
+    /// It takes one element at most.
+    pub fn insert(&mut self, elements: &mut Elements, run: Run)
+        requires set { IsRunSet elements.old self.old }
+        requires range { (0 < run.len) × (run.start + run.len ≤ 2 ^ 29) }
+        requires absent { NoneIn (λ n. holds elements.old self.old n) run }
+        requires room { 0 < elements.old.spare }
+        ensures set { IsRunSet elements.new self.new }
+        ensures numbers { (n : ℕ) → holds elements.new self.new n
+            ≡ (inside n run || holds elements.old self.old n) }
+        ensures runs { AreRunsOf (runs elements.new self.new) (λ n. holds elements.new self.new n) }
+        ensures owned { Leaves elements.old elements.new
+            (owned elements.old self.old) (owned elements.new self.new) }
+        ensures spares { elements.old.spare ≤ elements.new.spare + 1 }
+    {
+        let place = self.seek(elements, run.start);
+        let left = self.left_of(elements, place, run.start);
+        let right = self.right_of(elements, place, run.start + run.len);
+        match (left, right) {
+            (Some(left), Some(right)) => {
+                let len = left.len + run.len + right.len;
+                let start = left.start;
+                self.bridge(elements, place, Run { start, len })
+            }
+            (Some(left), None) => {
+                let len = left.len + run.len;
+                let start = left.start;
+                self.write_before(elements, place, Run { start, len })
+            }
+            (None, Some(right)) => {
+                let len = run.len + right.len;
+                let start = run.start;
+                self.write(elements, place, Run { start, len });
+            }
+            (None, None) => self.put(elements, place, run),
+        }
+    }
+
+    /// Takes a run out, of whose numbers all are in the set. What is left of the maximal run that holds it
+    /// are none, one or two runs.
+    ///
+    /// It takes one element at most.
+    pub fn remove(&mut self, elements: &mut Elements, run: Run)
+        requires set { IsRunSet elements.old self.old }
+        requires range { (0 < run.len) × (run.start + run.len ≤ 2 ^ 29) }
+        requires present { AllIn (λ n. holds elements.old self.old n) run }
+        requires room { 0 < elements.old.spare }
+        ensures set { IsRunSet elements.new self.new }
+        ensures numbers { (n : ℕ) → holds elements.new self.new n
+            ≡ (not (inside n run) && holds elements.old self.old n) }
+        ensures runs { AreRunsOf (runs elements.new self.new) (λ n. holds elements.new self.new n) }
+        ensures owned { Leaves elements.old elements.new
+            (owned elements.old self.old) (owned elements.new self.new) }
+        ensures spares { elements.old.spare ≤ elements.new.spare + 1 }
+    {
+        let place = self.seek(elements, run.start);
+        let (whole, _) = self.visit(elements, place);
+        let end = run.start + run.len;
+        let last = whole.start + whole.len;
+        let before = Run {
+            start: whole.start,
+            len: run.start - whole.start,
+        };
+        let behind = Run {
+            start: end,
+            len: last - end,
+        };
+        if before.len > 0 {
+            if behind.len > 0 {
+                self.split(elements, place, before, behind);
+            } else {
+                self.write(elements, place, before);
+            }
+        } else if behind.len > 0 {
+            self.write(elements, place, behind);
+        } else {
+            self.take_out(elements, place);
+        }
+    }
+
+    /// Whether the number is in the set.
+    pub fn contains(&self, elements: &Elements, n: u32) -> bool
+        requires { IsRunSet elements.now self.now }
+        ensures { result ≡ holds elements.now self.now n }
+    {
+        let place = self.seek(elements, n);
+        if place.index == self.chain.count {
+            return false;
+        }
+        let (here, _) = self.visit(elements, place);
+        here.start <= n
+    }
+
+    /// Whether all, none or a part of the run is in the set.
+    pub fn covers(&self, elements: &Elements, run: Run) -> Cover
+        requires set { IsRunSet elements.now self.now }
+        requires range { (0 < run.len) × (run.start + run.len ≤ 2 ^ 29) }
+        ensures { IsCover (λ n. holds elements.now self.now n) run result }
+    {
+        let place = self.seek(elements, run.start);
+        if place.index == self.chain.count {
+            return Cover::None;
+        }
+        let (here, _) = self.visit(elements, place);
+        let end = run.start + run.len;
+        if end <= here.start {
+            Cover::None
+        } else if run.start < here.start || here.start + here.len < end {
+            Cover::Part
+        } else {
+            Cover::All
+        }
+    }
+
+    /// The `i`-th maximal run in ascending order, from 0 on; `None` past the last.
+    pub fn run_at(&self, elements: &Elements, i: u32) -> Option<Run>
+        requires { IsRunSet elements.now self.now }
+        ensures { result ≡ slice_get (runs elements.now self.now) i }
+    {
+        if i >= self.chain.count {
+            return None;
+        }
+        let mut place = Place::FRONT;
+        while place.index < i {
+            (_, place) = self.visit(elements, place);
+        }
+        let (run, _) = self.visit(elements, place);
+        Some(run)
+    }
+
+    /// The least number on the boundary from which `len` numbers are in the set and in the region.
+    pub fn least_fit(
+        &self,
+        elements: &Elements,
+        len: u32,
+        boundary: u32,
+        region: Run,
+    ) -> Option<u32>
+        requires set { IsRunSet elements.now self.now }
+        requires asked { (0 < len) × (len ≤ 2 ^ 29) × (0 < boundary) × (boundary ≤ 512) }
+        requires region { region.start + region.len ≤ 2 ^ 29 }
+        ensures none { IfNone result ((a : ℕ)
+            → ¬ Fits (λ n. holds elements.now self.now n) region a len boundary) }
+        ensures least { IfSome result (λ a. IsLeastFit
+            (λ n. holds elements.now self.now n) region a len boundary) }
+    {
+        let count = self.chain.count;
+        let mut place = Place::FRONT;
+        while place.index < count {
+            let (run, next) = self.visit(elements, place);
+            let (first, end) = clipped(run, boundary, region);
+            if first + len <= end {
+                return Some(first);
+            }
+            place = next;
+        }
+        None
+    }
+
+    /// The greatest length that a run of the set has in the region from a number on the boundary; 0 where
+    /// there is none.
+    pub fn longest(&self, elements: &Elements, boundary: u32, region: Run) -> u32
+        requires set { IsRunSet elements.now self.now }
+        requires asked { (0 < boundary) × (boundary ≤ 512) }
+        requires region { region.start + region.len ≤ 2 ^ 29 }
+        ensures { IsLongest (λ n. holds elements.now self.now n) region result boundary }
+    {
+        let count = self.chain.count;
+        let mut most = 0;
+        let mut place = Place::FRONT;
+        while place.index < count {
+            let (run, next) = self.visit(elements, place);
+            let (first, end) = clipped(run, boundary, region);
+            most = most.max(end.saturating_sub(first));
+            place = next;
+        }
+        most
+    }
+
+    /// Gives back every element of the set.
+    pub fn discard(self, elements: &mut Elements)
+        requires { IsRunSet elements.old self }
+        ensures owned { Leaves elements.old elements.new (owned elements.old self) [] }
+        ensures spares { elements.old.spare ≤ elements.new.spare }
+    {
+        self.chain.discard(elements);
+    }
+}
