@@ -1,8 +1,13 @@
 //! Worked examples, computed from the definitions: each is the contract of a function that does nothing.
 ghost use Rattle.vsm_model.specs.Examples.{
   AHistoryOfOneChange,
+  ANameStandsForAnAddress,
   ARefusedStatementIsNotKept,
+  AnAddressIsStoredAsAFullword,
+  AnAnswerOf4DiscardsWhatWasUndone,
+  AnAnswerOf4IsKept,
   AnAreaReleasedInParts,
+  BytesLeaveWithTheirPage,
   CompletionCodesAsTexts,
   ForwardGivesTheBenchBack,
   ForwardUntilANewStatement,
@@ -66,6 +71,33 @@ pub fn the_oldest_change_is_forgotten()
 /// With a history of one change, BACK 2 is refused, and BACK 1 and FORWARD 1 go back and forth.
 pub fn a_history_of_one_change()
     ensures { AHistoryOfOneChange }
+{}
+
+/// A page that a release empties loses its bytes, and holds zeros as a page of another subpool; BACK 3 gives the stored byte back.
+pub fn bytes_leave_with_their_page()
+    ensures { BytesLeaveWithTheirPage }
+{}
+
+/// A conditional obtain for which there is no storage is kept as a change of register 15, which BACK 1 takes back.
+pub fn an_answer_of_4_is_kept()
+    ensures { AnAnswerOf4IsKept }
+{}
+
+/// ADDR=(5) sets registers 1 and 5; the address is stored with its most significant byte first; a store of which one byte isn't in
+/// an assigned page stores nothing.
+pub fn an_address_is_stored_as_a_fullword()
+    ensures { AnAddressIsStoredAsAFullword }
+{}
+
+/// A page goes with BACK 1 and comes again with FORWARD 1; a refused release between them changes nothing, and an answer 4 discards
+/// what was undone.
+pub fn an_answer_of_4_discards_what_was_undone()
+    ensures { AnAnswerOf4DiscardsWhatWasUndone }
+{}
+
+/// An accepted obtain defines its name or gives it another word, an answer 4 defines none, and BACK 1 takes a definition away.
+pub fn a_name_stands_for_an_address()
+    ensures { ANameStandsForAnAddress }
 {}
 
 /// The completion codes of all causes for STORAGE, as they are printed.
