@@ -1,5 +1,5 @@
 -- A change that is applied and kept.
-use Rattle.std.proofs.Common.{◌≡◌, ℕ, suc, ◌-◌, List, [], ◌∷◌, ◌++◌, length, take, drop, sym, ◌∙◌, ap, subst, refl, arith, append_assoc}
+use Rattle.std.proofs.Common.{◌≡◌, ℕ, false, suc, ◌-◌, List, [], ◌∷◌, ◌++◌, length, take, drop, sym, ◌∙◌, ap, subst, refl, arith, append_assoc}
 use Rattle.std.proofs.lemmas.Bool.{and_from}
 use Rattle.std.proofs.lemmas.List.{append-nil, length_push}
 use Rattle.vsm_model.specs.declared.limits.Settings.{Settings}
@@ -12,7 +12,6 @@ use Rattle.storage_core.specs.declared.changes.Change.{Change}
 use Rattle.step_history.specs.Log.{Log}
 use Rattle.step_history.specs.Single.{steps_next}
 use Rattle.step_history.specs.Trail.{trail_of, trail_kept}
-use Rattle.vsm_model.specs.declared.Service.{Service}
 use Rattle.vsm_model.specs.Step.{step}
 use Rattle.vsm_bench.specs.Machine.{service_in, with_code, statement_step}
 use Rattle.vsm_bench.specs.Changes.{shown, led_to, is_alike, all_alike, Alike, Swaps, any_copy, the_copy, machine_fits, machine_states, machine_laws, alike_from, swap_settings, swap_alike, all_put}
@@ -22,10 +21,10 @@ use Rattle.vsm_bench.proofs.Trails.{newest_states}
 use Rattle.vsm_bench.proofs.Moves.{fits_from}
 
 -- a service that is accepted is an accepted statement
-pub accepted_by : (settings : Settings) (s t p : State) (x : Act) (service : Service) (reply r : Reply) → service ≡ service_in x →
-    step settings s service ≡ Accepted p r → t ≡ p → reply ≡ r → statement_step settings s x ≡ Accepted t reply
-accepted_by settings s t p x service reply r is e same told =
-    ap (λ y. with_code (step settings s y)) (sym is) ∙ ap with_code e ∙ (λ i. Accepted (sym same i) (sym told i))
+pub accepted_by : (settings : Settings) (s t p : State) (x : Act) (reply r : Reply) →
+    step settings false s (service_in x) ≡ Accepted p r → t ≡ p → reply ≡ r → statement_step settings s x ≡ Accepted t reply
+accepted_by settings s t p x reply r e same told =
+    ap with_code e ∙ (λ i. Accepted (sym same i) (sym told i))
 
 module _ (ks us : List Change) (s t : Machine) (change inverse : Change) (h : Alike s (ks ++ us)) (e : settings_of (storage_in change) ≡ settings_of s.storage) (w : Swaps s change t inverse) where
   ready : Alike s (change ∷ (ks ++ us))

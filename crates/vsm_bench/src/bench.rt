@@ -1,6 +1,9 @@
 //! A bench: a machine, and the history that it moves along.
-ghost use Rattle.std.specs.Prelude.{◌≡◌, ◌++◌, true, length};
-ghost use Rattle.storage_core.specs.Meaning.{settings_of};
+ghost use Rattle.std.specs.Prelude.{◌≡◌, ◌++◌, true, false, length, IfOk, IfErr};
+ghost use Rattle.vsm_model.specs.Standing.{Accepted, Refused};
+ghost use Rattle.vsm_model.specs.Step.{step};
+ghost use Rattle.storage_core.specs.Meaning.{state_of, settings_of};
+ghost use Rattle.storage_core.specs.Planned.{planned, reply_of, FitsStorage};
 ghost use Rattle.macro_reader.specs.Requests.{written_in, act_in};
 ghost use Rattle.vsm_bench.specs.Changes.{all_alike};
 ghost use Rattle.vsm_bench.specs.Machine.{looked_up, service_in};
@@ -10,8 +13,7 @@ use crate::refusals::{NewFault, Refusal};
 use macro_reader::{Statement, Value};
 use std::alloc::Global;
 use step_history::{History, Reversible, TooFar, TooFarAhead};
-use storage_core::{Reply, Settings, Storage};
-use vsm_model::Service;
+use storage_core::{Cause, Plan, Reply, Settings, Storage};
 
 /// A bench over one private region.
 ///
@@ -33,24 +35,22 @@ fn look_up(value: Value) -> u32
     }
 }
 
-/// The service that a statement asks for.
-fn service_of(statement: &Statement) -> Service
-    ensures { result ≡ service_in (act_in statement.now) }
+/// The plan for what a statement asks for, or the first cause that refuses it.
+fn plan_of(storage: &Storage, statement: &Statement) -> Result<Plan, Cause>
+    ensures ok { IfOk result (λ plan.
+        step (settings_of storage.now) false (state_of storage.now) (service_in (act_in statement.now))
+        ≡ Accepted (planned (state_of storage.now) plan) (reply_of plan)) }
+    ensures fits { IfOk result (λ plan. FitsStorage storage.now plan) }
+    ensures err { IfErr result (λ cause.
+        step (settings_of storage.now) false (state_of storage.now) (service_in (act_in statement.now)) ≡ Refused cause) }
 {
     match *statement {
-        Statement::Obtain { length, subpool } => Service::Obtain {
-            length: look_up(length),
-            subpool: look_up(subpool),
-        },
+        Statement::Obtain { length, subpool } => storage.plan_obtain(look_up(length), look_up(subpool), None, false, false),
         Statement::Release {
             length,
             address,
             subpool,
-        } => Service::Release {
-            length: look_up(length),
-            address: look_up(address),
-            subpool: look_up(subpool),
-        },
+        } => storage.plan_release(look_up(length), look_up(address), look_up(subpool), false),
     }
 }
 
@@ -83,7 +83,7 @@ impl Bench {
         ensures keeps { Keeps (statement_step (settings_in self.old)) (settings_in self.old).history (bench_of self.old) (Apply (act_in statement.now)) (answer_to_apply result) (bench_of self.new) }
         ensures settings { settings_in self.new ≡ settings_in self.old }
     {
-        let plan = self.machine.storage.plan_service(&service_of(statement))?;
+        let plan = plan_of(&self.machine.storage, statement)?;
         let reply = plan.reply();
         self.history.reserve_place()?;
         let mut change = plan.reserve(&mut self.machine.storage)?;

@@ -12,7 +12,9 @@ use arrayvec::ArrayVec;
 
 impl Storage {
     /// The current task's own subpool 0, for a plan that concerns none.
-    pub(super) fn own_zero(&self) -> Subpool {
+    pub(super) fn own_zero(&self) -> Subpool
+        ensures { result ≡ record { number = 0; owner = (state_of self.now).current } }
+    {
         Subpool {
             number: 0,
             owner: self.current,

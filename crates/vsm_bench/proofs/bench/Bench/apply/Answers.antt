@@ -59,8 +59,8 @@ returns-clause-keeps c =
     (subst (λ (ks : List Change). machine_states n.kept u [] ≡ drop (length (ks ++ d ∷ []) - c.reserve_place.new.self.limit) (machine_states (ks ++ d ∷ []) t [])) c.reserve_place.ensures.kept
     c.push_reserved.ensures.states) in
     let new = kept_bench b.history.kept b.history.undone b.machine t c.in_ok-change.change d b.alike c.in_ok-change.ensures.settings swapped limit n u c.push_reserved.ensures.undone c.push_reserved.ensures.fits states in (
-      accepted_by (settings_of b.machine.storage) (state_of b.machine.storage) _ _ (act_in c.args.statement.now) c.service_of.result c.reply-reply.result _
-          c.service_of.ensures c.in_ok-plan.ensures.ok (ap (λ x. x.present) new ∙ c.in_ok-change.ensures.state) c.reply-reply.ensures,
+      accepted_by (settings_of b.machine.storage) (state_of b.machine.storage) _ _ (act_in c.args.statement.now) c.reply-reply.result _
+          c.in_ok-plan.ensures.ok (ap (λ x. x.present) new ∙ c.in_ok-change.ensures.state) c.reply-reply.ensures,
       ap (λ x. x.past) new,
       ap (λ x. x.later) new,
     )
