@@ -36,7 +36,7 @@ const FIRST_DOUBLEWORD: usize = PAGE_DOUBLEWORDS * FIRST_PAGE;
 const FIRST_ADDRESS: usize = PAGE_BYTES * FIRST_PAGE;
 
 /// The most bytes of one store.
-const STORE_MOST: usize = 256;
+pub const STORE_MOST: usize = 256;
 
 /// A row of sight: the task sees the subpool of this number that the owner has.
 #[derive(Clone, Copy, Debug, PartialEq, Eq)]

@@ -45,7 +45,13 @@ fn plan_of(storage: &Storage, statement: &Statement) -> Result<Plan, Cause>
         step (settings_of storage.now) false (state_of storage.now) (service_in (act_in statement.now)) ≡ Refused cause) }
 {
     match *statement {
-        Statement::Obtain { length, subpool } => storage.plan_obtain(look_up(length), look_up(subpool), None, false, false),
+        Statement::Obtain { length, subpool } => storage.plan_obtain(
+            look_up(length),
+            look_up(subpool),
+            None,
+            false,
+            false,
+        ),
         Statement::Release {
             length,
             address,

@@ -62,3 +62,14 @@ named_step settings m x =
 abbrev pub AreDistinct : List (List ℕ × ℕ) → Type 0
 AreDistinct [] = Unit {0}
 AreDistinct (row ∷ rows) = (word_of rows row.0 ≡ None) × AreDistinct rows
+
+-- A name stands for the word that it was given last,
+abbrev pub NameStandsForItsWord : Type 0
+NameStandsForItsWord =
+    (names : List (List ℕ × ℕ)) (name : List ℕ) (word : ℕ) → word_of (with_name names name word) name ≡ Some word
+
+-- and the other names for theirs, as before.
+abbrev pub OtherNamesKeepTheirWords : Type 0
+OtherNamesKeepTheirWords =
+    (names : List (List ℕ × ℕ)) (name other : List ℕ) (word : ℕ) →
+    same_name name other ≡ false → word_of (with_name names name word) other ≡ word_of names other

@@ -1,4 +1,5 @@
 //! Laws of the definitions: each is the contract of a function that does nothing.
+ghost use Rattle.vsm_model.specs.Names.{NameStandsForItsWord, OtherNamesKeepTheirWords};
 ghost use Rattle.vsm_model.specs.Promises.{
   AnswerFourSetsRegister15Alone,
   ObtainGrantsFreeStorage,
@@ -41,6 +42,12 @@ pub fn granted_and_given_back()
     ensures granted { ObtainGrantsFreeStorage }
     ensures four { AnswerFourSetsRegister15Alone }
     ensures given_back { ReleaseGivesTakenStorageBack }
+{}
+
+/// A name stands for the word that it was given last, and all other names stand for what they stood for.
+pub fn names_stand()
+    ensures own { NameStandsForItsWord }
+    ensures others { OtherNamesKeepTheirWords }
 {}
 
 /// What an accepted store stored is what is loaded at the address then, and nothing else is changed.
