@@ -6,6 +6,7 @@ pub mod Keywords
 pub mod Rows
 pub mod Requests
 pub mod Statements
+pub mod Continuation
 pub mod KeywordSets
 pub mod Scripts
 pub mod Modes

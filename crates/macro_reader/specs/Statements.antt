@@ -1,8 +1,8 @@
 -- The request of a statement, or its first fault.
-use Rattle.std.specs.Prelude.{ℕ, Bool, false, not, ◌&&◌, ◌||◌, ◌==◌, nat_lt, if◌then◌else◌, List, [], ◌∷◌, length, take, Option, Some, None, Result, Ok, Err, codes, unwrap_or, option_and_then}
+use Rattle.std.specs.Prelude.{ℕ, Bool, false, not, ◌&&◌, ◌||◌, ◌==◌, nat_lt, if◌then◌else◌, List, [], ◌∷◌, length, Option, Some, None, Result, Ok, Err, codes, unwrap_or, option_and_then}
 use Rattle.std.specs.Str.{bytes_eq}
 use Rattle.macro_reader.specs.Words.{is_word, is_name, word, word_len, after_word, after_blanks}
-use Rattle.macro_reader.specs.Field.{outside, operands, field_len, is_balanced}
+use Rattle.macro_reader.specs.Field.{outside, operands, is_balanced}
 use Rattle.macro_reader.specs.Keywords.{key_of, value_text, is_keyword_operand}
 use Rattle.macro_reader.specs.Values.{number_of}
 use Rattle.macro_reader.specs.Rows.{Row, obtain_row, release_row, storage_left_out, obtain_left_out, is_among, kind_in, value_fault}
@@ -143,17 +143,13 @@ from_operation card = after_blanks (after_word card)
 abbrev pub from_operands : List ℕ → List ℕ
 from_operands card = after_blanks (after_word (from_operation card))
 
--- The field in front of a text.
-abbrev pub field : List ℕ → List ℕ
-field text = take (field_len outside text) text
+-- Column 1 isn't blank, and no name with a blank behind it stands there (High Level Assembler Language Reference, "Name entries").
+abbrev pub is_misplaced : List ℕ → Bool
+is_misplaced card = nat_lt 0 (word_len card) && not (is_name (word card))
 
 -- A statement whose first line has these columns and whose operand field is this text. A name may stand from column 1; the operation
 -- comes behind blanks (High Level Assembler Language Reference, "Instruction statement format").
 abbrev pub statement_with : List ℕ → List ℕ → Result Asked FaultKind
 statement_with card text =
-    if nat_lt 0 (word_len card) && not (is_name (word card)) then Err fault.Column
+    if is_misplaced card then Err fault.Column
     else of_operation (operation_of (word (from_operation card))) text
-
--- A statement of one line, columns 1 to 71 of it.
-abbrev pub statement : List ℕ → Result Asked FaultKind
-statement card = statement_with card (field (from_operands card))

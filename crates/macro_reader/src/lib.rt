@@ -2,9 +2,11 @@
 #![tactic(auto)]
 
 mod columns;
+mod continuation;
 mod faults;
 mod keywords;
 mod laws;
+mod modes;
 mod nesting;
 mod numbers;
 mod operands;

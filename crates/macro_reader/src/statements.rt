@@ -1,14 +1,14 @@
 //! The request of a statement.
 
-ghost use Rattle.std.specs.Prelude.{◌≡◌, IfOk};
+ghost use Rattle.std.specs.Prelude.{◌≡◌, ◌≤◌, length, IfOk};
 ghost use Rattle.std.specs.Option.{option_copied};
 ghost use Rattle.macro_reader.specs.Field.{operands, operands_behind};
 ghost use Rattle.macro_reader.specs.Requests.{seen, written_in, asked_in, IsValue, IsValidAsked};
-ghost use Rattle.macro_reader.specs.Statements.{subpool_at, obtain_of, release_of, storage, count_in, operation_of, asked_of, of_operation, from_operation, from_operands, field, statement_with, statement};
+ghost use Rattle.macro_reader.specs.Statements.{subpool_at, obtain_of, release_of, storage, count_in, operation_of, asked_of, of_operation, from_operation, from_operands, is_misplaced, statement_with};
 
 use crate::faults::FaultKind;
 use crate::keywords::{Keywords, is_keyword_operand};
-use crate::nesting::{field_len, is_balanced, split};
+use crate::nesting::{is_balanced, split};
 use crate::numbers::number_of;
 use crate::operands::{first_fault, form_fault, number_at};
 use crate::requests::{Request, Statement, Value};
@@ -142,18 +142,26 @@ fn from_operation(card: &[u8]) -> &[u8]
 }
 
 /// What a first line has from the operands on.
-fn from_operands(card: &[u8]) -> &[u8]
-    ensures { result.now ≡ from_operands card.now }
+pub fn from_operands(card: &[u8]) -> &[u8]
+    ensures value { result.now ≡ from_operands card.now }
+    ensures within { length result.now ≤ length card.now }
 {
     after_blanks(after_word(from_operation(card)))
 }
 
+/// Whether column 1 of a first line isn't blank and has no name.
+pub fn is_misplaced(card: &[u8]) -> bool
+    ensures { result ≡ is_misplaced card.now }
+{
+    word_len(card) > 0 && !is_name(word(card))
+}
+
 /// The request of a statement whose first line has these columns and whose operand field is this text.
-fn statement_with(card: &[u8], text: &[u8]) -> Result<Request, FaultKind>
+pub fn statement_with(card: &[u8], text: &[u8]) -> Result<Request, FaultKind>
     ensures value { seen result ≡ statement_with card.now text.now }
     ensures valid { IfOk result (λ r. IsValidAsked (asked_in r)) }
 {
-    if word_len(card) > 0 && !is_name(word(card)) {
+    if is_misplaced(card) {
         return Err(FaultKind::Column);
     }
     let Some(operation) = operation_of(word(from_operation(card))) else {
@@ -163,13 +171,4 @@ fn statement_with(card: &[u8], text: &[u8]) -> Result<Request, FaultKind>
         return Err(FaultKind::Operand);
     }
     asked_of(operation, text)
-}
-
-/// The request of a statement of one line, columns 1 to 71 of it.
-pub fn statement(card: &[u8]) -> Result<Request, FaultKind>
-    ensures value { seen result ≡ statement card.now }
-    ensures valid { IfOk result (λ r. IsValidAsked (asked_in r)) }
-{
-    let rest = from_operands(card);
-    statement_with(card, &rest[..field_len(rest)])
 }

@@ -37,7 +37,7 @@ fn feed(
 #[test]
 fn answers_every_line(rt: HostRuntime) {
     let mut reader = Reader::new();
-    let script: [(&[u8], Result<Option<Request>, FaultKind>); 29] = [
+    let script: [(&[u8], Result<Option<Request>, FaultKind>); 26] = [
         (
             b"* a comment, with column 72                                            X",
             Ok(None),
@@ -48,15 +48,6 @@ fn answers_every_line(rt: HostRuntime) {
         (b" STORAGE OBTAIN,SP=1", Err(FaultKind::Missing)),
         (b" STORAGE OBTAIN,LENGTH=8,", Err(FaultKind::Operand)),
         (b"1X MAP", Err(FaultKind::Column)),
-        (
-            b"1X MAP                                                                 X",
-            Err(FaultKind::Continuation),
-        ),
-        (
-            b" BACK 1                                                                X",
-            Ok(None),
-        ),
-        (b" BACK 1", Ok(None)),
         (b" BACK 0", Ok(Some(Request::Back(0)))),
         (
             b" storage obtain,length=x'ff',sp=b'11' remarks",
@@ -95,12 +86,100 @@ fn answers_every_line(rt: HostRuntime) {
         feed(&rt, &mut reader, number, line, want);
     }
     assert_eq!(rt; reader.finish(), Ok(()));
-    // The count goes on, and no line is dropped.
-    feed(
-        &rt,
-        &mut reader,
-        number.saturating_add(1),
-        b" BACK 1",
-        Ok(Some(Request::Back(1))),
+}
+
+/// A line with a text from a column on, whose column 72 may say that the next line continues it.
+fn card(column: usize, text: &[u8], continued: bool) -> [u8; 72] {
+    let mut line = [b' '; 72];
+    for i in 0..71usize {
+        if i.saturating_add(1) >= column {
+            line[i] = text
+                .get(i.saturating_add(1).saturating_sub(column))
+                .copied()
+                .unwrap_or(b' ');
+        }
+    }
+    if continued {
+        line[71] = b'X';
+    }
+    line
+}
+
+fn fault(kind: FaultKind, line: u32) -> Result<Fed, Fault> {
+    Err(Fault { kind, line })
+}
+
+#[test]
+fn reads_continuation_lines(rt: HostRuntime) {
+    let mut reader = Reader::new();
+    let more = Ok(Fed::More);
+    let continuation = FaultKind::Continuation;
+    let reaches: &[u8] = b"STORAGE OBTAIN,LENGTH=0000000008";
+    let script: [(usize, &[u8], bool, Result<Fed, Fault>); 38] = [
+        // Remarks behind a comma.
+        (2, b"STORAGE OBTAIN, a remark", true, more),
+        (16, b"LENGTH=8, a remark", true, more),
+        (16, b"SP=1", false, Ok(Fed::Ready(obtain(8, 1), 1))),
+        // No name in column 1: continuation lines are remarks, and the fault comes with the last.
+        (1, b"1X MAP,", true, more),
+        (17, b"remarks", false, fault(FaultKind::Column, 4)),
+        // A fault of continuation comes before that, and what follows is dropped.
+        (1, b"1X MAP", true, more),
+        (15, b"BACK 1", true, fault(continuation, 6)),
+        (2, b"BACK 1", false, more),
+        (2, b"BACK 0", false, Ok(Fed::Ready(Request::Back(0), 9))),
+        // A blank in column 16 behind a comma.
+        (2, b"FOO A,", true, more),
+        (17, b"B", false, fault(continuation, 10)),
+        // A field that reaches column 71 ends at a blank in column 16, or goes on there.
+        (40, reaches, true, more),
+        (17, b",SP=2", false, Ok(Fed::Ready(obtain(8, 0), 12))),
+        (40, reaches, true, more),
+        (16, b",SP=2", false, Ok(Fed::Ready(obtain(8, 2), 14))),
+        // No operands on the first line.
+        (2, b"BACK", true, more),
+        (17, b"1,", true, more),
+        (16, b"1", false, fault(FaultKind::Missing, 16)),
+        // An apostrophe that is closed on the next line.
+        (2, b"STORAGE OBTAIN,LENGTH=X'1", true, more),
+        (16, b"0'", false, fault(FaultKind::Value, 19)),
+        (48, b"STORAGE OBTAIN,LENGTH=X'", true, more),
+        (16, b"10'", false, Ok(Fed::Ready(obtain(16, 0), 21))),
+        // An empty line and a comment continue a statement too.
+        (2, b"STORAGE OBTAIN,LENGTH=8,", true, more),
+        (1, b"", false, fault(continuation, 23)),
+        (2, b"STORAGE OBTAIN,LENGTH=8", true, more),
+        (1, b"* a comment", false, fault(continuation, 25)),
+        // Nine continuation lines that are continued.
+        (2, b"BACK 1", true, more),
+        (16, b"2", true, more),
+        (16, b"3", true, more),
+        (16, b"4", true, more),
+        (16, b"5", true, more),
+        (16, b"6", true, more),
+        (16, b"7", true, more),
+        (16, b"8", true, more),
+        (16, b"9", true, more),
+        (16, b"10", true, fault(continuation, 27)),
+        (16, b"11", false, more),
+        // A statement that is open at the end.
+        (2, b"BACK 1", true, more),
+    ];
+    for (column, text, continued, want) in script {
+        assert_eq!(rt;
+            reader.next(&card(column, text, continued)),
+            want,
+            "{column}"
+        );
+    }
+    assert_eq!(rt;
+        reader.finish(),
+        Err(Fault {
+            kind: continuation,
+            line: 38
+        })
     );
+    // The count goes on, and no line is dropped.
+    let next = reader.next(b" BACK 1");
+    assert_eq!(rt; next, Ok(Fed::Ready(Request::Back(1), 39)));
 }

@@ -79,14 +79,16 @@ pub fn word(text: &[u8]) -> &[u8]
 
 /// What stands behind the word in front.
 pub fn after_word(text: &[u8]) -> &[u8]
-    ensures { result.now ≡ after_word text.now }
+    ensures value { result.now ≡ after_word text.now }
+    ensures within { length result.now ≤ length text.now }
 {
     &text[word_len(text)..]
 }
 
 /// What stands behind the blanks in front.
 pub fn after_blanks(text: &[u8]) -> &[u8]
-    ensures { result.now ≡ after_blanks text.now }
+    ensures value { result.now ≡ after_blanks text.now }
+    ensures within { length result.now ≤ length text.now }
 {
     &text[blank_len(text)..]
 }
