@@ -4,11 +4,13 @@ use Rattle.std.specs.Str.{bytes_eq}
 use Rattle.macro_reader.specs.Words.{is_word, is_name, word, word_len, after_word, after_blanks}
 use Rattle.macro_reader.specs.Field.{outside, operands, is_balanced}
 use Rattle.macro_reader.specs.Keywords.{key_of, value_text, is_keyword_operand}
-use Rattle.macro_reader.specs.Values.{number_of}
-use Rattle.macro_reader.specs.Rows.{Row, obtain_row, release_row, storage_left_out, obtain_left_out, is_among, kind_in, value_fault}
-use Rattle.macro_reader.specs.Requests.{Written, number, obtain, release, Asked, act, back, forward}
+use Rattle.macro_reader.specs.Values.{number_of, value_of, target_of}
+use Rattle.macro_reader.specs.Rows.{Row, obtain_row, release_row, storage_left_out, is_among, kind_in, value_fault}
+use Rattle.macro_reader.specs.Requests.{Written, number, Target, obtain, release, Asked, act, back, forward}
 use Rattle.macro_reader.specs.declared.faults.FaultKind.{FaultKind}
 use Rattle.macro_reader.specs.declared.faults.FaultKind.TheVariants as fault
+use Rattle.macro_reader.specs.declared.requests.Family.TheVariants as family
+use Rattle.macro_reader.specs.declared.requests.Form.{Form}
 use Rattle.macro_reader.specs.declared.rows.Kind.{Kind}
 use Rattle.macro_reader.specs.declared.statements.Operation.{Operation}
 use Rattle.macro_reader.specs.declared.statements.Operation.TheVariants as operation
@@ -59,34 +61,49 @@ abbrev pub text_at : List ℕ → List (List ℕ) → Option (List ℕ)
 text_at key [] = None
 text_at key (o ∷ os) = if is_key key (key_of o) then Some (value_text o) else text_at key os
 
--- The number of the operand that has this keyword.
-abbrev pub number_at : List ℕ → List (List ℕ) → Option ℕ
-number_at key os = option_and_then number_of (text_at key os)
+-- The value of the operand that has this keyword.
+abbrev pub value_at : List ℕ → List (List ℕ) → Option Written
+value_at key os = option_and_then value_of (text_at key os)
+
+-- The place of the operand that has this keyword.
+abbrev pub target_at : List ℕ → List (List ℕ) → Option Target
+target_at key os = option_and_then target_of (text_at key os)
 
 -- SP is 0 where it is left out.
 abbrev pub subpool_at : List (List ℕ) → Written
-subpool_at os = number (unwrap_or (number_at (codes "SP") os) 0)
+subpool_at os = unwrap_or (value_at (codes "SP") os) (number 0)
+
+-- A condition says YES.
+abbrev pub says_yes : Option (List ℕ) → Bool
+says_yes None = false
+says_yes (Some text) = is_word text (codes "YES")
+
+-- STORAGE is a form of its own family, and conditional where COND says YES.
+abbrev pub storage_form : List (List ℕ) → Form
+storage_form os = record { family = family.S; conditional = says_yes (text_at (codes "COND") os) }
 
 -- LENGTH is required.
-abbrev pub obtain_with : Option ℕ → Written → Result Asked FaultKind
-obtain_with None subpool = Err fault.Missing
-obtain_with (Some length) subpool = Ok (act (obtain (number length) subpool))
+abbrev pub obtain_with : Option Written → Written → Option Target → Form → Result Asked FaultKind
+obtain_with None subpool target form = Err fault.Missing
+obtain_with (Some length) subpool target form = Ok (act (obtain length subpool target form))
 
 -- LENGTH and ADDR are required.
-abbrev pub release_with : Option ℕ → Option ℕ → Written → Result Asked FaultKind
-release_with None address subpool = Err fault.Missing
-release_with (Some length) None subpool = Err fault.Missing
-release_with (Some length) (Some address) subpool = Ok (act (release (number length) (number address) subpool))
+abbrev pub release_with : Option Written → Option Written → Written → Form → Result Asked FaultKind
+release_with None address subpool form = Err fault.Missing
+release_with (Some length) None subpool form = Err fault.Missing
+release_with (Some length) (Some address) subpool form = Ok (act (release length address subpool form))
 
 -- STORAGE OBTAIN with the operands behind its form (Assembler Services Reference, "STORAGE - Obtain and release storage").
 abbrev pub obtain_of : List (List ℕ) → Result Asked FaultKind
-obtain_of os = unless_fault (first_fault obtain_left_out obtain_row [] os) (obtain_with (number_at (codes "LENGTH") os) (subpool_at os))
+obtain_of os =
+    unless_fault (first_fault storage_left_out obtain_row [] os)
+    (obtain_with (value_at (codes "LENGTH") os) (subpool_at os) (target_at (codes "ADDR") os) (storage_form os))
 
 -- STORAGE RELEASE with the operands behind its form (there).
 abbrev pub release_of : List (List ℕ) → Result Asked FaultKind
 release_of os =
     unless_fault (first_fault storage_left_out release_row [] os)
-    (release_with (number_at (codes "LENGTH") os) (number_at (codes "ADDR") os) (subpool_at os))
+    (release_with (value_at (codes "LENGTH") os) (value_at (codes "ADDR") os) (subpool_at os) (storage_form os))
 
 -- What is wrong with a first operand that is no form: it may have a keyword that is left out.
 abbrev pub form_fault : List (List ℕ) → List ℕ → FaultKind

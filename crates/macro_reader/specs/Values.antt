@@ -1,9 +1,11 @@
 -- Values as operands spell them: numbers, names, registers and pairs.
-use Rattle.std.specs.Prelude.{ℕ, ◌-◌, ◌^◌, Bool, false, ◌&&◌, ◌||◌, ◌==◌, nat_lt, nat_le, if◌then◌else◌, List, [], ◌∷◌, length, drop, Option, Some, None, is_some, slice_index, slice_range}
+use Rattle.std.specs.Prelude.{◌≡◌, ℕ, ◌-◌, ◌^◌, Bool, false, ◌&&◌, ◌||◌, ◌==◌, nat_lt, nat_le, if◌then◌else◌, List, [], ◌∷◌, length, drop, map, codes, Option, Some, None, is_some, slice_index, slice_range}
 use Rattle.std.specs.List.{list_all}
+use Rattle.std.specs.Option.{option_map}
 use Rattle.std.specs.Char.{to_ascii_uppercase, is_digit}
 use Rattle.std.specs.Str.Parse.{digits_value}
-use Rattle.macro_reader.specs.Words.{is_name}
+use Rattle.macro_reader.specs.Words.{is_name, is_word}
+use Rattle.macro_reader.specs.Requests.{Written, number, named, register, Target, in_name, in_register}
 use Rattle.macro_reader.specs.Field.{outside, operands_from}
 
 -- The number that one digit or more of a radix spell, up to this many, where it is below 2 ^ 32.
@@ -28,10 +30,12 @@ number_of text =
     else digits_number 10 10 text
 
 -- A register's number goes from 0 to 15, without leading zeros.
-abbrev pub is_register_number : List ℕ → Bool
-is_register_number digits =
-    ((length digits == 1) && nat_le 48 (slice_index digits 0) && nat_le (slice_index digits 0) 57)
-    || ((length digits == 2) && (slice_index digits 0 == 49) && nat_le 48 (slice_index digits 1) && nat_le (slice_index digits 1) 53)
+abbrev pub register_number : List ℕ → Option ℕ
+register_number digits =
+    if (length digits == 1) && nat_le 48 (slice_index digits 0) && nat_le (slice_index digits 0) 57 then Some (slice_index digits 0 - 48)
+    else if (length digits == 2) && (slice_index digits 0 == 49) && nat_le 48 (slice_index digits 1) && nat_le (slice_index digits 1) 53
+    then Some (slice_index digits 1 - 38)
+    else None
 
 -- What stands behind an R, in either case, or the whole text where none stands in front.
 abbrev pub without_r : List ℕ → List ℕ
@@ -46,12 +50,38 @@ abbrev pub enclosed : List ℕ → List ℕ
 enclosed text = slice_range text 1 (length text - 1)
 
 -- A register is written `(n)` or `(Rn)` (Assembler Services Reference, "Coding the macros").
-abbrev pub is_register : List ℕ → Bool
-is_register text = is_enclosed text && is_register_number (without_r (enclosed text))
+abbrev pub register_of : List ℕ → Option ℕ
+register_of text = if is_enclosed text then register_number (without_r (enclosed text)) else None
+
+-- A number, or else a name, in upper case, or a register.
+abbrev pub or_other : Option ℕ → List ℕ → Option Written
+or_other (Some n) text = Some (number n)
+or_other None text = if is_name text then Some (named (map to_ascii_uppercase text)) else option_map register (register_of text)
 
 -- A value is a number, a name or a register.
+abbrev pub value_of : List ℕ → Option Written
+value_of text = or_other (number_of text) text
+
+-- A text spells this value.
+abbrev pub Spells : List ℕ → Written → Type 0
+Spells text value = value_of text ≡ Some value
+
+-- A text is a value.
 abbrev pub is_value : List ℕ → Bool
-is_value text = is_some (number_of text) || is_name text || is_register text
+is_value text = is_some (value_of text)
+
+-- A register where something may be stored goes from 1 to 12.
+abbrev pub target_register : Option ℕ → Option Target
+target_register None = None
+target_register (Some n) = if nat_le 1 n && nat_le n 12 then Some (in_register n) else None
+
+-- A place is a name, in upper case, or a register from 1 to 12.
+abbrev pub target_of : List ℕ → Option Target
+target_of text = if is_name text then Some (in_name (map to_ascii_uppercase text)) else target_register (register_of text)
+
+-- A condition is YES or NO, in either case.
+abbrev pub is_condition : List ℕ → Bool
+is_condition text = is_word text (codes "YES") || is_word text (codes "NO")
 
 -- Two operands, each of them a value.
 abbrev pub are_two_values : List (List ℕ) → Bool

@@ -2,8 +2,9 @@
 
 ghost use Rattle.std.specs.Prelude.{◌≡◌, ◌↔◌, ℕ, List};
 ghost use Rattle.macro_reader.specs.Columns.{Line};
-ghost use Rattle.macro_reader.specs.Requests.{Written, IsValue, Spells};
+ghost use Rattle.macro_reader.specs.Requests.{Written, IsValue};
 ghost use Rattle.macro_reader.specs.Scripts.{Answer, Answers};
+ghost use Rattle.macro_reader.specs.Values.{Spells};
 
 /// A list of lines has one list of answers: any two are the same.
 pub fn one_reading()

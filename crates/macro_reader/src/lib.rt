@@ -20,7 +20,7 @@ mod words;
 pub use faults::{Fault, FaultKind};
 pub use laws::{every_script_is_read, one_reading, valid_values_are_spelled};
 pub use reading::{Fed, Reader};
-pub use requests::{Request, Statement, Value};
+pub use requests::{Content, Family, Form, Name, Place, Request, Statement, Value};
 
 #[cfg(test)]
 mod tests;

@@ -17,7 +17,7 @@ use std::marker::Model;
 use std::mem;
 
 /// What a line brought.
-#[derive(Clone, Copy, Debug, PartialEq, Eq)]
+#[derive(Debug, PartialEq, Eq, Drop)]
 pub enum Fed {
     /// No answer is due.
     More,

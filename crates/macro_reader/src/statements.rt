@@ -4,15 +4,15 @@ ghost use Rattle.std.specs.Prelude.{◌≡◌, ◌≤◌, length, IfOk};
 ghost use Rattle.std.specs.Option.{option_copied};
 ghost use Rattle.macro_reader.specs.Field.{operands, operands_behind};
 ghost use Rattle.macro_reader.specs.Requests.{seen, written_in, asked_in, IsValue, IsValidAsked};
-ghost use Rattle.macro_reader.specs.Statements.{subpool_at, obtain_of, release_of, storage, count_in, operation_of, asked_of, of_operation, from_operation, from_operands, is_misplaced, statement_with};
+ghost use Rattle.macro_reader.specs.Statements.{subpool_at, storage_form, obtain_of, release_of, storage, count_in, operation_of, asked_of, of_operation, from_operation, from_operands, is_misplaced, statement_with};
 
 use crate::faults::FaultKind;
 use crate::keywords::{Keywords, is_keyword_operand};
 use crate::nesting::{is_balanced, split};
 use crate::numbers::number_of;
-use crate::operands::{first_fault, form_fault, number_at};
-use crate::requests::{Request, Statement, Value};
-use crate::rows::{OBTAIN, OBTAIN_LEFT_OUT, RELEASE, STORAGE_LEFT_OUT};
+use crate::operands::{first_fault, form_fault, place_at, says_yes_at, value_at};
+use crate::requests::{Family, Form, Request, Statement, Value};
+use crate::rows::{OBTAIN, RELEASE, STORAGE_LEFT_OUT};
 use crate::words::{after_blanks, after_word, is_name, is_word, word, word_len};
 
 /// An operation that is known.
@@ -43,7 +43,20 @@ fn subpool_at(text: Option<&[u8]>) -> Value
     ensures value { written_in result ≡ subpool_at (operands_behind (option_copied text.entry)) }
     ensures valid { IsValue (written_in result) }
 {
-    Value::Number(number_at(Keywords::SP, text).unwrap_or(0))
+    match value_at(Keywords::SP, text) {
+        Some(subpool) => subpool,
+        None => Value::Number(0),
+    }
+}
+
+/// The form of STORAGE with the operands behind OBTAIN or RELEASE.
+fn storage_form(text: Option<&[u8]>) -> Form
+    ensures { result ≡ storage_form (operands_behind (option_copied text.entry)) }
+{
+    Form {
+        family: Family::S,
+        conditional: says_yes_at(Keywords::COND, text),
+    }
 }
 
 /// STORAGE OBTAIN with the operands behind its form.
@@ -51,15 +64,17 @@ fn obtain(text: Option<&[u8]>) -> Result<Request, FaultKind>
     ensures value { seen result ≡ obtain_of (operands_behind (option_copied text.entry)) }
     ensures valid { IfOk result (λ r. IsValidAsked (asked_in r)) }
 {
-    if let Some(fault) = first_fault(&OBTAIN_LEFT_OUT, &OBTAIN, text) {
+    if let Some(fault) = first_fault(&STORAGE_LEFT_OUT, &OBTAIN, text) {
         return Err(fault);
     }
-    let Some(length) = number_at(Keywords::LENGTH, text) else {
+    let Some(length) = value_at(Keywords::LENGTH, text) else {
         return Err(FaultKind::Missing);
     };
     Ok(Request::Act(Statement::Obtain {
-        length: Value::Number(length),
+        length,
         subpool: subpool_at(text),
+        place: place_at(Keywords::ADDR, text),
+        form: storage_form(text),
     }))
 }
 
@@ -71,16 +86,17 @@ fn release(text: Option<&[u8]>) -> Result<Request, FaultKind>
     if let Some(fault) = first_fault(&STORAGE_LEFT_OUT, &RELEASE, text) {
         return Err(fault);
     }
-    let Some(length) = number_at(Keywords::LENGTH, text) else {
+    let Some(length) = value_at(Keywords::LENGTH, text) else {
         return Err(FaultKind::Missing);
     };
-    let Some(address) = number_at(Keywords::ADDR, text) else {
+    let Some(address) = value_at(Keywords::ADDR, text) else {
         return Err(FaultKind::Missing);
     };
     Ok(Request::Act(Statement::Release {
-        length: Value::Number(length),
-        address: Value::Number(address),
+        length,
+        address,
         subpool: subpool_at(text),
+        form: storage_form(text),
     }))
 }
 

@@ -1,12 +1,19 @@
 //! A script with every kind of fault.
 
-use crate::{Fault, FaultKind, Fed, Reader, Request, Statement, Value};
+use crate::{Family, Fault, FaultKind, Fed, Form, Name, Place, Reader, Request, Statement, Value};
 use std::process::Abort;
+
+const STORAGE: Form = Form {
+    family: Family::S,
+    conditional: false,
+};
 
 fn obtain(length: u32, subpool: u32) -> Request {
     Request::Act(Statement::Obtain {
         length: Value::Number(length),
         subpool: Value::Number(subpool),
+        place: None,
+        form: STORAGE,
     })
 }
 
@@ -15,7 +22,12 @@ fn release(length: u32, address: u32, subpool: u32) -> Request {
         length: Value::Number(length),
         address: Value::Number(address),
         subpool: Value::Number(subpool),
+        form: STORAGE,
     })
+}
+
+fn name(text: &str) -> Name {
+    Name::from(text).unwrap_or_default()
 }
 
 /// Feeds the next line, and compares the answer, which has this line's number.
@@ -37,7 +49,7 @@ fn feed(
 #[test]
 fn answers_every_line(rt: HostRuntime) {
     let mut reader = Reader::new();
-    let script: [(&[u8], Result<Option<Request>, FaultKind>); 26] = [
+    let script: [(&[u8], Result<Option<Request>, FaultKind>); 31] = [
         (
             b"* a comment, with column 72                                            X",
             Ok(None),
@@ -65,9 +77,17 @@ fn answers_every_line(rt: HostRuntime) {
         (b" STORAGE OBTAIN,LENGTH=4294967296", Err(FaultKind::Value)),
         (b" STORAGE OBTAIN,LENGTH=(8,4)", Err(FaultKind::LeftOut)),
         (b" STORAGE RELEASE,LENGTH=(8,4)", Err(FaultKind::Value)),
-        (b" STORAGE OBTAIN,LENGTH=8,SP=(5)", Err(FaultKind::LeftOut)),
+        (b" STORAGE OBTAIN,LENGTH=(P)", Err(FaultKind::Value)),
+        (b" STORAGE OBTAIN,LENGTH=(P,(5))", Err(FaultKind::LeftOut)),
+        (b" STORAGE OBTAIN,LENGTH=8,LOC=31", Err(FaultKind::LeftOut)),
         (b" STORAGE KEY=1", Err(FaultKind::LeftOut)),
-        (b" STORAGE OBTAIN,LENGTH=8,ADDR=P", Err(FaultKind::LeftOut)),
+        (b" STORAGE OBTAIN,LENGTH=8,ADDR=(13)", Err(FaultKind::Value)),
+        (b" STORAGE OBTAIN,LENGTH=8,ADDR=(0)", Err(FaultKind::Value)),
+        (b" STORAGE OBTAIN,LENGTH=8,ADDR=8", Err(FaultKind::Value)),
+        (
+            b" STORAGE OBTAIN,LENGTH=8,COND=MAYBE",
+            Err(FaultKind::Value),
+        ),
         (b" STORAGE RELEASE,SP=1", Err(FaultKind::Missing)),
         (b" STORAGE KEY=1,LENGTH=(8", Err(FaultKind::Operand)),
         (
@@ -88,6 +108,48 @@ fn answers_every_line(rt: HostRuntime) {
     assert_eq!(rt; reader.finish(), Ok(()));
 }
 
+#[test]
+fn reads_names_and_registers(rt: HostRuntime) {
+    let mut reader = Reader::new();
+    let script: [(&[u8], Request); 3] = [
+        (
+            b" STORAGE OBTAIN,LENGTH=(0),SP=(R15),ADDR=area_1",
+            Request::Act(Statement::Obtain {
+                length: Value::Register(0),
+                subpool: Value::Register(15),
+                place: Some(Place::Named(name("AREA_1"))),
+                form: STORAGE,
+            }),
+        ),
+        (
+            b" STORAGE OBTAIN,LENGTH=R5,ADDR=(r12),COND=no",
+            Request::Act(Statement::Obtain {
+                length: Value::Named(name("R5")),
+                subpool: Value::Number(0),
+                place: Some(Place::Register(12)),
+                form: STORAGE,
+            }),
+        ),
+        (
+            b" STORAGE RELEASE,LENGTH=$n,ADDR=(1),COND=Yes",
+            Request::Act(Statement::Release {
+                length: Value::Named(name("$N")),
+                address: Value::Register(1),
+                subpool: Value::Number(0),
+                form: Form {
+                    family: Family::S,
+                    conditional: true,
+                },
+            }),
+        ),
+    ];
+    let mut number = 0u32;
+    for (line, want) in script {
+        number = number.saturating_add(1);
+        feed(&rt, &mut reader, number, line, Ok(Some(want)));
+    }
+}
+
 /// A line with a text from a column on, whose column 72 may say that the next line continues it.
 fn card(column: usize, text: &[u8], continued: bool) -> [u8; 72] {
     let mut line = [b' '; 72];
@@ -105,6 +167,10 @@ fn card(column: usize, text: &[u8], continued: bool) -> [u8; 72] {
     line
 }
 
+fn more() -> Result<Fed, Fault> {
+    Ok(Fed::More)
+}
+
 fn fault(kind: FaultKind, line: u32) -> Result<Fed, Fault> {
     Err(Fault { kind, line })
 }
@@ -112,58 +178,57 @@ fn fault(kind: FaultKind, line: u32) -> Result<Fed, Fault> {
 #[test]
 fn reads_continuation_lines(rt: HostRuntime) {
     let mut reader = Reader::new();
-    let more = Ok(Fed::More);
     let continuation = FaultKind::Continuation;
     let reaches: &[u8] = b"STORAGE OBTAIN,LENGTH=0000000008";
     let script: [(usize, &[u8], bool, Result<Fed, Fault>); 38] = [
         // Remarks behind a comma.
-        (2, b"STORAGE OBTAIN, a remark", true, more),
-        (16, b"LENGTH=8, a remark", true, more),
+        (2, b"STORAGE OBTAIN, a remark", true, more()),
+        (16, b"LENGTH=8, a remark", true, more()),
         (16, b"SP=1", false, Ok(Fed::Ready(obtain(8, 1), 1))),
         // No name in column 1: continuation lines are remarks, and the fault comes with the last.
-        (1, b"1X MAP,", true, more),
+        (1, b"1X MAP,", true, more()),
         (17, b"remarks", false, fault(FaultKind::Column, 4)),
         // A fault of continuation comes before that, and what follows is dropped.
-        (1, b"1X MAP", true, more),
+        (1, b"1X MAP", true, more()),
         (15, b"BACK 1", true, fault(continuation, 6)),
-        (2, b"BACK 1", false, more),
+        (2, b"BACK 1", false, more()),
         (2, b"BACK 0", false, Ok(Fed::Ready(Request::Back(0), 9))),
         // A blank in column 16 behind a comma.
-        (2, b"FOO A,", true, more),
+        (2, b"FOO A,", true, more()),
         (17, b"B", false, fault(continuation, 10)),
         // A field that reaches column 71 ends at a blank in column 16, or goes on there.
-        (40, reaches, true, more),
+        (40, reaches, true, more()),
         (17, b",SP=2", false, Ok(Fed::Ready(obtain(8, 0), 12))),
-        (40, reaches, true, more),
+        (40, reaches, true, more()),
         (16, b",SP=2", false, Ok(Fed::Ready(obtain(8, 2), 14))),
         // No operands on the first line.
-        (2, b"BACK", true, more),
-        (17, b"1,", true, more),
+        (2, b"BACK", true, more()),
+        (17, b"1,", true, more()),
         (16, b"1", false, fault(FaultKind::Missing, 16)),
         // An apostrophe that is closed on the next line.
-        (2, b"STORAGE OBTAIN,LENGTH=X'1", true, more),
+        (2, b"STORAGE OBTAIN,LENGTH=X'1", true, more()),
         (16, b"0'", false, fault(FaultKind::Value, 19)),
-        (48, b"STORAGE OBTAIN,LENGTH=X'", true, more),
+        (48, b"STORAGE OBTAIN,LENGTH=X'", true, more()),
         (16, b"10'", false, Ok(Fed::Ready(obtain(16, 0), 21))),
         // An empty line and a comment continue a statement too.
-        (2, b"STORAGE OBTAIN,LENGTH=8,", true, more),
+        (2, b"STORAGE OBTAIN,LENGTH=8,", true, more()),
         (1, b"", false, fault(continuation, 23)),
-        (2, b"STORAGE OBTAIN,LENGTH=8", true, more),
+        (2, b"STORAGE OBTAIN,LENGTH=8", true, more()),
         (1, b"* a comment", false, fault(continuation, 25)),
         // Nine continuation lines that are continued.
-        (2, b"BACK 1", true, more),
-        (16, b"2", true, more),
-        (16, b"3", true, more),
-        (16, b"4", true, more),
-        (16, b"5", true, more),
-        (16, b"6", true, more),
-        (16, b"7", true, more),
-        (16, b"8", true, more),
-        (16, b"9", true, more),
+        (2, b"BACK 1", true, more()),
+        (16, b"2", true, more()),
+        (16, b"3", true, more()),
+        (16, b"4", true, more()),
+        (16, b"5", true, more()),
+        (16, b"6", true, more()),
+        (16, b"7", true, more()),
+        (16, b"8", true, more()),
+        (16, b"9", true, more()),
         (16, b"10", true, fault(continuation, 27)),
-        (16, b"11", false, more),
+        (16, b"11", false, more()),
         // A statement that is open at the end.
-        (2, b"BACK 1", true, more),
+        (2, b"BACK 1", true, more()),
     ];
     for (column, text, continued, want) in script {
         assert_eq!(rt;
