@@ -5,3 +5,5 @@ pub mod Names
 pub mod KeywordBits
 pub mod Digits
 pub mod Spelling
+pub mod Bytes
+pub mod InPositions

@@ -2,7 +2,7 @@
 use Rattle.std.specs.Prelude.{ℕ, Bool, false, if◌then◌else◌, List, [], ◌∷◌, Option, Some, None, is_some, codes}
 use Rattle.std.specs.List.{list_any}
 use Rattle.std.specs.Str.{bytes_eq}
-use Rattle.macro_reader.specs.Values.{is_value, is_pair, target_of, is_condition}
+use Rattle.macro_reader.specs.Values.{number_of, is_value, is_pair, target_of, is_condition, content_of, size_of}
 use Rattle.macro_reader.specs.declared.faults.FaultKind.{FaultKind}
 use Rattle.macro_reader.specs.declared.faults.FaultKind.TheVariants as fault
 use Rattle.macro_reader.specs.declared.rows.Kind.{Kind}
@@ -46,6 +46,9 @@ is_of_kind kind.Value text = is_value text
 is_of_kind kind.Length text = is_value text
 is_of_kind kind.Place text = is_some (target_of text)
 is_of_kind kind.Condition text = is_condition text
+is_of_kind kind.Content text = is_some (content_of text)
+is_of_kind kind.Size text = is_some (size_of text)
+is_of_kind kind.Count text = is_some (number_of text)
 
 -- A text is a value of this kind that isn't supported: of lengths that is a pair.
 abbrev pub is_left_out : Kind → List ℕ → Bool
@@ -53,6 +56,9 @@ is_left_out kind.Value text = false
 is_left_out kind.Length text = is_pair text
 is_left_out kind.Place text = false
 is_left_out kind.Condition text = false
+is_left_out kind.Content text = false
+is_left_out kind.Size text = false
+is_left_out kind.Count text = false
 
 -- What is wrong with a value of this kind.
 abbrev pub value_fault : Kind → List ℕ → Option FaultKind

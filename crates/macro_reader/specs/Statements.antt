@@ -4,14 +4,15 @@ use Rattle.std.specs.Str.{bytes_eq}
 use Rattle.macro_reader.specs.Words.{is_word, is_name, word, word_len, after_word, after_blanks}
 use Rattle.macro_reader.specs.Field.{outside, operands, is_balanced}
 use Rattle.macro_reader.specs.Keywords.{key_of, value_text, is_keyword_operand}
-use Rattle.macro_reader.specs.Values.{number_of, value_of, target_of}
+use Rattle.macro_reader.specs.Values.{number_of, value_of, target_of, content_of, size_of}
 use Rattle.macro_reader.specs.Rows.{Row, obtain_row, release_row, storage_left_out, is_among, kind_in, value_fault}
-use Rattle.macro_reader.specs.Requests.{Written, number, Target, obtain, release, Asked, act, back, forward}
+use Rattle.macro_reader.specs.Requests.{Written, number, Target, Stored, obtain, release, poke, Asked, act, peek, back, forward}
 use Rattle.macro_reader.specs.declared.faults.FaultKind.{FaultKind}
 use Rattle.macro_reader.specs.declared.faults.FaultKind.TheVariants as fault
 use Rattle.macro_reader.specs.declared.requests.Family.TheVariants as family
 use Rattle.macro_reader.specs.declared.requests.Form.{Form}
 use Rattle.macro_reader.specs.declared.rows.Kind.{Kind}
+use Rattle.macro_reader.specs.declared.rows.Kind.TheVariants as kind
 use Rattle.macro_reader.specs.declared.statements.Operation.{Operation}
 use Rattle.macro_reader.specs.declared.statements.Operation.TheVariants as operation
 
@@ -117,16 +118,59 @@ storage (form ∷ os) =
     else if is_word form (codes "RELEASE") then release_of os
     else Err (form_fault storage_left_out form)
 
--- A first operand that is this number, or none, with those behind it.
-abbrev pub count_with : Option ℕ → List (List ℕ) → Result ℕ FaultKind
-count_with None os = Err fault.Value
-count_with (Some n) [] = Ok n
-count_with (Some n) (o ∷ os) = Err fault.Operand
+-- What is wrong with an operand in a position for this kind of value. An empty operand and a keyword operand stand in no position.
+abbrev pub position_fault : Kind → List ℕ → Option FaultKind
+position_fault k o = if (length o == 0) || is_keyword_operand o then Some fault.Operand else value_fault k o
+
+-- The first fault of operands that stand in positions for these kinds of values.
+abbrev pub positional_fault : List Kind → List (List ℕ) → Option FaultKind
+positional_fault [] [] = None
+positional_fault [] (o ∷ os) = Some fault.Operand
+positional_fault (k ∷ ks) [] = Some fault.Missing
+positional_fault (k ∷ ks) (o ∷ os) = earlier (position_fault k o) (positional_fault ks os)
+
+-- The first operand.
+abbrev pub first_operand : List (List ℕ) → Option (List ℕ)
+first_operand [] = None
+first_operand (o ∷ os) = Some o
+
+-- The second operand.
+abbrev pub second_operand : List (List ℕ) → Option (List ℕ)
+second_operand [] = None
+second_operand (o ∷ os) = first_operand os
+
+-- An address and what is stored there are required.
+abbrev pub poke_with : Option Written → Option Stored → Result Asked FaultKind
+poke_with None content = Err fault.Missing
+poke_with (Some address) None = Err fault.Missing
+poke_with (Some address) (Some content) = Ok (act (poke address content))
+
+-- POKE has an address and what is stored there.
+abbrev pub poke_of : List (List ℕ) → Result Asked FaultKind
+poke_of os =
+    unless_fault (positional_fault (kind.Value ∷ kind.Content ∷ []) os)
+    (poke_with (option_and_then value_of (first_operand os)) (option_and_then content_of (second_operand os)))
+
+-- An address and a length are required.
+abbrev pub peek_with : Option Written → Option ℕ → Result Asked FaultKind
+peek_with None size = Err fault.Missing
+peek_with (Some address) None = Err fault.Missing
+peek_with (Some address) (Some size) = Ok (peek address size)
+
+-- PEEK has an address and a length.
+abbrev pub peek_of : List (List ℕ) → Result Asked FaultKind
+peek_of os =
+    unless_fault (positional_fault (kind.Value ∷ kind.Size ∷ []) os)
+    (peek_with (option_and_then value_of (first_operand os)) (option_and_then size_of (second_operand os)))
+
+-- A count is required.
+abbrev pub count_with : Option ℕ → Result ℕ FaultKind
+count_with None = Err fault.Missing
+count_with (Some n) = Ok n
 
 -- One operand, a number.
 abbrev pub count_in : List (List ℕ) → Result ℕ FaultKind
-count_in [] = Err fault.Missing
-count_in (o ∷ os) = if (length o == 0) || is_keyword_operand o then Err fault.Operand else count_with (number_of o) os
+count_in os = unless_fault (positional_fault (kind.Count ∷ []) os) (count_with (option_and_then number_of (first_operand os)))
 
 -- A step takes a count.
 abbrev pub step_with : (ℕ → Asked) → Result ℕ FaultKind → Result Asked FaultKind
@@ -137,6 +181,8 @@ step_with step (Err e) = Err e
 abbrev pub operation_of : List ℕ → Option Operation
 operation_of text =
     if is_word text (codes "STORAGE") then Some operation.Storage
+    else if is_word text (codes "POKE") then Some operation.Poke
+    else if is_word text (codes "PEEK") then Some operation.Peek
     else if is_word text (codes "BACK") then Some operation.Back
     else if is_word text (codes "FORWARD") then Some operation.Forward
     else None
@@ -144,6 +190,8 @@ operation_of text =
 -- What an operation asks for with these operands.
 abbrev pub asked_of : Operation → List (List ℕ) → Result Asked FaultKind
 asked_of operation.Storage os = storage os
+asked_of operation.Poke os = poke_of os
+asked_of operation.Peek os = peek_of os
 asked_of operation.Back os = step_with back (count_in os)
 asked_of operation.Forward os = step_with forward (count_in os)
 

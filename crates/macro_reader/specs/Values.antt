@@ -1,11 +1,11 @@
 -- Values as operands spell them: numbers, names, registers and pairs.
-use Rattle.std.specs.Prelude.{◌≡◌, ℕ, ◌-◌, ◌^◌, Bool, false, ◌&&◌, ◌||◌, ◌==◌, nat_lt, nat_le, if◌then◌else◌, List, [], ◌∷◌, length, drop, map, codes, Option, Some, None, is_some, slice_index, slice_range}
+use Rattle.std.specs.Prelude.{◌≡◌, ℕ, ◌+◌, ◌-◌, ◌*◌, ◌%◌, ◌^◌, Bool, false, ◌&&◌, ◌||◌, ◌==◌, nat_lt, nat_le, if◌then◌else◌, List, [], ◌∷◌, length, drop, map, codes, Option, Some, None, is_some, slice_index, slice_range}
 use Rattle.std.specs.List.{list_all}
 use Rattle.std.specs.Option.{option_map}
-use Rattle.std.specs.Char.{to_ascii_uppercase, is_digit}
+use Rattle.std.specs.Char.{to_ascii_uppercase, is_digit, digit_value}
 use Rattle.std.specs.Str.Parse.{digits_value}
 use Rattle.macro_reader.specs.Words.{is_name, is_word}
-use Rattle.macro_reader.specs.Requests.{Written, number, named, register, Target, in_name, in_register}
+use Rattle.macro_reader.specs.Requests.{Written, number, named, register, Target, in_name, in_register, Stored, spelled, word}
 use Rattle.macro_reader.specs.Field.{outside, operands_from}
 
 -- The number that one digit or more of a radix spell, up to this many, where it is below 2 ^ 32.
@@ -93,3 +93,46 @@ are_two_values (a ∷ b ∷ c ∷ os) = false
 -- A pair is two values in parentheses: a maximum and a minimum length.
 abbrev pub is_pair : List ℕ → Bool
 is_pair text = is_enclosed text && are_two_values (operands_from outside (enclosed text))
+
+-- The byte that two hexadecimal digits spell.
+abbrev pub byte_of : ℕ → ℕ → Option ℕ
+byte_of high low = if is_digit high 16 && is_digit low 16 then Some (16 * digit_value high + digit_value low) else None
+
+-- A byte is put in front of bytes, where there are both.
+abbrev pub onto_bytes : Option ℕ → Option (List ℕ) → Option (List ℕ)
+onto_bytes None rest = None
+onto_bytes (Some byte) rest = option_map (λ bytes. byte ∷ bytes) rest
+
+-- The bytes that pairs of hexadecimal digits spell.
+abbrev pub hex_bytes : List ℕ → Option (List ℕ)
+hex_bytes [] = Some []
+hex_bytes (high ∷ []) = None
+hex_bytes (high ∷ low ∷ rest) = onto_bytes (byte_of high low) (hex_bytes rest)
+
+-- The bytes that two digits or more spell, an even number of them, up to 256 bytes.
+abbrev pub spelled_bytes : List ℕ → Option (List ℕ)
+spelled_bytes digits =
+    if nat_le 2 (length digits) && nat_le (length digits) 512 && (length digits % 2 == 0) then hex_bytes digits else None
+
+-- An A, in either case, and something in parentheses (High Level Assembler Language Reference, "Address constants").
+abbrev pub is_address_constant : List ℕ → Bool
+is_address_constant text = nat_le 1 (length text) && (to_ascii_uppercase (slice_index text 0) == 65) && is_enclosed (drop 1 text)
+
+-- A(..) with a value is that value as a word.
+abbrev pub word_of : List ℕ → Option Written
+word_of text = if is_address_constant text then value_of (enclosed (drop 1 text)) else None
+
+-- What is stored is X'..' with the digits of 1 to 256 bytes, or A(..) with a value.
+abbrev pub content_of : List ℕ → Option Stored
+content_of text =
+    if is_quoted 88 text then option_map spelled (spelled_bytes (slice_range text 2 (length text - 1)))
+    else option_map word (word_of text)
+
+-- A number that is a size goes from 1 to 256.
+abbrev pub within_size : Option ℕ → Option ℕ
+within_size None = None
+within_size (Some n) = if nat_le 1 n && nat_le n 256 then Some n else None
+
+-- A size is a number from 1 to 256.
+abbrev pub size_of : List ℕ → Option ℕ
+size_of text = within_size (number_of text)

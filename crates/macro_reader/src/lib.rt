@@ -2,6 +2,7 @@
 #![tactic(auto)]
 
 mod columns;
+mod contents;
 mod continuation;
 mod faults;
 mod keywords;
@@ -10,6 +11,7 @@ mod modes;
 mod nesting;
 mod numbers;
 mod operands;
+mod positions;
 mod reading;
 mod requests;
 mod rows;

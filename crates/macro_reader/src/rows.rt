@@ -4,8 +4,10 @@ ghost use Rattle.std.specs.Prelude.{◌≡◌};
 ghost use Rattle.macro_reader.specs.Rows.{is_of_kind, is_left_out, value_fault};
 ghost use Rattle.macro_reader.specs.KeywordSets.{has_bit, kind_at};
 
+use crate::contents::{content_of, size_of};
 use crate::faults::FaultKind;
 use crate::keywords::Keywords;
+use crate::numbers::number_of;
 use crate::values::{is_condition, is_pair, is_value, place_of};
 
 /// A kind of value.
@@ -19,6 +21,12 @@ pub enum Kind {
     Place,
     /// YES or NO.
     Condition,
+    /// X'..' with the digits of 1 to 256 bytes, or A(..) with a value.
+    Content,
+    /// A number from 1 to 256.
+    Size,
+    /// A number.
+    Count,
 }
 
 /// A keyword that a form has, and the kind of its value.
@@ -117,6 +125,9 @@ fn is_of_kind(kind: Kind, text: &[u8]) -> bool
         Kind::Value | Kind::Length => is_value(text),
         Kind::Place => place_of(text).is_some(),
         Kind::Condition => is_condition(text),
+        Kind::Content => content_of(text).is_some(),
+        Kind::Size => size_of(text).is_some(),
+        Kind::Count => number_of(text).is_some(),
     }
 }
 

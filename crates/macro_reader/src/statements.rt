@@ -4,21 +4,23 @@ ghost use Rattle.std.specs.Prelude.{◌≡◌, ◌≤◌, length, IfOk};
 ghost use Rattle.std.specs.Option.{option_copied};
 ghost use Rattle.macro_reader.specs.Field.{operands, operands_behind};
 ghost use Rattle.macro_reader.specs.Requests.{seen, written_in, asked_in, IsValue, IsValidAsked};
-ghost use Rattle.macro_reader.specs.Statements.{subpool_at, storage_form, obtain_of, release_of, storage, count_in, operation_of, asked_of, of_operation, from_operation, from_operands, is_misplaced, statement_with};
+ghost use Rattle.macro_reader.specs.Statements.{subpool_at, storage_form, obtain_of, release_of, storage, poke_of, peek_of, count_in, operation_of, asked_of, of_operation, from_operation, from_operands, is_misplaced, statement_with};
 
 use crate::faults::FaultKind;
-use crate::keywords::{Keywords, is_keyword_operand};
+use crate::keywords::Keywords;
 use crate::nesting::{is_balanced, split};
-use crate::numbers::number_of;
 use crate::operands::{first_fault, form_fault, place_at, says_yes_at, value_at};
+use crate::positions::{first_number, first_value, positional_fault, second_content, second_size};
 use crate::requests::{Family, Form, Request, Statement, Value};
-use crate::rows::{OBTAIN, RELEASE, STORAGE_LEFT_OUT};
+use crate::rows::{Kind, OBTAIN, RELEASE, STORAGE_LEFT_OUT};
 use crate::words::{after_blanks, after_word, is_name, is_word, word, word_len};
 
 /// An operation that is known.
 #[derive(Clone, Copy)]
 pub enum Operation {
     Storage,
+    Poke,
+    Peek,
     Back,
     Forward,
 }
@@ -29,6 +31,10 @@ fn operation_of(text: &[u8]) -> Option<Operation>
 {
     if is_word(text, b"STORAGE") {
         Some(Operation::Storage)
+    } else if is_word(text, b"POKE") {
+        Some(Operation::Poke)
+    } else if is_word(text, b"PEEK") {
+        Some(Operation::Peek)
     } else if is_word(text, b"BACK") {
         Some(Operation::Back)
     } else if is_word(text, b"FORWARD") {
@@ -118,24 +124,48 @@ fn storage(field: &[u8]) -> Result<Request, FaultKind>
     }
 }
 
+/// POKE with its operand field.
+fn poke(field: &[u8]) -> Result<Request, FaultKind>
+    ensures value { seen result ≡ poke_of (operands field.now) }
+    ensures valid { IfOk result (λ r. IsValidAsked (asked_in r)) }
+{
+    if let Some(fault) = positional_fault(&[Kind::Value, Kind::Content], field) {
+        return Err(fault);
+    }
+    let Some(address) = first_value(field) else {
+        return Err(FaultKind::Missing);
+    };
+    let Some(content) = second_content(field) else {
+        return Err(FaultKind::Missing);
+    };
+    Ok(Request::Act(Statement::Poke { address, content }))
+}
+
+/// PEEK with its operand field.
+fn peek(field: &[u8]) -> Result<Request, FaultKind>
+    ensures value { seen result ≡ peek_of (operands field.now) }
+    ensures valid { IfOk result (λ r. IsValidAsked (asked_in r)) }
+{
+    if let Some(fault) = positional_fault(&[Kind::Value, Kind::Size], field) {
+        return Err(fault);
+    }
+    let Some(addr) = first_value(field) else {
+        return Err(FaultKind::Missing);
+    };
+    let Some(len) = second_size(field) else {
+        return Err(FaultKind::Missing);
+    };
+    Ok(Request::Peek { addr, len })
+}
+
 /// The number that is the only operand of a field.
 fn count_in(field: &[u8]) -> Result<u32, FaultKind>
     ensures { result ≡ count_in (operands field.now) }
 {
-    if field.is_empty() {
-        return Err(FaultKind::Missing);
+    if let Some(fault) = positional_fault(&[Kind::Count], field) {
+        return Err(fault);
     }
-    let (count, behind) = split(field);
-    if count.is_empty() || is_keyword_operand(count) {
-        return Err(FaultKind::Operand);
-    }
-    let Some(n) = number_of(count) else {
-        return Err(FaultKind::Value);
-    };
-    match behind {
-        Some(_) => Err(FaultKind::Operand),
-        None => Ok(n),
-    }
+    first_number(field).ok_or(FaultKind::Missing)
 }
 
 /// What an operation asks for with this operand field.
@@ -145,6 +175,8 @@ fn asked_of(operation: Operation, field: &[u8]) -> Result<Request, FaultKind>
 {
     match operation {
         Operation::Storage => storage(field),
+        Operation::Poke => poke(field),
+        Operation::Peek => peek(field),
         Operation::Back => Ok(Request::Back(count_in(field)?)),
         Operation::Forward => Ok(Request::Forward(count_in(field)?)),
     }

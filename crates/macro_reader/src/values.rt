@@ -37,14 +37,14 @@ fn without_r(text: &[u8]) -> &[u8]
 }
 
 /// Whether the first and the last byte are parentheses around the others.
-fn is_enclosed(text: &[u8]) -> bool
+pub fn is_enclosed(text: &[u8]) -> bool
     ensures { result ≡ is_enclosed text.now }
 {
     text.len() >= 2 && text[0] == b'(' && text[text.len() - 1] == b')'
 }
 
 /// What stands between the first and the last byte.
-fn enclosed(text: &[u8]) -> &[u8]
+pub fn enclosed(text: &[u8]) -> &[u8]
     requires { IsTrue (is_enclosed text.now) }
     ensures { result.now ≡ enclosed text.now }
 {
