@@ -40,7 +40,7 @@ fn spelled_bytes(digits: &[u8]) -> Option<ArrayVec<u8, 256>>
     ensures least { IfSome result (λ b. 1 ≤ length b.items) }
     ensures most { IfSome result (λ b. length b.items ≤ 256) }
 {
-    if digits.len() >= 2 && digits.len() <= 512 && digits.len() % 2 == 0 {
+    if matches!(digits.len(), 2..=512) && digits.len() % 2 == 0 {
         hex_bytes(digits)
     } else {
         None
@@ -100,7 +100,7 @@ pub fn size_of(text: &[u8]) -> Option<u16>
     ensures most { IfSome result (λ n. n ≤ 256) }
 {
     let size = number_of(text)?;
-    if size >= 1 && size <= 256 {
+    if matches!(size, 1..=256) {
         Some(size as u16)
     } else {
         None

@@ -120,7 +120,7 @@ impl Place {
     {
         match *self {
             Place::Named(name) => is_upper_name(name.as_str().as_bytes()),
-            Place::Register(register) => register >= 1 && register <= 12,
+            Place::Register(register) => matches!(register, 1..=12),
         }
     }
 }
@@ -131,7 +131,7 @@ impl Content {
         ensures { IsTrue result ↔ IsStored (stored_in self.now) }
     {
         match self {
-            Content::Spelled(bytes) => bytes.len() >= 1 && bytes.len() <= 256,
+            Content::Spelled(bytes) => matches!(bytes.len(), 1..=256),
             Content::Word(value) => value.valid(),
         }
     }

@@ -1,6 +1,9 @@
 //! A script with every kind of fault.
 
-use crate::{Family, Fault, FaultKind, Fed, Form, Name, Place, Reader, Request, Statement, Value};
+use crate::{
+    Content, Family, Fault, FaultKind, Fed, Form, Name, Place, Reader, Request, Statement, Value,
+};
+use arrayvec::ArrayVec;
 use std::process::Abort;
 
 const STORAGE: Form = Form {
@@ -147,6 +150,57 @@ fn reads_names_and_registers(rt: HostRuntime) {
     for (line, want) in script {
         number = number.saturating_add(1);
         feed(&rt, &mut reader, number, line, Ok(Some(want)));
+    }
+}
+
+fn poke(address: Value, content: Content) -> Request {
+    Request::Act(Statement::Poke { address, content })
+}
+
+#[test]
+fn reads_bytes(rt: HostRuntime) {
+    let mut reader = Reader::new();
+    let mut bytes = ArrayVec::new();
+    bytes.push(0x0a);
+    bytes.push(0xb1);
+    let area = Value::Named(name("AREA"));
+    let script: [(&[u8], Result<Option<Request>, FaultKind>); 16] = [
+        (
+            b" POKE X'6000',x'0aB1'",
+            Ok(Some(poke(Value::Number(0x6000), Content::Spelled(bytes)))),
+        ),
+        (
+            b" POKE (R5),A((1))",
+            Ok(Some(poke(Value::Register(5), Content::Word(Value::Register(1))))),
+        ),
+        (
+            b" POKE Area,a(X'10')",
+            Ok(Some(poke(area, Content::Word(Value::Number(16))))),
+        ),
+        (
+            b" PEEK area,256",
+            Ok(Some(Request::Peek {
+                addr: area,
+                len: 256,
+            })),
+        ),
+        (b" POKE X'6000',X'A'", Err(FaultKind::Value)),
+        (b" POKE X'6000',X''", Err(FaultKind::Value)),
+        (b" POKE X'6000',A()", Err(FaultKind::Value)),
+        (b" POKE X'6000',1", Err(FaultKind::Value)),
+        (b" POKE =5", Err(FaultKind::Value)),
+        (b" POKE MF=L,X'00'", Err(FaultKind::Operand)),
+        (b" POKE ,X'00'", Err(FaultKind::Operand)),
+        (b" POKE X'6000'", Err(FaultKind::Missing)),
+        (b" POKE X'6000',X'00',1", Err(FaultKind::Operand)),
+        (b" PEEK X'6000',257", Err(FaultKind::Value)),
+        (b" PEEK X'6000',0", Err(FaultKind::Value)),
+        (b" PEEK", Err(FaultKind::Missing)),
+    ];
+    let mut number = 0u32;
+    for (line, want) in script {
+        number = number.saturating_add(1);
+        feed(&rt, &mut reader, number, line, want);
     }
 }
 

@@ -96,7 +96,7 @@ pub fn place_of(text: &[u8]) -> Option<Place>
         return Some(Place::Named(upper_name(text)));
     }
     let register = register_of(text)?;
-    if register >= 1 && register <= 12 {
+    if matches!(register, 1..=12) {
         Some(Place::Register(register))
     } else {
         None

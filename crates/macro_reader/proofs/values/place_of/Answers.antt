@@ -1,4 +1,4 @@
-use Rattle.std.proofs.Common.{sym}
+use Rattle.std.proofs.Common.{sym, arith}
 use Rattle.macro_reader.proofs.Names.{name_ascii}
 use Rattle.macro_reader.proofs.Spelling.{upper_named, register_target}
 use Rattle.macro_reader.proofs.values.place_of.Goals as goal
@@ -9,7 +9,7 @@ upper_name-requires-clause-ascii c = name_ascii c.args.text.now (sym c.if-is_nam
 pub returns-then-is_name-clause-valid : goal.returns-then-is_name-clause-valid
 returns-then-is_name-clause-valid c = rw c.upper_name.ensures (upper_named c.args.text.now (sym c.if-is_name.ensures))
 
-pub returns-then-register-le12-clause-value : goal.returns-then-register-le12-clause-value
-returns-then-register-le12-clause-value c =
+pub returns-then-matches-clause-value : goal.returns-then-matches-clause-value
+returns-then-matches-clause-value c =
     sym (register_target c.args.text.now c.in_ok-register.register (sym c.if-is_name.ensures) (sym c.in_ok-register.ensures.value)
-    c.if-register-ge1.true c.if-register-le12.true)
+    (omega arith) (omega arith))
