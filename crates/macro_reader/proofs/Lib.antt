@@ -7,3 +7,4 @@ pub mod Digits
 pub mod Spelling
 pub mod Bytes
 pub mod InPositions
+pub mod SpelledBytes

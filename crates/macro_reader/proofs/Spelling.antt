@@ -1,5 +1,5 @@
 -- The values that can be spelled are those that are valid.
-use Rattle.std.proofs.Common.{◌≡◌, ℕ, ◌+◌, ◌-◌, ◌^◌, ◌<◌, ◌≤◌, ◌↔◌, ◌==◌, Bool, true, false, ◌&&◌, List, [], ◌∷◌, length, map, Option, Some, None, nat_lt, nat_le, if◌then◌else◌, slice_index, slice_range, decimal, arith, sym, refl, ap, ◌∙◌, subst, inl, inr, IfSome}
+use Rattle.std.proofs.Common.{◌≡◌, ℕ, ◌+◌, ◌-◌, ◌^◌, ◌<◌, ◌≤◌, ◌↔◌, ◌==◌, Bool, true, false, ◌&&◌, List, [], ◌∷◌, length, map, Some, None, nat_lt, nat_le, if◌then◌else◌, slice_index, slice_range, decimal, arith, sym, refl, ap, ◌∙◌, subst, inl, inr}
 use Rattle.std.specs.Option.{option_map}
 use Rattle.std.specs.List.{list_all}
 use Rattle.std.specs.Char.{digit_value, is_digit, to_ascii_uppercase}
@@ -11,9 +11,8 @@ use Rattle.std.proofs.lemmas.Bool.{cases_lt}
 use Rattle.std.proofs.lemmas.List.{length-map}
 use Rattle.std.proofs.lemmas.Slice.Eq.{bytes_eq-Decides}
 use Rattle.macro_reader.specs.Words.{is_letter, is_name_byte, is_name, is_word}
-use Rattle.macro_reader.specs.Values.{digits_number, is_quoted, number_of, register_number, without_r, is_enclosed, enclosed, register_of, or_other, value_of, Spells, target_of}
-use Rattle.macro_reader.specs.Requests.{Written, number, named, register, in_register, written_in, is_upper_name, IsValue}
-use Rattle.macro_reader.specs.declared.requests.Value.{Value}
+use Rattle.macro_reader.specs.Values.{digits_number, is_quoted, number_of, register_number, without_r, is_enclosed, enclosed, register_of, or_other, Spells, target_register, target_of, SpellsPlace}
+use Rattle.macro_reader.specs.Requests.{Written, number, named, register, Target, in_name, in_register, is_upper_name, IsValue, IsTarget}
 use Rattle.macro_reader.proofs.Digits.{spelled}
 
 -- a number that digits spell has 32 bits
@@ -200,18 +199,13 @@ register_spelled n h = elim (cases_lt n 10) [
   | inr high ↦ (let same : n + 38 - 38 ≡ n = omega arith in (40 ∷ 49 ∷ (n + 38) ∷ 41 ∷ [], high_register (n + 38) (omega arith) (omega arith) ∙ ap (λ x. Some (register x)) same))
 ]
 
-valid_has_spelling : (value : Written) → IsValue value → (text : List ℕ) × Spells text value
+pub valid_has_spelling : (value : Written) → IsValue value → (text : List ℕ) × Spells text value
 valid_has_spelling (number n) h = (decimal n, rw (written n h) refl)
 valid_has_spelling (named name) h = (name, name_spelled name h)
 valid_has_spelling (register n) h = register_spelled n h
 
 pub valid_is_spelled : (value : Written) → IsValue value ↔ ((text : List ℕ) × Spells text value)
 valid_is_spelled value = (valid_has_spelling value, λ s. spelled_is_valid s.0 value s.1)
-
--- the code's values, and its places
-pub value_is_valid : (r : Option Value) (text : List ℕ) → option_map written_in r ≡ value_of text → IfSome r (λ v. IsValue (written_in v))
-value_is_valid None text h = tt
-value_is_valid (Some v) text h = spelled_is_valid text (written_in v) (sym h)
 
 -- a register where something may be stored
 pub register_target : (text : List ℕ) (r : ℕ) → is_name text ≡ false → register_of text ≡ Some r → 1 ≤ r → r ≤ 12
@@ -220,3 +214,70 @@ register_target text r n e h k =
     let least : nat_le 1 r ≡ true = grind (arith, nat_tests) in
     let most : nat_le r 12 ≡ true = grind (arith, nat_tests) in
     rw (n, e, least, most) refl
+
+-- a place that is spelled is valid
+spelled_register : (n : ℕ) (target : Target) → target_register (Some n) ≡ Some target → IsTarget target
+spelled_register n target h =
+    elim (nat_le 1 n && nat_le n 12) as (λ b. (nat_le 1 n && nat_le n 12) ≡ b → (if b then Some (in_register n) else None) ≡ Some target → IsTarget target) [
+      | true ↦ λ e k. (let same : in_register n ≡ target = cc in
+          let tests = both (nat_le 1 n) (nat_le n 12) e in
+          let least : 1 ≤ n = (let t = tests.0 in grind (arith, nat_tests, t)) in
+          let most : n ≤ 12 = (let t = tests.1 in grind (arith, nat_tests, t)) in
+          subst IsTarget same (least, most))
+      | false ↦ λ e k. cc
+    ] refl h
+
+spelled_place_is_valid : (text : List ℕ) (target : Target) → SpellsPlace text target → IsTarget target
+spelled_place_is_valid text target h =
+    elim (is_name text) as (λ b. is_name text ≡ b → (if b then Some (in_name (map to_ascii_uppercase text)) else target_register (register_of text)) ≡ Some target → IsTarget target) [
+      | true ↦ λ m k. let same : in_name (map to_ascii_uppercase text) ≡ target = cc in subst IsTarget same (upper_named text m)
+      | false ↦ λ m k. elim (register_of text) as (λ o. target_register o ≡ Some target → IsTarget target) [
+        | None ↦ λ j. cc
+        | Some n ↦ λ j. spelled_register n target j
+      ] k
+    ] refl h
+
+-- each place that is valid is spelled
+within_places : (n : ℕ) → 1 ≤ n → n ≤ 12 → target_register (Some n) ≡ Some (in_register n)
+within_places n h k =
+    let least : nat_le 1 n ≡ true = grind (arith, nat_tests) in
+    let most : nat_le n 12 ≡ true = grind (arith, nat_tests) in
+    rw (least, most) refl
+
+low_place : (d : ℕ) → 48 ≤ d → d ≤ 57 → target_of (40 ∷ d ∷ 41 ∷ []) ≡ target_register (Some (d - 48))
+low_place d h k =
+    let r : (to_ascii_uppercase d == 82) ≡ false = grind (arith, nat_tests) in
+    let least : nat_le 48 d ≡ true = grind (arith, nat_tests) in
+    let most : nat_le d 57 ≡ true = grind (arith, nat_tests) in
+    rw (r, least, most) refl
+
+high_place : (d : ℕ) → 48 ≤ d → d ≤ 53 → target_of (40 ∷ 49 ∷ d ∷ 41 ∷ []) ≡ target_register (Some (d - 38))
+high_place d h k =
+    let least : nat_le 48 d ≡ true = grind (arith, nat_tests) in
+    let most : nat_le d 53 ≡ true = grind (arith, nat_tests) in
+    rw (least, most) refl
+
+register_place : (n : ℕ) → 1 ≤ n → n ≤ 12 → (text : List ℕ) × SpellsPlace text (in_register n)
+register_place n h k = elim (cases_lt n 10) [
+  | inl low ↦ (let same : n + 48 - 48 ≡ n = omega arith in (
+    40 ∷ (n + 48) ∷ 41 ∷ [],
+    low_place (n + 48) (omega arith) (omega arith) ∙ ap (λ x. target_register (Some x)) same ∙ within_places n h k,
+  ))
+  | inr high ↦ (let same : n + 38 - 38 ≡ n = omega arith in (
+    40 ∷ 49 ∷ (n + 38) ∷ 41 ∷ [],
+    high_place (n + 38) (omega arith) (omega arith) ∙ ap (λ x. target_register (Some x)) same ∙ within_places n h k,
+  ))
+]
+
+name_place : (name : List ℕ) → is_upper_name name ≡ true → SpellsPlace name (in_name name)
+name_place name h =
+    let b = both (is_name name) (is_word name name) h in
+    let same : map to_ascii_uppercase name ≡ name = (bytes_eq-Decides (map to_ascii_uppercase name) name).0 b.1 in
+    rw (b.0, same) refl
+
+valid_place_has_spelling : (target : Target) → IsTarget target → (text : List ℕ) × SpellsPlace text target
+valid_place_has_spelling (in_name name) h = (name, name_place name h)
+valid_place_has_spelling (in_register n) h = register_place n h.0 h.1
+
+pub valid_place_is_spelled : (target : Target) → IsTarget target ↔ ((text : List ℕ) × SpellsPlace text target)
+valid_place_is_spelled target = (valid_place_has_spelling target, λ s. spelled_place_is_valid s.0 target s.1)

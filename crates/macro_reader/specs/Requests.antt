@@ -1,5 +1,6 @@
 -- What a statement asks for, as it is spelled.
-use Rattle.std.specs.Prelude.{◌≡◌, ℕ, ◌^◌, ◌<◌, ◌≤◌, Bool, true, ◌&&◌, List, length, Option, Result, Ok, Err, IfSome}
+use Rattle.std.specs.Prelude.{◌≡◌, ℕ, ◌^◌, ◌<◌, ◌≤◌, Bool, true, ◌&&◌, List, length, Option, Result, Ok, Err, IfSome, ⊤}
+use Rattle.std.specs.List.{AllByRecursion}
 use Rattle.std.specs.Option.{option_map}
 use Rattle.macro_reader.specs.Words.{is_name, is_word}
 use Rattle.macro_reader.specs.declared.faults.FaultKind.{FaultKind}
@@ -27,7 +28,7 @@ pub data Target : Type 0 where
   in_name : List ℕ → Target
   in_register : ℕ → Target
 
--- What is stored in bytes: these, or a value as a word.
+-- What POKE stores: these bytes, or a value as a fullword, its most significant byte first.
 pub data Stored : Type 0 where
   spelled : List ℕ → Stored
   word : Written → Stored
@@ -45,20 +46,23 @@ pub data Asked : Type 0 where
   back : ℕ → Asked
   forward : ℕ → Asked
 
--- What the code's values, statements and requests say.
+-- What the code's value says.
 abbrev pub written_in : Value → Written
 written_in (code_value.Number n) = number n
 written_in (code_value.Named name) = named name.bytes
 written_in (code_value.Register n) = register n
 
+-- What the code's place says.
 abbrev pub target_in : Place → Target
 target_in (code_place.Named name) = in_name name.bytes
 target_in (code_place.Register n) = in_register n
 
+-- What the code's content says.
 abbrev pub stored_in : Content → Stored
 stored_in (code_content.Spelled bytes) = spelled bytes.items
 stored_in (code_content.Word value) = word (written_in value)
 
+-- What the code's statement says.
 abbrev pub act_in : Statement → Act
 act_in (code_statement.Obtain length subpool place form) =
     obtain (written_in length) (written_in subpool) (option_map target_in place) form
@@ -66,6 +70,7 @@ act_in (code_statement.Release length address subpool form) =
     release (written_in length) (written_in address) (written_in subpool) form
 act_in (code_statement.Poke address content) = poke (written_in address) (stored_in content)
 
+-- What the code's request says.
 abbrev pub asked_in : Request → Asked
 asked_in (code_request.Act s) = act (act_in s)
 asked_in (code_request.Peek address len) = peek (written_in address) len
@@ -96,6 +101,11 @@ IsTarget (in_register n) = (1 ≤ n) × (n ≤ 12)
 abbrev pub IsStored : Stored → Type 0
 IsStored (spelled bytes) = (1 ≤ length bytes) × (length bytes ≤ 256)
 IsStored (word value) = IsValue value
+
+-- The elements of what is stored are bytes.
+abbrev pub HasBytes : Stored → Type 0
+HasBytes (spelled bytes) = AllByRecursion (λ b. b < 2 ^ 8) bytes
+HasBytes (word value) = ⊤
 
 -- A statement that can be written: each of its values is one, and its form is of the family of STORAGE.
 abbrev pub IsValidAct : Act → Type 0

@@ -79,7 +79,8 @@ abbrev pub says_yes : Option (List ℕ) → Bool
 says_yes None = false
 says_yes (Some text) = is_word text (codes "YES")
 
--- STORAGE is a form of its own family, and conditional where COND says YES.
+-- STORAGE is a form of its own family, and conditional where COND says YES (Assembler Services Reference, "STORAGE - Obtain and release
+-- storage", COND).
 abbrev pub storage_form : List (List ℕ) → Form
 storage_form os = record { family = family.S; conditional = says_yes (text_at (codes "COND") os) }
 
@@ -145,7 +146,7 @@ poke_with None content = Err fault.Missing
 poke_with (Some address) None = Err fault.Missing
 poke_with (Some address) (Some content) = Ok (act (poke address content))
 
--- POKE has an address and what is stored there.
+-- POKE, a statement of the bench's own, has an address and what is stored there.
 abbrev pub poke_of : List (List ℕ) → Result Asked FaultKind
 poke_of os =
     unless_fault (positional_fault (kind.Value ∷ kind.Content ∷ []) os)
@@ -157,7 +158,7 @@ peek_with None size = Err fault.Missing
 peek_with (Some address) None = Err fault.Missing
 peek_with (Some address) (Some size) = Ok (peek address size)
 
--- PEEK has an address and a length.
+-- PEEK, a statement of the bench's own, has an address and a length.
 abbrev pub peek_of : List (List ℕ) → Result Asked FaultKind
 peek_of os =
     unless_fault (positional_fault (kind.Value ∷ kind.Size ∷ []) os)

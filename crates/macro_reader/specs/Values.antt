@@ -79,6 +79,10 @@ target_register (Some n) = if nat_le 1 n && nat_le n 12 then Some (in_register n
 abbrev pub target_of : List ℕ → Option Target
 target_of text = if is_name text then Some (in_name (map to_ascii_uppercase text)) else target_register (register_of text)
 
+-- A text spells this place.
+abbrev pub SpellsPlace : List ℕ → Target → Type 0
+SpellsPlace text target = target_of text ≡ Some target
+
 -- A condition is YES or NO, in either case.
 abbrev pub is_condition : List ℕ → Bool
 is_condition text = is_word text (codes "YES") || is_word text (codes "NO")
@@ -127,6 +131,10 @@ abbrev pub content_of : List ℕ → Option Stored
 content_of text =
     if is_quoted 88 text then option_map spelled (spelled_bytes (slice_range text 2 (length text - 1)))
     else option_map word (word_of text)
+
+-- A text spells what is stored.
+abbrev pub SpellsContent : List ℕ → Stored → Type 0
+SpellsContent text content = content_of text ≡ Some content
 
 -- A number that is a size goes from 1 to 256.
 abbrev pub within_size : Option ℕ → Option ℕ

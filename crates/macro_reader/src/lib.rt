@@ -20,7 +20,10 @@ mod values;
 mod words;
 
 pub use faults::{Fault, FaultKind};
-pub use laws::{every_script_is_read, one_reading, valid_values_are_spelled};
+pub use laws::{
+    every_script_is_read, one_reading, valid_contents_are_spelled, valid_places_are_spelled,
+    valid_values_are_spelled,
+};
 pub use reading::{Fed, Reader};
 pub use requests::{Content, Family, Form, Name, Place, Request, Statement, Value};
 

@@ -17,7 +17,7 @@ use std::marker::Model;
 use std::mem;
 
 /// What a line brought.
-#[derive(Debug, PartialEq, Eq, Drop)]
+#[derive(Clone, Debug, PartialEq, Eq, Drop)]
 pub enum Fed {
     /// No answer is due.
     More,

@@ -31,7 +31,7 @@ pub enum Place {
 }
 
 /// What is stored in bytes.
-#[derive(Debug, PartialEq, Eq, Drop)]
+#[derive(Clone, Debug, PartialEq, Eq, Drop)]
 pub enum Content {
     /// These bytes, 1 to 256 of them.
     Spelled(ArrayVec<u8, 256>),
@@ -57,7 +57,7 @@ pub struct Form {
 }
 
 /// A statement that changes storage.
-#[derive(Debug, PartialEq, Eq, Drop)]
+#[derive(Clone, Debug, PartialEq, Eq, Drop)]
 pub enum Statement {
     /// STORAGE OBTAIN: so many bytes from a subpool. The address is stored in `place`, where there is one.
     Obtain {
@@ -81,7 +81,7 @@ pub enum Statement {
 }
 
 /// What a statement asks for.
-#[derive(Debug, PartialEq, Eq, Drop)]
+#[derive(Clone, Debug, PartialEq, Eq, Drop)]
 pub enum Request {
     /// A change of storage.
     Act(Statement),

@@ -157,17 +157,28 @@ fn poke(address: Value, content: Content) -> Request {
     Request::Act(Statement::Poke { address, content })
 }
 
+fn peek(addr: Value, len: u16) -> Request {
+    Request::Peek { addr, len }
+}
+
+fn area() -> Value {
+    Value::Named(name("AREA"))
+}
+
+fn two_bytes(first: u8, second: u8) -> Content {
+    let mut bytes = ArrayVec::new();
+    bytes.push(first);
+    bytes.push(second);
+    Content::Spelled(bytes)
+}
+
 #[test]
 fn reads_bytes(rt: HostRuntime) {
     let mut reader = Reader::new();
-    let mut bytes = ArrayVec::new();
-    bytes.push(0x0a);
-    bytes.push(0xb1);
-    let area = Value::Named(name("AREA"));
     let script: [(&[u8], Result<Option<Request>, FaultKind>); 16] = [
         (
             b" POKE X'6000',x'0aB1'",
-            Ok(Some(poke(Value::Number(0x6000), Content::Spelled(bytes)))),
+            Ok(Some(poke(Value::Number(0x6000), two_bytes(0x0a, 0xb1)))),
         ),
         (
             b" POKE (R5),A((1))",
@@ -175,15 +186,9 @@ fn reads_bytes(rt: HostRuntime) {
         ),
         (
             b" POKE Area,a(X'10')",
-            Ok(Some(poke(area, Content::Word(Value::Number(16))))),
+            Ok(Some(poke(area(), Content::Word(Value::Number(16))))),
         ),
-        (
-            b" PEEK area,256",
-            Ok(Some(Request::Peek {
-                addr: area,
-                len: 256,
-            })),
-        ),
+        (b" PEEK area,256", Ok(Some(peek(area(), 256)))),
         (b" POKE X'6000',X'A'", Err(FaultKind::Value)),
         (b" POKE X'6000',X''", Err(FaultKind::Value)),
         (b" POKE X'6000',A()", Err(FaultKind::Value)),
