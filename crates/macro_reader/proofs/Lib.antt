@@ -5,3 +5,12 @@ pub mod Names
 pub mod KeywordBits
 pub mod Digits
 pub mod Spelling
+pub mod Bytes
+pub mod InPositions
+pub mod SpelledBytes
+pub mod OperandTexts
+pub mod KeywordOperands
+pub mod ValueTexts
+pub mod RequestTexts
+pub mod FieldLines
+pub mod WrittenLines

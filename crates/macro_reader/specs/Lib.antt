@@ -1,11 +1,12 @@
 pub mod Columns
 pub mod Words
 pub mod Field
+pub mod Requests
 pub mod Values
 pub mod Keywords
 pub mod Rows
-pub mod Requests
 pub mod Statements
+pub mod Continuation
 pub mod KeywordSets
 pub mod Scripts
 pub mod Modes

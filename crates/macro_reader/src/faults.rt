@@ -5,7 +5,7 @@
 pub enum FaultKind {
     /// Column 1 isn't blank, and no name of up to 63 letters and digits stands there.
     Column = 1,
-    /// The statement is continued in a way that isn't read.
+    /// A rule of continuation is broken, or the statement is still open at the end.
     Continuation,
     /// There is no operation, or none that is known.
     Operation,

@@ -1,15 +1,11 @@
 //! Keywords of operands, and sets of them.
 
-ghost use Rattle.std.specs.Prelude.{⊤, ◌≡◌, ◌==◌, IsTrue, map, position};
+ghost use Rattle.std.specs.Prelude.{⊤, ◌≡◌, ◌==◌, position};
 ghost use Rattle.std.specs.Option.{option_map};
-ghost use Rattle.std.specs.Char.{to_ascii_uppercase};
-ghost use Rattle.std.specs.Str.{IsAscii};
-ghost use Rattle.macro_reader.specs.Words.{is_name};
 ghost use Rattle.macro_reader.specs.Keywords.{key_of, value_text, is_keyword_operand};
 ghost use Rattle.macro_reader.specs.KeywordSets.{keywords, bit_of};
 
-use crate::words::is_name;
-use arrayvec::ArrayString;
+use crate::words::{is_name, upper_name};
 use bitflags::{Flag, Flags, bitflag_items};
 
 /// A set of keywords. A keyword is the set that holds it alone.
@@ -63,19 +59,6 @@ impl Flags for Keywords {
     fn from_bits_retain(bits: u64) -> Keywords {
         Keywords(bits)
     }
-}
-
-/// A name in upper case.
-fn upper_name(text: &[u8]) -> ArrayString<63>
-    requires name { IsTrue (is_name text.now) }
-    requires ascii { IsAscii text.now }
-    ensures { result.bytes ≡ map to_ascii_uppercase text.now }
-{
-    let mut name = ArrayString::<63>::new();
-    for byte in text {
-        name.push(char::from(byte.to_ascii_uppercase()));
-    }
-    name
 }
 
 /// Where the equals sign of an operand stands.

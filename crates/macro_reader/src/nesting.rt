@@ -47,12 +47,13 @@ impl Nesting {
     }
 }
 
-/// How far the field at the front of a text goes.
-pub(crate) fn field_len(text: &[u8]) -> usize
-    ensures value { result ≡ field_len outside text.now }
+/// How far the field goes in a text whose first byte stands so.
+pub(crate) fn field_len(start: Nesting, text: &[u8]) -> usize
+    requires { start.depth + length text.now < 2 ^ 64 }
+    ensures value { result ≡ field_len start text.now }
     ensures within { result ≤ length text.now }
 {
-    let mut at = Nesting::outside();
+    let mut at = start;
     for (i, byte) in text.iter().enumerate() {
         if *byte == b' ' && !at.quoted {
             return i;

@@ -21,7 +21,7 @@ fn digits_number(radix: u32, most: usize, text: &[u8]) -> Option<u32>
 }
 
 /// Whether a text is this letter and something between apostrophes.
-fn is_quoted(letter: u8, text: &[u8]) -> bool
+pub(crate) fn is_quoted(letter: u8, text: &[u8]) -> bool
     ensures { result ≡ is_quoted letter text.now }
 {
     text.len() >= 3

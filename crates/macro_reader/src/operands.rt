@@ -1,17 +1,20 @@
 //! The operands of a form.
 
-ghost use Rattle.std.specs.Prelude.{◌≡◌, [], IsTrue};
-ghost use Rattle.std.specs.Option.{option_copied};
+ghost use Rattle.std.specs.Prelude.{◌≡◌, [], IsTrue, IfSome};
+ghost use Rattle.std.specs.Option.{option_copied, option_map};
 ghost use Rattle.macro_reader.specs.Field.{outside, operands_from, operands_behind};
 ghost use Rattle.macro_reader.specs.Keywords.{key_of};
-ghost use Rattle.macro_reader.specs.Statements.{operand_fault, first_fault, text_at, number_at, form_fault};
+ghost use Rattle.macro_reader.specs.Requests.{written_in, target_in, IsValue, IsTarget};
+ghost use Rattle.macro_reader.specs.Statements.{operand_fault, first_fault, text_at, value_at, target_at, says_yes, form_fault};
 ghost use Rattle.macro_reader.specs.KeywordSets.{is_known, are_known, are_known_entries, name_of, names, row_in, bit_of, with_bit, operand_bit_fault, first_bit_fault, text_by_bit};
 
 use crate::faults::FaultKind;
 use crate::keywords::{Keywords, key_of, value_text};
 use crate::nesting::split;
-use crate::numbers::number_of;
+use crate::requests::{Place, Value};
 use crate::rows::{Entry, is_among, kind_in, value_fault};
+use crate::values::{place_of, value_of};
+use crate::words::is_word;
 use bitflags::Flags;
 
 /// What is wrong with an operand behind those with the keywords that were seen.
@@ -112,14 +115,38 @@ fn text_at(key: Keywords, text: Option<&[u8]>) -> Option<&[u8]>
     }
 }
 
-/// The number of the operand behind a form that has this keyword.
-pub(crate) fn number_at(key: Keywords, text: Option<&[u8]>) -> Option<u32>
+/// The value of the operand behind a form that has this keyword.
+pub(crate) fn value_at(key: Keywords, text: Option<&[u8]>) -> Option<Value>
     requires { IsTrue (is_known key.0) }
-    ensures { result ≡ number_at (name_of key.0) (operands_behind (option_copied text.entry)) }
+    ensures value { option_map written_in result ≡ value_at (name_of key.0) (operands_behind (option_copied text.entry)) }
+    ensures valid { IfSome result (λ v. IsValue (written_in v)) }
 {
     match text_at(key, text) {
-        Some(value) => number_of(value),
+        Some(value) => value_of(value),
         None => None,
+    }
+}
+
+/// The place of the operand behind a form that has this keyword.
+pub(crate) fn place_at(key: Keywords, text: Option<&[u8]>) -> Option<Place>
+    requires { IsTrue (is_known key.0) }
+    ensures value { option_map target_in result ≡ target_at (name_of key.0) (operands_behind (option_copied text.entry)) }
+    ensures valid { IfSome result (λ p. IsTarget (target_in p)) }
+{
+    match text_at(key, text) {
+        Some(place) => place_of(place),
+        None => None,
+    }
+}
+
+/// Whether the operand behind a form that has this keyword is there and says YES.
+pub(crate) fn says_yes_at(key: Keywords, text: Option<&[u8]>) -> bool
+    requires { IsTrue (is_known key.0) }
+    ensures { result ≡ says_yes (text_at (name_of key.0) (operands_behind (option_copied text.entry))) }
+{
+    match text_at(key, text) {
+        Some(condition) => is_word(condition, b"YES"),
+        None => false,
     }
 }
 

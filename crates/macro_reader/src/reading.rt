@@ -4,15 +4,20 @@ ghost use Rattle.std.specs.Prelude.{◌≡◌, [], ◌∷◌, ◌++◌, List};
 ghost use Rattle.macro_reader.specs.Columns.{Line, is_continued};
 ghost use Rattle.macro_reader.specs.Scripts.{Answer, Answers, IsBehind, IsValidFed, told_by, told_at_end, moved, behind_break, idle};
 ghost use Rattle.macro_reader.specs.Modes.{mode_of};
+ghost use Rattle.macro_reader.specs.Statements.{statement_with};
+ghost use Rattle.macro_reader.specs.declared.modes.Mode.TheVariants.{Gathering};
 
 use crate::columns::{is_continued, is_skipped, used};
+use crate::continuation::begin;
 use crate::faults::{Fault, FaultKind};
+use crate::modes::{Mode, OpenStatement};
 use crate::requests::Request;
-use crate::statements::statement;
+use crate::statements::statement_with;
 use std::marker::Model;
+use std::mem;
 
 /// What a line brought.
-#[derive(Clone, Copy, Debug, PartialEq, Eq)]
+#[derive(Clone, Debug, PartialEq, Eq, Drop)]
 pub enum Fed {
     /// No answer is due.
     More,
@@ -20,16 +25,8 @@ pub enum Fed {
     Ready(Request, u32),
 }
 
-/// Where a reader stands between two lines.
-#[derive(Clone, Copy)]
-enum Mode {
-    /// It awaits a statement.
-    Idle,
-    /// It drops the lines behind a statement that is broken.
-    Dropping,
-}
-
-/// A reader of statements. It keeps the count of the lines, which stays at 4,294,967,295 once it is there, and where it stands.
+/// A reader of statements. It keeps the count of the lines, which stays at 4,294,967,295 once it is there, and
+/// where it stands, with what it has of an open statement.
 #[derive(Drop)]
 pub struct Reader {
     count: u32,
@@ -45,8 +42,19 @@ impl Model for Reader {
     ghost view = { λ r. record { count = r.count; mode = mode_of r.mode } };
 }
 
+/// What a whole statement asks for, with the number of its first line.
+fn said(number: u32, first: &[u8], text: &[u8]) -> Result<Fed, Fault>
+    ensures told { told_by result ≡ record { line = number; what = statement_with first.now text.now } ∷ [] }
+    ensures valid { IsValidFed result }
+{
+    match statement_with(first, text) {
+        Ok(request) => Ok(Fed::Ready(request, number)),
+        Err(kind) => Err(Fault { kind, line: number }),
+    }
+}
+
 /// How a line moves a reader that awaits a statement.
-fn begin(number: u32, line: &[u8]) -> (Mode, Result<Fed, Fault>)
+fn start(number: u32, line: &[u8]) -> (Mode, Result<Fed, Fault>)
     ensures mode { mode_of result.0 ≡ (moved number idle line.now).0 }
     ensures told { told_by result.1 ≡ (moved number idle line.now).1 }
     ensures valid { IsValidFed result.1 }
@@ -54,22 +62,21 @@ fn begin(number: u32, line: &[u8]) -> (Mode, Result<Fed, Fault>)
     if is_skipped(line) {
         return (Mode::Idle, Ok(Fed::More));
     }
+    let first = used(line);
+    let gathered = begin(&first);
     if is_continued(line) {
-        let fault = Fault {
-            kind: FaultKind::Continuation,
-            line: number,
+        let statement = OpenStatement {
+            number,
+            first,
+            gathered,
         };
-        return (Mode::Dropping, Err(fault));
+        return (Mode::Gathering(statement), Ok(Fed::More));
     }
-    let fed = match statement(&used(line)) {
-        Ok(request) => Ok(Fed::Ready(request, number)),
-        Err(kind) => Err(Fault { kind, line: number }),
-    };
-    (Mode::Idle, fed)
+    (Mode::Idle, said(number, &first, gathered.text.as_slice()))
 }
 
-/// How a reader stands behind a line that it drops.
-fn behind_dropped(line: &[u8]) -> Mode
+/// How a reader stands behind a line that breaks a rule of continuation or is dropped.
+fn behind_break(line: &[u8]) -> Mode
     ensures { mode_of result ≡ behind_break (is_continued line.now) }
 {
     if is_continued(line) {
@@ -79,6 +86,38 @@ fn behind_dropped(line: &[u8]) -> Mode
     }
 }
 
+/// How a line moves a reader that has an open statement.
+fn go_on(statement: OpenStatement, line: &[u8]) -> (Mode, Result<Fed, Fault>)
+    ensures mode { mode_of result.0 ≡ (moved 0 (mode_of (Gathering statement)) line.now).0 }
+    ensures told { told_by result.1 ≡ (moved 0 (mode_of (Gathering statement)) line.now).1 }
+    ensures valid { IsValidFed result.1 }
+{
+    let OpenStatement {
+        number,
+        first,
+        mut gathered,
+    } = statement;
+    let broken = Fault {
+        kind: FaultKind::Continuation,
+        line: number,
+    };
+    if !gathered.take_line(&used(line)) {
+        return (behind_break(line), Err(broken));
+    }
+    if !is_continued(line) {
+        return (Mode::Idle, said(number, &first, gathered.text.as_slice()));
+    }
+    if gathered.lines > 8 {
+        return (Mode::Dropping, Err(broken));
+    }
+    let statement = OpenStatement {
+        number,
+        first,
+        gathered,
+    };
+    (Mode::Gathering(statement), Ok(Fed::More))
+}
+
 /// How a line moves a reader.
 fn move_on(number: u32, mode: Mode, line: &[u8]) -> (Mode, Result<Fed, Fault>)
     ensures mode { mode_of result.0 ≡ (moved number (mode_of mode) line.now).0 }
@@ -86,8 +125,9 @@ fn move_on(number: u32, mode: Mode, line: &[u8]) -> (Mode, Result<Fed, Fault>)
     ensures valid { IsValidFed result.1 }
 {
     match mode {
-        Mode::Idle => begin(number, line),
-        Mode::Dropping => (behind_dropped(line), Ok(Fed::More)),
+        Mode::Idle => start(number, line),
+        Mode::Dropping => (behind_break(line), Ok(Fed::More)),
+        Mode::Gathering(statement) => go_on(statement, line),
     }
 }
 
@@ -105,16 +145,19 @@ impl Reader {
     /// Takes the next line of a script, without its line feed. Columns 73 on aren't read.
     ///
     /// Answers a request where the line ends a statement that asks for one, `More` where no answer is due, and the first fault of a
-    /// statement that is wrong. After a fault the reader awaits the next statement. A statement whose column 72 isn't blank has the fault
-    /// `Continuation`, whatever else is wrong with it; the lines behind it are dropped as long as the line before has a column 72 that isn't
-    /// blank. (High Level Assembler Language Reference, "Assembler language coding conventions".)
+    /// statement that is wrong. A line whose column 72 isn't blank is continued by the next line, which is used from column 16 on; a
+    /// statement has at most nine continuation lines. Where a rule of continuation is broken the fault is `Continuation`, whatever else is
+    /// wrong with the statement, and it comes at the line that breaks the rule; the lines behind that are dropped as long as the line before
+    /// has a column 72 that isn't blank. Each other fault comes at the statement's last line. After a fault the reader awaits the next
+    /// statement. (High Level Assembler Language Reference, "Assembler language coding conventions".)
     pub fn next(&mut self, line: &[u8]) -> Result<Fed, Fault>
         ensures answers { (lines : List Line) (answers : List Answer) → IsBehind lines answers self.old
             → IsBehind (lines ++ line.now ∷ []) (answers ++ told_by result) self.new }
         ensures valid { IsValidFed result }
     {
         let number = self.count.saturating_add(1);
-        let (mode, fed) = move_on(number, self.mode, line);
+        let mode = mem::replace(&mut self.mode, Mode::Idle);
+        let (mode, fed) = move_on(number, mode, line);
         self.count = number;
         self.mode = mode;
         fed
@@ -122,14 +165,19 @@ impl Reader {
 
     /// Ends the script. The reader then is as new, but that the count of its lines goes on.
     ///
-    /// The fault is that of a statement that is still open.
+    /// A statement that is still open has the fault `Continuation`.
     pub fn finish(&mut self) -> Result<(), Fault>
         ensures answers { (lines : List Line) (answers : List Answer) → IsBehind lines answers self.old
             → Answers lines (answers ++ told_at_end result) }
         ensures mode { self.new.mode ≡ idle }
         ensures count { self.new.count ≡ self.old.count }
     {
-        self.mode = Mode::Idle;
-        Ok(())
+        match mem::replace(&mut self.mode, Mode::Idle) {
+            Mode::Gathering(statement) => Err(Fault {
+                kind: FaultKind::Continuation,
+                line: statement.number,
+            }),
+            _ => Ok(()),
+        }
     }
 }

@@ -1,21 +1,32 @@
 //! The operands of each form.
 
 ghost use Rattle.std.specs.Prelude.{◌≡◌};
-ghost use Rattle.macro_reader.specs.Rows.{is_of_kind, value_fault};
+ghost use Rattle.macro_reader.specs.Rows.{is_of_kind, is_left_out, value_fault};
 ghost use Rattle.macro_reader.specs.KeywordSets.{has_bit, kind_at};
 
+use crate::contents::{content_of, size_of};
 use crate::faults::FaultKind;
 use crate::keywords::Keywords;
 use crate::numbers::number_of;
-use crate::values::{is_pair, is_value};
+use crate::values::{is_condition, is_pair, is_value, place_of};
 
 /// A kind of value.
 #[derive(Clone, Copy)]
 pub enum Kind {
     /// A number, a name or a register.
     Value,
-    /// A value, or a pair of values: a maximum and a minimum.
+    /// A value. A pair of values, a maximum and a minimum, isn't supported.
     Length,
+    /// A name, or a register from 1 to 12.
+    Place,
+    /// YES or NO.
+    Condition,
+    /// X'..' with the digits of 1 to 256 bytes, or A(..) with a value.
+    Content,
+    /// A number from 1 to 256.
+    Size,
+    /// A number.
+    Count,
 }
 
 /// A keyword that a form has, and the kind of its value.
@@ -26,7 +37,7 @@ pub struct Entry {
 }
 
 /// The row of STORAGE OBTAIN.
-pub const OBTAIN: [Entry; 2] = [
+pub const OBTAIN: [Entry; 4] = [
     Entry {
         keyword: Keywords::LENGTH,
         kind: Kind::Length,
@@ -35,10 +46,18 @@ pub const OBTAIN: [Entry; 2] = [
         keyword: Keywords::SP,
         kind: Kind::Value,
     },
+    Entry {
+        keyword: Keywords::ADDR,
+        kind: Kind::Place,
+    },
+    Entry {
+        keyword: Keywords::COND,
+        kind: Kind::Condition,
+    },
 ];
 
 /// The row of STORAGE RELEASE.
-pub const RELEASE: [Entry; 3] = [
+pub const RELEASE: [Entry; 4] = [
     Entry {
         keyword: Keywords::LENGTH,
         kind: Kind::Value,
@@ -51,37 +70,16 @@ pub const RELEASE: [Entry; 3] = [
         keyword: Keywords::SP,
         kind: Kind::Value,
     },
+    Entry {
+        keyword: Keywords::COND,
+        kind: Kind::Condition,
+    },
 ];
 
 /// The keywords of STORAGE that are left out.
-pub const STORAGE_LEFT_OUT: [Keywords; 19] = [
+pub const STORAGE_LEFT_OUT: [Keywords; 18] = [
     Keywords::BNDRY,
     Keywords::LOC,
-    Keywords::COND,
-    Keywords::RELATED,
-    Keywords::LINKAGE,
-    Keywords::REGS,
-    Keywords::KEY,
-    Keywords::CALLRKY,
-    Keywords::TCBADDR,
-    Keywords::OWNER,
-    Keywords::EXECUTABLE,
-    Keywords::CHECKZERO,
-    Keywords::STARTBDY,
-    Keywords::CONTBDY,
-    Keywords::INADDR,
-    Keywords::RTCD,
-    Keywords::BRANCH,
-    Keywords::TCB,
-    Keywords::MF,
-];
-
-/// Those of STORAGE OBTAIN, and ADDR besides.
-pub const OBTAIN_LEFT_OUT: [Keywords; 20] = [
-    Keywords::ADDR,
-    Keywords::BNDRY,
-    Keywords::LOC,
-    Keywords::COND,
     Keywords::RELATED,
     Keywords::LINKAGE,
     Keywords::REGS,
@@ -119,13 +117,27 @@ pub(crate) fn is_among(keywords: &[Keywords], key: Keywords) -> bool
     keywords.iter().any(|k| *k == key)
 }
 
-/// Whether a text is a value of this kind.
+/// Whether a text is a value of this kind that is supported.
 fn is_of_kind(kind: Kind, text: &[u8]) -> bool
     ensures { result ≡ is_of_kind kind text.now }
 {
     match kind {
-        Kind::Value => is_value(text),
-        Kind::Length => is_value(text) || is_pair(text),
+        Kind::Value | Kind::Length => is_value(text),
+        Kind::Place => place_of(text).is_some(),
+        Kind::Condition => is_condition(text),
+        Kind::Content => content_of(text).is_some(),
+        Kind::Size => size_of(text).is_some(),
+        Kind::Count => number_of(text).is_some(),
+    }
+}
+
+/// Whether a text is a value of this kind that isn't supported.
+fn is_left_out(kind: Kind, text: &[u8]) -> bool
+    ensures { result ≡ is_left_out kind text.now }
+{
+    match kind {
+        Kind::Length => is_pair(text),
+        _ => false,
     }
 }
 
@@ -133,9 +145,9 @@ fn is_of_kind(kind: Kind, text: &[u8]) -> bool
 pub(crate) fn value_fault(kind: Kind, text: &[u8]) -> Option<FaultKind>
     ensures { result ≡ value_fault kind text.now }
 {
-    if number_of(text).is_some() {
+    if is_of_kind(kind, text) {
         None
-    } else if is_of_kind(kind, text) {
+    } else if is_left_out(kind, text) {
         Some(FaultKind::LeftOut)
     } else {
         Some(FaultKind::Value)

@@ -1,24 +1,26 @@
 //! The request of a statement.
 
-ghost use Rattle.std.specs.Prelude.{◌≡◌, IfOk};
+ghost use Rattle.std.specs.Prelude.{◌≡◌, ◌≤◌, length, IfOk};
 ghost use Rattle.std.specs.Option.{option_copied};
 ghost use Rattle.macro_reader.specs.Field.{operands, operands_behind};
 ghost use Rattle.macro_reader.specs.Requests.{seen, written_in, asked_in, IsValue, IsValidAsked};
-ghost use Rattle.macro_reader.specs.Statements.{subpool_at, obtain_of, release_of, storage, count_in, operation_of, asked_of, of_operation, from_operation, from_operands, field, statement_with, statement};
+ghost use Rattle.macro_reader.specs.Statements.{subpool_at, storage_form, obtain_of, release_of, storage, poke_of, peek_of, count_in, operation_of, asked_of, of_operation, from_operation, from_operands, is_misplaced, statement_with};
 
 use crate::faults::FaultKind;
-use crate::keywords::{Keywords, is_keyword_operand};
-use crate::nesting::{field_len, is_balanced, split};
-use crate::numbers::number_of;
-use crate::operands::{first_fault, form_fault, number_at};
-use crate::requests::{Request, Statement, Value};
-use crate::rows::{OBTAIN, OBTAIN_LEFT_OUT, RELEASE, STORAGE_LEFT_OUT};
+use crate::keywords::Keywords;
+use crate::nesting::{is_balanced, split};
+use crate::operands::{first_fault, form_fault, place_at, says_yes_at, value_at};
+use crate::positions::{first_number, first_value, positional_fault, second_content, second_size};
+use crate::requests::{Family, Form, Request, Statement, Value};
+use crate::rows::{Kind, OBTAIN, RELEASE, STORAGE_LEFT_OUT};
 use crate::words::{after_blanks, after_word, is_name, is_word, word, word_len};
 
 /// An operation that is known.
 #[derive(Clone, Copy)]
 pub enum Operation {
     Storage,
+    Poke,
+    Peek,
     Back,
     Forward,
 }
@@ -29,6 +31,10 @@ fn operation_of(text: &[u8]) -> Option<Operation>
 {
     if is_word(text, b"STORAGE") {
         Some(Operation::Storage)
+    } else if is_word(text, b"POKE") {
+        Some(Operation::Poke)
+    } else if is_word(text, b"PEEK") {
+        Some(Operation::Peek)
     } else if is_word(text, b"BACK") {
         Some(Operation::Back)
     } else if is_word(text, b"FORWARD") {
@@ -43,7 +49,20 @@ fn subpool_at(text: Option<&[u8]>) -> Value
     ensures value { written_in result ≡ subpool_at (operands_behind (option_copied text.entry)) }
     ensures valid { IsValue (written_in result) }
 {
-    Value::Number(number_at(Keywords::SP, text).unwrap_or(0))
+    match value_at(Keywords::SP, text) {
+        Some(subpool) => subpool,
+        None => Value::Number(0),
+    }
+}
+
+/// The form of STORAGE with the operands behind OBTAIN or RELEASE.
+fn storage_form(text: Option<&[u8]>) -> Form
+    ensures { result ≡ storage_form (operands_behind (option_copied text.entry)) }
+{
+    Form {
+        family: Family::S,
+        conditional: says_yes_at(Keywords::COND, text),
+    }
 }
 
 /// STORAGE OBTAIN with the operands behind its form.
@@ -51,15 +70,17 @@ fn obtain(text: Option<&[u8]>) -> Result<Request, FaultKind>
     ensures value { seen result ≡ obtain_of (operands_behind (option_copied text.entry)) }
     ensures valid { IfOk result (λ r. IsValidAsked (asked_in r)) }
 {
-    if let Some(fault) = first_fault(&OBTAIN_LEFT_OUT, &OBTAIN, text) {
+    if let Some(fault) = first_fault(&STORAGE_LEFT_OUT, &OBTAIN, text) {
         return Err(fault);
     }
-    let Some(length) = number_at(Keywords::LENGTH, text) else {
+    let Some(length) = value_at(Keywords::LENGTH, text) else {
         return Err(FaultKind::Missing);
     };
     Ok(Request::Act(Statement::Obtain {
-        length: Value::Number(length),
+        length,
         subpool: subpool_at(text),
+        place: place_at(Keywords::ADDR, text),
+        form: storage_form(text),
     }))
 }
 
@@ -71,16 +92,17 @@ fn release(text: Option<&[u8]>) -> Result<Request, FaultKind>
     if let Some(fault) = first_fault(&STORAGE_LEFT_OUT, &RELEASE, text) {
         return Err(fault);
     }
-    let Some(length) = number_at(Keywords::LENGTH, text) else {
+    let Some(length) = value_at(Keywords::LENGTH, text) else {
         return Err(FaultKind::Missing);
     };
-    let Some(address) = number_at(Keywords::ADDR, text) else {
+    let Some(address) = value_at(Keywords::ADDR, text) else {
         return Err(FaultKind::Missing);
     };
     Ok(Request::Act(Statement::Release {
-        length: Value::Number(length),
-        address: Value::Number(address),
+        length,
+        address,
         subpool: subpool_at(text),
+        form: storage_form(text),
     }))
 }
 
@@ -102,24 +124,48 @@ fn storage(field: &[u8]) -> Result<Request, FaultKind>
     }
 }
 
+/// POKE with its operand field.
+fn poke(field: &[u8]) -> Result<Request, FaultKind>
+    ensures value { seen result ≡ poke_of (operands field.now) }
+    ensures valid { IfOk result (λ r. IsValidAsked (asked_in r)) }
+{
+    if let Some(fault) = positional_fault(&[Kind::Value, Kind::Content], field) {
+        return Err(fault);
+    }
+    let Some(address) = first_value(field) else {
+        return Err(FaultKind::Missing);
+    };
+    let Some(content) = second_content(field) else {
+        return Err(FaultKind::Missing);
+    };
+    Ok(Request::Act(Statement::Poke { address, content }))
+}
+
+/// PEEK with its operand field.
+fn peek(field: &[u8]) -> Result<Request, FaultKind>
+    ensures value { seen result ≡ peek_of (operands field.now) }
+    ensures valid { IfOk result (λ r. IsValidAsked (asked_in r)) }
+{
+    if let Some(fault) = positional_fault(&[Kind::Value, Kind::Size], field) {
+        return Err(fault);
+    }
+    let Some(addr) = first_value(field) else {
+        return Err(FaultKind::Missing);
+    };
+    let Some(len) = second_size(field) else {
+        return Err(FaultKind::Missing);
+    };
+    Ok(Request::Peek { addr, len })
+}
+
 /// The number that is the only operand of a field.
 fn count_in(field: &[u8]) -> Result<u32, FaultKind>
     ensures { result ≡ count_in (operands field.now) }
 {
-    if field.is_empty() {
-        return Err(FaultKind::Missing);
+    if let Some(fault) = positional_fault(&[Kind::Count], field) {
+        return Err(fault);
     }
-    let (count, behind) = split(field);
-    if count.is_empty() || is_keyword_operand(count) {
-        return Err(FaultKind::Operand);
-    }
-    let Some(n) = number_of(count) else {
-        return Err(FaultKind::Value);
-    };
-    match behind {
-        Some(_) => Err(FaultKind::Operand),
-        None => Ok(n),
-    }
+    first_number(field).ok_or(FaultKind::Missing)
 }
 
 /// What an operation asks for with this operand field.
@@ -129,6 +175,8 @@ fn asked_of(operation: Operation, field: &[u8]) -> Result<Request, FaultKind>
 {
     match operation {
         Operation::Storage => storage(field),
+        Operation::Poke => poke(field),
+        Operation::Peek => peek(field),
         Operation::Back => Ok(Request::Back(count_in(field)?)),
         Operation::Forward => Ok(Request::Forward(count_in(field)?)),
     }
@@ -142,18 +190,26 @@ fn from_operation(card: &[u8]) -> &[u8]
 }
 
 /// What a first line has from the operands on.
-fn from_operands(card: &[u8]) -> &[u8]
-    ensures { result.now ≡ from_operands card.now }
+pub(crate) fn from_operands(card: &[u8]) -> &[u8]
+    ensures value { result.now ≡ from_operands card.now }
+    ensures within { length result.now ≤ length card.now }
 {
     after_blanks(after_word(from_operation(card)))
 }
 
+/// Whether column 1 of a first line isn't blank and has no name.
+pub(crate) fn is_misplaced(card: &[u8]) -> bool
+    ensures { result ≡ is_misplaced card.now }
+{
+    word_len(card) > 0 && !is_name(word(card))
+}
+
 /// The request of a statement whose first line has these columns and whose operand field is this text.
-fn statement_with(card: &[u8], text: &[u8]) -> Result<Request, FaultKind>
+pub(crate) fn statement_with(card: &[u8], text: &[u8]) -> Result<Request, FaultKind>
     ensures value { seen result ≡ statement_with card.now text.now }
     ensures valid { IfOk result (λ r. IsValidAsked (asked_in r)) }
 {
-    if word_len(card) > 0 && !is_name(word(card)) {
+    if is_misplaced(card) {
         return Err(FaultKind::Column);
     }
     let Some(operation) = operation_of(word(from_operation(card))) else {
@@ -163,13 +219,4 @@ fn statement_with(card: &[u8], text: &[u8]) -> Result<Request, FaultKind>
         return Err(FaultKind::Operand);
     }
     asked_of(operation, text)
-}
-
-/// The request of a statement of one line, columns 1 to 71 of it.
-pub(crate) fn statement(card: &[u8]) -> Result<Request, FaultKind>
-    ensures value { seen result ≡ statement card.now }
-    ensures valid { IfOk result (λ r. IsValidAsked (asked_in r)) }
-{
-    let rest = from_operands(card);
-    statement_with(card, &rest[..field_len(rest)])
 }

@@ -1,72 +1,37 @@
 //! A script with every kind of fault.
 
-use crate::{Fault, FaultKind, Fed, Reader, Request, Statement, Value};
+use crate::{
+    Content, Family, Fault, FaultKind, Fed, Form, Name, Place, Reader, Request, Statement, Value,
+};
+use arrayvec::ArrayVec;
 use std::process::Abort;
 
-const OBTAIN_255_IN_3: Request = Request::Act(Statement::Obtain {
-    length: Value::Number(255),
-    subpool: Value::Number(3),
-});
+const STORAGE: Form = Form {
+    family: Family::S,
+    conditional: false,
+};
 
-const RELEASE_THE_MOST_IN_1: Request = Request::Act(Statement::Release {
-    length: Value::Number(4_294_967_295),
-    address: Value::Number(0x6000),
-    subpool: Value::Number(1),
-});
+fn obtain(length: u32, subpool: u32) -> Request {
+    Request::Act(Statement::Obtain {
+        length: Value::Number(length),
+        subpool: Value::Number(subpool),
+        place: None,
+        form: STORAGE,
+    })
+}
 
-/// Lines, and the answer that each is to have.
-const SCRIPT: [(&[u8], Result<Option<Request>, FaultKind>); 29] = [
-    (
-        b"* a comment, with column 72                                            X",
-        Ok(None),
-    ),
-    (b"", Ok(None)),
-    (b" FOO", Err(FaultKind::Operation)),
-    (b" STORAGE", Err(FaultKind::Missing)),
-    (b" STORAGE OBTAIN,SP=1", Err(FaultKind::Missing)),
-    (b" STORAGE OBTAIN,LENGTH=8,", Err(FaultKind::Operand)),
-    (b"1X MAP", Err(FaultKind::Column)),
-    (
-        b"1X MAP                                                                 X",
-        Err(FaultKind::Continuation),
-    ),
-    (
-        b" BACK 1                                                                X",
-        Ok(None),
-    ),
-    (b" BACK 1", Ok(None)),
-    (b" BACK 0", Ok(Some(Request::Back(0)))),
-    (
-        b" storage obtain,length=x'ff',sp=b'11' remarks",
-        Ok(Some(OBTAIN_255_IN_3)),
-    ),
-    (
-        b"NAME STORAGE RELEASE,SP=1,ADDR=X'6000',LENGTH=4294967295",
-        Ok(Some(RELEASE_THE_MOST_IN_1)),
-    ),
-    (
-        b" STORAGE OBTAIN,LENGTH=8,LENGTH=P",
-        Err(FaultKind::Repeated),
-    ),
-    (b" STORAGE OBTAIN,LENGTH=8K", Err(FaultKind::Value)),
-    (b" STORAGE OBTAIN,LENGTH=4294967296", Err(FaultKind::Value)),
-    (b" STORAGE OBTAIN,LENGTH=(8,4)", Err(FaultKind::LeftOut)),
-    (b" STORAGE RELEASE,LENGTH=(8,4)", Err(FaultKind::Value)),
-    (b" STORAGE OBTAIN,LENGTH=8,SP=(5)", Err(FaultKind::LeftOut)),
-    (b" STORAGE KEY=1", Err(FaultKind::LeftOut)),
-    (b" STORAGE OBTAIN,LENGTH=8,ADDR=P", Err(FaultKind::LeftOut)),
-    (b" STORAGE RELEASE,SP=1", Err(FaultKind::Missing)),
-    (b" STORAGE KEY=1,LENGTH=(8", Err(FaultKind::Operand)),
-    (
-        b" FORWARD 2                                                              ignored",
-        Ok(Some(Request::Forward(2))),
-    ),
-    (b" BACK N=1", Err(FaultKind::Operand)),
-    (b" BACK (5)", Err(FaultKind::Value)),
-    (b" BACK 1,2", Err(FaultKind::Operand)),
-    (b" BACK", Err(FaultKind::Missing)),
-    (b"\tBACK 0", Err(FaultKind::Column)),
-];
+fn release(length: u32, address: u32, subpool: u32) -> Request {
+    Request::Act(Statement::Release {
+        length: Value::Number(length),
+        address: Value::Number(address),
+        subpool: Value::Number(subpool),
+        form: STORAGE,
+    })
+}
+
+pub(crate) fn name(text: &str) -> Name {
+    Name::from(text).unwrap_or_default()
+}
 
 /// Feeds the next line, and compares the answer, which has this line's number.
 fn feed(
@@ -87,18 +52,276 @@ fn feed(
 #[test]
 fn answers_every_line(rt: HostRuntime) {
     let mut reader = Reader::new();
+    let script: [(&[u8], Result<Option<Request>, FaultKind>); 14] = [
+        (
+            b"* a comment, with column 72                                            X",
+            Ok(None),
+        ),
+        (b"", Ok(None)),
+        (b" FOO", Err(FaultKind::Operation)),
+        (b" STORAGE", Err(FaultKind::Missing)),
+        (b" STORAGE OBTAIN,SP=1", Err(FaultKind::Missing)),
+        (b" STORAGE OBTAIN,LENGTH=8,", Err(FaultKind::Operand)),
+        (b"1X MAP", Err(FaultKind::Column)),
+        (b" BACK 0", Ok(Some(Request::Back(0)))),
+        (
+            b" storage obtain,length=x'ff',sp=b'11' remarks",
+            Ok(Some(obtain(255, 3))),
+        ),
+        (
+            b"NAME STORAGE RELEASE,SP=1,ADDR=X'6000',LENGTH=4294967295",
+            Ok(Some(release(4_294_967_295, 0x6000, 1))),
+        ),
+        (
+            b" STORAGE OBTAIN,LENGTH=8,LENGTH=P",
+            Err(FaultKind::Repeated),
+        ),
+        (b" STORAGE OBTAIN,LENGTH=8K", Err(FaultKind::Value)),
+        (b" STORAGE OBTAIN,LENGTH=4294967296", Err(FaultKind::Value)),
+        (b" STORAGE OBTAIN,LENGTH=(8,4)", Err(FaultKind::LeftOut)),
+    ];
     let mut number = 0u32;
-    for (line, want) in SCRIPT {
+    for (line, want) in script {
         number = number.saturating_add(1);
         feed(&rt, &mut reader, number, line, want);
     }
     assert_eq!(rt; reader.finish(), Ok(()));
+}
+
+#[test]
+fn answers_every_operand(rt: HostRuntime) {
+    let mut reader = Reader::new();
+    let script: [(&[u8], Result<Option<Request>, FaultKind>); 17] = [
+        (b" STORAGE RELEASE,LENGTH=(8,4)", Err(FaultKind::Value)),
+        (b" STORAGE OBTAIN,LENGTH=(P)", Err(FaultKind::Value)),
+        (b" STORAGE OBTAIN,LENGTH=(P,(5))", Err(FaultKind::LeftOut)),
+        (b" STORAGE OBTAIN,LENGTH=8,LOC=31", Err(FaultKind::LeftOut)),
+        (b" STORAGE KEY=1", Err(FaultKind::LeftOut)),
+        (b" STORAGE OBTAIN,LENGTH=8,ADDR=(13)", Err(FaultKind::Value)),
+        (b" STORAGE OBTAIN,LENGTH=8,ADDR=(0)", Err(FaultKind::Value)),
+        (b" STORAGE OBTAIN,LENGTH=8,ADDR=8", Err(FaultKind::Value)),
+        (
+            b" STORAGE OBTAIN,LENGTH=8,COND=MAYBE",
+            Err(FaultKind::Value),
+        ),
+        (b" STORAGE RELEASE,SP=1", Err(FaultKind::Missing)),
+        (b" STORAGE KEY=1,LENGTH=(8", Err(FaultKind::Operand)),
+        (
+            b" FORWARD 2                                                              ignored",
+            Ok(Some(Request::Forward(2))),
+        ),
+        (b" BACK N=1", Err(FaultKind::Operand)),
+        (b" BACK (5)", Err(FaultKind::Value)),
+        (b" BACK 1,2", Err(FaultKind::Operand)),
+        (b" BACK", Err(FaultKind::Missing)),
+        (b"\tBACK 0", Err(FaultKind::Column)),
+    ];
+    let mut number = 0u32;
+    for (line, want) in script {
+        number = number.saturating_add(1);
+        feed(&rt, &mut reader, number, line, want);
+    }
+    assert_eq!(rt; reader.finish(), Ok(()));
+}
+
+#[test]
+fn reads_names_and_registers(rt: HostRuntime) {
+    let mut reader = Reader::new();
+    let script: [(&[u8], Request); 3] = [
+        (
+            b" STORAGE OBTAIN,LENGTH=(0),SP=(R15),ADDR=area_1",
+            Request::Act(Statement::Obtain {
+                length: Value::Register(0),
+                subpool: Value::Register(15),
+                place: Some(Place::Named(name("AREA_1"))),
+                form: STORAGE,
+            }),
+        ),
+        (
+            b" STORAGE OBTAIN,LENGTH=R5,ADDR=(r12),COND=no",
+            Request::Act(Statement::Obtain {
+                length: Value::Named(name("R5")),
+                subpool: Value::Number(0),
+                place: Some(Place::Register(12)),
+                form: STORAGE,
+            }),
+        ),
+        (
+            b" STORAGE RELEASE,LENGTH=$n,ADDR=(1),COND=Yes",
+            Request::Act(Statement::Release {
+                length: Value::Named(name("$N")),
+                address: Value::Register(1),
+                subpool: Value::Number(0),
+                form: Form {
+                    family: Family::S,
+                    conditional: true,
+                },
+            }),
+        ),
+    ];
+    let mut number = 0u32;
+    for (line, want) in script {
+        number = number.saturating_add(1);
+        feed(&rt, &mut reader, number, line, Ok(Some(want)));
+    }
+}
+
+fn poke(address: Value, content: Content) -> Request {
+    Request::Act(Statement::Poke { address, content })
+}
+
+fn peek(addr: Value, len: u16) -> Request {
+    Request::Peek { addr, len }
+}
+
+fn area() -> Value {
+    Value::Named(name("AREA"))
+}
+
+fn two_bytes(first: u8, second: u8) -> Content {
+    let mut bytes = ArrayVec::new();
+    bytes.push(first);
+    bytes.push(second);
+    Content::Spelled(bytes)
+}
+
+#[test]
+fn reads_bytes(rt: HostRuntime) {
+    let mut reader = Reader::new();
+    let script: [(&[u8], Result<Option<Request>, FaultKind>); 16] = [
+        (
+            b" POKE X'6000',x'0aB1'",
+            Ok(Some(poke(Value::Number(0x6000), two_bytes(0x0a, 0xb1)))),
+        ),
+        (
+            b" POKE (R5),A((1))",
+            Ok(Some(poke(Value::Register(5), Content::Word(Value::Register(1))))),
+        ),
+        (
+            b" POKE Area,a(X'10')",
+            Ok(Some(poke(area(), Content::Word(Value::Number(16))))),
+        ),
+        (b" PEEK area,256", Ok(Some(peek(area(), 256)))),
+        (b" POKE X'6000',X'A'", Err(FaultKind::Value)),
+        (b" POKE X'6000',X''", Err(FaultKind::Value)),
+        (b" POKE X'6000',A()", Err(FaultKind::Value)),
+        (b" POKE X'6000',1", Err(FaultKind::Value)),
+        (b" POKE =5", Err(FaultKind::Value)),
+        (b" POKE MF=L,X'00'", Err(FaultKind::Operand)),
+        (b" POKE ,X'00'", Err(FaultKind::Operand)),
+        (b" POKE X'6000'", Err(FaultKind::Missing)),
+        (b" POKE X'6000',X'00',1", Err(FaultKind::Operand)),
+        (b" PEEK X'6000',257", Err(FaultKind::Value)),
+        (b" PEEK X'6000',0", Err(FaultKind::Value)),
+        (b" PEEK", Err(FaultKind::Missing)),
+    ];
+    let mut number = 0u32;
+    for (line, want) in script {
+        number = number.saturating_add(1);
+        feed(&rt, &mut reader, number, line, want);
+    }
+}
+
+/// A line with a text from a column on, whose column 72 may say that the next line continues it.
+pub(crate) fn card(column: usize, text: &[u8], continued: bool) -> [u8; 72] {
+    let mut line = [b' '; 72];
+    for i in 0..71usize {
+        if i.saturating_add(1) >= column {
+            line[i] = text
+                .get(i.saturating_add(1).saturating_sub(column))
+                .copied()
+                .unwrap_or(b' ');
+        }
+    }
+    if continued {
+        line[71] = b'X';
+    }
+    line
+}
+
+pub(crate) fn more() -> Result<Fed, Fault> {
+    Ok(Fed::More)
+}
+
+pub(crate) fn fault(kind: FaultKind, line: u32) -> Result<Fed, Fault> {
+    Err(Fault { kind, line })
+}
+
+#[test]
+fn reads_continuation_lines(rt: HostRuntime) {
+    let mut reader = Reader::new();
+    let continuation = FaultKind::Continuation;
+    let reaches: &[u8] = b"STORAGE OBTAIN,LENGTH=0000000008";
+    let script: [(usize, &[u8], bool, Result<Fed, Fault>); 18] = [
+        // Remarks behind a comma.
+        (2, b"STORAGE OBTAIN, a remark", true, more()),
+        (16, b"LENGTH=8, a remark", true, more()),
+        (16, b"SP=1", false, Ok(Fed::Ready(obtain(8, 1), 1))),
+        // No name in column 1: continuation lines are remarks, and the fault comes with the last.
+        (1, b"1X MAP,", true, more()),
+        (17, b"remarks", false, fault(FaultKind::Column, 4)),
+        // A fault of continuation comes before that, and what follows is dropped.
+        (1, b"1X MAP", true, more()),
+        (15, b"BACK 1", true, fault(continuation, 6)),
+        (2, b"BACK 1", false, more()),
+        (2, b"BACK 0", false, Ok(Fed::Ready(Request::Back(0), 9))),
+        // A blank in column 16 behind a comma.
+        (2, b"FOO A,", true, more()),
+        (17, b"B", false, fault(continuation, 10)),
+        // A field that reaches column 71 ends at a blank in column 16, or goes on there.
+        (40, reaches, true, more()),
+        (17, b",SP=2", false, Ok(Fed::Ready(obtain(8, 0), 12))),
+        (40, reaches, true, more()),
+        (16, b",SP=2", false, Ok(Fed::Ready(obtain(8, 2), 14))),
+        // No operands on the first line.
+        (2, b"BACK", true, more()),
+        (17, b"1,", true, more()),
+        (16, b"1", false, fault(FaultKind::Missing, 16)),
+    ];
+    for (column, text, continued, want) in script {
+        let fed = reader.next(&card(column, text, continued));
+        assert_eq!(rt; fed, want, "{column}");
+    }
+    assert_eq!(rt; reader.finish(), Ok(()));
+}
+
+#[test]
+fn reads_what_goes_over_line_ends(rt: HostRuntime) {
+    let mut reader = Reader::new();
+    let continuation = FaultKind::Continuation;
+    let script: [(usize, &[u8], bool, Result<Fed, Fault>); 20] = [
+        // An apostrophe that is closed on the next line.
+        (2, b"STORAGE OBTAIN,LENGTH=X'1", true, more()),
+        (16, b"0'", false, fault(FaultKind::Value, 1)),
+        (48, b"STORAGE OBTAIN,LENGTH=X'", true, more()),
+        (16, b"10'", false, Ok(Fed::Ready(obtain(16, 0), 3))),
+        // An empty line and a comment continue a statement too.
+        (2, b"STORAGE OBTAIN,LENGTH=8,", true, more()),
+        (1, b"", false, fault(continuation, 5)),
+        (2, b"STORAGE OBTAIN,LENGTH=8", true, more()),
+        (1, b"* a comment", false, fault(continuation, 7)),
+        // Nine continuation lines that are continued.
+        (2, b"BACK 1", true, more()),
+        (16, b"2", true, more()),
+        (16, b"3", true, more()),
+        (16, b"4", true, more()),
+        (16, b"5", true, more()),
+        (16, b"6", true, more()),
+        (16, b"7", true, more()),
+        (16, b"8", true, more()),
+        (16, b"9", true, more()),
+        (16, b"10", true, fault(continuation, 9)),
+        (16, b"11", false, more()),
+        // A statement that is open at the end.
+        (2, b"BACK 1", true, more()),
+    ];
+    for (column, text, continued, want) in script {
+        let fed = reader.next(&card(column, text, continued));
+        assert_eq!(rt; fed, want, "{column}");
+    }
+    let (kind, line) = (continuation, 20);
+    assert_eq!(rt; reader.finish(), Err(Fault { kind, line }));
     // The count goes on, and no line is dropped.
-    feed(
-        &rt,
-        &mut reader,
-        number.saturating_add(1),
-        b" BACK 1",
-        Ok(Some(Request::Back(1))),
-    );
+    let next = reader.next(b" BACK 1");
+    assert_eq!(rt; next, Ok(Fed::Ready(Request::Back(1), 21)));
 }

@@ -1,21 +1,27 @@
 //! Values as operands spell them.
 
-ghost use Rattle.std.specs.Prelude.{◌≡◌, ◌-◌, IsTrue, length, slice_range};
+ghost use Rattle.std.specs.Prelude.{◌≡◌, ◌-◌, ◌<◌, IsTrue, IfSome, length, slice_range};
+ghost use Rattle.std.specs.Option.{option_map};
 ghost use Rattle.macro_reader.specs.Field.{outside, operands_from};
-ghost use Rattle.macro_reader.specs.Values.{is_register_number, without_r, is_enclosed, enclosed, is_register, is_value, are_two_values, is_pair};
+ghost use Rattle.macro_reader.specs.Requests.{written_in, target_in, IsValue, IsTarget};
+ghost use Rattle.macro_reader.specs.Values.{register_number, without_r, is_enclosed, enclosed, register_of, value_of, is_value, target_of, is_condition, are_two_values, is_pair};
 
 use crate::nesting::split;
 use crate::numbers::number_of;
-use crate::words::is_name;
+use crate::requests::{Place, Value};
+use crate::words::{is_name, is_word, upper_name};
 
-/// Whether digits are the number of a register, without leading zeros.
-fn is_register_number(digits: &[u8]) -> bool
-    ensures { result ≡ is_register_number digits.now }
+/// The number of a register, without leading zeros.
+fn register_number(digits: &[u8]) -> Option<u8>
+    ensures value { result ≡ register_number digits.now }
+    ensures small { IfSome result (λ r. r < 16) }
 {
-    match digits {
-        [digit] => matches!(*digit, b'0'..=b'9'),
-        [first, second] => *first == b'1' && matches!(*second, b'0'..=b'5'),
-        _ => false,
+    if digits.len() == 1 && digits[0] >= b'0' && digits[0] <= b'9' {
+        Some(digits[0] - b'0')
+    } else if digits.len() == 2 && digits[0] == b'1' && digits[1] >= b'0' && digits[1] <= b'5' {
+        Some(digits[1] - b'0' + 10)
+    } else {
+        None
     }
 }
 
@@ -31,32 +37,77 @@ fn without_r(text: &[u8]) -> &[u8]
 }
 
 /// Whether the first and the last byte are parentheses around the others.
-fn is_enclosed(text: &[u8]) -> bool
+pub(crate) fn is_enclosed(text: &[u8]) -> bool
     ensures { result ≡ is_enclosed text.now }
 {
     text.len() >= 2 && text[0] == b'(' && text[text.len() - 1] == b')'
 }
 
 /// What stands between the first and the last byte.
-fn enclosed(text: &[u8]) -> &[u8]
+pub(crate) fn enclosed(text: &[u8]) -> &[u8]
     requires { IsTrue (is_enclosed text.now) }
     ensures { result.now ≡ enclosed text.now }
 {
     &text[1..text.len() - 1]
 }
 
-/// Whether a text is a register in parentheses.
-fn is_register(text: &[u8]) -> bool
-    ensures { result ≡ is_register text.now }
+/// The register that a text spells.
+fn register_of(text: &[u8]) -> Option<u8>
+    ensures value { result ≡ register_of text.now }
+    ensures small { IfSome result (λ r. r < 16) }
 {
-    is_enclosed(text) && is_register_number(without_r(enclosed(text)))
+    if is_enclosed(text) {
+        register_number(without_r(enclosed(text)))
+    } else {
+        None
+    }
+}
+
+/// The value that a text spells.
+pub(crate) fn value_of(text: &[u8]) -> Option<Value>
+    ensures value { option_map written_in result ≡ value_of text.now }
+    ensures valid { IfSome result (λ v. IsValue (written_in v)) }
+{
+    if let Some(number) = number_of(text) {
+        return Some(Value::Number(number));
+    }
+    if is_name(text) {
+        return Some(Value::Named(upper_name(text)));
+    }
+    match register_of(text) {
+        Some(register) => Some(Value::Register(register)),
+        None => None,
+    }
 }
 
 /// Whether a text is a number, a name or a register.
 pub(crate) fn is_value(text: &[u8]) -> bool
     ensures { result ≡ is_value text.now }
 {
-    number_of(text).is_some() || is_name(text) || is_register(text)
+    value_of(text).is_some()
+}
+
+/// The place that a text spells.
+pub(crate) fn place_of(text: &[u8]) -> Option<Place>
+    ensures value { option_map target_in result ≡ target_of text.now }
+    ensures valid { IfSome result (λ p. IsTarget (target_in p)) }
+{
+    if is_name(text) {
+        return Some(Place::Named(upper_name(text)));
+    }
+    let register = register_of(text)?;
+    if matches!(register, 1..=12) {
+        Some(Place::Register(register))
+    } else {
+        None
+    }
+}
+
+/// Whether a text is YES or NO, in either case.
+pub(crate) fn is_condition(text: &[u8]) -> bool
+    ensures { result ≡ is_condition text.now }
+{
+    is_word(text, b"YES") || is_word(text, b"NO")
 }
 
 /// Whether a text is two values with a comma between them.

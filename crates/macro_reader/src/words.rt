@@ -1,8 +1,12 @@
 //! Names and the words of a line.
 
-ghost use Rattle.std.specs.Prelude.{◌≡◌, ◌≤◌, length};
+ghost use Rattle.std.specs.Prelude.{◌≡◌, ◌≤◌, IsTrue, length, map};
 ghost use Rattle.std.specs.List.{list_all};
+ghost use Rattle.std.specs.Char.{to_ascii_uppercase};
+ghost use Rattle.std.specs.Str.{IsAscii};
 ghost use Rattle.macro_reader.specs.Words.{is_letter, is_name_byte, is_name, is_word, word_len, blank_len, word, after_word, after_blanks};
+
+use arrayvec::ArrayString;
 
 pub(crate) fn is_letter(byte: u8) -> bool
     ensures { result ≡ is_letter byte }
@@ -27,6 +31,19 @@ pub(crate) fn is_name(text: &[u8]) -> bool
     ensures { result ≡ is_name text.now }
 {
     !text.is_empty() && text.len() <= 63 && is_letter(text[0]) && all_name_bytes(text)
+}
+
+/// A name in upper case.
+pub(crate) fn upper_name(text: &[u8]) -> ArrayString<63>
+    requires name { IsTrue (is_name text.now) }
+    requires ascii { IsAscii text.now }
+    ensures { result.bytes ≡ map to_ascii_uppercase text.now }
+{
+    let mut name = ArrayString::<63>::new();
+    for byte in text {
+        name.push(char::from(byte.to_ascii_uppercase()));
+    }
+    name
 }
 
 /// Whether a text is this word, in either case.
@@ -79,14 +96,16 @@ pub(crate) fn word(text: &[u8]) -> &[u8]
 
 /// What stands behind the word in front.
 pub(crate) fn after_word(text: &[u8]) -> &[u8]
-    ensures { result.now ≡ after_word text.now }
+    ensures value { result.now ≡ after_word text.now }
+    ensures within { length result.now ≤ length text.now }
 {
     &text[word_len(text)..]
 }
 
 /// What stands behind the blanks in front.
 pub(crate) fn after_blanks(text: &[u8]) -> &[u8]
-    ensures { result.now ≡ after_blanks text.now }
+    ensures value { result.now ≡ after_blanks text.now }
+    ensures within { length result.now ≤ length text.now }
 {
     &text[blank_len(text)..]
 }

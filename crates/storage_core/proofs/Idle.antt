@@ -1,5 +1,5 @@
 -- Pages that leave their subpool.
-use Rattle.std.proofs.Common.{◌≡◌, ℕ, ◌+◌, ◌-◌, ◌*◌, ◌<◌, ◌≤◌, Bool, true, false, ◌&&◌, ◌||◌, not, nat_lt, ◌==◌, if◌then◌else◌, arith, refl, sym, ◌∙◌, ap, subst, Option, None, List, length, slice_index_or, slice_set, inl, inr, get_or-set_same, get_or-set_other}
+use Rattle.std.proofs.Common.{◌≡◌, ℕ, ◌+◌, ◌-◌, ◌*◌, ◌/◌, ◌<◌, ◌≤◌, Some, is_some, Bool, true, false, ◌&&◌, ◌||◌, not, nat_lt, ◌==◌, if◌then◌else◌, arith, refl, sym, ◌∙◌, ap, subst, Option, None, List, length, slice_index_or, slice_set, inl, inr, get_or-set_same, get_or-set_other}
 use Rattle.std.proofs.lemmas.Bool.{cases_eq, cases_lt, and_left, and_right, cond-false, cond-true, eq-eqb, ne_eqb, lt-ltb, le-ltb}
 use Rattle.std.proofs.lemmas.Bool.Decides.{nat_tests}
 use Rattle.std.proofs.lemmas.List.{get_or_past}
@@ -9,10 +9,10 @@ use Rattle.vsm_model.specs.State.{State}
 use Rattle.vsm_model.specs.Areas.{belongs}
 use Rattle.vsm_model.specs.Storage.{is_idle, without_idle_pages}
 use Rattle.vsm_model.proofs.Least.{all_pass_none, all_pass_more}
-use Rattle.storage_core.specs.Meaning.{assigned_at, is_taken_at}
+use Rattle.storage_core.specs.Meaning.{assigned_at, is_taken_at, byte_at}
 use Rattle.storage_core.specs.Idle.{without_page_if_idle}
 use Rattle.storage_core.proofs.Views.{assigned_at-inside, is_taken_at-inside}
-use Rattle.storage_core.proofs.Runs.{same_pages, at_page}
+use Rattle.storage_core.proofs.Runs.{same_assigned, at_page}
 
 module _ (taken : List Bool) (page : ℕ) where
   pub idle_misses : (k : ℕ) → k < 512 → slice_index_or taken (512 * page + k) false ≡ true → false ≡ is_idle (is_taken_at taken) (6 + page)
@@ -80,35 +80,65 @@ one_more : (p : Subpool) (x e b : Bool) (o : Option Subpool) →
 one_more p true e b o = grind arith
 one_more p false e b o = refl
 
+one_more_byte : (p : Subpool) (x e b : Bool) (o : Option Subpool) (u : Option ℕ) →
+    (if e && (belongs p (if x && (belongs p o && b) then None else o) && b) then None else (if x && (belongs p o && b) then None else u)) ≡ (if (x || e) && (belongs p o && b) then None else u)
+one_more_byte p true e b o u = grind arith
+one_more_byte p false e b o u = refl
+
 lt_or_eq : (k n : ℕ) → (nat_lt k n || (k == n)) ≡ nat_lt k (n + 1)
 lt_or_eq k n = grind (arith, nat_tests)
 
--- the pages below n that are the subpool's and idle leave it
+-- the pages below n that are the subpool's and idle leave it, with their bytes
 abbrev pub without_idle_below : State → Subpool → ℕ → State
-without_idle_below s p n = record s { pages = λ k. if nat_lt k n && (belongs p (s.pages k) && is_idle s.taken k) then None else s.pages k }
+without_idle_below s p n =
+    record s {
+      pages = λ k. if nat_lt k n && (belongs p (s.pages k) && is_idle s.taken k) then None else s.pages k;
+      bytes = λ a. if nat_lt (a / 4096) n && (belongs p (s.pages (a / 4096)) && is_idle s.taken (a / 4096)) then None else s.bytes a;
+    }
 
 module _ (s : State) (p : Subpool) where
   pub without_idle-further : (n : ℕ) → without_page_if_idle (without_idle_below s p n) p n ≡ without_idle_below s p (n + 1)
   without_idle-further n =
-      same_pages s _ _ (λ k. one_more p (nat_lt k n) (k == n) (is_idle s.taken k) (s.pages k)
+      same_assigned s _ _ _ _
+      (λ k. one_more p (nat_lt k n) (k == n) (is_idle s.taken k) (s.pages k)
       ∙ ap (λ b. if b && (belongs p (s.pages k) && is_idle s.taken k) then None else s.pages k) (lt_or_eq k n))
+      (λ a. one_more_byte p (nat_lt (a / 4096) n) (a / 4096 == n) (is_idle s.taken (a / 4096)) (s.pages (a / 4096)) (s.bytes a)
+      ∙ ap (λ b. if b && (belongs p (s.pages (a / 4096)) && is_idle s.taken (a / 4096)) then None else s.bytes a) (lt_or_eq (a / 4096) n))
 
   no_pages : (b : Bool) (k : ℕ) → s.pages k ≡ None → (if b && (belongs p (s.pages k) && is_idle s.taken k) then None else s.pages k) ≡ s.pages k
   no_pages b k e = elim (b && (belongs p (s.pages k) && is_idle s.taken k)) as (λ c. (if c then None else s.pages k) ≡ s.pages k) [ true ↦ sym e | false ↦ refl ]
 
-  pub without_idle-none : (n : ℕ) → ((k : ℕ) → k < n → s.pages k ≡ None) → s ≡ without_idle_below s p n
-  without_idle-none n none =
-      same_pages s _ _ (λ k. sym (elim (cases_lt k n) [
+  -- where there is no page, there is no byte
+  no_byte : (b : Bool) (a : ℕ) → s.bytes a ≡ None → (if b && (belongs p (s.pages (a / 4096)) && is_idle s.taken (a / 4096)) then None else s.bytes a) ≡ s.bytes a
+  no_byte b a e = elim (b && (belongs p (s.pages (a / 4096)) && is_idle s.taken (a / 4096))) as (λ c. (if c then None else s.bytes a) ≡ s.bytes a) [ true ↦ sym e | false ↦ refl ]
+
+  pub without_idle-none : (n : ℕ) → ((k : ℕ) → k < n → s.pages k ≡ None) → ((a : ℕ) → s.pages (a / 4096) ≡ None → s.bytes a ≡ None) → s ≡ without_idle_below s p n
+  without_idle-none n none unread =
+      same_assigned s _ _ _ _
+      (λ k. sym (elim (cases_lt k n) [
         | inl low ↦ no_pages (nat_lt k n) k (none k low)
         | inr high ↦ cond-false (nat_lt k n && (belongs p (s.pages k) && is_idle s.taken k)) None (s.pages k) (and_left (nat_lt k n) _ (le-ltb k n high))
       ]))
+      (λ a. sym (elim (cases_lt (a / 4096) n) [
+        | inl low ↦ no_byte (nat_lt (a / 4096) n) a (unread a (none (a / 4096) low))
+        | inr high ↦ cond-false (nat_lt (a / 4096) n && (belongs p (s.pages (a / 4096)) && is_idle s.taken (a / 4096))) None (s.bytes a) (and_left (nat_lt (a / 4096) n) _ (le-ltb (a / 4096) n high))
+      ]))
 
-  pub without_idle-all : (n : ℕ) → ((k : ℕ) → n ≤ k → s.pages k ≡ None) → without_idle_below s p n ≡ without_idle_pages s p
-  without_idle-all n none =
-      same_pages s _ _ (λ k. elim (cases_lt k n) [
+  pub without_idle-all : (n : ℕ) → ((k : ℕ) → n ≤ k → s.pages k ≡ None) → ((a : ℕ) → s.pages (a / 4096) ≡ None → s.bytes a ≡ None) → without_idle_below s p n ≡ without_idle_pages s p
+  without_idle-all n none unread =
+      same_assigned s _ _ _ _
+      (λ k. elim (cases_lt k n) [
         | inl low ↦ ap (λ b. if b && (belongs p (s.pages k) && is_idle s.taken k) then None else s.pages k) (lt-ltb k n low)
         | inr high ↦ no_pages (nat_lt k n) k (none k high) ∙ sym (no_pages true k (none k high))
       ])
+      (λ a. elim (cases_lt (a / 4096) n) [
+        | inl low ↦ ap (λ b. if b && (belongs p (s.pages (a / 4096)) && is_idle s.taken (a / 4096)) then None else s.bytes a) (lt-ltb (a / 4096) n low)
+        | inr high ↦ no_byte (nat_lt (a / 4096) n) a (unread a (none (a / 4096) high)) ∙ sym (no_byte true a (unread a (none (a / 4096) high)))
+      ])
+
+-- a byte of a page that isn't assigned
+pub no_byte_there : (pages : List (Option Subpool)) (bytes : List ℕ) (a : ℕ) → assigned_at pages (a / 4096) ≡ None → byte_at pages bytes a ≡ None
+no_byte_there pages bytes a none = ap (λ (o : Option Subpool). if is_some o then Some (slice_index_or bytes (a - 24576) 0) else None) none
 
 pub past_end : (pages : List (Option Subpool)) (k : ℕ) → 6 + length pages ≤ k → assigned_at pages k ≡ None
 past_end pages k high =

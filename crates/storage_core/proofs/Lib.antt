@@ -7,3 +7,5 @@ pub mod Idle
 pub mod Outcomes
 pub mod Foreign
 pub mod Fresh
+pub mod Written
+pub mod Carried

@@ -97,5 +97,9 @@ module _ (s : State) where
   pub same_taken : (f g : ℕ → Bool) → ((j : ℕ) → f j ≡ g j) → ◌≡◌ {A = State} (record s { taken = f }) (record s { taken = g })
   same_taken f g h = λ i. record s { taken = λ j. h j i }
 
-  pub same_pages : (f g : ℕ → Option Subpool) → ((j : ℕ) → f j ≡ g j) → ◌≡◌ {A = State} (record s { pages = f }) (record s { pages = g })
-  same_pages f g h = λ i. record s { pages = λ j. h j i }
+  pub same_assigned : (f g : ℕ → Option Subpool) (u v : ℕ → Option ℕ) → ((j : ℕ) → f j ≡ g j) → ((a : ℕ) → u a ≡ v a) →
+      ◌≡◌ {A = State} (record s { pages = f; bytes = u }) (record s { pages = g; bytes = v })
+  same_assigned f g u v h k = λ i. record s { pages = λ j. h j i; bytes = λ a. k a i }
+
+  pub same_bytes : (u v : ℕ → Option ℕ) → ((a : ℕ) → u a ≡ v a) → ◌≡◌ {A = State} (record s { bytes = u }) (record s { bytes = v })
+  same_bytes u v k = λ i. record s { bytes = λ a. k a i }

@@ -1,12 +1,12 @@
 -- What a storage stands for: a state of the plain machine, and the settings that lay out its region.
-use Rattle.std.specs.Prelude.{ℕ, ◌-◌, Bool, false, ◌&&◌, if◌then◌else◌, nat_lt, nat_le, ◌==◌, Option, Some, None, List, [], ◌∷◌, slice_index_or}
+use Rattle.std.specs.Prelude.{ℕ, ◌-◌, ◌/◌, Bool, is_some, false, ◌&&◌, if◌then◌else◌, nat_lt, nat_le, ◌==◌, Option, Some, None, List, [], ◌∷◌, slice_index_or}
 use Rattle.std.specs.List.{list_any}
 use Rattle.vsm_model.specs.declared.Subpool.{Subpool}
 use Rattle.vsm_model.specs.declared.limits.Settings.{Settings}
 use Rattle.vsm_model.specs.Regions.{Region, low_region}
 use Rattle.vsm_model.specs.State.{State}
 use Rattle.vsm_model.specs.Areas.{same_subpool}
-use Rattle.storage_core.specs.declared.TheConstants.{FIRST_PAGE, FIRST_DOUBLEWORD}
+use Rattle.storage_core.specs.declared.TheConstants.{FIRST_PAGE, FIRST_DOUBLEWORD, FIRST_ADDRESS}
 use Rattle.storage_core.specs.declared.Sight.{Sight}
 use Rattle.storage_core.specs.declared.Storage.{Storage}
 use Rattle.storage_core.specs.declared.changes.Change.{Change}
@@ -28,6 +28,14 @@ assigned_at pages page = if nat_lt page FIRST_PAGE then None else slice_index_or
 abbrev pub is_taken_at : List Bool → ℕ → Bool
 is_taken_at taken d = nat_le FIRST_DOUBLEWORD d && slice_index_or taken (d - FIRST_DOUBLEWORD) false
 
+-- the words of the registers of the current task; any other one has zeros
+abbrev pub word_in : ℕ → List ℕ → ℕ → ℕ → ℕ
+word_in current registers task register = if task == current then slice_index_or registers register 0 else 0
+
+-- the byte at an address in an assigned page, where the bytes begin at the region's first one
+abbrev pub byte_at : List (Option Subpool) → List ℕ → ℕ → Option ℕ
+byte_at pages bytes a = if is_some (assigned_at pages (a / 4096)) then Some (slice_index_or bytes (a - FIRST_ADDRESS) 0) else None
+
 -- the state of the plain machine that the storage is in
 abbrev pub state_of : Storage → State
 state_of s =
@@ -37,6 +45,8 @@ state_of s =
       sight = seen_in s.sight.items;
       pages = assigned_at s.pages.items;
       taken = is_taken_at s.taken.items;
+      words = word_in s.current s.registers;
+      bytes = byte_at s.pages.items s.bytes.items;
     }
 
 -- the settings that it was made with

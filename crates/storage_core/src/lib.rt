@@ -1,4 +1,5 @@
-//! The private storage of a task below the 16 MB line, kept in plain lists: plans and changes of STORAGE OBTAIN and RELEASE.
+//! The private storage of a task below the 16 MB line, kept in plain lists: plans and changes of STORAGE OBTAIN and RELEASE and
+//! of stores of bytes.
 //!
 //! A plan is found by reading alone. `Plan::reserve` makes a change of it, which takes all the memory that is needed, and
 //! `Storage::swap` applies the change and leaves in its place the one that takes it back.
@@ -6,18 +7,23 @@
 
 ghost use Rattle.std.specs.Prelude.{◌≡◌, ◌*◌, ◌/◌, ◌≤◌, length};
 
+mod bytes;
 mod changes;
 mod marks;
 mod plans;
+mod registers;
 mod reserve;
 mod search;
 
 pub use changes::Change;
 pub use plans::Plan;
 use std::alloc::{AllocError, Global};
-pub use vsm_model::{Cause, Code, Reply, Residence, Service, Settings, Subpool};
+pub use vsm_model::{Cause, Code, Reply, Residence, Settings, Subpool};
 
-/// The doublewords of a page of 4096 bytes.
+/// The bytes of a page.
+const PAGE_BYTES: usize = 4096;
+
+/// The doublewords of a page.
 const PAGE_DOUBLEWORDS: usize = 512;
 
 /// The first page of the region below the line, whose addresses begin at X'6000'.
@@ -25,6 +31,12 @@ const FIRST_PAGE: usize = 6;
 
 /// The first doubleword of that page.
 const FIRST_DOUBLEWORD: usize = PAGE_DOUBLEWORDS * FIRST_PAGE;
+
+/// The address of that page.
+const FIRST_ADDRESS: usize = PAGE_BYTES * FIRST_PAGE;
+
+/// The most bytes of one store.
+pub const STORE_MOST: usize = 256;
 
 /// A row of sight: the task sees the subpool of this number that the owner has.
 #[derive(Clone, Copy, Debug, PartialEq, Eq)]
@@ -34,8 +46,8 @@ struct Sight {
     owner: u8,
 }
 
-/// Subpools, pages and doublewords of the region below the 16 MB line (*Assembler Services Guide*, "Virtual storage
-/// management").
+/// Subpools, pages, doublewords and bytes of the region below the 16 MB line (*Assembler Services Guide*, "Virtual storage
+/// management"), and the registers of the task.
 ///
 /// A contract sees it by two words of `specs/Meaning.antt`: `state_of`, the state of the plain machine that it is in, and
 /// `settings_of`, the settings that lay out its region. In its lists a page or a doubleword is counted from the region's
@@ -45,16 +57,21 @@ pub struct Storage {
     settings: Settings,
     /// The task that makes the requests.
     current: u8,
+    /// The words of that task's registers: it is the only one.
+    registers: [u32; 16],
     subpools: Vec<Subpool>,
     sight: Vec<Sight>,
     /// The subpool that each page is assigned to.
     pages: Vec<Option<Subpool>>,
     /// Whether each doubleword is taken.
     taken: Vec<bool>,
+    /// The bytes of all pages. What stands for those of a page that isn't assigned has no meaning.
+    bytes: Vec<u8>,
     // The region has at most 16,360K, so that each address in it is below 2 ^ 24.
     ghost few_pages: { length pages.items ≤ 4090 },
     ghost all_pages: { length pages.items ≡ settings.low_k / 4 },
     ghost all_doublewords: { length taken.items ≡ 512 * length pages.items },
+    ghost all_bytes: { length bytes.items ≡ 4096 * length pages.items },
 }
 
 impl Storage {
@@ -83,10 +100,12 @@ impl Storage {
         Ok(Storage {
             settings,
             current: 1,
+            registers: [0; 16],
             subpools: vec![in alloc; own]?,
             sight: vec![in alloc; seen]?,
             pages: vec![in alloc; None; pages]?,
             taken: vec![in alloc; false; PAGE_DOUBLEWORDS * pages]?,
+            bytes: vec![in alloc; 0; PAGE_BYTES * pages]?,
         })
     }
 
@@ -105,10 +124,12 @@ impl Storage {
         Ok(Storage {
             settings: self.settings,
             current: self.current,
+            registers: self.registers,
             subpools: self.subpools.clone()?,
             sight: self.sight.clone()?,
             pages: self.pages.clone()?,
             taken: self.taken.clone()?,
+            bytes: self.bytes.clone()?,
         })
     }
 }

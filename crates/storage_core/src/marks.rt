@@ -6,7 +6,7 @@ ghost use Rattle.vsm_model.specs.Storage.{is_idle, with_subpool, with_taken, wit
 ghost use Rattle.storage_core.specs.Meaning.{state_of, settings_of};
 ghost use Rattle.storage_core.specs.Idle.{without_page_if_idle};
 
-use super::{FIRST_DOUBLEWORD, FIRST_PAGE, PAGE_DOUBLEWORDS, Sight, Storage, Subpool};
+use super::{FIRST_DOUBLEWORD, FIRST_PAGE, PAGE_BYTES, PAGE_DOUBLEWORDS, Sight, Storage, Subpool};
 use std::alloc::AllocError;
 
 /// Writes a value into a run of elements.
@@ -39,13 +39,14 @@ impl Storage {
         set_run(&mut self.taken, first, count, false);
     }
 
-    /// The pages are assigned to the subpool from now on.
+    /// The pages are assigned to the subpool from now on, and hold zero bytes.
     pub(crate) fn assign_pages(&mut self, subpool: Subpool, page: usize, count: usize)
         requires { page + count ≤ length self.old.pages.items }
         ensures state { state_of self.new ≡ with_pages (state_of self.old) subpool (FIRST_PAGE + page) count }
         ensures settings { settings_of self.new ≡ settings_of self.old }
     {
         set_run(&mut self.pages, page, count, Some(subpool));
+        set_run(&mut self.bytes, PAGE_BYTES * page, PAGE_BYTES * count, 0);
     }
 
     /// The current task has a subpool of the number from now on, and sees it.

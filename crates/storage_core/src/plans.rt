@@ -1,35 +1,56 @@
 //! What a service will do, found by reading alone.
 ghost use Rattle.std.specs.Prelude.{◌≡◌, ◌<◌, ◌≤◌, IfOk, IfErr, OnOk, OnErr};
 ghost use Rattle.vsm_model.specs.Causes.{number_cause};
-ghost use Rattle.vsm_model.specs.Standing.{Accepted, Refused};
-ghost use Rattle.vsm_model.specs.Step.{step};
-ghost use Rattle.storage_core.specs.Meaning.{state_of, settings_of};
-ghost use Rattle.storage_core.specs.Planned.{planned, reply_of, FitsStorage};
+ghost use Rattle.vsm_model.specs.Standing.{Outcome};
+ghost use Rattle.vsm_model.specs.State.{State};
+ghost use Rattle.vsm_model.specs.Registers.{in_registers, conditionally};
+ghost use Rattle.storage_core.specs.Planned.{reply_of, IsFound, IsAnswered, FitsStorage};
+ghost use Rattle.storage_core.specs.declared.Storage.{Storage};
 
 mod obtain;
 mod release;
+mod store;
 
-use super::{Cause, Reply, Service, Storage, Subpool};
+use super::{Cause, Reply, STORE_MOST, Subpool};
+use arrayvec::ArrayVec;
 
-/// What is done to the doublewords of an area. A page or a doubleword is counted from the region's first one.
-#[derive(Clone, Copy, Debug, PartialEq, Eq)]
+/// What is done to the doublewords of an area, or to bytes. A page or a doubleword is counted from the region's first one.
+#[derive(Drop)]
 pub(crate) enum Action {
-    /// They are free in the subpool, and are taken.
-    Take { first: usize, count: usize },
+    /// The doublewords are free in the subpool, and are taken.
+    Take {
+        first: usize,
+        count: usize,
+    },
     /// They begin at a page that isn't assigned, and are taken.
-    TakeFresh { page: usize, count: usize },
+    TakeFresh {
+        page: usize,
+        count: usize,
+    },
     /// They are given back.
-    GiveBack { first: usize, count: usize },
+    GiveBack {
+        first: usize,
+        count: usize,
+    },
+    /// The bytes from the address on, in assigned pages, become these.
+    Write {
+        address: usize,
+        bytes: ArrayVec<u8, STORE_MOST>,
+    },
+    /// The service only sets its return code.
+    Nothing,
 }
 
 /// What an accepted service will do.
-#[derive(Clone, Copy, Debug, PartialEq, Eq)]
+#[derive(Drop)]
 pub struct Plan {
     pub(crate) subpool: Subpool,
     /// Whether the subpool is made first.
     pub(crate) is_new: bool,
     pub(crate) action: Action,
-    reply: Reply,
+    /// The register that is set to the address besides register 1.
+    pub(crate) register: Option<u8>,
+    pub(crate) reply: Reply,
 }
 
 impl Plan {
@@ -55,24 +76,26 @@ fn check_number(number: u32) -> Result<u8, Cause>
     }
 }
 
-impl Storage {
-    /// A plan for a service, or the first cause that refuses it: that of `plan_obtain` or `plan_release`. Reads alone, and
-    /// takes no memory.
-    pub fn plan_service(&self, service: &Service) -> Result<Plan, Cause>
-        ensures ok { IfOk result (λ plan.
-            step (settings_of self.now) (state_of self.now) service.now
-            ≡ Accepted (planned (state_of self.now) plan) (reply_of plan)) }
-        ensures fits { IfOk result (λ plan. FitsStorage self.now plan) }
-        ensures err { IfErr result (λ cause.
-            step (settings_of self.now) (state_of self.now) service.now ≡ Refused cause) }
-    {
-        match *service {
-            Service::Obtain { length, subpool } => self.plan_obtain(length, subpool),
-            Service::Release {
-                length,
-                address,
-                subpool,
-            } => self.plan_release(length, address, subpool),
-        }
+/// The answer of a service in its conditional form or not: a conditional one is accepted with return code 4 for some causes.
+fn answered(
+    found: Result<Plan, Cause>,
+    subpool: Subpool,
+    register: Option<u8>,
+    conditional: bool,
+) -> Result<Plan, Cause>
+    requires { IfOk found (λ plan. plan.register ≡ register) }
+    ensures is { (s : State) (outcome : Outcome State Reply Cause) → IsFound s outcome found →
+        IsAnswered s (in_registers register (conditionally s conditional outcome)) result }
+    ensures fits { (s : Storage) → IfOk found (λ plan. FitsStorage s plan) → IfOk result (λ plan. FitsStorage s plan) }
+{
+    match found {
+        Err(cause) if conditional && cause.answers_four() => Ok(Plan {
+            subpool,
+            is_new: false,
+            action: Action::Nothing,
+            register: None,
+            reply: Reply::Returned(4),
+        }),
+        found => found,
     }
 }

@@ -1,7 +1,7 @@
 //! Plans made into changes.
 ghost use Rattle.std.specs.Prelude.{◌≡◌, IfOk};
 ghost use Rattle.storage_core.specs.Meaning.{state_of, settings_of, region_of, storage_in};
-ghost use Rattle.storage_core.specs.Planned.{planned, acted, IsWithin, FitsStorage};
+ghost use Rattle.storage_core.specs.Planned.{planned, acted, IsWithin, IsThere, FitsStorage};
 
 use super::changes::Change;
 use super::plans::{Action, Plan};
@@ -23,6 +23,7 @@ impl Plan {
             other.add_subpool(self.subpool.number)?;
         }
         other.act(self.subpool, self.action);
+        other.set_reply(self.register, self.reply);
         Ok(Change { other })
     }
 }
@@ -30,7 +31,8 @@ impl Plan {
 impl Storage {
     /// Does what a plan says to the area.
     fn act(&mut self, subpool: Subpool, action: Action)
-        requires { IsWithin (region_of self.old) action }
+        requires within { IsWithin (region_of self.old) action }
+        requires there { IsThere (state_of self.old) action }
         ensures state { state_of self.new ≡ acted (state_of self.old) subpool action }
         ensures settings { settings_of self.new ≡ settings_of self.old }
     {
@@ -44,6 +46,8 @@ impl Storage {
                 self.unmark_taken(first, count);
                 self.drop_idle_pages(subpool);
             }
+            Action::Write { address, bytes } => self.write_bytes(address, &bytes),
+            Action::Nothing => {}
         }
     }
 }

@@ -1,4 +1,4 @@
-//! The program `vsm`: runs a script of storage macros from standard input.
+//! The program `vsm`: runs a script of storage macros from a file or from standard input.
 #![tactic(auto)]
 
 use std::env;
@@ -22,7 +22,7 @@ fn main(rt: HostRuntime) -> ExitCode {
     let mut input = rt.stdin();
     let mut output = rt.stdout();
     ExitCode::from(command(
-        rt.alloc(),
+        &rt,
         words.as_slice(),
         &mut input,
         &mut output,

@@ -9,3 +9,6 @@ pub mod Standings
 pub mod Takes
 pub mod Extends
 pub mod Runs
+pub mod Planning
+pub mod Asked
+pub mod Commands

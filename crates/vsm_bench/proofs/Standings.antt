@@ -3,23 +3,25 @@ use Rattle.std.proofs.Common.{◌≡◌, ℕ, ◌+◌, nat_le, Bool, true, false
 use Rattle.std.proofs.lemmas.Bool.{cond-true, cond-false, le-leb, lt-leb}
 use Rattle.std.proofs.lemmas.List.{append-nil}
 use Rattle.macro_reader.specs.declared.faults.FaultKind.{FaultKind}
-use Rattle.macro_reader.specs.Requests.{Act, Asked, act, back, forward}
+use Rattle.macro_reader.specs.Requests.{Act, Asked, act, peek, back, forward}
 use Rattle.macro_reader.specs.Scripts as grammar
 use Rattle.vsm_model.specs.declared.limits.Settings.{Settings}
 use Rattle.vsm_model.specs.declared.replies.Reply.{Reply}
-use Rattle.vsm_model.specs.declared.causes.Code.{Code}
-use Rattle.vsm_model.specs.State.{State, first_state}
-use Rattle.vsm_model.specs.Standing.{Bench, Standing, Answer, Replied, RefusedFor, NoMemory, Moved, TooFar, Shown, Heard, Keeps, Leads, IsAccepted, new_bench, nothing_stands, stand_all, outcome_answer}
+use Rattle.vsm_model.specs.Names.{NamedState, first_named_state}
+use Rattle.vsm_model.specs.Standing.{Bench, Standing, Call, Apply, Back, Forward, Look, Answer, Replied, RefusedFor, NoMemory, Moved, TooFar, Shown, Heard, Keeps, Leads, IsAccepted, new_bench, nothing_stands, stand_all, outcome_answer}
 use Rattle.vsm_model.proofs.Alone.{stands_alone}
-use Rattle.vsm_bench.specs.Machine.{statement_step}
-use Rattle.vsm_bench.specs.Responses.{response_to, response_text, is_refused, numbered}
-use Rattle.vsm_bench.specs.Output.{Marked, call_in, alone_now, answer_to, IsMet, stands_with, responded, stands_after, stands_all, AllMet, texts, refusals, heard_with, heard_all}
-use Rattle.vsm_bench.specs.Answers.{Responds, Tells, told_text, told_count, told_refused}
+use Rattle.vsm_bench.specs.Machine.{Why, statement_step, shown_at}
+use Rattle.vsm_bench.specs.Responses.{response_to, reading_response, response_text, is_refused, numbered}
+use Rattle.vsm_bench.specs.Output.{Marked, call_in, alone_now, answer_to, IsMet, stands_behind, stands_with, responded_to, responded, stands_after, stands_all, AllMet, texts, refusals, heard_call, heard_with, heard_all}
+use Rattle.vsm_bench.specs.Answers.{RespondsTo, Responds, Tells, told_text, told_count, told_refused}
 use Rattle.vsm_bench.specs.Taken.{Led, IsTold, answers_of}
 use Rattle.vsm_bench.specs.declared.responses.Response.{Response}
 
 plus_zero : (n : ℕ) → n + 0 ≡ n
 plus_zero n = omega arith
+
+same_statement : (x y : Act) → Some (Apply x) ≡ Some (Apply y) → x ≡ y
+same_statement x y e = cc
 
 module _ (settings : Settings) where
   abbrev Stood : Type 0
@@ -43,10 +45,13 @@ module _ (settings : Settings) where
   met_push l [] ys h k = k
   met_push l (x ∷ xs) ys h k = (h.0, met_push (stands_after settings l x) xs ys h.1 k)
 
-  heard_with_push : (l : Stood) (unmet : Bool) (what : Result Asked FaultKind) (hs ks : List (Heard Act Reply Code)) →
+  heard_with_push : (l : Stood) (unmet : Bool) (what : Result Asked FaultKind) (hs ks : List (Heard Act Reply Why)) →
       heard_with settings l unmet what (hs ++ ks) ≡ heard_with settings l unmet what hs ++ ks
   heard_with_push l unmet (Err kind) hs ks = refl
-  heard_with_push l unmet (Ok asked) hs ks = refl
+  heard_with_push l unmet (Ok (act x)) hs ks = refl
+  heard_with_push l unmet (Ok (peek address count)) hs ks = refl
+  heard_with_push l unmet (Ok (back n)) hs ks = refl
+  heard_with_push l unmet (Ok (forward n)) hs ks = refl
 
   heard_push : (l : Stood) (xs ys : List Marked) → heard_all settings l (xs ++ ys) ≡ heard_all settings l xs ++ heard_all settings (stands_all settings l xs) ys
   heard_push l [] ys = refl
@@ -55,30 +60,33 @@ module _ (settings : Settings) where
       ∙ heard_with_push l x.unmet x.answer.what (heard_all settings (stands_after settings l x) xs) _
 
   -- what stands is what the calls leave standing
-  heard_with_stands : (l : Stood) (unmet : Bool) (what : Result Asked FaultKind) (hs : List (Heard Act Reply Code)) →
+  heard_with_stands : (l : Stood) (unmet : Bool) (what : Result Asked FaultKind) (hs : List (Heard Act Reply Why)) →
       stand_all settings.history l (heard_with settings l unmet what hs) ≡ stand_all settings.history (stands_with settings l unmet what) hs
   heard_with_stands l unmet (Err kind) hs = refl
-  heard_with_stands l unmet (Ok asked) hs = refl
+  heard_with_stands l unmet (Ok (act x)) hs = refl
+  heard_with_stands l unmet (Ok (peek address count)) hs = refl
+  heard_with_stands l unmet (Ok (back n)) hs = refl
+  heard_with_stands l unmet (Ok (forward n)) hs = refl
 
   heard_stands : (l : Stood) (xs : List Marked) → stand_all settings.history l (heard_all settings l xs) ≡ stands_all settings l xs
   heard_stands l [] = refl
   heard_stands l (x ∷ xs) =
       heard_with_stands l x.unmet x.answer.what (heard_all settings (stands_after settings l x) xs) ∙ heard_stands (stands_after settings l x) xs
 
-  leads_push : (b c d : Bench State) (hs ks : List (Heard Act Reply Code)) → Leads (statement_step settings) settings.history b hs c →
+  leads_push : (b c d : Bench NamedState) (hs ks : List (Heard Act Reply Why)) → Leads (statement_step settings) settings.history b hs c →
       Leads (statement_step settings) settings.history c ks d → Leads (statement_step settings) settings.history b (hs ++ ks) d
   leads_push b c d [] ks h k = subst (λ x. Leads (statement_step settings) settings.history x ks d) h k
   leads_push b c d (x ∷ hs) ks (mid, one, rest) k = (mid, one, leads_push mid c d hs ks rest k)
 
   -- the state and the numbers of a bench for which these statements stand
-  pub record StandsFor (l : Stood) (b : Bench State) : Type 0 where
+  pub record StandsFor (l : Stood) (b : Bench NamedState) : Type 0 where
     pub present : b.present ≡ alone_now settings l
     pub kept : length b.past ≡ l.kept
     pub undone : length b.later ≡ length l.undone
 
-  pub stands_for : (xs : List Marked) (b : Bench State) → Led settings xs b → StandsFor (stands_all settings nothing_stands xs) b
+  pub stands_for : (xs : List Marked) (b : Bench NamedState) → Led settings xs b → StandsFor (stands_all settings nothing_stands xs) b
   stands_for xs b led =
-      let law = stands_alone first_state (statement_step settings) settings.history (heard_all settings nothing_stands xs) b led.leads in
+      let law = stands_alone first_named_state (statement_step settings) settings.history (heard_all settings nothing_stands xs) b led.leads in
       let same = heard_stands nothing_stands xs in
       record {
         present = law.0.0 ∙ ap (alone_now settings) same;
@@ -86,85 +94,116 @@ module _ (settings : Settings) where
         undone = law.2 ∙ ap (λ l. length l.undone) same;
       }
 
-  abbrev is_memory : Answer Reply Code → Bool
+  abbrev is_memory : Answer Reply Why → Bool
   is_memory NoMemory = true
   is_memory _ = false
 
   -- the answer that the relation of a call allows is the one that is stated
-  answered : (l : Stood) (b c : Bench State) → StandsFor l b → (asked : Asked) (answer : Answer Reply Code) →
-      Keeps (statement_step settings) settings.history b (call_in asked) answer c → answer_to settings l (is_memory answer) asked ≡ answer
-  answered l b c s (act x) (Replied r) k = ap (λ m. outcome_answer (statement_step settings m x)) (sym s.present) ∙ ap outcome_answer k.0
-  answered l b c s (act x) (RefusedFor code) k = ap (λ m. outcome_answer (statement_step settings m x)) (sym s.present) ∙ ap outcome_answer k.0
-  answered l b c s (act x) NoMemory k = refl
-  answered l b c s (back n) Moved k = cond-true (nat_le n l.kept) _ _ (le-leb n l.kept (omega (arith, s.kept, k.0)))
-  answered l b c s (back n) (TooFar kept) k =
+  answered : (l : Stood) (b c : Bench NamedState) → StandsFor l b → (call : Call Act) (answer : Answer Reply Why) →
+      Keeps (statement_step settings) settings.history b call answer c → answer_to settings l (is_memory answer) call ≡ answer
+  answered l b c s (Apply x) (Replied r) k = ap (λ m. outcome_answer (statement_step settings m x)) (sym s.present) ∙ ap outcome_answer k.0
+  answered l b c s (Apply x) (RefusedFor why) k = ap (λ m. outcome_answer (statement_step settings m x)) (sym s.present) ∙ ap outcome_answer k.0
+  answered l b c s (Apply x) NoMemory k = refl
+  answered l b c s (Back n) Moved k = cond-true (nat_le n l.kept) _ _ (le-leb n l.kept (omega (arith, s.kept, k.0)))
+  answered l b c s (Back n) (TooFar kept) k =
       cond-false (nat_le n l.kept) _ _ (lt-leb n l.kept (omega (arith, s.kept, k.0))) ∙ ap TooFar (sym (k.1 ∙ s.kept))
-  answered l b c s (forward n) Moved k = cond-true (nat_le n (length l.undone)) _ _ (le-leb n (length l.undone) (omega (arith, s.undone, k.0)))
-  answered l b c s (forward n) (TooFar undone) k =
+  answered l b c s (Forward n) Moved k = cond-true (nat_le n (length l.undone)) _ _ (le-leb n (length l.undone) (omega (arith, s.undone, k.0)))
+  answered l b c s (Forward n) (TooFar undone) k =
       cond-false (nat_le n (length l.undone)) _ _ (lt-leb n (length l.undone) (omega (arith, s.undone, k.0))) ∙ ap TooFar (sym (k.1 ∙ s.undone))
-  answered l b c s (act x) Moved k = absurd k
-  answered l b c s (act x) (TooFar n) k = absurd k
-  answered l b c s (act x) Shown k = absurd k
-  answered l b c s (back n) (Replied r) k = absurd k
-  answered l b c s (back n) (RefusedFor code) k = absurd k
-  answered l b c s (back n) NoMemory k = absurd k
-  answered l b c s (back n) Shown k = absurd k
-  answered l b c s (forward n) (Replied r) k = absurd k
-  answered l b c s (forward n) (RefusedFor code) k = absurd k
-  answered l b c s (forward n) NoMemory k = absurd k
-  answered l b c s (forward n) Shown k = absurd k
+  answered l b c s Look Shown k = refl
+  answered l b c s (Apply x) Moved k = absurd k
+  answered l b c s (Apply x) (TooFar n) k = absurd k
+  answered l b c s (Apply x) Shown k = absurd k
+  answered l b c s (Back n) (Replied r) k = absurd k
+  answered l b c s (Back n) (RefusedFor why) k = absurd k
+  answered l b c s (Back n) NoMemory k = absurd k
+  answered l b c s (Back n) Shown k = absurd k
+  answered l b c s (Forward n) (Replied r) k = absurd k
+  answered l b c s (Forward n) (RefusedFor why) k = absurd k
+  answered l b c s (Forward n) NoMemory k = absurd k
+  answered l b c s (Forward n) Shown k = absurd k
+  answered l b c s Look (Replied r) k = absurd k
+  answered l b c s Look (RefusedFor why) k = absurd k
+  answered l b c s Look NoMemory k = absurd k
+  answered l b c s Look Moved k = absurd k
+  answered l b c s Look (TooFar n) k = absurd k
 
-  was_met : (l : Stood) (b c : Bench State) → StandsFor l b → (asked : Asked) (answer : Answer Reply Code) →
-      Keeps (statement_step settings) settings.history b (call_in asked) answer c → IsMet settings l (is_memory answer) (Ok asked)
-  was_met l b c s (act x) NoMemory k = subst (λ m. IsAccepted (statement_step settings m x)) s.present k.0
-  was_met l b c s asked (Replied r) k = tt
-  was_met l b c s asked (RefusedFor code) k = tt
-  was_met l b c s asked Moved k = tt
-  was_met l b c s asked (TooFar n) k = tt
-  was_met l b c s asked Shown k = tt
-  was_met l b c s (back n) NoMemory k = absurd k
-  was_met l b c s (forward n) NoMemory k = absurd k
+  was_met : (l : Stood) (b c : Bench NamedState) → StandsFor l b → (asked : Asked) (call : Call Act) → call_in asked ≡ Some call → (answer : Answer Reply Why) →
+      Keeps (statement_step settings) settings.history b call answer c → IsMet settings l (is_memory answer) (Ok asked)
+  was_met l b c s asked call is (Replied r) k = tt
+  was_met l b c s asked call is (RefusedFor why) k = tt
+  was_met l b c s asked call is Moved k = tt
+  was_met l b c s asked call is (TooFar n) k = tt
+  was_met l b c s asked call is Shown k = tt
+  was_met l b c s asked (Back n) is NoMemory k = absurd k
+  was_met l b c s asked (Forward n) is NoMemory k = absurd k
+  was_met l b c s asked Look is NoMemory k = absurd k
+  was_met l b c s (act y) (Apply x) is NoMemory k = subst (λ m. IsAccepted (statement_step settings m y)) s.present (subst (λ z. IsAccepted (statement_step settings b.present z)) (sym (same_statement y x is)) k.0)
+  was_met l b c s (peek address count) (Apply x) is NoMemory k = cc
+  was_met l b c s (back n) (Apply x) is NoMemory k = cc
+  was_met l b c s (forward n) (Apply x) is NoMemory k = cc
 
   abbrev marked : ℕ → Result Asked FaultKind → Bool → Marked
   marked line what unmet = record { answer = record { line = line; what = what }; unmet = unmet }
 
-  -- One answer more: how it is marked, that it leads on, and the response that is stated for it.
-  pub led_one : (xs : List Marked) (b c : Bench State) (line : ℕ) (what : Result Asked FaultKind) (told : Response) → Led settings xs b →
-      Responds settings b what told c →
-      (unmet : Bool) × Led settings (xs ++ marked line what unmet ∷ []) c × (told ≡ responded settings (stands_all settings nothing_stands xs) unmet what)
-  led_one xs b c line (Err kind) told led (is, same) =
-      let m = marked line (Err kind) false in
-      let heard : heard_all settings nothing_stands (xs ++ m ∷ []) ≡ heard_all settings nothing_stands xs = heard_push nothing_stands xs (m ∷ []) ∙ append-nil _ in (
-        false,
-        record {
-          leads = subst (λ hs. Leads (statement_step settings) settings.history (new_bench first_state) hs c) (sym heard)
-              (subst (Leads (statement_step settings) settings.history (new_bench first_state) (heard_all settings nothing_stands xs)) (sym same) led.leads);
-          met = met_push nothing_stands xs (m ∷ []) led.met (tt, tt);
-        },
-        is,
-      )
-  led_one xs b c line (Ok asked) told led (answer, keeps, is) =
+  -- what is no call leaves the bench where it was led
+  led_idle : (xs : List Marked) (b c : Bench NamedState) (line : ℕ) (what : Result Asked FaultKind) → Led settings xs b → c ≡ b →
+      heard_with settings (stands_all settings nothing_stands xs) false what [] ≡ [] → Led settings (xs ++ marked line what false ∷ []) c
+  led_idle xs b c line what led same none =
+      let m = marked line what false in
+      let before = heard_all settings nothing_stands xs in
+      let heard : heard_all settings nothing_stands (xs ++ m ∷ []) ≡ before =
+      heard_push nothing_stands xs (m ∷ []) ∙ ap (λ hs. before ++ hs) none ∙ append-nil before in
+      record {
+        leads = subst (λ hs. Leads (statement_step settings) settings.history (new_bench first_named_state) hs c) (sym heard)
+            (subst (Leads (statement_step settings) settings.history (new_bench first_named_state) before) (sym same) led.leads);
+        met = met_push nothing_stands xs (m ∷ []) led.met (tt, tt);
+      }
+
+  -- a call leads the bench on
+  led_call : (xs : List Marked) (b c : Bench NamedState) (line : ℕ) (asked : Asked) (call : Call Act) (told : Response) → call_in asked ≡ Some call → Led settings xs b →
+      RespondsTo settings b call told c →
+      (unmet : Bool) × Led settings (xs ++ marked line (Ok asked) unmet ∷ []) c × (told ≡ responded_to settings (stands_all settings nothing_stands xs) unmet call)
+  led_call xs b c line asked call told is led (answer, keeps, response) =
       let l = stands_all settings nothing_stands xs in
       let s = stands_for xs b led in
       let unmet = is_memory answer in
       let m = marked line (Ok asked) unmet in
-      let same = answered l b c s asked answer keeps in
-      let one : Keeps (statement_step settings) settings.history b (call_in asked) (answer_to settings l unmet asked) c =
-      subst (λ a. Keeps (statement_step settings) settings.history b (call_in asked) a c) (sym same) keeps in
+      let same = answered l b c s call answer keeps in
+      let one : Keeps (statement_step settings) settings.history b call (answer_to settings l unmet call) c =
+      subst (λ a. Keeps (statement_step settings) settings.history b call a c) (sym same) keeps in
+      let before = heard_all settings nothing_stands xs in
+      let heard : heard_all settings nothing_stands (xs ++ m ∷ []) ≡ before ++ record { call = call; answer = answer_to settings l unmet call } ∷ [] =
+      heard_push nothing_stands xs (m ∷ []) ∙ ap (λ k. before ++ heard_call settings l unmet k []) is in
       let after : Led settings (xs ++ m ∷ []) c = record {
-        leads = subst (λ hs. Leads (statement_step settings) settings.history (new_bench first_state) hs c) (sym (heard_push nothing_stands xs (m ∷ [])))
-            (leads_push (new_bench first_state) b c (heard_all settings nothing_stands xs) (heard_all settings l (m ∷ [])) led.leads (c, one, refl));
-        met = met_push nothing_stands xs (m ∷ []) led.met (was_met l b c s asked answer keeps, tt);
+        leads = subst (λ hs. Leads (statement_step settings) settings.history (new_bench first_named_state) hs c) (sym heard)
+            (leads_push (new_bench first_named_state) b c before (record { call = call; answer = answer_to settings l unmet call } ∷ []) led.leads (c, one, refl));
+        met = met_push nothing_stands xs (m ∷ []) led.met (was_met l b c s asked call is answer keeps, tt);
       } in
       let t = stands_for (xs ++ m ∷ []) c after in
-      let kept : length c.past ≡ (stands_with settings l unmet (Ok asked)).kept = t.kept ∙ ap (λ k. k.kept) (stands_push nothing_stands xs (m ∷ [])) in (
+      let kept : length c.past ≡ (stands_behind settings l unmet (Some call)).kept =
+      t.kept ∙ ap (λ k. k.kept) (stands_push nothing_stands xs (m ∷ [])) ∙ ap (λ k. (stands_behind settings l unmet k).kept) is in (
         unmet,
         after,
-        is ∙ ap (λ a. response_to (call_in asked) a (length c.past)) (sym same) ∙ ap (response_to (call_in asked) (answer_to settings l unmet asked)) kept,
+        response ∙ ap (λ a. response_to call a (length c.past)) (sym same) ∙ ap (response_to call (answer_to settings l unmet call)) kept,
       )
 
+  -- One answer more: how it is marked, that it leads on, and the response that is stated for it.
+  pub led_one : (xs : List Marked) (b c : Bench NamedState) (line : ℕ) (what : Result Asked FaultKind) (told : Response) → Led settings xs b →
+      Responds settings b what told c →
+      (unmet : Bool) × Led settings (xs ++ marked line what unmet ∷ []) c × (told ≡ responded settings (stands_all settings nothing_stands xs) unmet what)
+  led_one xs b c line (Err kind) told led (is, same) = (false, led_idle xs b c line (Err kind) led same refl, is)
+  led_one xs b c line (Ok (act x)) told led h = led_call xs b c line (act x) (Apply x) told refl led h
+  led_one xs b c line (Ok (peek address count)) told led (is, same) = (
+    false,
+    led_idle xs b c line (Ok (peek address count)) led same refl,
+    is ∙ ap (λ m. reading_response (shown_at m address count)) (stands_for xs b led).present,
+  )
+  led_one xs b c line (Ok (back n)) told led h = led_call xs b c line (back n) (Back n) told refl led h
+  led_one xs b c line (Ok (forward n)) told led h = led_call xs b c line (forward n) (Forward n) told refl led h
+
   -- What a line tells: the further answers, marked.
-  pub record TellsMore (xs : List Marked) (c : Bench State) (told : List grammar.Answer) (shown : Option (ℕ × Response)) : Type 0 where
+  pub record TellsMore (xs : List Marked) (c : Bench NamedState) (told : List grammar.Answer) (shown : Option (ℕ × Response)) : Type 0 where
     pub more : List Marked
     pub answers : answers_of more ≡ told
     pub led : Led settings (xs ++ more) c
@@ -172,7 +211,7 @@ module _ (settings : Settings) where
     pub count : length more ≡ told_count shown
     pub refused : refusals settings (stands_all settings nothing_stands xs) more ≡ told_refused shown
 
-  pub tells_more : (xs : List Marked) (b c : Bench State) (told : List grammar.Answer) (shown : Option (ℕ × Response)) → Led settings xs b →
+  pub tells_more : (xs : List Marked) (b c : Bench NamedState) (told : List grammar.Answer) (shown : Option (ℕ × Response)) → Led settings xs b →
       Tells settings b told shown c → TellsMore xs c told shown
   tells_more xs b c [] None led h = record {
     more = [];

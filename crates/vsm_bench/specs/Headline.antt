@@ -2,18 +2,18 @@
 use Rattle.std.specs.Prelude.{◌≡◌, true}
 use Rattle.vsm_model.specs.declared.limits.Settings.{Settings}
 use Rattle.vsm_model.specs.Regions.{settings_valid}
-use Rattle.vsm_model.specs.State.{first_state}
+use Rattle.vsm_model.specs.Names.{first_named_state}
 use Rattle.vsm_model.specs.Standing.{StandsAlone, StaysWithin, GoesForwardAgain}
 use Rattle.vsm_bench.specs.Machine.{statement_step}
 
 -- The present state and the replies that stand are those of the standing statements run alone on the plain machine, and what is
 -- kept and undone are as many states as statements.
 abbrev pub RunsAlone : Type 0
-RunsAlone = (settings : Settings) → settings_valid settings ≡ true → StandsAlone first_state (statement_step settings) settings.history
+RunsAlone = (settings : Settings) → settings_valid settings ≡ true → StandsAlone first_named_state (statement_step settings) settings.history
 
 -- What is kept and what is undone are together at most the limit of the history.
 abbrev pub StaysWithinLimit : Type 0
-StaysWithinLimit = (settings : Settings) → settings_valid settings ≡ true → StaysWithin first_state (statement_step settings) settings.history
+StaysWithinLimit = (settings : Settings) → settings_valid settings ≡ true → StaysWithin first_named_state (statement_step settings) settings.history
 
 -- Steps forward after as many steps back give what was there before.
 abbrev pub ForwardGivesBack : Type 0

@@ -1,5 +1,7 @@
 pub mod Machine
+pub mod Refusals
 pub mod Changes
+pub mod Planned
 pub mod Stands
 pub mod Headline
 pub mod Responses
@@ -9,4 +11,5 @@ pub mod Script
 pub mod Taken
 pub mod Writing
 pub mod Run
+pub mod Options
 pub mod Command

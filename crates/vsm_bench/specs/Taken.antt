@@ -2,7 +2,7 @@
 use Rattle.std.specs.Prelude.{◌≡◌, ℕ, List, ◌∷◌, ◌++◌, length, take, map, Result, Ok, Err}
 use Rattle.macro_reader.specs.Scripts as grammar
 use Rattle.vsm_model.specs.declared.limits.Settings.{Settings}
-use Rattle.vsm_model.specs.State.{State, first_state}
+use Rattle.vsm_model.specs.Names.{NamedState, first_named_state}
 use Rattle.vsm_model.specs.Standing.{Bench, Leads, new_bench, nothing_stands}
 use Rattle.vsm_bench.specs.Machine.{statement_step}
 use Rattle.vsm_bench.specs.Output.{Marked, AllMet, heard_all, refusals, stands_all, texts}
@@ -21,8 +21,8 @@ abbrev pub Told : List (List ℕ) → List grammar.Answer → Type 0
 Told lines answers = (kept : grammar.Kept) × grammar.IsBehind lines answers kept
 
 -- A bench is led by the answers so far, of which only statements that would have been accepted were refused for want of memory.
-pub record Led (settings : Settings) (answers : List Marked) (b : Bench State) : Type 0 where
-  pub leads : Leads (statement_step settings) settings.history (new_bench first_state) (heard_all settings nothing_stands answers) b
+pub record Led (settings : Settings) (answers : List Marked) (b : Bench NamedState) : Type 0 where
+  pub leads : Leads (statement_step settings) settings.history (new_bench first_named_state) (heard_all settings nothing_stands answers) b
   pub met : AllMet settings nothing_stands answers
 
 -- The answers of a script that passes no bound and has ended,

@@ -1,24 +1,44 @@
 //! A bench answers what a line asks for.
-ghost use Rattle.std.specs.Prelude.{◌≡◌, ◌≤◌, Ok};
-ghost use Rattle.macro_reader.specs.Requests.{act, back, forward, act_in, seen};
-ghost use Rattle.macro_reader.specs.Scripts.{told_by, told_at_end};
+ghost use Rattle.std.specs.Prelude.{◌≡◌, ◌≤◌, IfOk, Ok};
+ghost use Rattle.macro_reader.specs.Requests.{act, peek, back, forward, act_in, asked_in, written_in, seen, IsValidAct, IsValidAsked};
+ghost use Rattle.macro_reader.specs.Scripts.{told_by, told_at_end, IsValidFed};
 ghost use Rattle.vsm_bench.specs.Stands.{bench_of, settings_in};
 ghost use Rattle.vsm_bench.specs.Answers.{Responds, Tells, told_count, told_refused};
+ghost use Rattle.vsm_bench.specs.Machine.{shown_at};
+ghost use Rattle.vsm_bench.specs.Responses.{reading_response};
 
 use crate::bench::Bench;
 use crate::refusals::Refusal;
 use crate::responses::Response;
-use macro_reader::{Fault, FaultKind, Fed, Request, Statement};
+use crate::values::with_room;
+use macro_reader::{Fault, FaultKind, Fed, Request, Statement, Value};
 
 /// Carries out a statement, or refuses it.
 fn carry_out(bench: &mut Bench, statement: &Statement) -> Response
+    requires { IsValidAct (act_in statement.now) }
     ensures responds { Responds (settings_in bench.old) (bench_of bench.old) (Ok (act (act_in statement.now))) result (bench_of bench.new) }
     ensures settings { settings_in bench.new ≡ settings_in bench.old }
 {
     match bench.apply(statement) {
         Ok(reply) => Response::Replied(reply),
+        Err(Refusal::Name) => Response::Name,
         Err(Refusal::Abend(code)) => Response::Abend(code),
         Err(Refusal::NoMemory) => Response::NoMemory,
+    }
+}
+
+/// Shows the bytes at an address, as many as are asked for.
+fn show(bench: &Bench, address: Value, count: u16) -> Response
+    requires { IsValidAsked (peek (written_in address) count) }
+    ensures { result ≡ reading_response (shown_at (bench_of bench.now).present (written_in address) count) }
+{
+    let mut room = [0; 256];
+    let out = &mut room[..count as usize];
+    match bench.peek(address, out) {
+        Ok(()) => Response::Shown(with_room(out)),
+        Err(Refusal::Name) => Response::Name,
+        Err(Refusal::Abend(code)) => Response::Abend(code),
+        Err(Refusal::NoMemory) => unreachable!(),
     }
 }
 
@@ -46,12 +66,14 @@ fn step_forward(bench: &mut Bench, n: u32) -> Response
 
 /// The response of a bench to a request or a fault.
 fn respond(bench: &mut Bench, asked: Result<Request, FaultKind>) -> Response
+    requires { IfOk asked (λ request. IsValidAsked (asked_in request)) }
     ensures responds { Responds (settings_in bench.old) (bench_of bench.old) (seen asked) result (bench_of bench.new) }
     ensures settings { settings_in bench.new ≡ settings_in bench.old }
 {
     match asked {
         Err(kind) => Response::Fault(kind),
         Ok(Request::Act(statement)) => carry_out(bench, &statement),
+        Ok(Request::Peek { addr, len }) => show(bench, addr, len),
         Ok(Request::Back(n)) => step_back(bench, n),
         Ok(Request::Forward(n)) => step_forward(bench, n),
     }
@@ -59,6 +81,7 @@ fn respond(bench: &mut Bench, asked: Result<Request, FaultKind>) -> Response
 
 /// The response to what a line brought, with the number of the statement's first line.
 pub(crate) fn tell(bench: &mut Bench, fed: Result<Fed, Fault>) -> Option<(u32, Response)>
+    requires { IsValidFed fed }
     ensures tells { Tells (settings_in bench.old) (bench_of bench.old) (told_by fed) result (bench_of bench.new) }
     ensures settings { settings_in bench.new ≡ settings_in bench.old }
 {

@@ -1,17 +1,21 @@
 //! A bench: a machine, and the history that it moves along.
-ghost use Rattle.std.specs.Prelude.{◌≡◌, ◌++◌, true, length};
+ghost use Rattle.std.specs.Prelude.{◌≡◌, Ok, length, IfErr, OnErr, OnOk};
 ghost use Rattle.storage_core.specs.Meaning.{settings_of};
-ghost use Rattle.macro_reader.specs.Requests.{written_in, act_in};
-ghost use Rattle.vsm_bench.specs.Changes.{all_alike};
-ghost use Rattle.vsm_bench.specs.Machine.{looked_up, service_in};
+ghost use Rattle.macro_reader.specs.Requests.{written_in, act_in, IsValue, IsValidAct};
+ghost use Rattle.std.proofs.Props.{props};
+ghost use Rattle.vsm_bench.specs.Changes.{machine_fits, machine_fits_prop, DefineNone, UndefineNone};
+ghost use Rattle.vsm_bench.specs.Machine.{shown_at};
+ghost use Rattle.vsm_bench.specs.Refusals.{IsRefusedFor};
 
 use crate::machine::Machine;
+use crate::plans::{plan_of, reserve};
 use crate::refusals::{NewFault, Refusal};
+use crate::values::look_up;
 use macro_reader::{Statement, Value};
+use name_table::NameTable;
 use std::alloc::Global;
 use step_history::{History, Reversible, TooFar, TooFarAhead};
 use storage_core::{Reply, Settings, Storage};
-use vsm_model::Service;
 
 /// A bench over one private region.
 ///
@@ -20,38 +24,10 @@ use vsm_model::Service;
 pub struct Bench {
     machine: Machine,
     history: History<Machine>,
-    ghost alike: { all_alike machine (history.kept ++ history.undone) ≡ true },
+    ghost fits: { machine_fits history.kept machine history.undone } by { machine_fits_prop history.kept machine history.undone },
+    ghost kept_define_none: { DefineNone history.kept } by { Prim.hlevel props },
+    ghost undone_undefine_none: { UndefineNone history.undone } by { Prim.hlevel props },
     ghost limit: { history.limit ≡ (settings_of machine.storage).history },
-}
-
-/// The number that a value stands for.
-fn look_up(value: Value) -> u32
-    ensures { result ≡ looked_up (written_in value) }
-{
-    match value {
-        Value::Number(number) => number,
-    }
-}
-
-/// The service that a statement asks for.
-fn service_of(statement: &Statement) -> Service
-    ensures { result ≡ service_in (act_in statement.now) }
-{
-    match *statement {
-        Statement::Obtain { length, subpool } => Service::Obtain {
-            length: look_up(length),
-            subpool: look_up(subpool),
-        },
-        Statement::Release {
-            length,
-            address,
-            subpool,
-        } => Service::Release {
-            length: look_up(length),
-            address: look_up(address),
-            subpool: look_up(subpool),
-        },
-    }
 }
 
 impl Bench {
@@ -71,25 +47,56 @@ impl Bench {
         let storage = Storage::new(alloc, settings)?;
         let history = History::new(alloc, settings.history)?;
         Ok(Bench {
-            machine: Machine { storage },
+            machine: Machine {
+                storage,
+                names: NameTable::new(alloc),
+            },
             history,
         })
     }
 
     /// Carries out a statement and keeps its change, or refuses it and changes nothing.
     ///
-    /// An accepted statement discards what was undone; past the limit of the history the oldest change can't be undone any more.
+    /// An accepted statement discards what was undone; past the limit of the history the oldest change can't be undone any more. It is
+    /// refused with `Name` where a value is a name that isn't defined, else with `Abend` and the completion code of the first cause
+    /// that holds, and last with `NoMemory`.
     pub fn apply(&mut self, statement: &Statement) -> Result<Reply, Refusal>
+        requires valid { IsValidAct (act_in statement.now) }
         ensures keeps { Keeps (statement_step (settings_in self.old)) (settings_in self.old).history (bench_of self.old) (Apply (act_in statement.now)) (answer_to_apply result) (bench_of self.new) }
         ensures settings { settings_in self.new ≡ settings_in self.old }
     {
-        let plan = self.machine.storage.plan_service(&service_of(statement))?;
-        let reply = plan.reply();
+        let planned = match plan_of(&self.machine, statement) {
+            Ok(planned) => planned,
+            Err(refusal) => return Err(refusal),
+        };
+        let reply = planned.plan.reply();
         self.history.reserve_place()?;
-        let mut change = plan.reserve(&mut self.machine.storage)?;
+        let mut change = match reserve(&mut self.machine, planned) {
+            Ok(change) => change,
+            Err(_) => return Err(Refusal::NoMemory),
+        };
         self.machine.swap(&mut change);
         self.history.push_reserved(&mut self.machine, change);
         Ok(reply)
+    }
+
+    /// Reads the bytes from an address on, as many as `out` has. Takes no memory.
+    ///
+    /// Refused with `Name` where the address is a name that isn't defined, and with `Abend` (0C4) where one of the bytes doesn't lie in
+    /// an assigned page; `out` is then as it was. Where there is room for no byte, no page is asked for.
+    pub fn peek(&self, address: Value, out: &mut [u8]) -> Result<(), Refusal>
+        requires valid { IsValue (written_in address) }
+        ensures shown { OnOk result (shown_at (bench_of self.now).present (written_in address) (length out.old) ≡ Ok out.new) }
+        ensures refused { IfErr result (IsRefusedFor (shown_at (bench_of self.now).present (written_in address) (length out.old))) }
+        ensures kept { OnErr result (out.new ≡ out.old) }
+    {
+        let Some(address) = look_up(&self.machine, &address) else {
+            return Err(Refusal::Name);
+        };
+        match self.machine.storage.load(address, out) {
+            Ok(()) => Ok(()),
+            Err(cause) => Err(Refusal::from(cause)),
+        }
     }
 
     /// Undoes the last `n` changes, or none where fewer are kept.

@@ -1,5 +1,5 @@
 //! A run over a reader and a writer.
-ghost use Rattle.std.specs.Prelude.{◌≡◌, ◌≢◌, ◌++◌, [], ◌∷◌, ◌<◌, ◌≤◌, ℕ, List, Option, length, slice_index, take, IfOk, OnOk};
+ghost use Rattle.std.specs.Prelude.{◌≡◌, ◌++◌, [], ◌∷◌, ◌<◌, ◌≤◌, ℕ, List, Option, length, slice_index, take, IfOk, OnOk};
 ghost use Rattle.vsm_model.specs.declared.limits.Settings.{Settings};
 ghost use Rattle.vsm_bench.specs.Answers.{told_text};
 ghost use Rattle.vsm_bench.specs.Script.{NoFeed};
@@ -9,7 +9,7 @@ ghost use Rattle.vsm_bench.specs.Run.{Runs, Takes, TakesLine, TakesRead, Finishe
 use crate::bench::Bench;
 use crate::faults::{RunFault, RunTotals};
 use crate::lines::Ending;
-use crate::responses::{Response, numbered};
+use crate::responses::{LINE_MOST, Response, numbered};
 use crate::session::{LINES, Session};
 use crate::writing::{Gathered, WriteFault};
 use arrayvec::ArrayString;
@@ -29,8 +29,8 @@ fn tell<W: Write>(
     let Some((line, response)) = told else {
         return Ok(());
     };
-    let mut text = ArrayString::<80>::new();
-    match numbered(&mut text, line, response) {
+    let mut text = ArrayString::<LINE_MOST>::new();
+    match numbered(&mut text, line, &response) {
         Ok(()) => gathered.gather(writer, text.as_str().as_bytes()),
         Err(_) => Err(WriteFault),
     }
@@ -177,8 +177,9 @@ fn finish<W: Write>(
         → Finishes settings first (W.contents writer.new) given result }
 {
     let ending = session.end();
+    let totals = ending.totals;
     match tell_ending(gathered, writer, ending) {
-        Ok(()) => Ok(ending.totals),
+        Ok(()) => Ok(totals),
         Err(_) => Err(RunFault::Write),
     }
 }

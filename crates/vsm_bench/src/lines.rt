@@ -1,5 +1,5 @@
 //! A run takes the bytes of its script, line by line.
-ghost use Rattle.std.specs.Prelude.{◌≡◌, ◌<◌, ◌≤◌, [], ◌∷◌, ◌++◌, List, ℕ, take, length, map, Ok};
+ghost use Rattle.std.specs.Prelude.{◌≡◌, ◌<◌, [], ◌∷◌, ◌++◌, List, ℕ, take, length, Ok};
 ghost use Rattle.std.specs.Str.Lines.{strip_carriage_return};
 ghost use Rattle.vsm_model.specs.declared.limits.Settings.{Settings};
 ghost use Rattle.macro_reader.specs.Columns.{Line};
@@ -20,7 +20,7 @@ use macro_reader::Reader;
 
 /// What the end of a script brings: the totals, and the responses to a last line without a line feed and to a statement that
 /// is still open.
-#[derive(Clone, Copy)]
+#[derive(Drop)]
 pub(crate) struct Ending {
     pub(crate) totals: RunTotals,
     pub(crate) last: Option<(u32, Response)>,

@@ -7,6 +7,8 @@ use vsm_model::{Cause, Code};
 /// Why a statement is refused. A refused statement changes nothing.
 #[derive(Clone, Copy, Debug, PartialEq, Eq)]
 pub enum Refusal {
+    /// A name that stands for a value isn't defined.
+    Name,
     /// The completion code of the first cause that holds.
     Abend(Code),
     /// The statement would have been accepted, but there was no memory for it.

@@ -1,20 +1,26 @@
 //! Responses to the statements of a script, and their lines.
 ghost use Rattle.std.specs.Prelude.{◌≡◌, ◌++◌, Some, OnOk};
-ghost use Rattle.vsm_bench.specs.Responses.{fault_word, response_text, is_refused, numbered};
+ghost use Rattle.std.specs.Fmt.{WritesOnOk};
+ghost use Rattle.vsm_bench.specs.Responses.{fault_word, shown_text, response_text, is_refused, numbered};
 
-use arrayvec::ArrayString;
+use arrayvec::{ArrayString, ArrayVec};
 use macro_reader::FaultKind;
 use std::fmt;
 use std::fmt::Write;
 use vsm_model::{Code, Reply};
 
+/// The most bytes of a line of output: its number, a blank, `D=` and the digits of 256 bytes, and a line feed.
+pub(crate) const LINE_MOST: usize = 523;
+
 /// What a bench responds to a statement of a script.
-#[derive(Clone, Copy, Debug, PartialEq, Eq)]
+#[derive(Clone, Debug, PartialEq, Eq, Drop)]
 pub(crate) enum Response {
     /// The reply of an accepted service.
     Replied(Reply),
     /// The completion code of a refused one.
     Abend(Code),
+    /// A name in a value isn't defined.
+    Name,
     /// There was no memory for a statement that would have been accepted.
     NoMemory,
     /// A step was made; so many changes are kept now.
@@ -23,6 +29,8 @@ pub(crate) enum Response {
     TooFar(u32),
     /// FORWARD past what is undone, with that number.
     TooFarAhead(u32),
+    /// The bytes of a reading.
+    Shown(ArrayVec<u8, 256>),
     /// The statement is wrong.
     Fault(FaultKind),
 }
@@ -42,18 +50,31 @@ fn fault_word(kind: FaultKind) -> &'static str
     }
 }
 
+/// Writes `D=` and two hexadecimal digits for each byte.
+fn write_bytes<W: fmt::Write>(f: &mut fmt::Formatter<W>, bytes: &[u8]) -> fmt::Result
+    ensures { WritesOnOk W.write_str_gives f.old result (shown_text bytes.now) f.new }
+{
+    write!(f, "D=")?;
+    for byte in bytes {
+        write!(f, "{byte:02X}")?;
+    }
+    Ok(())
+}
+
 impl fmt::Display for Response {
     ghost output = { λ r. Some (response_text r) };
 
     fn fmt<W: fmt::Write>(&self, f: &mut fmt::Formatter<W>) -> fmt::Result {
-        match *self {
+        match self {
             Response::Replied(reply) => write!(f, "{reply}"),
             Response::Abend(code) => write!(f, "ABEND {code}"),
+            Response::Name => write!(f, "REFUSED NAME"),
             Response::NoMemory => write!(f, "REFUSED MEMORY"),
+            Response::Shown(bytes) => write_bytes(f, bytes),
             Response::Kept(n) => write!(f, "KEPT={n}"),
             Response::TooFar(n) => write!(f, "REFUSED KEPT={n}"),
             Response::TooFarAhead(n) => write!(f, "REFUSED UNDONE={n}"),
-            Response::Fault(kind) => write!(f, "FAULT {}", fault_word(kind)),
+            Response::Fault(kind) => write!(f, "FAULT {}", fault_word(*kind)),
         }
     }
 }
@@ -63,9 +84,10 @@ impl Response {
     pub(crate) fn is_refused(&self) -> bool
         ensures { result ≡ is_refused self.now }
     {
-        match *self {
-            Response::Replied(_) | Response::Kept(_) => false,
+        match self {
+            Response::Replied(_) | Response::Kept(_) | Response::Shown(_) => false,
             Response::Abend(_)
+            | Response::Name
             | Response::NoMemory
             | Response::TooFar(_)
             | Response::TooFarAhead(_)
@@ -75,8 +97,12 @@ impl Response {
 }
 
 /// Writes the line of a response: the number of the statement's first line, a blank, the text, a line feed.
-pub(crate) fn numbered(out: &mut ArrayString<80>, line: u32, response: Response) -> fmt::Result
-    ensures { OnOk result (out.new.bytes ≡ out.old.bytes ++ numbered line (response_text response)) }
+pub(crate) fn numbered(
+    out: &mut ArrayString<LINE_MOST>,
+    line: u32,
+    response: &Response,
+) -> fmt::Result
+    ensures { OnOk result (out.new.bytes ≡ out.old.bytes ++ numbered line (response_text response.now)) }
 {
     writeln!(out, "{line:07} {response}")
 }

@@ -1,22 +1,23 @@
 -- An accepted obtain grants storage that was free.
-use Rattle.std.proofs.Common.{◌≡◌, ℕ, ◌*◌, ◌/◌, true, not, ◌&&◌, ◌||◌, nat_lt, ◌==◌, Option, Some, None, is_some, arith, refl, sym, ◌∙◌, ap, subst, true≢false, inl, inr}
+use Rattle.std.proofs.Common.{◌≡◌, ℕ, ◌*◌, ◌/◌, true, false, not, ◌&&◌, ◌||◌, nat_lt, ◌==◌, Option, Some, None, is_some, arith, refl, sym, ◌∙◌, ap, subst, true≢false, inl, inr}
 use Rattle.std.proofs.lemmas.Bool.{cases_Bool, and_parts, and_from, cond-true, cond-false, eqb-true, eq-eqb, not-true, both_ways, false_from_ne_true}
 use Rattle.vsm_model.specs.declared.Subpool.{Subpool}
-use Rattle.vsm_model.specs.declared.causes.Cause.TheVariants.{ZeroLength, NoStorage}
+use Rattle.vsm_model.specs.declared.causes.Cause.TheVariants.{ZeroLength, TooManyNames, NoStorage}
 use Rattle.vsm_model.specs.declared.replies.Reply.{Reply}
-use Rattle.vsm_model.specs.declared.replies.Reply.TheVariants.{Obtained}
+use Rattle.vsm_model.specs.declared.replies.Reply.TheVariants.{Obtained, Returned, Stored}
 use Rattle.vsm_model.specs.Search.{all_pass, IsLeastAmong}
 use Rattle.vsm_model.specs.Regions.{Region, among, within, low_region}
+use Rattle.vsm_model.specs.Registers.{with_register, with_reply}
 use Rattle.vsm_model.specs.State.{State}
-use Rattle.vsm_model.specs.Areas.{belongs, is_free, fits, is_open_run, least_fit, least_run, pages_for, place, or_fresh}
+use Rattle.vsm_model.specs.Areas.{belongs, is_free, fits, is_open_run, least_fit, least_run, pages_for, Place, Inside, Fresh, Nowhere, place, or_fresh}
 use Rattle.vsm_model.specs.Standing.{Accepted}
 use Rattle.vsm_model.specs.Causes.{number_cause}
-use Rattle.vsm_model.specs.Storage.{with_subpool, with_taken, with_pages, obtained, doublewords, seen_or_own, with_own}
+use Rattle.vsm_model.specs.Storage.{with_subpool, with_taken, with_pages, obtained, doublewords, seen_or_own, with_own, area_obtained}
 use Rattle.vsm_model.specs.WellFormed.{IsWellFormed}
-use Rattle.vsm_model.specs.Promises.{IsGranted, ObtainGrantsFreeStorage}
+use Rattle.vsm_model.specs.Promises.{IsGranted, ObtainGrantsFreeStorage, AnswerFourSetsRegister15Alone}
 use Rattle.vsm_model.proofs.Least.{all_pass_at, least_among}
 use Rattle.vsm_model.proofs.Kept.{among-in, in-among, subpool_kept}
-use Rattle.vsm_model.proofs.Reached.{Stepped, past, refused_is_not}
+use Rattle.vsm_model.proofs.Answers.{Stepped, accepted_is, reply_is, past, refused_is_not, granted_or_four}
 
 pub belongs-is : (p : Subpool) (o : Option Subpool) → belongs p o ≡ true → o ≡ Some p
 belongs-is p None e = absurd (true≢false (sym e))
@@ -69,6 +70,8 @@ module _ (low : Region) (s : State) (w : IsWellFormed low s) (length number owne
         taken = λ k. ap (λ b. b || s.taken k) (same_area address given d (doublewords length) k at is);
         in_subpool = λ k e. (owner, seen, belongs-is its (s.pages (k / 512)) (and_parts _ _ (and_parts _ _ (here k e)).1).0);
         others = λ k p e. e;
+        zero_bytes = λ a none there. absurd (true≢false (sym there ∙ ap (λ (o : Option Subpool). is_some o) none));
+        same_bytes = λ a p e. refl;
       }
 
   -- in new pages
@@ -97,6 +100,16 @@ module _ (low : Region) (s : State) (w : IsWellFormed low s) (length number owne
           | inl own ↦
               absurd (both_ways (is_some (s.pages k)) (not-true _ (and_parts _ _ (open_at k own)).1) (ap (λ (o : Option Subpool). is_some o) e))
           | inr other ↦ cond-false (among page (pages_for count) k) (Some its) (s.pages k) other ∙ e
+        ];
+        zero_bytes = λ a none there. elim (cases_Bool (among page (pages_for count) (a / 4096))) [
+          | inl own ↦ cond-true (among page (pages_for count) (a / 4096)) (Some 0) (s.bytes a) own
+          | inr other ↦ absurd (true≢false (sym there ∙ ap (λ (o : Option Subpool). is_some o)
+              (cond-false (among page (pages_for count) (a / 4096)) (Some its) (s.pages (a / 4096)) other ∙ none)))
+        ];
+        same_bytes = λ a p e. elim (cases_Bool (among page (pages_for count) (a / 4096))) [
+          | inl own ↦
+              absurd (both_ways (is_some (s.pages (a / 4096))) (not-true _ (and_parts _ _ (open_at (a / 4096) own)).1) (ap (λ (o : Option Subpool). is_some o) e))
+          | inr other ↦ cond-false (among page (pages_for count) (a / 4096)) (Some 0) (s.bytes a) other
         ];
       }
 
@@ -134,6 +147,8 @@ before_own low s t length number address given h = record {
   taken = h.taken;
   in_subpool = h.in_subpool;
   others = h.others;
+  zero_bytes = h.zero_bytes;
+  same_bytes = h.same_bytes;
 }
 
 own_granted : (low : Region) (s t : State) → IsWellFormed low s → (length number address given : ℕ) (o : Option ℕ) → s.sight s.current number ≡ o →
@@ -147,8 +162,91 @@ own_granted low s t w length number address given None is e =
     t address given e)
 own_granted low s t w length number address given (Some owner) is e = placed low s w length number owner is t address given e
 
+other_reply : {address given code : ℕ} → ◌≡◌ {A = Reply} (Obtained address given) (Returned code) → ⊥
+other_reply e = cc
+
+code_is : (a b : ℕ) → ◌≡◌ {A = Reply} (Returned a) (Returned b) → a ≡ b
+code_is a b e = cc
+
+-- the registers of a reply change nothing of this
+registers_set : (low : Region) (s u : State) (length number address given : ℕ) (register : Option ℕ) →
+    IsGranted low s u length number address given → IsGranted low s (with_reply u register (Obtained address given)) length number address given
+registers_set low s u length number address given None h = record {
+  long_enough = h.long_enough;
+  no_longer = h.no_longer;
+  whole = h.whole;
+  on_doubleword = h.on_doubleword;
+  in_region = h.in_region;
+  was_free = h.was_free;
+  taken = h.taken;
+  in_subpool = h.in_subpool;
+  others = h.others;
+  zero_bytes = h.zero_bytes;
+  same_bytes = h.same_bytes;
+}
+registers_set low s u length number address given (Some register) h = record {
+  long_enough = h.long_enough;
+  no_longer = h.no_longer;
+  whole = h.whole;
+  on_doubleword = h.on_doubleword;
+  in_region = h.in_region;
+  was_free = h.was_free;
+  taken = h.taken;
+  in_subpool = h.in_subpool;
+  others = h.others;
+  zero_bytes = h.zero_bytes;
+  same_bytes = h.same_bytes;
+}
+
+-- the registers and the current task are as they were before a reply sets some
+record SameTask (s u : State) : Type 0 where
+  words : u.words ≡ s.words
+  current : u.current ≡ s.current
+
+words_set : (s u : State) (register : Option ℕ) (reply : Reply) → SameTask s u → (with_reply u register reply).words ≡ (with_reply s register reply).words
+words_set s u None (Obtained address given) same = λ i. (with_reply (record s { words = same.words i; current = same.current i }) None (Obtained address given)).words
+words_set s u (Some register) (Obtained address given) same = λ i. (with_reply (record s { words = same.words i; current = same.current i }) (Some register) (Obtained address given)).words
+words_set s u register (Returned code) same = λ i. (with_reply (record s { words = same.words i; current = same.current i }) register (Returned code)).words
+words_set s u register Stored same = same.words
+
+placed_same : (s u : State) (p : Subpool) (count : ℕ) (at : Place) (r : Reply) → obtained s p count at ≡ Accepted u r → SameTask s u
+placed_same s u p count (Inside d) r e = record { words = sym (ap (λ (t : State). t.words) (accepted_is _ u _ r e)); current = sym (ap (λ (t : State). t.current) (accepted_is _ u _ r e)) }
+placed_same s u p count (Fresh page) r e = record { words = sym (ap (λ (t : State). t.words) (accepted_is _ u _ r e)); current = sym (ap (λ (t : State). t.current) (accepted_is _ u _ r e)) }
+placed_same s u p count Nowhere r e = absurd (refused_is_not NoStorage u r e)
+
+own_same : (s u : State) (number : ℕ) (o : Option ℕ) (p : Subpool) (count : ℕ) (at : Place) (r : Reply) → obtained (with_own s number o) p count at ≡ Accepted u r → SameTask s u
+own_same s u number None p count at r e = let same = placed_same (with_subpool s number s.current) u p count at r e in record { words = same.words; current = same.current }
+own_same s u number (Some owner) p count at r e = placed_same s u p count at r e
+
+-- an area is never answered by a return code
+no_code : (s u : State) (p : Subpool) (count code : ℕ) (at : Place) → obtained s p count at ≡ Accepted u (Returned code) → ⊥
+no_code s u p count code (Inside d) e = other_reply (reply_is _ u _ _ e)
+no_code s u p count code (Fresh page) e = other_reply (reply_is _ u _ _ e)
+no_code s u p count code Nowhere e = refused_is_not NoStorage u _ e
+
 pub obtain_grants_free_storage : ObtainGrantsFreeStorage
-obtain_grants_free_storage settings s t length number address given w e =
-    past (nat_lt 127 number) (number_cause number) _ t _ _ e (λ _ e.
-    past (length == 0) ZeroLength _ t _ _ e (λ _ e.
-    own_granted (low_region settings) s t w length number address given (s.sight s.current number) refl e))
+obtain_grants_free_storage settings names_full s t length number register conditional address given w e =
+    let Whole : State → Type 0 =
+    λ v. IsGranted (low_region settings) s v length number address given × (names_full ≡ false)
+    × (v.words ≡ (with_reply s register (Obtained address given)).words) in
+    granted_or_four s t register (Obtained address given) (Whole t) conditional (area_obtained (low_region settings) s length number names_full) e
+    (λ u e is. subst Whole (sym is)
+    (past (nat_lt 127 number) (number_cause number) _ u (Obtained address given) _ e (λ _ e.
+    past (length == 0) ZeroLength _ u (Obtained address given) _ e (λ _ e.
+    past names_full TooManyNames _ u (Obtained address given) _ e (λ room e. (
+      registers_set (low_region settings) s u length number address given register
+          (own_granted (low_region settings) s u w length number address given (s.sight s.current number) refl e),
+      room,
+      words_set s u register (Obtained address given) (own_same s u number (s.sight s.current number) _ _ _ (Obtained address given) e),
+    ))))))
+    (λ _ four _. absurd (other_reply four))
+
+pub answer_four_sets_register_15_alone : AnswerFourSetsRegister15Alone
+answer_four_sets_register_15_alone settings names_full s t length number register conditional code e =
+    granted_or_four s t register (Returned code) ((conditional ≡ true) × (code ≡ 4) × (t ≡ with_register s 15 4)) conditional
+    (area_obtained (low_region settings) s length number names_full) e
+    (λ u e _. absurd
+    (past (nat_lt 127 number) (number_cause number) _ u (Returned code) ⊥ e (λ _ e.
+    past (length == 0) ZeroLength _ u (Returned code) ⊥ e (λ _ e.
+    past names_full TooManyNames _ u (Returned code) ⊥ e (λ _ e. no_code _ u _ _ code _ e)))))
+    (λ on four is. (on, code_is code 4 four, is))

@@ -1,11 +1,15 @@
 -- Each change of a state that an obtain or a release makes keeps it well-formed.
-use Rattle.std.proofs.Common.{◌≡◌, ℕ, zero, suc, ◌+◌, ◌*◌, ◌/◌, ◌<◌, ◌≤◌, Bool, true, false, not, ◌&&◌, nat_le, nat_lt, ◌==◌, cond, Option, Some, None, is_some, arith, refl, sym, ◌∙◌, ap, subst, inl, inr, true≢false}
+use Rattle.std.proofs.Common.{◌≡◌, ℕ, zero, suc, ◌+◌, ◌*◌, ◌/◌, ◌<◌, ◌≤◌, Bool, true, false, not, ◌&&◌, nat_le, nat_lt, ◌==◌, ◌-◌, cond, List, [], ◌∷◌, length, slice_get, Option, Some, None, is_some, arith, refl, sym, ◌∙◌, ap, subst, inl, inr, true≢false}
 use Rattle.std.proofs.lemmas.Bool.{cases_Bool, and_parts, or_cases, and_from, or_left, or_right, both_ways, cond-true, cond-false, and_cases, not-true, not-false, eqb-true, eq-eqb, leb-true, ltb-true, le-leb, lt-ltb}
 use Rattle.vsm_model.specs.declared.Subpool.{Subpool}
 use Rattle.vsm_model.specs.Search.{all_pass}
 use Rattle.vsm_model.specs.Regions.{Region, among, within}
 use Rattle.vsm_model.specs.State.{State, is_task}
 use Rattle.vsm_model.specs.Areas.{belongs, is_free, is_open_run, pages_for}
+use Rattle.vsm_model.specs.Bytes.{are_there, with_bytes}
+use Rattle.vsm_model.specs.Registers.{with_register, with_reply}
+use Rattle.vsm_model.specs.declared.replies.Reply.{Reply}
+use Rattle.vsm_model.specs.declared.replies.Reply.TheVariants.{Obtained, Returned, Stored}
 use Rattle.vsm_model.specs.Storage.{with_subpool, with_taken, with_pages, is_idle, released}
 use Rattle.vsm_model.specs.WellFormed.{IsWellFormed}
 use Rattle.vsm_model.proofs.Least.{all_pass_at}
@@ -46,7 +50,29 @@ is_some_of : {A : Type 0} (b : Bool) (x y : Option A) → (b ≡ true → is_som
 is_some_of true x y f g = f refl
 is_some_of false x y f g = g refl
 
+both_some : {A B : Type 0} (b : Bool) (x y : Option A) (u v : Option B) → is_some x ≡ is_some u → is_some y ≡ is_some v → is_some (cond b x y) ≡ is_some (cond b u v)
+both_some true x y u v e f = e
+both_some false x y u v e f = f
+
+pub byte_is_there : (bytes : List ℕ) (k : ℕ) → k < length bytes → is_some (slice_get bytes k) ≡ true
+byte_is_there [] k h = absurd (omega (arith, h))
+byte_is_there (b ∷ bytes) zero h = refl
+byte_is_there (b ∷ bytes) (suc k) h = byte_is_there bytes k (omega (arith, h))
+
 module _ (low : Region) (s : State) (w : IsWellFormed low s) where
+  stored_there : (address : ℕ) (bytes : List ℕ) → are_there s address (length bytes) ≡ true → (a : ℕ) →
+      is_some (cond (among address (length bytes) a) (slice_get bytes (a - address)) (s.bytes a)) ≡ is_some (s.pages (a / 4096))
+  stored_there address bytes there a =
+      elim (cases_Bool (among address (length bytes) a)) [
+        | inl own ↦
+            let at = among-in address (length bytes) a own in
+            ap is_some (cond-true (among address (length bytes) a) (slice_get bytes (a - address)) (s.bytes a) own)
+            ∙ byte_is_there bytes (a - address) (omega (arith, at.0, at.1))
+            ∙ sym (all_pass_at (λ a. is_some (s.bytes a)) address (length bytes) a there at.0 at.1)
+            ∙ w.has_bytes a
+        | inr other ↦ ap is_some (cond-false (among address (length bytes) a) (slice_get bytes (a - address)) (s.bytes a) other) ∙ w.has_bytes a
+      ]
+
   task_at : (t : ℕ) → t ≡ s.current → is_task s t ≡ true
   task_at t is = subst (λ k. is_task s k ≡ true) (sym is) w.current_is_task
 
@@ -87,6 +113,7 @@ module _ (low : Region) (s : State) (w : IsWellFormed low s) where
           | inr other ↦ cond-false _ _ _ other ∙ w.sees_zero t is
         ];
     current_is_task = w.current_is_task;
+    has_bytes = w.has_bytes;
   }
 
   -- an area of free doublewords is taken
@@ -109,6 +136,7 @@ module _ (low : Region) (s : State) (w : IsWellFormed low s) where
     seer_is_task = w.seer_is_task;
     sees_zero = w.sees_zero;
     current_is_task = w.current_is_task;
+    has_bytes = w.has_bytes;
   }
 
   -- an area in new pages is taken
@@ -142,6 +170,7 @@ module _ (low : Region) (s : State) (w : IsWellFormed low s) where
     seer_is_task = w.seer_is_task;
     sees_zero = w.sees_zero;
     current_is_task = w.current_is_task;
+    has_bytes = λ a. both_some (among page (pages_for count) (a / 4096)) (Some 0) (s.bytes a) (Some p) (s.pages (a / 4096)) refl (w.has_bytes a);
   }
 
   -- an area in use is given back
@@ -185,4 +214,45 @@ module _ (low : Region) (s : State) (w : IsWellFormed low s) where
         seer_is_task = w.seer_is_task;
         sees_zero = w.sees_zero;
         current_is_task = w.current_is_task;
+        has_bytes = λ a. both_some (belongs p (s.pages (a / 4096)) && is_idle left (a / 4096)) None (s.bytes a) None (s.pages (a / 4096)) refl (w.has_bytes a);
       }
+
+  -- a register is set
+  pub register_kept : (register word : ℕ) → IsWellFormed low (with_register s register word)
+  register_kept register word = record {
+    in_region = w.in_region;
+    has_subpool = w.has_subpool;
+    has_taken = w.has_taken;
+    in_page = w.in_page;
+    owner_sees = w.owner_sees;
+    seen_is_there = w.seen_is_there;
+    owner_is_task = w.owner_is_task;
+    seer_is_task = w.seer_is_task;
+    sees_zero = w.sees_zero;
+    current_is_task = w.current_is_task;
+    has_bytes = w.has_bytes;
+  }
+
+  -- bytes of assigned pages are stored
+  pub bytes_kept : (address : ℕ) (bytes : List ℕ) → are_there s address (length bytes) ≡ true → IsWellFormed low (with_bytes s address bytes)
+  bytes_kept address bytes there = record {
+    in_region = w.in_region;
+    has_subpool = w.has_subpool;
+    has_taken = w.has_taken;
+    in_page = w.in_page;
+    owner_sees = w.owner_sees;
+    seen_is_there = w.seen_is_there;
+    owner_is_task = w.owner_is_task;
+    seer_is_task = w.seer_is_task;
+    sees_zero = w.sees_zero;
+    current_is_task = w.current_is_task;
+    has_bytes = stored_there address bytes there;
+  }
+
+-- the registers of a reply are set
+pub reply_kept : (low : Region) (s : State) (register : Option ℕ) (reply : Reply) → IsWellFormed low s → IsWellFormed low (with_reply s register reply)
+reply_kept low s None (Obtained address length) w = register_kept low (with_register s 15 0) (register_kept low s w 15 0) 1 address
+reply_kept low s (Some register) (Obtained address length) w =
+    register_kept low (with_register (with_register s 15 0) 1 address) (register_kept low (with_register s 15 0) (register_kept low s w 15 0) 1 address) register address
+reply_kept low s register (Returned code) w = register_kept low s w 15 code
+reply_kept low s register Stored w = w

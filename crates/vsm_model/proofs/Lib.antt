@@ -3,8 +3,11 @@ pub mod Alone
 pub mod Steps
 pub mod Obtains
 pub mod Kept
+pub mod Answers
+pub mod Rows
 pub mod Reached
 pub mod Maximal
 pub mod Worked
 pub mod Grants
 pub mod Returns
+pub mod Stores

@@ -1,38 +1,51 @@
 -- Each accepted statement leaves a well-formed state: the cases put together.
-use Rattle.std.proofs.Common.{◌≡◌, ℕ, ◌*◌, ◌/◌, ◌%◌, Bool, true, false, not, nat_lt, ◌==◌, ◌&&◌, Option, Some, None, [], ◌∷◌, refl, sym, ◌∙◌, ap, subst, true≢false}
+use Rattle.std.proofs.Common.{◌≡◌, ℕ, ◌*◌, ◌/◌, ◌%◌, Bool, true, false, not, nat_lt, ◌==◌, ◌&&◌, Option, Some, None, List, [], ◌∷◌, length, refl, sym, ◌∙◌, ap, subst, true≢false, arith}
 use Rattle.std.proofs.lemmas.Bool.{and_parts, and_from, or_left, eq-eqb, eqb-true, cond-true, not-false}
 use Rattle.vsm_model.specs.declared.Subpool.{Subpool}
 use Rattle.vsm_model.specs.declared.causes.Cause.{Cause}
-use Rattle.vsm_model.specs.declared.causes.Cause.TheVariants.{ZeroLength, Misaligned, NotInSubpool, OverlapsFree}
+use Rattle.vsm_model.specs.declared.causes.Cause.TheVariants.{ZeroLength, TooManyNames, Misaligned, NotInSubpool, OverlapsFree, NotAssigned}
 use Rattle.vsm_model.specs.declared.replies.Reply.{Reply}
+use Rattle.vsm_model.specs.declared.replies.Reply.TheVariants.{Obtained, Returned, Stored}
 use Rattle.vsm_model.specs.declared.limits.Settings.{Settings}
-use Rattle.vsm_model.specs.declared.Service.{Service}
-use Rattle.vsm_model.specs.declared.Service.TheVariants.{Obtain, Release}
-use Rattle.vsm_model.specs.Search.{IsLeastAmong}
+use Rattle.vsm_model.specs.Services.{Service, Obtain, Release, Store}
+use Rattle.vsm_model.specs.Search.{all_pass, IsLeastAmong}
 use Rattle.vsm_model.specs.Regions.{Region, low_region}
 use Rattle.vsm_model.specs.State.{State, first_state}
 use Rattle.vsm_model.specs.Areas.{fits, is_open_run, least_fit, least_run, pages_for, place, or_fresh}
 use Rattle.vsm_model.specs.Standing.{Outcome, Accepted, Refused, state_after, alone}
-use Rattle.vsm_model.specs.Causes.{when, number_cause}
-use Rattle.vsm_model.specs.Storage.{obtained, doublewords, seen_or_own, with_own, with_subpool, release_from}
+use Rattle.vsm_model.specs.Causes.{number_cause, when, is_foreign, is_taken_in}
+use Rattle.vsm_model.specs.Bytes.{are_there}
+use Rattle.vsm_model.specs.Storage.{obtained, doublewords, seen_or_own, with_own, with_subpool, released, release_from, area_obtained, area_released}
 use Rattle.vsm_model.specs.Step.{step}
-use Rattle.vsm_model.specs.WellFormed.{IsWellFormed, FirstIsWellFormed, StaysWellFormed, ReachedIsWellFormed}
+use Rattle.vsm_model.specs.Names.{NamedState, first_named_state, NamedService, is_one_too_many, names_after, named, named_step}
+use Rattle.vsm_model.specs.WellFormed.{IsWellFormed, IsWellFormedNamed, FirstIsWellFormed, StaysWellFormed, ReachedIsWellFormed}
 use Rattle.vsm_model.proofs.Least.{least_among}
-use Rattle.vsm_model.proofs.Kept.{same_some, none_some, chosen, subpool_kept, taken_kept, fresh_kept, released_kept}
+use Rattle.vsm_model.proofs.Kept.{same_some, none_some, chosen, subpool_kept, taken_kept, fresh_kept, released_kept, register_kept, bytes_kept, reply_kept}
+use Rattle.vsm_model.proofs.Answers.{Stepped, accepted_is, reply_is, refused_is_not, past, granted_or_four}
+use Rattle.vsm_model.proofs.Rows.{with_name-distinct, with_name-few}
 
-abbrev pub Stepped : Type 0
-Stepped = Outcome State Reply Cause
+other_reply : {address given code : ℕ} → ◌≡◌ {A = Reply} (Obtained address given) (Returned code) → ⊥
+other_reply e = cc
 
-pub accepted_is : (s t : State) (q r : Reply) → ◌≡◌ {A = Stepped} (Accepted s q) (Accepted t r) → s ≡ t
-accepted_is s t q r e = cc
+other_answer : {address given : ℕ} → ◌≡◌ {A = Reply} Stored (Obtained address given) → ⊥
+other_answer e = cc
 
-pub refused_is_not : (cause : Cause) (t : State) (r : Reply) → ◌≡◌ {A = Stepped} (Refused cause) (Accepted t r) → ⊥
-refused_is_not cause t r e = cc
+named_is : (m n : NamedState) (q r : Reply) → ◌≡◌ {A = Outcome NamedState Reply Cause} (Accepted m q) (Accepted n r) → m ≡ n
+named_is m n q r e = cc
 
--- an accepted outcome is past each cause
-pub past : (b : Bool) (cause : Cause) (o : Stepped) (t : State) (r : Reply) (P : Type 0) → when b cause o ≡ Accepted t r → (b ≡ false → o ≡ Accepted t r → P) → P
-past true cause o t r P e f = absurd (refused_is_not cause t r e)
-past false cause o t r P e f = f refl e
+named_refused : (cause : Cause) (n : NamedState) (r : Reply) → ◌≡◌ {A = Outcome NamedState Reply Cause} (Refused cause) (Accepted n r) → ⊥
+named_refused cause n r e = cc
+
+-- a release gives no area
+none_from_release : (low : Region) (s u : State) (number d count : ℕ) (o : Option ℕ) (address given : ℕ) →
+    release_from s low number o d count ≡ Accepted u (Obtained address given) → ⊥
+none_from_release low s u number d count None address given e = refused_is_not NotInSubpool u _ e
+none_from_release low s u number d count (Some owner) address given e =
+    let p : Subpool = record { number = number; owner = owner } in
+    let taken : Bool = all_pass (is_taken_in s p) d count in
+    past (not (all_pass (λ k. not (is_foreign s low p k)) d count)) NotInSubpool
+    (when (not taken) OverlapsFree (Accepted (released s p d count) (Returned 0))) u (Obtained address given) ⊥ e (λ _ e.
+    past (not taken) OverlapsFree (Accepted (released s p d count) (Returned 0)) u (Obtained address given) ⊥ e (λ _ e. other_reply {code = 0} (sym (reply_is (released s p d count) u (Returned 0) (Obtained address given) e))))
 
 module _ (low : Region) (t : State) (r : Reply) where
   obtained_kept : (s : State) → IsWellFormed low s → (p : Subpool) → s.subpools p.number p.owner ≡ true → (count : ℕ) (o f : Option ℕ) →
@@ -65,25 +78,104 @@ module _ (low : Region) (t : State) (r : Reply) where
       subst (IsWellFormed low) (accepted_is _ t _ r e)
       (released_kept low s w (record { number = number; owner = owner }) d count (not-false _ used))))
 
+-- each service leaves a well-formed storage
+storage_kept : (settings : Settings) (names_full : Bool) (s t : State) (x : Service) (r : Reply) →
+    IsWellFormed (low_region settings) s → step settings names_full s x ≡ Accepted t r → IsWellFormed (low_region settings) t
+storage_kept settings names_full s t (Obtain length number register conditional) r w e =
+    granted_or_four s t register r (IsWellFormed (low_region settings) t) conditional
+    (area_obtained (low_region settings) s length number names_full) e
+    (λ u e is. subst (IsWellFormed (low_region settings)) (sym is) (reply_kept (low_region settings) u register r
+    (past (nat_lt 127 number) (number_cause number) _ u r _ e (λ _ e.
+    past (length == 0) ZeroLength _ u r _ e (λ _ e.
+    past names_full TooManyNames _ u r _ e (λ _ e.
+    own_kept (low_region settings) u r s w number (doublewords length) (s.sight s.current number) refl e))))))
+    (λ _ _ is. subst (IsWellFormed (low_region settings)) (sym is) (register_kept (low_region settings) s w 15 4))
+storage_kept settings names_full s t (Release length address number conditional) r w e =
+    granted_or_four s t None r (IsWellFormed (low_region settings) t) conditional
+    (area_released (low_region settings) s length address number) e
+    (λ u e is. subst (IsWellFormed (low_region settings)) (sym is) (reply_kept (low_region settings) u None r
+    (past (nat_lt 127 number) (number_cause number) _ u r _ e (λ _ e.
+    past (length == 0) ZeroLength _ u r _ e (λ _ e.
+    past (not ((address % 8) == 0)) Misaligned _ u r _ e (λ _ e.
+    given_kept (low_region settings) u r s w number (address / 8) (doublewords length) (s.sight s.current number) e))))))
+    (λ _ _ is. subst (IsWellFormed (low_region settings)) (sym is) (register_kept (low_region settings) s w 15 4))
+storage_kept settings names_full s t (Store address bytes) r w e =
+    past (not (are_there s address (length bytes))) NotAssigned _ t r _ e (λ there e.
+    subst (IsWellFormed (low_region settings)) (accepted_is _ t _ r e) (bytes_kept (low_region settings) s w address bytes (not-false _ there)))
+
+-- a statement whose name would be one too many obtains nothing
+none_with_full : (settings : Settings) (s t : State) (x : Service) (address given : ℕ) → step settings true s x ≡ Accepted t (Obtained address given) → ⊥
+none_with_full settings s t (Obtain length number register conditional) address given e =
+    granted_or_four s t register (Obtained address given) ⊥ conditional (area_obtained (low_region settings) s length number true) e
+    (λ u e _. past (nat_lt 127 number) (number_cause number) _ u (Obtained address given) ⊥ e (λ _ e.
+    past (length == 0) ZeroLength _ u (Obtained address given) ⊥ e (λ _ e. refused_is_not TooManyNames u (Obtained address given) e)))
+    (λ _ four _. other_reply four)
+none_with_full settings s t (Release length at number conditional) address given e =
+    granted_or_four s t None (Obtained address given) ⊥ conditional (area_released (low_region settings) s length at number) e
+    (λ u e _. past (nat_lt 127 number) (number_cause number) _ u (Obtained address given) ⊥ e (λ _ e.
+    past (length == 0) ZeroLength _ u (Obtained address given) ⊥ e (λ _ e.
+    past (not ((at % 8) == 0)) Misaligned _ u (Obtained address given) ⊥ e (λ _ e.
+    none_from_release (low_region settings) s u number (at / 8) (doublewords length) (s.sight s.current number) address given e))))
+    (λ _ four _. other_reply four)
+none_with_full settings s t (Store at bytes) address given e =
+    past (not (are_there s at (length bytes))) NotAssigned _ t (Obtained address given) ⊥ e (λ _ e. other_answer (reply_is _ t Stored (Obtained address given) e))
+
+module _ (settings : Settings) (m : NamedState) (w : IsWellFormedNamed (low_region settings) m) where
+  -- the names after a reply
+  named_kept : (t : State) (x : Service) (name : Option (List ℕ)) (full : Bool) (r : Reply) → is_one_too_many m.names name ≡ full →
+      step settings full m.storage x ≡ Accepted t r →
+      IsWellFormedNamed (low_region settings) (record { storage = t; names = names_after m.names name r })
+  named_kept t x (Some name) true (Obtained address given) is e = absurd (none_with_full settings m.storage t x address given e)
+  named_kept t x (Some name) false (Obtained address given) is e = record {
+    storage = storage_kept settings false m.storage t x (Obtained address given) w.storage e;
+    distinct = with_name-distinct m.names name address w.distinct;
+    few = with_name-few m.names name address w.few is;
+  }
+  named_kept t x None full (Obtained address given) is e = record {
+    storage = storage_kept settings full m.storage t x (Obtained address given) w.storage e;
+    distinct = w.distinct;
+    few = w.few;
+  }
+  named_kept t x None full (Returned code) is e = record {
+    storage = storage_kept settings full m.storage t x (Returned code) w.storage e;
+    distinct = w.distinct;
+    few = w.few;
+  }
+  named_kept t x (Some name) full (Returned code) is e = record {
+    storage = storage_kept settings full m.storage t x (Returned code) w.storage e;
+    distinct = w.distinct;
+    few = w.few;
+  }
+  named_kept t x None full Stored is e = record {
+    storage = storage_kept settings full m.storage t x Stored w.storage e;
+    distinct = w.distinct;
+    few = w.few;
+  }
+  named_kept t x (Some name) full Stored is e = record {
+    storage = storage_kept settings full m.storage t x Stored w.storage e;
+    distinct = w.distinct;
+    few = w.few;
+  }
+
+  outcome_kept : (n : NamedState) (x : NamedService) (r : Reply) (o : Stepped) →
+      step settings (is_one_too_many m.names x.name) m.storage x.service ≡ o → named m.names x.name o ≡ Accepted n r →
+      IsWellFormedNamed (low_region settings) n
+  outcome_kept n x r (Accepted t q) is e =
+      subst (IsWellFormedNamed (low_region settings)) (named_is _ n q r e) (named_kept t x.service x.name _ q refl is)
+  outcome_kept n x r (Refused cause) is e = absurd (named_refused cause n r e)
+
 pub stays_well_formed : StaysWellFormed
-stays_well_formed settings s t (Obtain length number) r w e =
-    past (nat_lt 127 number) (number_cause number) _ t r _ e (λ _ e.
-    past (length == 0) ZeroLength _ t r _ e (λ _ e.
-    own_kept (low_region settings) t r s w number (doublewords length) (s.sight s.current number) refl e))
-stays_well_formed settings s t (Release length address number) r w e =
-    past (nat_lt 127 number) (number_cause number) _ t r _ e (λ _ e.
-    past (length == 0) ZeroLength _ t r _ e (λ _ e.
-    past (not ((address % 8) == 0)) Misaligned _ t r _ e (λ _ e.
-    given_kept (low_region settings) t r s w number (address / 8) (doublewords length) (s.sight s.current number) e)))
+stays_well_formed settings m n x r w e =
+    outcome_kept settings m w n x r (step settings (is_one_too_many m.names x.name) m.storage x.service) refl e
 
 -- a refused statement leaves the state as it was
-left_well_formed : (settings : Settings) (s : State) (x : Service) (o : Stepped) → step settings s x ≡ o →
-    IsWellFormed (low_region settings) s → IsWellFormed (low_region settings) (state_after s o)
-left_well_formed settings s x (Accepted t r) e w = stays_well_formed settings s t x r w e
-left_well_formed settings s x (Refused cause) e w = w
+left_well_formed : (settings : Settings) (m : NamedState) (x : NamedService) (o : Outcome NamedState Reply Cause) → named_step settings m x ≡ o →
+    IsWellFormedNamed (low_region settings) m → IsWellFormedNamed (low_region settings) (state_after m o)
+left_well_formed settings m x (Accepted n r) e w = stays_well_formed settings m n x r w e
+left_well_formed settings m x (Refused cause) e w = w
 
-pub first_is_well_formed : FirstIsWellFormed
-first_is_well_formed settings = record {
+first_storage : (settings : Settings) → IsWellFormed (low_region settings) first_state
+first_storage settings = record {
   in_region = λ k p e. absurd (none_some p e);
   has_subpool = λ k p e. absurd (none_some p e);
   has_taken = λ k p e. absurd (none_some p e);
@@ -101,10 +193,14 @@ first_is_well_formed settings = record {
       (λ own _. (and_parts (task == 1) (number == 0) own).0) (λ _ none. absurd (none_some owner none));
   sees_zero = λ task is. cond-true _ _ _ (and_from (task == 1) (0 == 0) is refl) ∙ ap Some (sym (eqb-true task 1 is));
   current_is_task = refl;
+  has_bytes = λ a. refl;
 }
+
+pub first_is_well_formed : FirstIsWellFormed
+first_is_well_formed settings = record { storage = first_storage settings; distinct = tt; few = omega arith }
 
 -- each state that the machine reaches
 pub reached_is_well_formed : ReachedIsWellFormed
 reached_is_well_formed settings [] = first_is_well_formed settings
 reached_is_well_formed settings (x ∷ older) =
-    left_well_formed settings (alone first_state (step settings) older) x _ refl (reached_is_well_formed settings older)
+    left_well_formed settings (alone first_named_state (named_step settings) older) x _ refl (reached_is_well_formed settings older)

@@ -1,5 +1,5 @@
 -- An accepted release gives taken storage back.
-use Rattle.std.proofs.Common.{◌≡◌, ℕ, ◌*◌, ◌/◌, ◌%◌, Bool, true, false, not, ◌&&◌, nat_lt, ◌==◌, Option, Some, None, arith, refl, sym, ◌∙◌, subst}
+use Rattle.std.proofs.Common.{◌≡◌, ℕ, ◌*◌, ◌/◌, ◌%◌, Bool, true, false, not, ◌&&◌, nat_lt, ◌==◌, Option, Some, None, arith, refl, sym, ◌∙◌, subst, inl, inr}
 use Rattle.std.proofs.lemmas.Bool.{and_parts, cond-false, eqb-true, not-false, not-true, both_ways, false_from_ne_true}
 use Rattle.vsm_model.specs.declared.Subpool.{Subpool}
 use Rattle.vsm_model.specs.declared.causes.Cause.TheVariants.{ZeroLength, Misaligned, NotInSubpool, OverlapsFree}
@@ -11,15 +11,13 @@ use Rattle.vsm_model.specs.State.{State}
 use Rattle.vsm_model.specs.Areas.{belongs}
 use Rattle.vsm_model.specs.Standing.{Accepted}
 use Rattle.vsm_model.specs.Causes.{number_cause, is_taken_in}
-use Rattle.vsm_model.specs.Storage.{is_idle, released, doublewords, release_from}
+use Rattle.vsm_model.specs.Storage.{is_idle, released, doublewords, release_from, area_released}
+use Rattle.vsm_model.specs.Registers.{with_register, with_reply}
 use Rattle.vsm_model.specs.Promises.{IsGivenBack, ReleaseGivesTakenStorageBack}
 use Rattle.vsm_model.proofs.Least.{all_pass_at}
 use Rattle.vsm_model.proofs.Kept.{among-in, none_some, chosen}
-use Rattle.vsm_model.proofs.Reached.{Stepped, past, accepted_is, refused_is_not}
+use Rattle.vsm_model.proofs.Answers.{past, accepted_is, reply_is, refused_is_not, granted_or_four}
 use Rattle.vsm_model.proofs.Grants.{belongs-is}
-
-reply_is : (s t : State) (q r : Reply) → ◌≡◌ {A = Stepped} (Accepted s q) (Accepted t r) → q ≡ r
-reply_is s t q r e = cc
 
 module _ (s : State) (length address number owner : ℕ) (aligned : address % 8 ≡ 0) (seen : s.sight s.current number ≡ Some owner) where
   abbrev its : Subpool
@@ -37,7 +35,7 @@ module _ (s : State) (length address number owner : ℕ) (aligned : address % 8 
       both_ways (left d) (not-true (left d) (all_pass_at (λ j. not (left j)) (k * 512) 512 d idle.1 (omega (arith, at)) (omega (arith, at)))) taken)
 
   given_back : all_pass (is_taken_in s its) (address / 8) (doublewords length) ≡ true →
-      IsGivenBack s (released s its (address / 8) (doublewords length)) length address number
+      IsGivenBack s (with_register (released s its (address / 8) (doublewords length)) 15 0) length address number
   given_back used =
       let here : (d : ℕ) → among (address / 8) (doublewords length) d ≡ true → (belongs its (s.pages (d / 512)) && s.taken d) ≡ true =
       λ d e. let area = among-in (address / 8) (doublewords length) d e in
@@ -53,24 +51,33 @@ module _ (s : State) (length address number owner : ℕ) (aligned : address % 8 
             (λ _ is. absurd (none_some p is)) (λ _ old. old);
         same_subpools = refl;
         same_sight = refl;
+        same_bytes = λ a p e.
+            chosen (belongs its (s.pages (a / 4096)) && is_idle left (a / 4096)) None (s.pages (a / 4096)) (Some p) _ e
+            (λ _ is. absurd (none_some p is))
+            (λ stays _. cond-false (belongs its (s.pages (a / 4096)) && is_idle left (a / 4096)) None (s.bytes a) stays);
+        registers = refl;
       }
 
 from_seen : (low : Region) (s t : State) (length address number : ℕ) (reply : Reply) (o : Option ℕ) → s.sight s.current number ≡ o → address % 8 ≡ 0 →
     release_from s low number o (address / 8) (doublewords length) ≡ Accepted t reply →
-    IsGivenBack s t length address number × (reply ≡ Returned 0)
+    IsGivenBack s (with_reply t None reply) length address number × (reply ≡ Returned 0)
 from_seen low s t length address number reply None is aligned e = absurd (refused_is_not NotInSubpool t reply e)
 from_seen low s t length address number reply (Some owner) is aligned e =
     past _ NotInSubpool _ t reply _ e (λ _ e.
     past _ OverlapsFree _ t reply _ e (λ used e. (
-      subst (λ u. IsGivenBack s u length address number) (accepted_is _ t _ reply e)
-          (given_back s length address number owner aligned is (not-false _ used)),
+      subst (λ (r : Reply). IsGivenBack s (with_reply t None r) length address number) (reply_is _ t _ reply e)
+          (subst (λ u. IsGivenBack s (with_register u 15 0) length address number) (accepted_is _ t _ reply e)
+          (given_back s length address number owner aligned is (not-false _ used))),
       sym (reply_is _ t _ reply e),
     )))
 
 pub release_gives_taken_storage_back : ReleaseGivesTakenStorageBack
-release_gives_taken_storage_back settings s t length address number reply e =
-    past (nat_lt 127 number) (number_cause number) _ t reply _ e (λ _ e.
-    past (length == 0) ZeroLength _ t reply _ e (λ _ e.
-    past (not ((address % 8) == 0)) Misaligned _ t reply _ e (λ aligned e.
-    from_seen (low_region settings) s t length address number reply (s.sight s.current number) refl
-    (eqb-true (address % 8) 0 (not-false _ aligned)) e)))
+release_gives_taken_storage_back settings names_full s t length address number conditional reply e =
+    granted_or_four s t None reply _ conditional (area_released (low_region settings) s length address number) e
+    (λ u e is. inl (subst (λ (v : State). IsGivenBack s v length address number × (reply ≡ Returned 0)) (sym is)
+    (past (nat_lt 127 number) (number_cause number) _ u reply _ e (λ _ e.
+    past (length == 0) ZeroLength _ u reply _ e (λ _ e.
+    past (not ((address % 8) == 0)) Misaligned _ u reply _ e (λ aligned e.
+    from_seen (low_region settings) s u length address number reply (s.sight s.current number) refl
+    (eqb-true (address % 8) 0 (not-false _ aligned)) e))))))
+    (λ on four is. inr (on, four, is))

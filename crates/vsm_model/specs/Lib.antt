@@ -5,8 +5,13 @@ pub mod State
 pub mod Areas
 pub mod Standing
 pub mod Causes
+pub mod Services
+pub mod Bytes
+pub mod Registers
 pub mod Storage
 pub mod Step
+pub mod Names
+pub mod Machines
 pub mod WellFormed
 pub mod Texts
 pub mod Promises

@@ -16,12 +16,16 @@ pub record State : Type 0 where
   pub pages : ℕ → Option Subpool
   -- whether a doubleword is taken: a doubleword is an address divided by 8
   pub taken : ℕ → Bool
+  -- the word of a register of a task: the registers are numbered from 0 to 15, and a word is below 2 ^ 32
+  pub words : ℕ → ℕ → ℕ
+  -- the byte at an address: there is one at the addresses of assigned pages, and at no others
+  pub bytes : ℕ → Option ℕ
 
 -- The tasks that are there: task 1 alone.
 abbrev pub is_task : State → ℕ → Bool
 is_task s task = task == 1
 
--- Task 1 is current, and owns and sees an empty subpool 0; nothing else is there.
+-- Task 1 is current, its registers are zero, and it owns and sees an empty subpool 0; nothing else is there.
 abbrev pub first_state : State
 first_state =
     record {
@@ -30,4 +34,6 @@ first_state =
       sight = λ task number. if (task == 1) && (number == 0) then Some 1 else None;
       pages = λ page. None;
       taken = λ d. false;
+      words = λ task register. 0;
+      bytes = λ address. None;
     }

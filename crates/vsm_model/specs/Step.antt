@@ -1,28 +1,19 @@
--- What each service does to the plain machine: a new state and a reply, or the first cause that refuses it.
-use Rattle.std.specs.Prelude.{ℕ}
-use Rattle.vsm_model.specs.declared.Service.{Service}
-use Rattle.vsm_model.specs.declared.Service.TheVariants.{Obtain, Release}
+-- What each service does to the storage of the plain machine: a new state and a reply, or the first cause that refuses it.
+-- What a statement does to the machine with its names is in Names.antt.
+use Rattle.std.specs.Prelude.{Bool}
 use Rattle.vsm_model.specs.declared.limits.Settings.{Settings}
 use Rattle.vsm_model.specs.declared.causes.Cause.{Cause}
 use Rattle.vsm_model.specs.declared.replies.Reply.{Reply}
 use Rattle.vsm_model.specs.Regions.{low_region}
+use Rattle.vsm_model.specs.Services.{Service, Obtain, Release, Store}
 use Rattle.vsm_model.specs.State.{State}
-use Rattle.vsm_model.specs.Standing.{Outcome, PlainKeeps, KeepsPlain, GoesForwardAgain}
-use Rattle.vsm_model.specs.Storage.{obtain, release}
+use Rattle.vsm_model.specs.Standing.{Outcome}
+use Rattle.vsm_model.specs.Storage.{obtain, release, store}
 
--- a service at these settings, with its storage below the line
-abbrev pub step : Settings → State → Service → Outcome State Reply Cause
-step settings s (Obtain length number) = obtain (low_region settings) s length number
-step settings s (Release length address number) = release (low_region settings) s length address number
-
--- Laws of any machine, at this one: with ample memory each call gets an answer that the relation of a call allows,
-abbrev pub PlainAnswersAreAllowed : Type 0
-PlainAnswersAreAllowed = (settings : Settings) (limit : ℕ) → PlainKeeps (step settings) limit
-
--- no other answer is allowed but the refusal for want of memory,
-abbrev pub AllowedAnswersArePlain : Type 0
-AllowedAnswersArePlain = (settings : Settings) (limit : ℕ) → KeepsPlain (step settings) limit
-
--- and a step forward undoes a step back.
-abbrev pub ForwardUndoesBack : Type 0
-ForwardUndoesBack = (settings : Settings) (limit : ℕ) → GoesForwardAgain (step settings) limit
+-- a service at these settings, with its storage below the line, for a statement whose name is or isn't one too many
+abbrev pub step : Settings → Bool → State → Service → Outcome State Reply Cause
+step settings names_full s (Obtain length number register conditional) =
+    obtain (low_region settings) s length number register conditional names_full
+step settings names_full s (Release length address number conditional) =
+    release (low_region settings) s length address number conditional
+step settings names_full s (Store address bytes) = store s address bytes

@@ -1,18 +1,20 @@
 -- What an obtain and a release do to the state.
 -- Assembler Services Guide, "Virtual storage management", "Explicit requests for virtual storage" and "Subpool handling";
 -- Assembler Services Reference, STORAGE.
-use Rattle.std.specs.Prelude.{ℕ, ◌+◌, ◌*◌, ◌/◌, ◌%◌, Bool, not, ◌&&◌, ◌||◌, if◌then◌else◌, ◌==◌, Option, Some, None}
+use Rattle.std.specs.Prelude.{ℕ, ◌+◌, ◌*◌, ◌/◌, ◌%◌, Bool, not, ◌&&◌, ◌||◌, if◌then◌else◌, ◌==◌, Option, Some, None, List, length}
 use Rattle.vsm_model.specs.declared.Subpool.{Subpool}
 use Rattle.vsm_model.specs.declared.causes.Cause.{Cause}
-use Rattle.vsm_model.specs.declared.causes.Cause.TheVariants.{ZeroLength, NoStorage, Misaligned, NotInSubpool, OverlapsFree}
+use Rattle.vsm_model.specs.declared.causes.Cause.TheVariants.{ZeroLength, TooManyNames, NoStorage, Misaligned, NotInSubpool, OverlapsFree, NotAssigned}
 use Rattle.vsm_model.specs.declared.replies.Reply.{Reply}
-use Rattle.vsm_model.specs.declared.replies.Reply.TheVariants.{Obtained, Returned}
+use Rattle.vsm_model.specs.declared.replies.Reply.TheVariants.{Obtained, Returned, Stored}
 use Rattle.vsm_model.specs.Search.{all_pass}
 use Rattle.vsm_model.specs.Regions.{Region, among}
 use Rattle.vsm_model.specs.State.{State}
 use Rattle.vsm_model.specs.Areas.{belongs, pages_for, Place, Inside, Fresh, Nowhere, place}
 use Rattle.vsm_model.specs.Causes.{when, number_refused, is_foreign, is_taken_in}
 use Rattle.vsm_model.specs.Standing.{Outcome, Accepted, Refused}
+use Rattle.vsm_model.specs.Bytes.{are_there, with_bytes}
+use Rattle.vsm_model.specs.Registers.{in_registers, conditionally}
 
 -- A subpool more, which its owner sees.
 abbrev pub with_subpool : State → ℕ → ℕ → State
@@ -26,9 +28,13 @@ with_subpool s number owner =
 abbrev pub with_taken : State → ℕ → ℕ → State
 with_taken s d count = record s { taken = λ k. among d count k || s.taken k }
 
--- The count pages from this one on are assigned to the subpool.
+-- The count pages from this one on are assigned to the subpool, and hold zero bytes.
 abbrev pub with_pages : State → Subpool → ℕ → ℕ → State
-with_pages s p page count = record s { pages = λ k. if among page count k then Some p else s.pages k }
+with_pages s p page count =
+    record s {
+      pages = λ k. if among page count k then Some p else s.pages k;
+      bytes = λ a. if among page count (a / 4096) then Some 0 else s.bytes a;
+    }
 
 -- no doubleword of the page is taken
 unfoldable pub is_idle : (ℕ → Bool) → ℕ → Bool
@@ -38,9 +44,13 @@ is_idle taken page = all_pass (λ k. not (taken k)) (page * 512) 512
 abbrev pub without_taken : State → ℕ → ℕ → State
 without_taken s d count = record s { taken = λ k. not (among d count k) && s.taken k }
 
--- Each page of the subpool without a taken doubleword leaves it.
+-- Each page of the subpool without a taken doubleword leaves it, and its bytes are gone.
 abbrev pub without_idle_pages : State → Subpool → State
-without_idle_pages s p = record s { pages = λ k. if belongs p (s.pages k) && is_idle s.taken k then None else s.pages k }
+without_idle_pages s p =
+    record s {
+      pages = λ k. if belongs p (s.pages k) && is_idle s.taken k then None else s.pages k;
+      bytes = λ a. if belongs p (s.pages (a / 4096)) && is_idle s.taken (a / 4096) then None else s.bytes a;
+    }
 
 -- A release of an area: its doublewords, and then each page that no doubleword keeps.
 abbrev pub released : State → Subpool → ℕ → ℕ → State
@@ -67,14 +77,21 @@ obtained s p count (Fresh page) =
     Accepted (with_taken (with_pages s p page (pages_for count)) (512 * page) count) (Obtained (4096 * page) (8 * count))
 obtained s p count Nowhere = Refused NoStorage
 
--- STORAGE OBTAIN of a length in bytes from the subpool of this number
-abbrev pub obtain : Region → State → ℕ → ℕ → Outcome State Reply Cause
-obtain low s length number =
+-- An area of a length in bytes from the subpool of this number, for a statement whose name is or isn't one too many
+abbrev pub area_obtained : Region → State → ℕ → ℕ → Bool → Outcome State Reply Cause
+area_obtained low s length number names_full =
     number_refused number
     (when (length == 0) ZeroLength
+    (when names_full TooManyNames
     (let after = with_own s number (s.sight s.current number) in
     let subpool = seen_or_own s.current number (s.sight s.current number) in
-    obtained after subpool (doublewords length) (place after low subpool (doublewords length) 1)))
+    obtained after subpool (doublewords length) (place after low subpool (doublewords length) 1))))
+
+-- STORAGE OBTAIN of that area, with the register that is set to the address besides register 1, if one is, and in its
+-- conditional form or not
+abbrev pub obtain : Region → State → ℕ → ℕ → Option ℕ → Bool → Bool → Outcome State Reply Cause
+obtain low s length number register conditional names_full =
+    in_registers register (conditionally s conditional (area_obtained low s length number names_full))
 
 -- A release in a subpool: refused where a doubleword is another's, and then where one is free storage.
 abbrev pub release_in : State → Region → Subpool → ℕ → ℕ → Outcome State Reply Cause
@@ -88,10 +105,20 @@ abbrev pub release_from : State → Region → ℕ → Option ℕ → ℕ → �
 release_from s r number None d count = Refused NotInSubpool
 release_from s r number (Some owner) d count = release_in s r (record { number = number; owner = owner }) d count
 
--- STORAGE RELEASE of a length in bytes at an address from the subpool of this number
-abbrev pub release : Region → State → ℕ → ℕ → ℕ → Outcome State Reply Cause
-release low s length address number =
+-- The area of a length in bytes at an address, given back to the subpool of this number
+abbrev pub area_released : Region → State → ℕ → ℕ → ℕ → Outcome State Reply Cause
+area_released low s length address number =
     number_refused number
     (when (length == 0) ZeroLength
     (when (not ((address % 8) == 0)) Misaligned
     (release_from s low number (s.sight s.current number) (address / 8) (doublewords length))))
+
+-- STORAGE RELEASE of that area, in its conditional form or not
+abbrev pub release : Region → State → ℕ → ℕ → ℕ → Bool → Outcome State Reply Cause
+release low s length address number conditional =
+    in_registers None (conditionally s conditional (area_released low s length address number))
+
+-- POKE of bytes at an address: each of them has to lie in an assigned page, of any subpool
+abbrev pub store : State → ℕ → List ℕ → Outcome State Reply Cause
+store s address bytes =
+    when (not (are_there s address (length bytes))) NotAssigned (Accepted (with_bytes s address bytes) Stored)

@@ -2,7 +2,7 @@
 use Rattle.std.specs.Prelude.{ℕ, ◌-◌, ◌^◌, List, [], ◌++◌, codes, true, false}
 use Rattle.std.specs.Fmt.{decimal, digits, padded_integral, format_spec}
 use Rattle.vsm_model.specs.declared.replies.Reply.{Reply}
-use Rattle.vsm_model.specs.declared.replies.Reply.TheVariants.{Obtained, Returned}
+use Rattle.vsm_model.specs.declared.replies.Reply.TheVariants.{Obtained, Returned, Stored}
 use Rattle.vsm_model.specs.declared.causes.Code.{Code}
 use Rattle.vsm_model.specs.declared.causes.Code.TheVariants.{System, User}
 
@@ -17,6 +17,7 @@ padded_decimal width n = padded_integral (format_spec 32 0 4 width (2 ^ 64 - 1))
 abbrev pub reply_text : Reply → List ℕ
 reply_text (Obtained address length) = codes "RC=0 A=" ++ hexadecimal 8 address ++ codes " L=" ++ hexadecimal 8 length
 reply_text (Returned code) = codes "RC=" ++ decimal code
+reply_text Stored = codes "OK"
 
 abbrev pub code_text : Code → List ℕ
 code_text (System code) = codes "S" ++ hexadecimal 3 code

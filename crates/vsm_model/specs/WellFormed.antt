@@ -1,13 +1,12 @@
 -- What holds of each state that is reached.
-use Rattle.std.specs.Prelude.{◌≡◌, ℕ, ◌/◌, true, Some, is_some, List}
+use Rattle.std.specs.Prelude.{◌≡◌, ℕ, ◌/◌, ◌≤◌, true, Some, is_some, List, length}
 use Rattle.vsm_model.specs.declared.Subpool.{Subpool}
-use Rattle.vsm_model.specs.declared.Service.{Service}
 use Rattle.vsm_model.specs.declared.limits.Settings.{Settings}
 use Rattle.vsm_model.specs.declared.replies.Reply.{Reply}
 use Rattle.vsm_model.specs.Regions.{Region, low_region, within}
-use Rattle.vsm_model.specs.State.{State, is_task, first_state}
+use Rattle.vsm_model.specs.State.{State, is_task}
 use Rattle.vsm_model.specs.Standing.{Accepted, alone}
-use Rattle.vsm_model.specs.Step.{step}
+use Rattle.vsm_model.specs.Names.{NamedState, first_named_state, AreDistinct, NamedService, named_step}
 
 pub record IsWellFormed (low : Region) (s : State) : Type 0 where
   -- each assigned page lies in the region, its subpool is there, and a doubleword of it is taken
@@ -24,18 +23,27 @@ pub record IsWellFormed (low : Region) (s : State) : Type 0 where
   -- each task sees the subpool 0 that it owns, and the current task is one
   pub sees_zero : (task : ℕ) → is_task s task ≡ true → s.sight task 0 ≡ Some task
   pub current_is_task : is_task s s.current ≡ true
+  -- there is a byte at just the addresses of assigned pages
+  pub has_bytes : (a : ℕ) → is_some (s.bytes a) ≡ is_some (s.pages (a / 4096))
+
+-- The same of the whole machine: each of its names is defined once, and they are at most 1,024.
+pub record IsWellFormedNamed (low : Region) (m : NamedState) : Type 0 where
+  pub storage : IsWellFormed low m.storage
+  pub distinct : AreDistinct m.names
+  pub few : length m.names ≤ 1024
 
 -- The first state is well-formed,
 abbrev pub FirstIsWellFormed : Type 0
-FirstIsWellFormed = (settings : Settings) → IsWellFormed (low_region settings) first_state
+FirstIsWellFormed = (settings : Settings) → IsWellFormedNamed (low_region settings) first_named_state
 
 -- and an accepted statement leaves a well-formed state well-formed.
 abbrev pub StaysWellFormed : Type 0
 StaysWellFormed =
-    (settings : Settings) (s t : State) (x : Service) (r : Reply) →
-    IsWellFormed (low_region settings) s → step settings s x ≡ Accepted t r → IsWellFormed (low_region settings) t
+    (settings : Settings) (m n : NamedState) (x : NamedService) (r : Reply) →
+    IsWellFormedNamed (low_region settings) m → named_step settings m x ≡ Accepted n r → IsWellFormedNamed (low_region settings) n
 
 -- So the state after any list of statements alone is well-formed.
 abbrev pub ReachedIsWellFormed : Type 0
 ReachedIsWellFormed =
-    (settings : Settings) (xs : List Service) → IsWellFormed (low_region settings) (alone first_state (step settings) xs)
+    (settings : Settings) (xs : List NamedService) →
+    IsWellFormedNamed (low_region settings) (alone first_named_state (named_step settings) xs)

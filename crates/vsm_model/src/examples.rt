@@ -1,9 +1,18 @@
 //! Worked examples, computed from the definitions: each is the contract of a function that does nothing.
 ghost use Rattle.vsm_model.specs.Examples.{
   AHistoryOfOneChange,
+  ANameStandsForAnAddress,
   ARefusedStatementIsNotKept,
+  AStoreGoesOverPages,
+  AnAddressIsStoredAsAFullword,
+  AnAnswerOf4DiscardsWhatWasUndone,
+  AnAnswerOf4IsKept,
+  AnAnswerOf4MakesNoSubpool,
   AnAreaReleasedInParts,
+  BytesLeaveWithTheirPage,
+  CausesComeInOrder,
   CompletionCodesAsTexts,
+  ConditionalReleases,
   ForwardGivesTheBenchBack,
   ForwardUntilANewStatement,
   OneByteTakesADoubleword,
@@ -66,6 +75,57 @@ pub fn the_oldest_change_is_forgotten()
 /// With a history of one change, BACK 2 is refused, and BACK 1 and FORWARD 1 go back and forth.
 pub fn a_history_of_one_change()
     ensures { AHistoryOfOneChange }
+{}
+
+/// A page that a release empties loses its bytes, and holds zeros as a page of another subpool; BACK 3 gives the stored byte back.
+pub fn bytes_leave_with_their_page()
+    ensures { BytesLeaveWithTheirPage }
+{}
+
+/// A conditional obtain for which there is no storage is kept as a change of register 15, which BACK 1 takes back.
+pub fn an_answer_of_4_is_kept()
+    ensures { AnAnswerOf4IsKept }
+{}
+
+/// ADDR=(5) sets registers 1 and 5; the address is stored with its most significant byte first; a store of which one byte isn't in
+/// an assigned page stores nothing.
+pub fn an_address_is_stored_as_a_fullword()
+    ensures { AnAddressIsStoredAsAFullword }
+{}
+
+/// A page goes with BACK 1 and comes again with FORWARD 1; a refused release between them changes nothing, and an answer 4 discards
+/// what was undone.
+pub fn an_answer_of_4_discards_what_was_undone()
+    ensures { AnAnswerOf4DiscardsWhatWasUndone }
+{}
+
+/// An accepted obtain defines its name or gives it another word, an answer 4 defines none, and BACK 1 takes a definition away.
+pub fn a_name_stands_for_an_address()
+    ensures { ANameStandsForAnAddress }
+{}
+
+/// A conditional release is answered 4 for free storage, for a page that isn't assigned, for one of another subpool, outside the
+/// region, and where the subpool isn't seen, and then frees nothing; a wrong number, a length of zero and an address off a
+/// doubleword boundary are refused even so.
+pub fn conditional_releases()
+    ensures { ConditionalReleases }
+{}
+
+/// A conditional obtain for which there is no storage makes no subpool.
+pub fn an_answer_of_4_makes_no_subpool()
+    ensures { AnAnswerOf4MakesNoSubpool }
+{}
+
+/// A service that several causes refuse is answered the first: the number, the length, then one name too many or the address, then
+/// what is in the storage, of which another subpool's page comes before free storage.
+pub fn causes_come_in_order()
+    ensures { CausesComeInOrder }
+{}
+
+/// A store and a reading go over the border of two pages of two subpools; one that goes past the last address or into a page that
+/// isn't assigned stores nothing.
+pub fn a_store_goes_over_pages()
+    ensures { AStoreGoesOverPages }
 {}
 
 /// The completion codes of all causes for STORAGE, as they are printed.

@@ -1,8 +1,14 @@
 //! Laws of the definitions: each is the contract of a function that does nothing.
-ghost use Rattle.vsm_model.specs.Promises.{ObtainGrantsFreeStorage, ReleaseGivesTakenStorageBack};
+ghost use Rattle.vsm_model.specs.Names.{NameStandsForItsWord, OtherNamesKeepTheirWords};
+ghost use Rattle.vsm_model.specs.Promises.{
+  AnswerFourSetsRegister15Alone,
+  ObtainGrantsFreeStorage,
+  ReleaseGivesTakenStorageBack,
+  StoredIsLoaded,
+};
 ghost use Rattle.vsm_model.specs.Runs.{RunsAreMaximal, RunsAreOnly, RunsAscend};
 ghost use Rattle.vsm_model.specs.Search.{AllPassIsAll, LeastIsLeast, LeastIsOnly};
-ghost use Rattle.vsm_model.specs.Step.{AllowedAnswersArePlain, ForwardUndoesBack, PlainAnswersAreAllowed};
+ghost use Rattle.vsm_model.specs.Machines.{AllowedAnswersArePlain, ForwardUndoesBack, PlainAnswersAreAllowed};
 ghost use Rattle.vsm_model.specs.WellFormed.{FirstIsWellFormed, ReachedIsWellFormed, StaysWellFormed};
 
 /// The search of a place gives the least number that passes its test, and an answer that is the least is the search's.
@@ -30,10 +36,23 @@ pub fn well_formed()
 
 /// An accepted obtain grants an area of storage that was free, in pages of the subpool that the task sees then, and changes
 /// nothing else of what is taken and of what was assigned; an accepted release gives back an area that was taken, and each page
-/// in which something is still taken stays with its subpool.
+/// in which something is still taken stays with its subpool. Pages hold zero bytes when they are new, and keep their bytes as
+/// long as they stay. An answer 4 sets register 15 alone.
 pub fn granted_and_given_back()
     ensures granted { ObtainGrantsFreeStorage }
+    ensures four { AnswerFourSetsRegister15Alone }
     ensures given_back { ReleaseGivesTakenStorageBack }
+{}
+
+/// A name stands for the word that it was given last, and all other names stand for what they stood for.
+pub fn names_stand()
+    ensures own { NameStandsForItsWord }
+    ensures others { OtherNamesKeepTheirWords }
+{}
+
+/// What an accepted store stored is what is loaded at the address then, and nothing else is changed.
+pub fn stored_is_loaded()
+    ensures { StoredIsLoaded }
 {}
 
 /// With ample memory each call of a bench has an answer, and leaves a bench, that the relation of one call allows; the relation

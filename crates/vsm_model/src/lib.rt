@@ -18,21 +18,3 @@ pub struct Subpool {
     pub number: u8,
     pub owner: u8,
 }
-
-/// A request for a storage service, with numbers for its values.
-///
-/// Lengths and addresses are in bytes, as they were written and not rounded; a subpool is given by its number.
-#[derive(Clone, Copy, Debug, PartialEq, Eq)]
-pub enum Service {
-    /// STORAGE OBTAIN: an area of this length in the subpool.
-    Obtain {
-        length: u32,
-        subpool: u32,
-    },
-    /// STORAGE RELEASE: the area of this length at the address, in the subpool.
-    Release {
-        length: u32,
-        address: u32,
-        subpool: u32,
-    },
-}

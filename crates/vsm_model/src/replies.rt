@@ -11,6 +11,8 @@ pub enum Reply {
     Obtained { address: u32, length: u32 },
     /// The return code of a service that gives no area.
     Returned(u32),
+    /// The bytes of a store are stored.
+    Stored,
 }
 
 impl fmt::Display for Reply {
@@ -20,6 +22,7 @@ impl fmt::Display for Reply {
         match *self {
             Reply::Obtained { address, length } => write!(f, "RC=0 A={address:08X} L={length:08X}"),
             Reply::Returned(code) => write!(f, "RC={code}"),
+            Reply::Stored => write!(f, "OK"),
         }
     }
 }

@@ -1,6 +1,7 @@
 //! Every byte, in the columns where a byte decides.
 
-use crate::running::outcome_of;
+use crate::running::{Outcome, outcome_of};
+use crate::streams::Slow;
 use std::alloc::{AllocError, Global};
 use std::test::Fail;
 
@@ -37,7 +38,17 @@ fn answer_in_column_2(byte: u8) -> &'static [u8] {
     }
 }
 
-/// Whatever isn't a blank continues the line, so that the next one is dropped; a carriage return before the line feed isn't part of it.
+/// Runs a script that is given byte by byte.
+fn slow_outcome_of(alloc: Global, script: &[u8]) -> Result<Outcome, AllocError> {
+    let mut slow = Slow {
+        bytes: script,
+        fails: false,
+    };
+    outcome_of(alloc, &mut slow)
+}
+
+/// Whatever isn't a blank says that the next line goes on with the statement, in column 16 and not before; a carriage return before
+/// the line feed isn't part of the line.
 fn answer_in_column_72(byte: u8) -> &'static [u8] {
     match byte {
         b' ' | b'\r' => b"0000001 KEPT=0\n0000002 KEPT=0\n",
@@ -56,6 +67,12 @@ fn any_byte_in_column_1(rt: HostRuntime) -> Result<(), Fail> {
             answer_in_column_1(byte),
             "byte {byte}"
         );
+        let outcome = slow_outcome_of(rt.alloc(), script.as_slice())?;
+        assert_eq!(rt;
+            outcome.output.as_slice(),
+            answer_in_column_1(byte),
+            "byte {byte}, one by one"
+        );
     }
     Ok(())
 }
@@ -69,6 +86,12 @@ fn any_byte_in_column_2(rt: HostRuntime) -> Result<(), Fail> {
             outcome.output.as_slice(),
             answer_in_column_2(byte),
             "byte {byte}"
+        );
+        let outcome = slow_outcome_of(rt.alloc(), script.as_slice())?;
+        assert_eq!(rt;
+            outcome.output.as_slice(),
+            answer_in_column_2(byte),
+            "byte {byte}, one by one"
         );
     }
     Ok(())
@@ -84,6 +107,37 @@ fn any_byte_in_column_72(rt: HostRuntime) -> Result<(), Fail> {
         assert_eq!(rt;
             outcome.output.as_slice(),
             answer_in_column_72(byte),
+            "byte {byte}"
+        );
+        let outcome = slow_outcome_of(rt.alloc(), script.as_slice())?;
+        assert_eq!(rt;
+            outcome.output.as_slice(),
+            answer_in_column_72(byte),
+            "byte {byte}, one by one"
+        );
+    }
+    Ok(())
+}
+
+/// Where the byte continues the line, the next one has a remark; else that is a statement with an operation that isn't known.
+fn answer_to_a_remark_behind_column_72(byte: u8) -> &'static [u8] {
+    match byte {
+        b' ' | b'\r' => b"0000001 KEPT=0\n0000002 FAULT OPERATION\n",
+        b'\n' => b"0000001 KEPT=0\n0000003 FAULT OPERATION\n",
+        _ => b"0000001 KEPT=0\n",
+    }
+}
+
+#[test]
+fn any_byte_in_column_72_before_a_remark(rt: HostRuntime) -> Result<(), Fail> {
+    let front: &[u8] = b" BACK 0                                                                ";
+    assert_eq!(rt; front.len(), 71);
+    for byte in 0..=255_u8 {
+        let script = script_with(rt.alloc(), front, byte, b"\n               R\n")?;
+        let outcome = slow_outcome_of(rt.alloc(), script.as_slice())?;
+        assert_eq!(rt;
+            outcome.output.as_slice(),
+            answer_to_a_remark_behind_column_72(byte),
             "byte {byte}"
         );
     }

@@ -89,3 +89,44 @@ fn a_line_without_an_end_ends_the_run(rt: HostRuntime) -> Result<(), Fail> {
     }
     Ok(())
 }
+
+/// A reader that gives one byte a call, always the same, and has no end.
+#[derive(Drop)]
+struct Endless {
+    byte: u8,
+}
+
+impl Read for Endless {
+    fn read(&mut self, buf: &mut [u8]) -> io::Result<usize> {
+        if buf.is_empty() {
+            return Ok(0);
+        }
+        buf[0] = self.byte;
+        Ok(1)
+    }
+}
+
+#[test]
+fn bytes_without_an_end_end_the_run_one_by_one(rt: HostRuntime) -> Result<(), Fail> {
+    for byte in [b'\n', b'A'] {
+        let outcome = outcome_of(rt.alloc(), &mut Endless { byte })?;
+        assert!(rt; outcome.output.is_empty());
+        assert_eq!(rt; outcome.errors.as_slice(), TOO_LONG);
+        assert_eq!(rt; outcome.status, 8);
+    }
+    Ok(())
+}
+
+/// A statement that the next line continues.
+const OPEN: &[u8] = b" STORAGE OBTAIN,LENGTH=1                                               X
+";
+
+#[test]
+fn an_open_statement_is_dropped_where_the_run_ends(rt: HostRuntime) -> Result<(), Fail> {
+    let mut script = FIRST.chain(OPEN).chain(io::repeat(b' ').take(65_537));
+    let outcome = outcome_of(rt.alloc(), &mut script)?;
+    assert_eq!(rt; outcome.output.as_slice(), FIRST_ANSWER);
+    assert_eq!(rt; outcome.errors.as_slice(), TOO_LONG);
+    assert_eq!(rt; outcome.status, 8);
+    Ok(())
+}

@@ -6,12 +6,24 @@
 #[cfg(test)]
 mod bytes;
 #[cfg(test)]
+mod contents;
+#[cfg(test)]
+mod continued;
+#[cfg(test)]
+mod files;
+#[cfg(test)]
 mod lengths;
 #[cfg(test)]
 mod limits;
+#[cfg(test)]
+mod names;
 #[cfg(test)]
 mod running;
 #[cfg(test)]
 mod scripts;
 #[cfg(test)]
 mod streams;
+#[cfg(test)]
+mod words;
+#[cfg(test)]
+mod worked;

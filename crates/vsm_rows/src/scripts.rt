@@ -1,17 +1,9 @@
 //! Worked scripts, with what they print.
 
-use crate::running::outcome_of;
+use crate::worked::{Row, answers_as_told};
 use std::test::Fail;
 
-/// A script, what it prints, and the exit status.
-struct Row {
-    name: &'static str,
-    script: &'static [u8],
-    output: &'static [u8],
-    status: u8,
-}
-
-const ROWS: [Row; 12] = [
+const ROWS: [Row; 10] = [
     Row {
         name: "an empty script prints nothing",
         script: b"",
@@ -122,6 +114,8 @@ const ROWS: [Row; 12] = [
  STORAGE
  STORAGE OBTAIN,SP=1
  STORAGE OBTAIN,LENGTH=8,
+ POKE X'6000',X'A'
+ PEEK X'6000',257
 1X MAP
  BACK 0
 ",
@@ -129,8 +123,10 @@ const ROWS: [Row; 12] = [
 0000002 FAULT MISSING
 0000003 FAULT MISSING
 0000004 FAULT OPERAND
-0000005 FAULT COLUMN
-0000006 KEPT=0
+0000005 FAULT VALUE
+0000006 FAULT VALUE
+0000007 FAULT COLUMN
+0000008 KEPT=0
 ",
         status: 4,
     },
@@ -149,41 +145,12 @@ const ROWS: [Row; 12] = [
 ",
         status: 4,
     },
-    Row {
-        name: "the input ends behind a continued line",
-        script: b"
- STORAGE OBTAIN,LENGTH=8                                               X
-",
-        output: b"0000002 FAULT CONTINUATION
-",
-        status: 4,
-    },
-    Row {
-        name: "the input ends behind ten continued lines",
-        script: b" STORAGE OBTAIN,LENGTH=8                                               X
-                                                                       X
-                                                                       X
-                                                                       X
-                                                                       X
-                                                                       X
-                                                                       X
-                                                                       X
-                                                                       X
-",
-        output: b"0000001 FAULT CONTINUATION
-",
-        status: 4,
-    },
 ];
 
 #[test]
 fn scripts_print_their_answers(rt: HostRuntime) -> Result<(), Fail> {
     for row in &ROWS {
-        let mut script = row.script;
-        let outcome = outcome_of(rt.alloc(), &mut script)?;
-        assert_eq!(rt; outcome.output.as_slice(), row.output, "{}", row.name);
-        assert_eq!(rt; outcome.status, row.status, "{}", row.name);
-        assert!(rt; outcome.errors.is_empty(), "{}", row.name);
+        answers_as_told(&rt, rt.alloc(), row)?;
     }
     Ok(())
 }

@@ -1,16 +1,16 @@
 //! Plans of STORAGE RELEASE.
-ghost use Rattle.std.specs.Prelude.{◌≡◌, ◌+◌, ◌*◌, ◌/◌, ◌^◌, ◌<◌, ◌≤◌, length, not, IfOk, IfErr, IsTrue};
+ghost use Rattle.std.specs.Prelude.{◌≡◌, ◌+◌, ◌*◌, ◌/◌, ◌^◌, ◌<◌, ◌≤◌, length, not, Bool, None, IfOk, IfErr, IsTrue};
 ghost use Rattle.vsm_model.specs.Search.{all_pass};
 ghost use Rattle.vsm_model.specs.Causes.{is_foreign, is_taken_in};
 ghost use Rattle.vsm_model.specs.Standing.{Accepted, Refused};
+ghost use Rattle.vsm_model.specs.Services.{Release};
+ghost use Rattle.vsm_model.specs.Storage.{area_released};
 ghost use Rattle.vsm_model.specs.Step.{step};
 ghost use Rattle.storage_core.specs.Meaning.{state_of, settings_of, region_of};
-ghost use Rattle.storage_core.specs.Planned.{planned, reply_of, FitsStorage};
+ghost use Rattle.storage_core.specs.Planned.{planned, done, reply_of, FitsStorage};
 
-use super::{Action, Plan, check_number};
-use crate::{
-    Cause, FIRST_DOUBLEWORD, FIRST_PAGE, PAGE_DOUBLEWORDS, Reply, Service, Storage, Subpool,
-};
+use super::{Action, Plan, answered, check_number};
+use crate::{Cause, FIRST_DOUBLEWORD, FIRST_PAGE, PAGE_DOUBLEWORDS, Reply, Storage, Subpool};
 
 impl Storage {
     /// Whether the doubleword of the region, by its address divided by 8, lies in a page of another subpool.
@@ -73,19 +73,15 @@ impl Storage {
         true
     }
 
-    /// A plan for the release of the area of `length` bytes at the address in the subpool of this number (*Assembler
-    /// Services Reference*, STORAGE). Reads alone, and takes no memory.
-    ///
-    /// The causes that refuse it, in order: a number above 127 (`UnsupportedSubpool` for 131 and 132, else
-    /// `SubpoolNotAllowed`), `ZeroLength`, `Misaligned`, `NotInSubpool` where the task doesn't see the subpool or a
-    /// doubleword of the area lies outside the region or in a page of another subpool, and `OverlapsFree`.
-    pub fn plan_release(&self, length: u32, address: u32, subpool: u32) -> Result<Plan, Cause>
+    /// A plan for the release of the area of `length` bytes at the address, or the cause that refuses it in any form.
+    fn find_release(&self, length: u32, address: u32, subpool: u32) -> Result<Plan, Cause>
         ensures ok { IfOk result (λ plan.
-            step (settings_of self.now) (state_of self.now) (Service.Release length address subpool)
-            ≡ Accepted (planned (state_of self.now) plan) (reply_of plan)) }
+            area_released (region_of self.now) (state_of self.now) length address subpool
+            ≡ Accepted (done (state_of self.now) plan) (reply_of plan)) }
+        ensures register { IfOk result (λ plan. plan.register ≡ None) }
         ensures fits { IfOk result (λ plan. FitsStorage self.now plan) }
         ensures err { IfErr result (λ cause.
-            step (settings_of self.now) (state_of self.now) (Service.Release length address subpool) ≡ Refused cause) }
+            area_released (region_of self.now) (state_of self.now) length address subpool ≡ Refused cause) }
     {
         let number = check_number(subpool)?;
         if length == 0 {
@@ -113,7 +109,34 @@ impl Storage {
                 first: first - FIRST_DOUBLEWORD,
                 count,
             },
+            register: None,
             reply: Reply::Returned(0),
         })
+    }
+
+    /// A plan for the release of the area of `length` bytes at the address in the subpool of this number (*Assembler
+    /// Services Reference*, STORAGE). Reads alone, and takes no memory.
+    ///
+    /// The causes that refuse it, in order: a number above 127 (`UnsupportedSubpool` for 131 and 132, else
+    /// `SubpoolNotAllowed`), `ZeroLength`, `Misaligned`, `NotInSubpool` where the task doesn't see the subpool or a
+    /// doubleword of the area lies outside the region or in a page of another subpool, and `OverlapsFree`. A conditional
+    /// form has in place of the last two a plan that sets register 15 to 4, and nothing else.
+    pub fn plan_release(
+        &self,
+        length: u32,
+        address: u32,
+        subpool: u32,
+        conditional: bool,
+    ) -> Result<Plan, Cause>
+        ensures ok { (names_full : Bool) → IfOk result (λ plan.
+            step (settings_of self.now) names_full (state_of self.now) (Release length address subpool conditional)
+            ≡ Accepted (planned (state_of self.now) plan) (reply_of plan)) }
+        ensures fits { IfOk result (λ plan. FitsStorage self.now plan) }
+        ensures err { (names_full : Bool) → IfErr result (λ cause.
+            step (settings_of self.now) names_full (state_of self.now) (Release length address subpool conditional)
+            ≡ Refused cause) }
+    {
+        let found = self.find_release(length, address, subpool);
+        answered(found, self.own_zero(), None, conditional)
     }
 }

@@ -1,12 +1,12 @@
 use Rattle.std.proofs.Common.{arith, ◌∙◌, ◌≡◌, ◌+◌, ap, refl}
 use Rattle.storage_core.specs.Meaning.{state_of}
 use Rattle.storage_core.specs.Idle.{without_page_if_idle}
-use Rattle.storage_core.proofs.Idle.{without_idle_below, without_idle-further, without_idle-none, without_idle-all, past_end, before_start}
+use Rattle.storage_core.proofs.Idle.{without_idle_below, without_idle-further, without_idle-none, without_idle-all, past_end, before_start, no_byte_there}
 use Rattle.storage_core.proofs.Storage.drop_idle_pages.Goals as goal
 
 pub loop-page-init : goal.loop-page-init
 loop-page-init c = record {
-  state = without_idle-none (state_of c.args.self.now) c.args.subpool 6 (before_start c.args.self.now.pages.items);
+  state = without_idle-none (state_of c.args.self.now) c.args.subpool 6 (before_start c.args.self.now.pages.items) (no_byte_there c.args.self.now.pages.items c.args.self.now.bytes.items);
   settings = refl;
 }
 
@@ -21,4 +21,4 @@ loop-page-preserved c = record {
 
 pub returns-clause-state : goal.returns-clause-state
 returns-clause-state c =
-    c.loop-page.invariant.state ∙ without_idle-all (state_of c.args.self.now) c.args.subpool (6 + c.loop-page.page) (λ k high. past_end c.args.self.now.pages.items k (omega arith))
+    c.loop-page.invariant.state ∙ without_idle-all (state_of c.args.self.now) c.args.subpool (6 + c.loop-page.page) (λ k high. past_end c.args.self.now.pages.items k (omega arith)) (no_byte_there c.args.self.now.pages.items c.args.self.now.bytes.items)

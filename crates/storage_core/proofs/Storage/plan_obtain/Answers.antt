@@ -1,20 +1,16 @@
-use Rattle.std.proofs.Common.{arith, rules}
+use Rattle.vsm_model.specs.Storage.{area_obtained}
 use Rattle.storage_core.specs.Meaning.{state_of, region_of}
-use Rattle.storage_core.proofs.Outcomes.{planned_is, refused_is, obtains}
+use Rattle.storage_core.proofs.Outcomes.{found_is, answered_ok, answered_err}
 use Rattle.storage_core.proofs.Storage.plan_obtain.Goals as goal
 
 pub returns-clause-ok : goal.returns-clause-ok
 returns-clause-ok c =
-    planned_is _ (state_of c.args.self.now) (record { number = c.in_ok-number.number; owner = c.unwrap_or-owner.result }) c.is_none.result c.div_ceil-count.result _
-    (obtains (region_of c.args.self.now) (state_of c.args.self.now) c.args.length c.args.subpool c.in_ok-number.number c.div_ceil-count.result c.owner_seen-seen.result
-    c.unwrap_or-owner.result c.is_none.result c.in_ok-number.ensures.allowed (omega arith) c.in_ok-number.ensures.ok (omega (arith, c.div_ceil-count.ensures))
-    c.owner_seen-seen.ensures (search rules) (search rules))
-    c.plan_area.result c.plan_area.ensures.ok c.plan_area.ensures.subpool c.plan_area.ensures.is_new
+    answered_ok (state_of c.args.self.now) _ c.answered.result
+    (c.answered.ensures.is (state_of c.args.self.now) (area_obtained (region_of c.args.self.now) (state_of c.args.self.now) c.args.length c.args.subpool c.args.names_full)
+    (found_is (state_of c.args.self.now) _ c.find_area-found.result c.find_area-found.ensures.ok c.find_area-found.ensures.err))
 
 pub returns-clause-err : goal.returns-clause-err
 returns-clause-err c =
-    refused_is _ (state_of c.args.self.now) (record { number = c.in_ok-number.number; owner = c.unwrap_or-owner.result }) c.is_none.result c.div_ceil-count.result _
-    (obtains (region_of c.args.self.now) (state_of c.args.self.now) c.args.length c.args.subpool c.in_ok-number.number c.div_ceil-count.result c.owner_seen-seen.result
-    c.unwrap_or-owner.result c.is_none.result c.in_ok-number.ensures.allowed (omega arith) c.in_ok-number.ensures.ok (omega (arith, c.div_ceil-count.ensures))
-    c.owner_seen-seen.ensures (search rules) (search rules))
-    c.plan_area.result c.plan_area.ensures.err
+    answered_err (state_of c.args.self.now) _ c.answered.result
+    (c.answered.ensures.is (state_of c.args.self.now) (area_obtained (region_of c.args.self.now) (state_of c.args.self.now) c.args.length c.args.subpool c.args.names_full)
+    (found_is (state_of c.args.self.now) _ c.find_area-found.result c.find_area-found.ensures.ok c.find_area-found.ensures.err))

@@ -7,4 +7,4 @@ use Rattle.vsm_bench.proofs.responses.numbered.Goals as goal
 
 pub returns : goal.returns
 returns c = on_ok_weaker c.writeln.result (λ w. contents_after_writes _ (λ s. s.bytes) (λ _ _ _ t. t) _ _ _ w
-    ∙ ap (λ x. c.args.out.now.bytes ++ (styled_decimal x c.args.line ++ 32 ∷ (response_text c.args.response ++ 10 ∷ []))) c.laid_out.ensures) c.writeln.ensures.writes
+    ∙ ap (λ x. c.args.out.now.bytes ++ (styled_decimal x c.args.line ++ 32 ∷ (response_text c.args.response.now ++ 10 ∷ []))) c.laid_out.ensures) c.writeln.ensures.writes

@@ -1,8 +1,8 @@
 use Rattle.std.proofs.Common.{sym, ◌∙◌}
-use Rattle.vsm_bench.proofs.Moves.{fits_from, later_is}
+use Rattle.vsm_bench.proofs.Moves.{later_is}
 use Rattle.vsm_bench.proofs.bench.Bench.undone.Goals as goal
 
 pub returns : goal.returns
 returns c =
     let b = c.args.self.now in
-    c.undone.ensures.undone ∙ sym (later_is b.history.kept b.history.undone b.machine (fits_from b.history.kept b.history.undone b.machine b.alike))
+    c.undone.ensures.undone ∙ sym (later_is b.history.kept b.history.undone b.machine b.fits)

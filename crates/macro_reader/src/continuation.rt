@@ -1,0 +1,110 @@
+//! The operand field of a statement over its continuation lines.
+
+ghost use Rattle.std.specs.Prelude.{◌≡◌, ◌++◌, ◌+◌, ◌*◌, ◌≤◌, ◌<◌, ◌^◌, length, drop, MatchBool, IsTrue, Some, None};
+ghost use Rattle.arrayvec.specs.ArrayVec.{array_vec_len};
+ghost use Rattle.macro_reader.specs.Continuation.{nesting_after, ends_with_comma, with_part, begun, with_line};
+ghost use Rattle.macro_reader.specs.Modes.{joined};
+
+use crate::columns::is_blank;
+use crate::modes::{FIELD_BYTES, Gathered};
+use crate::nesting::{Nesting, field_len};
+use crate::statements::{from_operands, is_misplaced};
+use arrayvec::ArrayVec;
+
+/// Where the byte behind a text stands.
+fn nesting_after(start: Nesting, text: &[u8]) -> Nesting
+    requires { start.depth + length text.now < 2 ^ 64 }
+    ensures value { result ≡ nesting_after start text.now }
+    ensures depth { result.depth ≤ start.depth + length text.now }
+{
+    let mut at = start;
+    for byte in text {
+        at = at.past(*byte);
+    }
+    at
+}
+
+/// Appends a line's part to the field.
+fn append(text: &mut ArrayVec<u8, FIELD_BYTES>, part: &[u8])
+    requires { array_vec_len text.old + length part.now ≤ 575 }
+    ensures { text.new.items ≡ text.old.items ++ part.now }
+{
+    for byte in part {
+        text.push(*byte);
+    }
+}
+
+fn ends_with_comma(text: &[u8]) -> bool
+    ensures { result ≡ ends_with_comma text.now }
+{
+    !text.is_empty() && text[text.len() - 1] == b','
+}
+
+/// Columns 16 to 71.
+fn part_of(card: &[u8]) -> &[u8]
+    requires { length card.now ≡ 71 }
+    ensures value { result.now ≡ drop 15 card.now }
+    ensures len { length result.now ≡ 56 }
+{
+    &card[15..]
+}
+
+impl Gathered {
+    /// Takes what a line has of the field.
+    fn take_part(&mut self, part: &[u8])
+        requires room { array_vec_len self.old.text + length part.now ≤ 71 + 56 * self.old.lines }
+        requires deep { self.old.at.depth + length part.now ≤ 71 + 56 * self.old.lines }
+        ensures joined { joined self.new ≡ with_part self.old.text.items self.old.at part.now }
+        ensures lines { self.new.lines ≡ self.old.lines }
+    {
+        let n = field_len(self.at, part);
+        append(&mut self.text, &part[..n]);
+        self.at = nesting_after(self.at, &part[..n]);
+        self.goes_on = n == part.len() || ends_with_comma(self.text.as_slice());
+    }
+
+    /// Takes one continuation line more, columns 1 to 71 of it, and says whether it is good. Where a rule of continuation is broken, the
+    /// field is of no use any more.
+    pub(crate) fn take_line(&mut self, card: &[u8]) -> bool
+        requires size { length card.now ≡ 71 }
+        requires fewer { self.old.lines ≤ 8 }
+        ensures lines { IsTrue result → self.new.lines ≡ self.old.lines + 1 }
+        ensures joined { MatchBool result (with_line (joined self.old) card.now ≡ Some (joined self.new)) (with_line (joined self.old) card.now ≡ None) }
+    {
+        if !is_blank(&card[..15]) {
+            return false;
+        }
+        self.lines += 1;
+        if !self.goes_on {
+            return true;
+        }
+        if !self.at.quoted && card[15] == b' ' {
+            if ends_with_comma(self.text.as_slice()) {
+                return false;
+            }
+            self.goes_on = false;
+            return true;
+        }
+        self.take_part(part_of(card));
+        true
+    }
+}
+
+/// The field's part on a first line.
+pub(crate) fn begin(card: &[u8]) -> Gathered
+    requires { length card.now ≡ 71 }
+    ensures joined { joined result ≡ begun card.now }
+    ensures lines { result.lines ≡ 0 }
+{
+    let rest = from_operands(card);
+    let mut gathered = Gathered {
+        text: ArrayVec::new(),
+        at: Nesting::outside(),
+        goes_on: false,
+        lines: 0,
+    };
+    if !is_misplaced(card) && !rest.is_empty() {
+        gathered.take_part(rest);
+    }
+    gathered
+}

@@ -1,0 +1,4 @@
+pub mod Entries
+pub mod SameName
+pub mod StepsBack
+pub mod TableRows

@@ -1,0 +1,35 @@
+-- A name that the table holds is no other name, and a new one is one row more behind all others.
+use Rattle.std.proofs.Common.{◌≡◌, ◌≤◌, None, [], ◌∷◌, is_some, length, map, take, ap, sym, ◌∙◌, arith}
+use Rattle.std.specs.Map.{lookup}
+use Rattle.std.proofs.lemmas.List.{take-append-le, map-append}
+use Rattle.indexmap.proofs.CallerLemmas.{insert_entry-new}
+use Rattle.vsm_model.specs.Names.{word_of}
+use Rattle.name_table.specs.Table.{row_of, all_rows}
+use Rattle.name_table.proofs.Entries.{same_key, lookup-is, length-rows, none-is}
+use Rattle.name_table.proofs.TableRows.{knows-again, knows-more}
+use Rattle.name_table.proofs.tables.NameTable.reserve.Goals as goal
+
+pub returns-then-contains_key-clause-ok : goal.returns-then-contains_key-clause-ok
+returns-then-contains_key-clause-ok c other =
+    let t = c.args.self.now in
+    let known = ap is_some (sym (lookup-is c.args.name t.table.entries)) ∙ sym c.contains_key.ensures ∙ c.if-contains_key.true in
+    knows-again (all_rows t) c.args.name.bytes other known
+
+pub returns-in-Ok-clause-rows : goal.returns-in-Ok-clause-rows
+returns-in-Ok-clause-rows c =
+    let t = c.args.self.now in
+    let key = c.args.name in
+    let none : lookup (same_key key) t.table.entries ≡ None = none-is (lookup (same_key key) t.table.entries) (sym c.contains_key.ensures ∙ c.if-contains_key.false) in
+    let within : t.defined ≤ length (all_rows t) = omega (arith, t.within, length-rows t.table.entries) in
+    ap (λ l. take t.defined (map row_of l)) (c.in-Ok.ensures.entries ∙ insert_entry-new same_key t.table key 0 none)
+    ∙ ap (take t.defined) (map-append row_of t.table.entries ((key, 0) ∷ []))
+    ∙ take-append-le t.defined (all_rows t) ((key.bytes, 0) ∷ []) within
+
+pub returns-in-Ok-clause-ok : goal.returns-in-Ok-clause-ok
+returns-in-Ok-clause-ok c other =
+    let t = c.args.self.now in
+    let key = c.args.name in
+    let none : lookup (same_key key) t.table.entries ≡ None = none-is (lookup (same_key key) t.table.entries) (sym c.contains_key.ensures ∙ c.if-contains_key.false) in
+    ap (λ l. is_some (word_of (map row_of l) other)) (c.in-Ok.ensures.entries ∙ insert_entry-new same_key t.table key 0 none)
+    ∙ ap (λ l. is_some (word_of l other)) (map-append row_of t.table.entries ((key, 0) ∷ []))
+    ∙ knows-more (all_rows t) key.bytes other 0

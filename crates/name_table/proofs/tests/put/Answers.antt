@@ -1,0 +1,14 @@
+-- A name that the table holds can be given a word.
+use Rattle.std.proofs.Common.{◌≡◌, true, ◌||◌, ap, sym, subst, ◌∙◌}
+use Rattle.name_table.specs.Steps.{CanStep}
+use Rattle.name_table.specs.Table.{knows, rows_of}
+use Rattle.name_table.proofs.SameName.{same_name-self}
+use Rattle.name_table.proofs.StepsBack.{step_to_can}
+use Rattle.name_table.proofs.tests.put.Goals as goal
+
+pub turn-requires : goal.turn-requires
+turn-requires c =
+    let t = c.reserve.new.self in
+    let name = c.args.name.bytes in
+    let known : knows t name ≡ true = c.in-Ok.ensures.ok name ∙ ap (λ b. b || knows c.args.table.now name) (same_name-self name) in
+    subst (CanStep (rows_of t) (knows t)) (sym c.change_to-change.ensures) (step_to_can (rows_of t) (knows t) name c.args.word known)

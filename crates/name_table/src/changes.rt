@@ -1,0 +1,17 @@
+//! The steps by which a table of names changes.
+
+use arrayvec::ArrayString;
+
+/// A name: a letter and up to 62 letters or digits, in upper case.
+pub type Name = ArrayString<63>;
+
+/// One step of the names with their words.
+#[derive(Clone, Copy, Debug, PartialEq, Eq)]
+pub enum NameChange {
+    /// The name is defined, with this word, behind the others.
+    Define { name: Name, word: u32 },
+    /// The name, which is the last one, isn't defined any more.
+    Undefine { name: Name },
+    /// The name, which is defined, stands for this word.
+    Reword { name: Name, word: u32 },
+}

@@ -1,0 +1,271 @@
+//! Worked scripts of names.
+
+use crate::running::outcome_of;
+use crate::worked::{Row, answers_as_told};
+use std::test::Fail;
+
+const ROWS: [Row; 6] = [
+    Row {
+        name: "a name gets another word, and steps move between the two",
+        script: b" STORAGE OBTAIN,LENGTH=8,ADDR=P
+ STORAGE OBTAIN,LENGTH=8,ADDR=P
+ POKE P,A(P)
+ BACK 2
+ POKE P,A(P)
+ PEEK X'6000',12
+ STORAGE OBTAIN,LENGTH=8,ADDR=p
+ POKE P,A(P)
+ BACK 2
+ PEEK P,4
+ FORWARD 1
+ PEEK P,4
+ FORWARD 1
+ PEEK P,4
+",
+        output: b"0000001 RC=0 A=00006000 L=00000008
+0000002 RC=0 A=00006008 L=00000008
+0000003 OK
+0000004 KEPT=1
+0000005 OK
+0000006 D=000060000000000000000000
+0000007 RC=0 A=00006008 L=00000008
+0000008 OK
+0000009 KEPT=2
+0000010 D=00006000
+0000011 KEPT=3
+0000012 D=00000000
+0000013 KEPT=4
+0000014 D=00006008
+",
+        status: 0,
+    },
+    Row {
+        name: "a name is undone and made again with its statement",
+        script: b" STORAGE OBTAIN,LENGTH=8,ADDR=P
+ BACK 1
+ PEEK P,1
+ STORAGE RELEASE,LENGTH=8,ADDR=P
+ FORWARD 1
+ PEEK P,1
+ STORAGE RELEASE,LENGTH=8,ADDR=P
+ PEEK P,1
+ BACK 2
+ FORWARD 2
+ PEEK P,1
+",
+        output: b"0000001 RC=0 A=00006000 L=00000008
+0000002 KEPT=0
+0000003 REFUSED NAME
+0000004 REFUSED NAME
+0000005 KEPT=1
+0000006 D=00
+0000007 RC=0
+0000008 ABEND S0C4
+0000009 KEPT=0
+0000010 KEPT=2
+0000011 ABEND S0C4
+",
+        status: 4,
+    },
+    Row {
+        name: "a name that was undone is defined anew",
+        script: b" STORAGE OBTAIN,LENGTH=8,SP=1
+ STORAGE OBTAIN,LENGTH=8,SP=1,ADDR=P
+ STORAGE OBTAIN,LENGTH=8,SP=1,ADDR=Q
+ BACK 2
+ STORAGE OBTAIN,LENGTH=8,SP=2,ADDR=P
+ FORWARD 1
+ POKE P,A(P)
+ PEEK X'7000',4
+ PEEK Q,1
+ BACK 2
+ PEEK P,1
+ FORWARD 2
+ PEEK P,4
+",
+        output: b"0000001 RC=0 A=00006000 L=00000008
+0000002 RC=0 A=00006008 L=00000008
+0000003 RC=0 A=00006010 L=00000008
+0000004 KEPT=1
+0000005 RC=0 A=00007000 L=00000008
+0000006 REFUSED UNDONE=0
+0000007 OK
+0000008 D=00007000
+0000009 REFUSED NAME
+0000010 KEPT=1
+0000011 REFUSED NAME
+0000012 KEPT=3
+0000013 D=00007000
+",
+        status: 4,
+    },
+    Row {
+        name: "an answer 4 defines no name, and takes the place of what was undone",
+        script: b" STORAGE OBTAIN,LENGTH=8,ADDR=P
+ BACK 1
+ STORAGE OBTAIN,LENGTH=65537,ADDR=P,COND=YES
+ FORWARD 1
+ PEEK P,1
+ BACK 1
+ FORWARD 1
+ PEEK P,1
+ STORAGE OBTAIN,LENGTH=8,ADDR=P
+ STORAGE OBTAIN,LENGTH=65537,ADDR=P,COND=YES
+ POKE P,A(P)
+ PEEK X'6000',4
+",
+        output: b"0000001 RC=0 A=00006000 L=00000008
+0000002 KEPT=0
+0000003 RC=4
+0000004 REFUSED UNDONE=0
+0000005 REFUSED NAME
+0000006 KEPT=0
+0000007 KEPT=1
+0000008 REFUSED NAME
+0000009 RC=0 A=00006000 L=00000008
+0000010 RC=4
+0000011 OK
+0000012 D=00006000
+",
+        status: 4,
+    },
+    Row {
+        name: "an unknown name comes before every cause",
+        script: b" STORAGE OBTAIN,LENGTH=0,SP=Q
+ STORAGE OBTAIN,LENGTH=Q,SP=200
+ STORAGE RELEASE,LENGTH=0,ADDR=Q,SP=131
+ STORAGE RELEASE,LENGTH=Q,ADDR=X'6004',COND=YES
+ POKE 0,A(Q)
+ POKE Q,X'00'
+ PEEK Q,1
+ STORAGE OBTAIN,LENGTH=0,ADDR=Q
+ PEEK Q,1
+ STORAGE OBTAIN,LENGTH=65537,ADDR=Q
+ PEEK Q,1
+ BACK 0
+",
+        output: b"0000001 REFUSED NAME
+0000002 REFUSED NAME
+0000003 REFUSED NAME
+0000004 REFUSED NAME
+0000005 REFUSED NAME
+0000006 REFUSED NAME
+0000007 REFUSED NAME
+0000008 ABEND U3001
+0000009 REFUSED NAME
+0000010 ABEND S878
+0000011 REFUSED NAME
+0000012 KEPT=0
+",
+        status: 4,
+    },
+    Row {
+        name: "names stand for lengths and subpools too, and nothing else is a value",
+        script: b" STORAGE OBTAIN,LENGTH=8,ADDR=$
+ STORAGE OBTAIN,LENGTH=$,SP=1,ADDR=$P_1@#
+ STORAGE OBTAIN,LENGTH=8,SP=$
+ STORAGE RELEASE,LENGTH=$,ADDR=$P_1@#,SP=1
+ STORAGE OBTAIN,LENGTH=P+8
+ STORAGE OBTAIN,LENGTH=(P)
+ PEEK X'6000'+4,1
+ STORAGE OBTAIN,LENGTH=8,ADDR=8
+ STORAGE OBTAIN,LENGTH=(P,8)
+ BACK 3
+",
+        output: b"0000001 RC=0 A=00006000 L=00000008
+0000002 RC=0 A=00007000 L=00006000
+0000003 ABEND SB78
+0000004 RC=0
+0000005 FAULT VALUE
+0000006 FAULT VALUE
+0000007 FAULT VALUE
+0000008 FAULT VALUE
+0000009 FAULT LEFTOUT
+0000010 KEPT=0
+",
+        status: 4,
+    },
+];
+
+#[test]
+fn names_stand_for_their_words(rt: HostRuntime) -> Result<(), Fail> {
+    for row in &ROWS {
+        answers_as_told(&rt, rt.alloc(), row)?;
+    }
+    Ok(())
+}
+
+/// Statements behind those that define 1,024 names, of which N1023 was the last, in the first two pages.
+///
+/// A 1,025th is refused, whatever the storage would answer, but not before a length of zero. A name that is undone, and one that is
+/// defined again, don't count. The history keeps the last 1,024 changes.
+const BEHIND: &[u8] = b" STORAGE OBTAIN,LENGTH=8,ADDR=ONEMORE
+ STORAGE OBTAIN,LENGTH=8,ADDR=ONEMORE,COND=YES
+ STORAGE OBTAIN,LENGTH=65537,ADDR=ONEMORE,COND=YES
+ STORAGE OBTAIN,LENGTH=0,ADDR=ONEMORE
+ PEEK ONEMORE,1
+ STORAGE OBTAIN,LENGTH=8,ADDR=N0
+ STORAGE OBTAIN,LENGTH=8,ADDR=(5)
+ BACK 3
+ PEEK N1023,1
+ STORAGE OBTAIN,LENGTH=8,SP=1,ADDR=ONEMORE
+ PEEK ONEMORE,1
+ PEEK N1023,1
+ STORAGE OBTAIN,LENGTH=8,ADDR=N1023
+ BACK 1
+ STORAGE OBTAIN,LENGTH=65537,ADDR=N1023,COND=YES
+ FORWARD 1
+ PEEK ONEMORE,1
+ PEEK N1023,1
+ STORAGE OBTAIN,LENGTH=8,SP=1,ADDR=N1023
+ STORAGE OBTAIN,LENGTH=8,SP=1,ADDR=ONEMORE
+";
+
+const BEHIND_OUTPUT: &[u8] = b"0001025 ABEND U3013
+0001026 ABEND U3013
+0001027 ABEND U3013
+0001028 ABEND U3001
+0001029 REFUSED NAME
+0001030 RC=0 A=00008000 L=00000008
+0001031 RC=0 A=00008008 L=00000008
+0001032 KEPT=1021
+0001033 REFUSED NAME
+0001034 RC=0 A=00007FF8 L=00000008
+0001035 D=00
+0001036 REFUSED NAME
+0001037 ABEND U3013
+0001038 KEPT=1021
+0001039 RC=4
+0001040 REFUSED UNDONE=0
+0001041 REFUSED NAME
+0001042 REFUSED NAME
+0001043 RC=0 A=00007FF8 L=00000008
+0001044 ABEND U3013
+";
+
+#[test]
+fn there_is_no_1025th_name(rt: HostRuntime) -> Result<(), Fail> {
+    let mut script = Vec::new(rt.alloc());
+    let mut wanted = Vec::new(rt.alloc());
+    for i in 0..1024_u32 {
+        let statement = format!(in rt.alloc();
+            " STORAGE OBTAIN,LENGTH=8,SP=1,ADDR=N{i}
+"
+        )?;
+        script.extend_from_slice(statement.as_bytes())?;
+        let line = i + 1;
+        let address = 0x6000 + 8 * i;
+        let answer = format!(in rt.alloc();
+            "{line:07} RC=0 A={address:08X} L=00000008
+"
+        )?;
+        wanted.extend_from_slice(answer.as_bytes())?;
+    }
+    script.extend_from_slice(BEHIND)?;
+    wanted.extend_from_slice(BEHIND_OUTPUT)?;
+    let outcome = outcome_of(rt.alloc(), &mut script.as_slice())?;
+    assert_eq!(rt; outcome.output.as_slice(), wanted.as_slice());
+    assert_eq!(rt; outcome.status, 4);
+    assert!(rt; outcome.errors.is_empty());
+    Ok(())
+}
