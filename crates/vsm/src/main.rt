@@ -21,11 +21,5 @@ fn main(rt: HostRuntime) -> ExitCode {
     };
     let mut input = rt.stdin();
     let mut output = rt.stdout();
-    ExitCode::from(command(
-        &rt,
-        words.as_slice(),
-        &mut input,
-        &mut output,
-        &mut errors,
-    ))
+    ExitCode::from(command(&rt, words.as_slice(), &mut input, &mut output, &mut errors))
 }
