@@ -1,5 +1,6 @@
 -- How the names with their words change, one step at a time, and how each step is taken back.
-use Rattle.std.specs.Prelude.{◌≡◌, ℕ, Bool, true, not, if◌then◌else◌, Option, Some, None, is_some, List, [], ◌∷◌, ◌++◌, filter}
+use Rattle.std.specs.Prelude.{◌≡◌, ℕ, Bool, true, not, if◌then◌else◌, Option, Some, None, is_some, List, [], ◌∷◌, ◌++◌}
+use Rattle.std.specs.Prelude.{filter}
 use Rattle.vsm_model.specs.Names.{same_name, word_of, with_name}
 use Rattle.name_table.specs.declared.changes.NameChange.{NameChange}
 use Rattle.name_table.specs.declared.changes.NameChange.TheVariants.{Define, Undefine, Reword}
@@ -51,8 +52,8 @@ abbrev pub IsLast : List (List ℕ × ℕ) → List ℕ → Type 0
 IsLast names name =
     (front : List (List ℕ × ℕ)) × (word : ℕ) × (names ≡ front ++ (name, word) ∷ []) × (word_of front name ≡ None)
 
--- A step can be taken from these names, where the table holds those that are known: a name that is defined wasn't, and is known,
--- a name that is undefined is the last, and a name with a new word is defined.
+-- A step can be taken from these names, where the table holds those that are known: a name that is defined wasn't, and
+-- is known, a name that is undefined is the last, and a name with a new word is defined.
 abbrev pub CanStep : List (List ℕ × ℕ) → (List ℕ → Bool) → NameStep → Type 0
 CanStep names known (define name word) = (word_of names name ≡ None) × (known name ≡ true)
 CanStep names known (undefine name) = IsLast names name

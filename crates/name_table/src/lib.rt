@@ -1,7 +1,7 @@
 //! The names that statements define, with the words that they stand for.
 //!
-//! A [`NameTable`] holds the names that are defined now and those of statements that were undone. A [`NameChange`] is one
-//! step of a statement: [`NameTable::swap`] takes it and leaves the step that takes it back.
+//! A [`NameTable`] holds the names that are defined now and those of statements that were undone. A [`NameChange`] is
+//! one step of a statement: [`NameTable::swap`] takes it and leaves the step that takes it back.
 #![tactic(auto)]
 
 mod changes;

@@ -21,9 +21,11 @@ pub struct NameTable {
 }
 
 impl NameTable {
-    ghost use Rattle.std.specs.Prelude.{◌≡◌, ℕ, ◌<◌, ◌^◌, ◌&&◌, ◌||◌, not, false, true, is_some, [], List, length, nat_le, None, OnOk, OnErr, IfSome, IsTrue};
+    ghost use Rattle.std.specs.Prelude.{◌≡◌, ℕ, ◌<◌, ◌^◌, ◌&&◌, ◌||◌, not, false, true, is_some, [], List, length};
+    ghost use Rattle.std.specs.Prelude.{nat_le, None, OnOk, OnErr, IfSome, IsTrue};
     ghost use Rattle.vsm_model.specs.Names.{same_name, word_of, with_name};
-    ghost use Rattle.name_table.specs.Steps.{CanStep, IsLast, name_of, step_in, step_to, stepped, turned, without_name, word_or_zero};
+    ghost use Rattle.name_table.specs.Steps.{CanStep, IsLast, name_of, step_in, step_to, stepped, turned, without_name};
+    ghost use Rattle.name_table.specs.Steps.{word_or_zero};
     ghost use Rattle.name_table.specs.Table.{all_rows, is_own, knows, rows_of, IsNext};
 
     /// A table with no name. This takes no memory.
@@ -60,7 +62,8 @@ impl NameTable {
         MOST_NAMES <= self.defined
     }
 
-    /// The change after which the name stands for `word`: a name that is defined keeps its place, another one comes last.
+    /// The change after which the name stands for `word`: a name that is defined keeps its place, another one comes
+    /// last.
     pub fn change_to(&self, name: Name, word: u32) -> NameChange
         ensures { step_in result ≡ step_to (rows_of self.now) name.bytes word }
     {
@@ -70,11 +73,12 @@ impl NameTable {
         }
     }
 
-    /// Sees that the table holds the name, not yet defined where it is new: behind all others. On `AllocError` the table
-    /// holds what it held.
+    /// Sees that the table holds the name, not yet defined where it is new: behind all others. On `AllocError` the
+    /// table holds what it held.
     pub fn reserve(&mut self, name: Name) -> Result<(), AllocError>
         ensures rows { rows_of self.new ≡ rows_of self.old }
-        ensures ok { OnOk result ((other : List ℕ) → knows self.new other ≡ (same_name name.bytes other || knows self.old other)) }
+        ensures ok { OnOk result ((other : List ℕ)
+            → knows self.new other ≡ (same_name name.bytes other || knows self.old other)) }
         ensures err { OnErr result ((other : List ℕ) → knows self.new other ≡ knows self.old other) }
     {
         if self.table.contains_key(&name) {
@@ -86,12 +90,13 @@ impl NameTable {
         }
     }
 
-    /// Takes every undone name out of the table but `own`, so that the table holds the defined names and, where it held it,
-    /// `own`. Nothing is inserted.
+    /// Takes every undone name out of the table but `own`, so that the table holds the defined names and, where it held
+    /// it, `own`. Nothing is inserted.
     pub fn forget_undone(&mut self, own: Option<Name>)
         ensures rows { rows_of self.new ≡ rows_of self.old }
         ensures own { IfSome own (λ name. knows self.old name.bytes ≡ true → knows self.new name.bytes ≡ true) }
-        ensures others { (other : List ℕ) → knows self.new other ≡ (is_some (word_of (rows_of self.old) other) || (is_own own other && knows self.old other)) }
+        ensures others { (other : List ℕ) → knows self.new other
+            ≡ (is_some (word_of (rows_of self.old) other) || (is_own own other && knows self.old other)) }
     {
         match own {
             None => self.table.truncate(self.defined),
@@ -105,7 +110,8 @@ impl NameTable {
         }
     }
 
-    /// Takes the step, and leaves in `change` the one that takes it back. This takes no memory, and no name leaves the table.
+    /// Takes the step, and leaves in `change` the one that takes it back. This takes no memory, and no name leaves the
+    /// table.
     pub fn swap(&mut self, change: &mut NameChange)
         requires { CanStep (rows_of self.old) (knows self.old) (step_in change.old) }
         ensures rows { rows_of self.new ≡ stepped (rows_of self.old) (step_in change.old) }
@@ -179,7 +185,8 @@ impl NameTable {
         ensures rows { rows_of self.new ≡ rows_of self.old }
         ensures defined { self.new.defined ≡ self.old.defined }
         ensures same { (other : List ℕ) → knows self.new other ≡ knows self.old other }
-        ensures undone { result ≡ (not (is_some (word_of (rows_of self.old) name.now.bytes)) && knows self.old name.now.bytes) }
+        ensures undone { result ≡ (not (is_some (word_of (rows_of self.old) name.now.bytes))
+            && knows self.old name.now.bytes) }
         ensures next { IsTrue result → IsNext self.new name.now.bytes }
         ensures fits { self.new.defined < 2 ^ 63 }
     {

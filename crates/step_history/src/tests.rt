@@ -8,7 +8,8 @@ use std::test::*;
 /// A counter that wraps around; a change is a step that is added to it.
 impl Reversible for u32 {
     ghost use Rattle.std.specs.Prelude.{ℕ};
-    ghost use Rattle.step_history.specs.Counter.{CanStep, count_of, counter_discard, counter_fits, counter_laws, counter_states, counter_swap, hold_nothing};
+    ghost use Rattle.step_history.specs.Counter.{CanStep, count_of, counter_discard, counter_fits, counter_laws};
+    ghost use Rattle.step_history.specs.Counter.{counter_states, counter_swap, hold_nothing};
 
     type Change = u32;
 

@@ -10,5 +10,6 @@ abbrev pub without_page_if_idle : State → Subpool → ℕ → State
 without_page_if_idle s p page =
     record s {
       pages = λ k. if (k == page) && (belongs p (s.pages k) && is_idle s.taken k) then None else s.pages k;
-      bytes = λ a. if (a / 4096 == page) && (belongs p (s.pages (a / 4096)) && is_idle s.taken (a / 4096)) then None else s.bytes a;
+      bytes = λ a. if (a / 4096 == page) && (belongs p (s.pages (a / 4096)) && is_idle s.taken (a / 4096)) then None
+          else s.bytes a;
     }

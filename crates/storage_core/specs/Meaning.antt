@@ -1,5 +1,6 @@
 -- What a storage stands for: a state of the plain machine, and the settings that lay out its region.
-use Rattle.std.specs.Prelude.{ℕ, ◌-◌, ◌/◌, Bool, is_some, false, ◌&&◌, if◌then◌else◌, nat_lt, nat_le, ◌==◌, Option, Some, None, List, [], ◌∷◌, slice_index_or}
+use Rattle.std.specs.Prelude.{ℕ, ◌-◌, ◌/◌, Bool, is_some, false, ◌&&◌, if◌then◌else◌, nat_lt, nat_le, ◌==◌, Option}
+use Rattle.std.specs.Prelude.{Some, None, List, [], ◌∷◌, slice_index_or}
 use Rattle.std.specs.List.{list_any}
 use Rattle.vsm_model.specs.declared.Subpool.{Subpool}
 use Rattle.vsm_model.specs.declared.limits.Settings.{Settings}
@@ -34,7 +35,8 @@ word_in current registers task register = if task == current then slice_index_or
 
 -- the byte at an address in an assigned page, where the bytes begin at the region's first one
 abbrev pub byte_at : List (Option Subpool) → List ℕ → ℕ → Option ℕ
-byte_at pages bytes a = if is_some (assigned_at pages (a / 4096)) then Some (slice_index_or bytes (a - FIRST_ADDRESS) 0) else None
+byte_at pages bytes a = if is_some (assigned_at pages (a / 4096)) then Some (slice_index_or bytes (a - FIRST_ADDRESS) 0)
+    else None
 
 -- the state of the plain machine that the storage is in
 abbrev pub state_of : Storage → State

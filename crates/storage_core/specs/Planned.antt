@@ -24,14 +24,16 @@ reply_of plan = plan.reply
 -- the state once the action is done for the subpool
 abbrev pub acted : State → Subpool → Action → State
 acted s p (Take first count) = with_taken s (FIRST_DOUBLEWORD + first) count
-acted s p (TakeFresh page count) = with_taken (with_pages s p (FIRST_PAGE + page) (pages_for count)) (512 * (FIRST_PAGE + page)) count
+acted s p (TakeFresh page count) =
+    with_taken (with_pages s p (FIRST_PAGE + page) (pages_for count)) (512 * (FIRST_PAGE + page)) count
 acted s p (GiveBack first count) = released s p (FIRST_DOUBLEWORD + first) count
 acted s p (Write address bytes) = with_bytes s address bytes.items
 acted s p Nothing = s
 
 -- the state once the plan is carried out but for its registers
 abbrev pub done : State → Plan → State
-done s plan = acted (if plan.is_new then with_subpool s plan.subpool.number plan.subpool.owner else s) plan.subpool plan.action
+done s plan =
+    acted (if plan.is_new then with_subpool s plan.subpool.number plan.subpool.owner else s) plan.subpool plan.action
 
 -- the state once the plan is carried out
 abbrev pub planned : State → Plan → State

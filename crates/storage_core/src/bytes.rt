@@ -1,5 +1,6 @@
 //! Bytes of assigned pages, read and written.
-ghost use Rattle.std.specs.Prelude.{◌≡◌, ℕ, ◌+◌, ◌-◌, ◌<◌, ◌≤◌, ◌^◌, length, slice_index_or, if◌then◌else◌, true, is_some, None, Some, OnOk, OnErr, IfErr};
+ghost use Rattle.std.specs.Prelude.{◌≡◌, ℕ, ◌+◌, ◌-◌, ◌<◌, ◌≤◌, ◌^◌, length, slice_index_or, if◌then◌else◌, true};
+ghost use Rattle.std.specs.Prelude.{is_some, None, Some, OnOk, OnErr, IfErr};
 ghost use Rattle.vsm_model.specs.Regions.{among};
 ghost use Rattle.vsm_model.specs.Bytes.{are_there, with_bytes, load};
 ghost use Rattle.storage_core.specs.Meaning.{state_of, settings_of};
@@ -11,7 +12,8 @@ fn write_run(items: &mut [u8], first: usize, bytes: &[u8])
     requires { first + length bytes.now ≤ length items.old }
     ensures { (k : ℕ) →
         slice_index_or items.new k 0
-        ≡ (if among first (length bytes.now) k then slice_index_or bytes.now (k - first) 0 else slice_index_or items.old k 0) }
+        ≡ (if among first (length bytes.now) k then slice_index_or bytes.now (k - first) 0
+        else slice_index_or items.old k 0) }
 {
     for k in 0..bytes.len() {
         items[first + k] = bytes[k];
@@ -66,8 +68,8 @@ impl Storage {
         write_run(&mut self.bytes, first, bytes);
     }
 
-    /// Reads the bytes from the address on. Refused with `NotAssigned` where one of them doesn't lie in an assigned page, and
-    /// `out` is then as it was. Takes no memory.
+    /// Reads the bytes from the address on. Refused with `NotAssigned` where one of them doesn't lie in an assigned
+    /// page, and `out` is then as it was. Takes no memory.
     pub fn load(&self, address: u32, out: &mut [u8]) -> Result<(), Cause>
         ensures ok { OnOk result (load (state_of self.now) address (length out.old) ≡ Some out.new) }
         ensures err { OnErr result (load (state_of self.now) address (length out.old) ≡ None) }

@@ -1,8 +1,8 @@
-//! The private storage of a task below the 16 MB line, kept in plain lists: plans and changes of STORAGE OBTAIN and RELEASE and
-//! of stores of bytes.
+//! The private storage of a task below the 16 MB line, kept in plain lists: plans and changes of STORAGE OBTAIN and
+//! RELEASE and of stores of bytes.
 //!
-//! A plan is found by reading alone. `Plan::reserve` makes a change of it, which takes all the memory that is needed, and
-//! `Storage::swap` applies the change and leaves in its place the one that takes it back.
+//! A plan is found by reading alone. `Plan::reserve` makes a change of it, which takes all the memory that is needed,
+//! and `Storage::swap` applies the change and leaves in its place the one that takes it back.
 #![tactic(auto)]
 
 ghost use Rattle.std.specs.Prelude.{◌≡◌, ◌*◌, ◌/◌, ◌≤◌, length};
@@ -46,12 +46,12 @@ struct Sight {
     owner: u8,
 }
 
-/// Subpools, pages, doublewords and bytes of the region below the 16 MB line (*Assembler Services Guide*, "Virtual storage
-/// management"), and the registers of the task.
+/// Subpools, pages, doublewords and bytes of the region below the 16 MB line (*Assembler Services Guide*, "Virtual
+/// storage management"), and the registers of the task.
 ///
-/// A contract sees it by two words of `specs/Meaning.antt`: `state_of`, the state of the plain machine that it is in, and
-/// `settings_of`, the settings that lay out its region. In its lists a page or a doubleword is counted from the region's
-/// first one.
+/// A contract sees it by two words of `specs/Meaning.antt`: `state_of`, the state of the plain machine that it is in,
+/// and `settings_of`, the settings that lay out its region. In its lists a page or a doubleword is counted from the
+/// region's first one.
 #[derive(Drop)]
 pub struct Storage {
     settings: Settings,

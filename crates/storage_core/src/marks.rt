@@ -1,8 +1,10 @@
 //! Changes of a storage's lists.
-ghost use Rattle.std.specs.Prelude.{◌≡◌, ℕ, ◌+◌, ◌*◌, ◌/◌, ◌<◌, ◌≤◌, length, slice_index_or, if◌then◌else◌, OnOk, OnErr, None};
+ghost use Rattle.std.specs.Prelude.{◌≡◌, ℕ, ◌+◌, ◌*◌, ◌/◌, ◌<◌, ◌≤◌, length, slice_index_or, if◌then◌else◌, OnOk};
+ghost use Rattle.std.specs.Prelude.{OnErr, None};
 ghost use Rattle.vsm_model.specs.Regions.{among};
 ghost use Rattle.vsm_model.specs.Areas.{belongs};
-ghost use Rattle.vsm_model.specs.Storage.{is_idle, with_subpool, with_taken, with_pages, without_taken, without_idle_pages};
+ghost use Rattle.vsm_model.specs.Storage.{is_idle, with_subpool, with_taken, with_pages, without_taken};
+ghost use Rattle.vsm_model.specs.Storage.{without_idle_pages};
 ghost use Rattle.storage_core.specs.Meaning.{state_of, settings_of};
 ghost use Rattle.storage_core.specs.Idle.{without_page_if_idle};
 

@@ -14,7 +14,8 @@ mod store;
 use super::{Cause, Reply, STORE_MOST, Subpool};
 use arrayvec::ArrayVec;
 
-/// What is done to the doublewords of an area, or to bytes. A page or a doubleword is counted from the region's first one.
+/// What is done to the doublewords of an area, or to bytes. A page or a doubleword is counted from the region's first
+/// one.
 #[derive(Drop)]
 pub(crate) enum Action {
     /// The doublewords are free in the subpool, and are taken.
@@ -76,7 +77,8 @@ fn check_number(number: u32) -> Result<u8, Cause>
     }
 }
 
-/// The answer of a service in its conditional form or not: a conditional one is accepted with return code 4 for some causes.
+/// The answer of a service in its conditional form or not: a conditional one is accepted with return code 4 for some
+/// causes.
 fn answered(
     found: Result<Plan, Cause>,
     subpool: Subpool,

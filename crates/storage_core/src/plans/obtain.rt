@@ -91,13 +91,13 @@ impl Storage {
         self.plan_area(Subpool { number, owner }, seen.is_none(), count, register)
     }
 
-    /// A plan for an area of `length` bytes in the subpool of this number (*Assembler Services Reference*, STORAGE). Its
-    /// address goes into register 1, and into `register` (0 to 15) where one is named. `names_full` says that the statement
-    /// defines a name for which there is no room. Reads alone, and takes no memory.
+    /// A plan for an area of `length` bytes in the subpool of this number (*Assembler Services Reference*, STORAGE).
+    /// Its address goes into register 1, and into `register` (0 to 15) where one is named. `names_full` says that the
+    /// statement defines a name for which there is no room. Reads alone, and takes no memory.
     ///
     /// The causes that refuse it, in order: a number above 127 (`UnsupportedSubpool` for 131 and 132, else
-    /// `SubpoolNotAllowed`), `ZeroLength`, `TooManyNames`, and `NoStorage` where the area fits nowhere. A conditional form
-    /// has in place of `NoStorage` a plan that sets register 15 to 4, and nothing else.
+    /// `SubpoolNotAllowed`), `ZeroLength`, `TooManyNames`, and `NoStorage` where the area fits nowhere. A conditional
+    /// form has in place of `NoStorage` a plan that sets register 15 to 4, and nothing else.
     pub fn plan_obtain(
         &self,
         length: u32,

@@ -119,8 +119,8 @@ impl Storage {
     ///
     /// The causes that refuse it, in order: a number above 127 (`UnsupportedSubpool` for 131 and 132, else
     /// `SubpoolNotAllowed`), `ZeroLength`, `Misaligned`, `NotInSubpool` where the task doesn't see the subpool or a
-    /// doubleword of the area lies outside the region or in a page of another subpool, and `OverlapsFree`. A conditional
-    /// form has in place of the last two a plan that sets register 15 to 4, and nothing else.
+    /// doubleword of the area lies outside the region or in a page of another subpool, and `OverlapsFree`. A
+    /// conditional form has in place of the last two a plan that sets register 15 to 4, and nothing else.
     pub fn plan_release(
         &self,
         length: u32,
