@@ -1,8 +1,9 @@
 -- What a plan leaves, and the storages that it can be carried out on.
-use Rattle.std.specs.Prelude.{◌≡◌, ◌+◌, ◌*◌, ◌<◌, ◌≤◌, if◌then◌else◌, true, None, IfSome, length, Result, Ok, Err}
+use Rattle.std.specs.Prelude.{◌≡◌, ◌+◌, ◌*◌, ◌<◌, ◌≤◌, if◌then◌else◌, true, None, IfSome, ⊤, length, Result, Ok, Err}
 use Rattle.vsm_model.specs.declared.Subpool.{Subpool}
 use Rattle.vsm_model.specs.declared.replies.Reply.{Reply}
 use Rattle.vsm_model.specs.Regions.{Region}
+use Rattle.vsm_model.specs.Services.{Service, Obtain, Release, Store}
 use Rattle.vsm_model.specs.State.{State}
 use Rattle.vsm_model.specs.Areas.{pages_for}
 use Rattle.vsm_model.specs.declared.causes.Cause.{Cause}
@@ -69,3 +70,9 @@ pub record FitsStorage (s : Storage) (plan : Plan) : Type 0 where
   -- a subpool that is made is the current task's, which doesn't see one of its number
   pub unseen : plan.is_new ≡ true → (state_of s).sight (state_of s).current plan.subpool.number ≡ None
   pub own : plan.is_new ≡ true → plan.subpool.owner ≡ (state_of s).current
+
+-- A service that can be planned: its register is one of sixteen, and a store has at most 256 bytes.
+abbrev pub HasItsBounds : Service → Type 0
+HasItsBounds (Obtain length number register conditional) = IfSome register (λ r. r < 16)
+HasItsBounds (Release length address number conditional) = ⊤
+HasItsBounds (Store address bytes) = length bytes ≤ 256

@@ -18,7 +18,9 @@ mod search;
 pub use changes::Change;
 pub use plans::Plan;
 use std::alloc::{AllocError, Global};
-pub use vsm_model::{Cause, Code, Reply, Residence, Settings, Subpool};
+pub use vsm_model::{
+    Cause, Code, Family, Obtain, Release, Reply, Residence, Service, Settings, Subpool,
+};
 
 /// The bytes of a page.
 const PAGE_BYTES: usize = 4096;

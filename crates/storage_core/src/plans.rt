@@ -9,6 +9,7 @@ ghost use Rattle.storage_core.specs.declared.Storage.{Storage};
 
 mod obtain;
 mod release;
+mod service;
 mod store;
 
 use super::{Cause, Reply, STORE_MOST, Subpool};

@@ -7,13 +7,15 @@ use Rattle.vsm_model.specs.Services.{Service, Obtain, Release, Store}
 use Rattle.vsm_model.specs.State.{first_state}
 use Rattle.vsm_model.specs.Step.{step}
 use Rattle.vsm_model.specs.declared.causes.Cause.{Cause}
+use Rattle.vsm_model.specs.declared.causes.Family.{Family}
+use Rattle.vsm_model.specs.declared.causes.Family.TheVariants.{E, R, S}
 use Rattle.vsm_model.specs.declared.causes.Cause.TheVariants.{UnsupportedSubpool, SubpoolNotAllowed, ZeroLength, TooManyNames, NoStorage, Misaligned, NotInSubpool, OverlapsFree, NotAssigned}
 use Rattle.vsm_model.specs.declared.replies.Reply.{Reply}
 use Rattle.vsm_model.specs.declared.replies.Reply.TheVariants.{Obtained, Returned, Stored}
 use Rattle.vsm_model.specs.Bytes.{load, fullword}
 use Rattle.vsm_model.specs.Standing.{Call, Apply, Back, Forward, Answer, Replied, RefusedFor, Moved, TooFar, Bench, new_bench, plain_after_all, plain_answers, outcome_answer}
 use Rattle.vsm_model.specs.Names.{NamedState, first_named_state, word_of, NamedService, named_step}
-use Rattle.vsm_model.specs.Causes.{storage_code}
+use Rattle.vsm_model.specs.Codes.{suffix, code_of}
 use Rattle.vsm_model.specs.Texts.{reply_text, code_text}
 
 -- the default settings, with a history of so many changes
@@ -414,13 +416,21 @@ AStoreGoesOverPages =
     × (peeked_in (bench_with 1024 and_the_second_released) (address 6 4094) 2 ≡ Some (1 ∷ 2 ∷ []))
 
 -- the texts of the completion codes of these causes for STORAGE
-abbrev pub code_texts : List Cause → List (List ℕ)
-code_texts = map (λ cause. code_text (storage_code cause))
+abbrev pub code_texts : Family → Bool → List Cause → List (List ℕ)
+code_texts family obtains = map (λ cause. code_text (code_of (suffix family obtains) cause))
 
+-- those of STORAGE, and of GETMAIN and FREEMAIN in an E and an R form where they are others
 abbrev pub CompletionCodesAsTexts : Type 0
 CompletionCodesAsTexts =
-    code_texts (UnsupportedSubpool ∷ SubpoolNotAllowed ∷ ZeroLength ∷ TooManyNames ∷ NoStorage ∷ Misaligned ∷ NotInSubpool ∷ OverlapsFree ∷ NotAssigned ∷ [])
-    ≡ codes "U3007" ∷ codes "SB78" ∷ codes "U3001" ∷ codes "U3013" ∷ codes "S878" ∷ codes "S978" ∷ codes "U3003" ∷ codes "SA78" ∷ codes "S0C4" ∷ []
+    (code_texts S true (UnsupportedSubpool ∷ SubpoolNotAllowed ∷ ZeroLength ∷ TooManyNames ∷ NoStorage ∷ [])
+    ≡ codes "U3007" ∷ codes "SB78" ∷ codes "U3001" ∷ codes "U3013" ∷ codes "S878" ∷ [])
+    × (code_texts S false (Misaligned ∷ NotInSubpool ∷ OverlapsFree ∷ NotAssigned ∷ [])
+    ≡ codes "S978" ∷ codes "U3003" ∷ codes "SA78" ∷ codes "S0C4" ∷ [])
+    × (code_texts E true (SubpoolNotAllowed ∷ NoStorage ∷ []) ≡ codes "SB04" ∷ codes "S804" ∷ [])
+    × (code_texts E false (SubpoolNotAllowed ∷ Misaligned ∷ OverlapsFree ∷ [])
+    ≡ codes "SB05" ∷ codes "S905" ∷ codes "SA05" ∷ [])
+    × (code_texts R true (SubpoolNotAllowed ∷ NoStorage ∷ []) ≡ codes "SB0A" ∷ codes "S80A" ∷ [])
+    × (code_texts R false (Misaligned ∷ OverlapsFree ∷ []) ≡ codes "S90A" ∷ codes "SA0A" ∷ [])
 
 abbrev pub RepliesAsTexts : Type 0
 RepliesAsTexts =

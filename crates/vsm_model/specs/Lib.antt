@@ -6,6 +6,8 @@ pub mod Areas
 pub mod Standing
 pub mod Causes
 pub mod Services
+pub mod Meaning
+pub mod Codes
 pub mod Bytes
 pub mod Registers
 pub mod Storage

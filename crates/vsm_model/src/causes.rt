@@ -1,6 +1,6 @@
 //! Why a service is refused, and the completion codes that say so.
 ghost use Rattle.std.specs.Prelude.{◌≡◌, Some};
-ghost use Rattle.vsm_model.specs.Causes.{storage_code};
+ghost use Rattle.vsm_model.specs.Codes.{suffix, code_of};
 ghost use Rattle.vsm_model.specs.Registers.{answers_four};
 ghost use Rattle.vsm_model.specs.Texts.{code_text};
 
@@ -36,6 +36,15 @@ pub enum Code {
     User(u16),
 }
 
+/// Which completion codes a form of a macro has: those of E forms (GETMAIN and FREEMAIN E, EC and EU), those of R forms
+/// (R, RC, RU, VRC and VRU), or those of STORAGE.
+#[derive(Clone, Copy, Debug, PartialEq, Eq)]
+pub enum Family {
+    E,
+    R,
+    S,
+}
+
 impl Cause {
     /// Whether a conditional form answers the cause with return code 4 (*Assembler Services Reference*, STORAGE, COND).
     pub fn answers_four(self) -> bool
@@ -52,20 +61,26 @@ impl Cause {
         }
     }
 
-    /// The completion code of the cause for the macro STORAGE (*Assembler Services Reference*, STORAGE, "ABEND codes").
-    pub fn storage_code(self) -> Code
-        ensures { result ≡ storage_code self }
+    /// The completion code of the cause in a form of this family, which obtains storage or doesn't (*Assembler Services
+    /// Reference*, GETMAIN, FREEMAIN and STORAGE, "ABEND codes").
+    pub fn code(self, family: Family, obtains: bool) -> Code
+        ensures { result ≡ code_of (suffix family obtains) self }
     {
+        let suffix = match family {
+            Family::E => { if obtains { 0x04 } else { 0x05 } }
+            Family::R => 0x0a,
+            Family::S => 0x78,
+        };
         match self {
-            Cause::UnsupportedSubpool => Code::User(3007),
-            Cause::SubpoolNotAllowed => Code::System(0xb78),
-            Cause::ZeroLength => Code::User(3001),
-            Cause::TooManyNames => Code::User(3013),
-            Cause::NoStorage => Code::System(0x878),
-            Cause::Misaligned => Code::System(0x978),
-            Cause::NotInSubpool => Code::User(3003),
-            Cause::OverlapsFree => Code::System(0xa78),
+            Cause::SubpoolNotAllowed => Code::System(0xb00 + suffix),
+            Cause::NoStorage => Code::System(0x800 + suffix),
+            Cause::Misaligned => Code::System(0x900 + suffix),
+            Cause::OverlapsFree => Code::System(0xa00 + suffix),
             Cause::NotAssigned => Code::System(0x0c4),
+            Cause::ZeroLength => Code::User(3001),
+            Cause::NotInSubpool => Code::User(3003),
+            Cause::UnsupportedSubpool => Code::User(3007),
+            Cause::TooManyNames => Code::User(3013),
         }
     }
 }

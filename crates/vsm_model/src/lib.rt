@@ -7,10 +7,12 @@ pub mod examples;
 pub mod laws;
 mod limits;
 mod replies;
+mod services;
 
-pub use causes::{Cause, Code};
+pub use causes::{Cause, Code, Family};
 pub use limits::{Residence, Settings};
 pub use replies::Reply;
+pub use services::{Obtain, Release, Service};
 
 /// A subpool, named by its number (0 to 127) and the task that owns it: a task owns at most one subpool of a number.
 #[derive(Clone, Copy, Debug, PartialEq, Eq)]

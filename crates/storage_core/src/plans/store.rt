@@ -1,5 +1,5 @@
 //! Plans of stores.
-ghost use Rattle.std.specs.Prelude.{◌≡◌, Bool, IfOk, IfErr};
+ghost use Rattle.std.specs.Prelude.{◌≡◌, ◌≤◌, Bool, length, IfOk, IfErr};
 ghost use Rattle.vsm_model.specs.Services.{Store};
 ghost use Rattle.vsm_model.specs.Standing.{Accepted, Refused};
 ghost use Rattle.vsm_model.specs.Step.{step};
@@ -9,6 +9,16 @@ ghost use Rattle.storage_core.specs.Planned.{planned, reply_of, FitsStorage};
 use super::{Action, Plan};
 use crate::{Cause, Reply, STORE_MOST, Storage, Subpool};
 use arrayvec::ArrayVec;
+
+/// Bytes in room for as many as a store may have.
+fn with_room(bytes: &[u8]) -> ArrayVec<u8, STORE_MOST>
+    requires { length bytes.now ≤ 256 }
+    ensures { result.items ≡ bytes.now }
+{
+    let mut room = ArrayVec::new();
+    let _ = room.try_extend_from_slice(bytes);
+    room
+}
 
 impl Storage {
     /// The current task's own subpool 0, for a plan that concerns none.
@@ -24,13 +34,14 @@ impl Storage {
     /// A plan for a store of at most 256 bytes at the address, of any subpool. Reads alone, and takes no memory.
     ///
     /// Refused with `NotAssigned` where one of the bytes doesn't lie in an assigned page.
-    pub fn plan_store(&self, address: u32, bytes: ArrayVec<u8, STORE_MOST>) -> Result<Plan, Cause>
+    pub fn plan_store(&self, address: u32, bytes: &[u8]) -> Result<Plan, Cause>
+        requires { length bytes.now ≤ 256 }
         ensures ok { (names_full : Bool) → IfOk result (λ plan.
-            step (settings_of self.now) names_full (state_of self.now) (Store address bytes.items)
+            step (settings_of self.now) names_full (state_of self.now) (Store address bytes.now)
             ≡ Accepted (planned (state_of self.now) plan) (reply_of plan)) }
         ensures fits { IfOk result (λ plan. FitsStorage self.now plan) }
         ensures err { (names_full : Bool) → IfErr result (λ cause.
-            step (settings_of self.now) names_full (state_of self.now) (Store address bytes.items) ≡ Refused cause) }
+            step (settings_of self.now) names_full (state_of self.now) (Store address bytes.now) ≡ Refused cause) }
     {
         let address = address as usize;
         if !self.are_there(address, bytes.len()) {
@@ -39,7 +50,10 @@ impl Storage {
         Ok(Plan {
             subpool: self.own_zero(),
             is_new: false,
-            action: Action::Write { address, bytes },
+            action: Action::Write {
+                address,
+                bytes: with_room(bytes),
+            },
             register: None,
             reply: Reply::Stored,
         })
