@@ -7,7 +7,7 @@ ghost use Rattle.vsm_machine.specs.Changes.{machine_fits, machine_fits_prop, Def
 ghost use Rattle.vsm_machine.specs.Machine.{shown_at};
 ghost use Rattle.vsm_machine.specs.Refusals.{IsRefusedFor};
 
-use macro_reader::{Statement, Value};
+use macro_reader::{Family, Statement, Value};
 use name_table::NameTable;
 use std::alloc::Global;
 use step_history::{History, Reversible, TooFar, TooFarAhead};
@@ -92,7 +92,7 @@ impl Bench {
         };
         match self.machine.storage.load(address, out) {
             Ok(()) => Ok(()),
-            Err(cause) => Err(Refusal::from(cause)),
+            Err(cause) => Err(Refusal::Abend(cause.code(Family::S, false))),
         }
     }
 

@@ -4,9 +4,10 @@ use Rattle.vsm_model.specs.declared.limits.Settings.{Settings}
 use Rattle.vsm_model.specs.declared.causes.Cause.{Cause}
 use Rattle.vsm_model.specs.declared.replies.Reply.{Reply}
 use Rattle.vsm_model.specs.declared.replies.Reply.TheVariants.{Obtained, Returned, Stored}
-use Rattle.vsm_model.specs.Causes.{storage_code}
-use Rattle.vsm_model.specs.Names.{NamedState, NamedService, named, names_after, is_one_too_many, same_name, word_of}
+use Rattle.vsm_model.specs.Codes.{completion_code}
+use Rattle.vsm_model.specs.Names.{NamedState, named, names_after, is_one_too_many, same_name, word_of}
 use Rattle.vsm_model.specs.Standing.{Accepted, Refused}
+use Rattle.vsm_model.specs.Services.{Service}
 use Rattle.vsm_model.specs.Step.{step}
 use Rattle.macro_reader.specs.Requests.{Act}
 use Rattle.storage_core.specs.Planned as storage
@@ -17,7 +18,7 @@ use Rattle.vsm_machine.specs.declared.plans.Planned.{Planned}
 use Rattle.vsm_machine.specs.declared.refusals.Refusal.{Refusal}
 use Rattle.vsm_machine.specs.declared.refusals.Refusal.TheVariants.{Abend}
 use Rattle.vsm_machine.specs.Changes.{stepped_by, CanStepBy, undefines_none}
-use Rattle.vsm_machine.specs.Machine.{Why, abended, with_code, served, service_in, statement_step}
+use Rattle.vsm_machine.specs.Machine.{Why, abended, with_code, served, service_asked, name_asked, family_asked, statement_step}
 use Rattle.vsm_machine.specs.Planned.{step_for, step_planned, IsAcceptedBy}
 use Rattle.vsm_machine.specs.Refusals.{refusal_for}
 
@@ -58,26 +59,35 @@ gives names (Some name) (Obtained address length) = to_undefines_none names name
 gives names (Some name) (Returned code) = refl
 gives names (Some name) Stored = refl
 
-module _ (settings : Settings) (m : NamedState) (x : Act) (service : NamedService) (is : Some service ≡ service_in m x) where
+module _
+    (settings : Settings) (m : NamedState) (x : Act) (service : Service) (is : Some service ≡ service_asked m x) where
   pub accepted_by : (p : Planned) →
-      step settings (is_one_too_many m.names service.name) m.storage service.service ≡ Accepted (storage.planned m.storage p.plan) (storage.reply_of p.plan) →
-      step_planned p ≡ step_for m.names service.name (storage.reply_of p.plan) → IsAcceptedBy settings m x p
+      step settings (is_one_too_many m.names (name_asked x)) m.storage service
+      ≡ Accepted (storage.planned m.storage p.plan) (storage.reply_of p.plan) →
+      step_planned p ≡ step_for m.names (name_asked x) (storage.reply_of p.plan) → IsAcceptedBy settings m x p
   accepted_by p e named_by =
       let reply = storage.reply_of p.plan in
-      let names : names_after m.names service.name reply ≡ stepped_by m.names (step_planned p) =
-      sym (names_stepped m.names service.name reply) ∙ ap (stepped_by m.names) (sym named_by) in
+      let names : names_after m.names (name_asked x) reply ≡ stepped_by m.names (step_planned p) =
+      sym (names_stepped m.names (name_asked x) reply) ∙ ap (stepped_by m.names) (sym named_by) in
       record {
         accepted =
-            ap (served settings m) (sym is) ∙ ap (λ o. with_code (named m.names service.name o)) e
+            ap (served settings m x) (sym is)
+            ∙ ap (λ o. with_code (completion_code (family_asked x) service) (named m.names (name_asked x) o)) e
             ∙ (λ i. Accepted (record { storage = storage.planned m.storage p.plan; names = names i }) reply);
-        can = subst (CanStepBy m.names (λ name. true)) (sym named_by) (can_step m.names service.name reply);
-        gives = ap undefines_none named_by ∙ gives m.names service.name reply;
+        can = subst (CanStepBy m.names (λ name. true)) (sym named_by) (can_step m.names (name_asked x) reply);
+        gives = ap undefines_none named_by ∙ gives m.names (name_asked x) reply;
       }
 
-  pub refused_by : (cause : Cause) (e : Refusal) → step settings (is_one_too_many m.names service.name) m.storage service.service ≡ Refused cause →
-      e ≡ Abend (storage_code cause) → (why : Why) × (statement_step settings m x ≡ Refused why) × (e ≡ refusal_for why)
-  refused_by cause e refused told =
-      (abended (storage_code cause), ap (served settings m) (sym is) ∙ ap (λ o. with_code (named m.names service.name o)) refused, told)
+  pub refused_by : (cause : Cause) (e : Refusal) →
+      step settings (is_one_too_many m.names (name_asked x)) m.storage service ≡ Refused cause →
+      e ≡ Abend (completion_code (family_asked x) service cause) →
+      (why : Why) × (statement_step settings m x ≡ Refused why) × (e ≡ refusal_for why)
+  refused_by cause e refused told = (
+    abended (completion_code (family_asked x) service cause),
+    ap (served settings m x) (sym is)
+        ∙ ap (λ o. with_code (completion_code (family_asked x) service) (named m.names (name_asked x) o)) refused,
+    told,
+  )
 
 -- a name that is put into a table is there
 pub now_known : (name : List ℕ) (b c : Bool) → b ≡ (same_name name name || c) → b ≡ true

@@ -3,13 +3,15 @@ use Rattle.std.specs.Prelude.{ℕ, Option, Some, None, List, Result, Ok, Err}
 use Rattle.std.specs.Option.{option_map}
 use Rattle.vsm_model.specs.declared.limits.Settings.{Settings}
 use Rattle.vsm_model.specs.declared.causes.Cause.{Cause}
-use Rattle.vsm_model.specs.declared.causes.Cause.TheVariants.{NotAssigned}
 use Rattle.vsm_model.specs.declared.causes.Code.{Code}
+use Rattle.vsm_model.specs.declared.causes.Code.TheVariants.{System}
+use Rattle.vsm_model.specs.declared.causes.Family.{Family}
+use Rattle.vsm_model.specs.declared.causes.Family.TheVariants.{S}
 use Rattle.vsm_model.specs.declared.replies.Reply.{Reply}
 use Rattle.vsm_model.specs.Bytes.{fullword, load}
-use Rattle.vsm_model.specs.Causes.{storage_code}
-use Rattle.vsm_model.specs.Names.{NamedState, NamedService, named_step, word_of}
-use Rattle.vsm_model.specs.Services.{Obtain, Release, Store}
+use Rattle.vsm_model.specs.Codes.{completion_code}
+use Rattle.vsm_model.specs.Names.{NamedState, named_step, word_of}
+use Rattle.vsm_model.specs.Services.{Service, Obtain, Release, Store}
 use Rattle.vsm_model.specs.Standing.{Outcome, Accepted, Refused}
 use Rattle.macro_reader.specs.Requests.{Written, number, named, register, Target, in_name, in_register, Stored, spelled, word, Act, obtain, release, poke}
 
@@ -39,47 +41,59 @@ abbrev pub register_in : Option Target → Option ℕ
 register_in (Some (in_register r)) = Some r
 register_in _ = None
 
--- two values, both looked up
-abbrev pub both : {A : Type 0} → (ℕ → ℕ → A) → Option ℕ → Option ℕ → Option A
-both f (Some a) (Some b) = Some (f a b)
-both f _ _ = None
+-- the service in which so many words are looked up; there is none where one of them isn't there
+abbrev pub with_two : (ℕ → ℕ → Service) → Option ℕ → Option ℕ → Option Service
+with_two f (Some a) (Some b) = Some (f a b)
+with_two f _ _ = None
 
--- three values, all looked up
-abbrev pub all_three : {A : Type 0} → (ℕ → ℕ → ℕ → A) → Option ℕ → Option ℕ → Option ℕ → Option A
-all_three f (Some a) (Some b) (Some c) = Some (f a b c)
-all_three f _ _ _ = None
+abbrev pub with_three : (ℕ → ℕ → ℕ → Service) → Option ℕ → Option ℕ → Option ℕ → Option Service
+with_three f (Some a) (Some b) (Some c) = Some (f a b c)
+with_three f _ _ _ = None
 
--- an address and the bytes that are stored there
-abbrev pub store_of : Option ℕ → Option (List ℕ) → Option NamedService
-store_of (Some address) (Some bytes) = Some (record { service = Store address bytes; name = None })
-store_of _ _ = None
+abbrev pub with_bytes : Option ℕ → Option (List ℕ) → Option Service
+with_bytes (Some address) (Some bytes) = Some (Store address bytes)
+with_bytes _ _ = None
 
 -- The service that a statement asks for, with the words of its values; there is none where one of its names isn't defined.
-abbrev pub service_in : NamedState → Act → Option NamedService
-service_in m (obtain length subpool target form) =
-    both (λ l n. record { service = Obtain l n (register_in target) form.conditional; name = name_in target })
-    (looked_up m length) (looked_up m subpool)
-service_in m (release length address subpool form) =
-    all_three (λ l a n. record { service = Release l a n form.conditional; name = None })
+abbrev pub service_asked : NamedState → Act → Option Service
+service_asked m (obtain length subpool target form) =
+    with_two (λ l n. Obtain l n (register_in target) form.conditional) (looked_up m length) (looked_up m subpool)
+service_asked m (release length address subpool form) =
+    with_three (λ l a n. Release l a n form.conditional)
     (looked_up m length) (looked_up m address) (looked_up m subpool)
-service_in m (poke address content) = store_of (looked_up m address) (bytes_in m content)
+service_asked m (poke address content) = with_bytes (looked_up m address) (bytes_in m content)
+
+-- the name that is given the address of the area that a statement obtains, if it names one
+abbrev pub name_asked : Act → Option (List ℕ)
+name_asked (obtain length subpool target form) = name_in target
+name_asked (release length address subpool form) = None
+name_asked (poke address content) = None
+
+-- The family of a statement's completion codes, by its form. A statement of the bench's own has no form: its codes are the
+-- same in each.
+abbrev pub family_asked : Act → Family
+family_asked (obtain length subpool target form) = form.family
+family_asked (release length address subpool form) = form.family
+family_asked (poke address content) = S
 
 -- a cause is answered by its completion code
-abbrev pub with_code : Outcome NamedState Reply Cause → Outcome NamedState Reply Why
-with_code (Accepted m reply) = Accepted m reply
-with_code (Refused cause) = Refused (abended (storage_code cause))
+abbrev pub with_code : (Cause → Code) → Outcome NamedState Reply Cause → Outcome NamedState Reply Why
+with_code code (Accepted m reply) = Accepted m reply
+with_code code (Refused cause) = Refused (abended (code cause))
 
 -- a statement whose names are all defined is its service
-abbrev pub served : Settings → NamedState → Option NamedService → Outcome NamedState Reply Why
-served settings m None = Refused unknown_name
-served settings m (Some service) = with_code (named_step settings m service)
+abbrev pub served : Settings → NamedState → Act → Option Service → Outcome NamedState Reply Why
+served settings m x None = Refused unknown_name
+served settings m x (Some service) =
+    with_code (completion_code (family_asked x) service)
+    (named_step settings m (record { service = service; name = name_asked x }))
 
 abbrev pub statement_step : Settings → NamedState → Act → Outcome NamedState Reply Why
-statement_step settings m x = served settings m (service_in m x)
+statement_step settings m x = served settings m x (service_asked m x)
 
--- bytes that are loaded, or the completion code where one of them isn't there
+-- bytes that are loaded, or where one of them isn't there the completion code of a reference to it, 0C4
 abbrev pub or_abended : Option (List ℕ) → Result (List ℕ) Why
-or_abended None = Err (abended (storage_code NotAssigned))
+or_abended None = Err (abended (System 0x0c4))
 or_abended (Some bytes) = Ok bytes
 
 -- the count bytes at an address that is looked up

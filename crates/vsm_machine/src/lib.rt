@@ -8,6 +8,7 @@
 mod machine;
 mod plans;
 mod refusals;
+mod services;
 mod values;
 
 pub use machine::{Change, Machine};

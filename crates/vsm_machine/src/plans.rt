@@ -3,17 +3,17 @@ ghost use Rattle.std.specs.Prelude.{◌≡◌, ℕ, true, List, IfOk, IfSome, On
 ghost use Rattle.std.specs.Option.{option_map};
 ghost use Rattle.storage_core.specs.Meaning.{settings_of};
 ghost use Rattle.storage_core.specs.Planned.{FitsStorage};
-ghost use Rattle.macro_reader.specs.Requests.{act_in, written_in, stored_in, target_in, obtain, release, poke, IsValue, IsStored, IsTarget, IsValidAct};
+ghost use Rattle.vsm_model.specs.Names.{is_one_too_many};
+ghost use Rattle.macro_reader.specs.Requests.{act_in, IsValidAct};
 ghost use Rattle.name_table.specs.Table.{rows_of, knows};
 ghost use Rattle.name_table.specs.Steps.{step_in};
 ghost use Rattle.vsm_machine.specs.Changes.{shown, step_of, CanStepBy};
-ghost use Rattle.vsm_machine.specs.Machine.{name_in, register_in};
 ghost use Rattle.vsm_machine.specs.Planned.{step_for, step_planned, defined_by, IsPlanned, IsChangeOf};
 
 use crate::machine::{Change, Machine};
 use crate::refusals::Refusal;
-use crate::values::{bytes_of, is_one_too_many, look_up};
-use macro_reader::{Content, Form, Place, Statement, Value};
+use crate::services::{family_of, name_of, service_of};
+use macro_reader::Statement;
 use name_table::{Name, NameChange, NameTable};
 use std::alloc::AllocError;
 use storage_core::{Plan, Reply};
@@ -27,139 +27,47 @@ pub struct Planned {
     pub name: Option<NameChange>,
 }
 
-/// The register that is set besides register 1, if the place is one.
-fn register_of(place: &Option<Place>) -> Option<u8>
-    ensures { result ≡ register_in (option_map target_in place.now) }
+/// Whether the name is a new one, and as many as there may be are defined.
+fn is_one_too_many(names: &NameTable, name: Option<&Name>) -> bool
+    ensures { result ≡ is_one_too_many (rows_of names.now) (option_map (λ n. n.now.bytes) name) }
 {
-    match place {
-        Some(Place::Register(register)) => Some(*register),
+    match name {
+        Some(name) => names.word(name).is_none() && names.is_full(),
+        None => false,
+    }
+}
+
+/// The step of the name that gets the address, if there is one and an area was obtained.
+fn name_change(names: &NameTable, name: Option<&Name>, reply: Reply) -> Option<NameChange>
+    ensures { option_map step_in result ≡ step_for (rows_of names.now) (option_map (λ n. n.now.bytes) name) reply }
+{
+    match (name, reply) {
+        (Some(name), Reply::Obtained { address, .. }) => Some(names.change_to(*name, address)),
         _ => None,
     }
 }
 
-/// The step of the name that gets the address, if the place is one and an area was obtained.
-fn name_change(names: &NameTable, place: &Option<Place>, reply: Reply) -> Option<NameChange>
-    ensures { option_map step_in result ≡ step_for (rows_of names.now) (name_in (option_map target_in place.now)) reply }
-{
-    match (place, reply) {
-        (Some(Place::Named(name)), Reply::Obtained { address, .. }) => {
-            Some(names.change_to(*name, address))
-        }
-        _ => None,
-    }
-}
-
-/// Plans STORAGE OBTAIN.
-fn plan_obtain(
-    machine: &Machine,
-    length: &Value,
-    subpool: &Value,
-    place: &Option<Place>,
-    form: &Form,
-) -> Result<Planned, Refusal>
-    requires length { IsValue (written_in length.now) }
-    requires subpool { IsValue (written_in subpool.now) }
-    requires place { IfSome (option_map target_in place.now) IsTarget }
-    ensures is { IsPlanned (settings_of machine.now.storage) (shown machine.now)
-        (obtain (written_in length.now) (written_in subpool.now) (option_map target_in place.now) form.now) result }
-    ensures fits { IfOk result (λ p. FitsStorage machine.now.storage p.plan) }
-{
-    let Some(length) = look_up(machine, length) else {
-        return Err(Refusal::Name);
-    };
-    let Some(subpool) = look_up(machine, subpool) else {
-        return Err(Refusal::Name);
-    };
-    let full = is_one_too_many(machine, place);
-    let register = register_of(place);
-    match machine
-        .storage
-        .plan_obtain(length, subpool, register, form.conditional, full)
-    {
-        Ok(plan) => {
-            let name = name_change(&machine.names, place, plan.reply());
-            Ok(Planned { plan, name })
-        }
-        Err(cause) => Err(Refusal::from(cause)),
-    }
-}
-
-/// Plans STORAGE RELEASE.
-fn plan_release(
-    machine: &Machine,
-    length: &Value,
-    address: &Value,
-    subpool: &Value,
-    form: &Form,
-) -> Result<Planned, Refusal>
-    requires length { IsValue (written_in length.now) }
-    requires address { IsValue (written_in address.now) }
-    requires subpool { IsValue (written_in subpool.now) }
-    ensures is { IsPlanned (settings_of machine.now.storage) (shown machine.now)
-        (release (written_in length.now) (written_in address.now) (written_in subpool.now) form.now) result }
-    ensures fits { IfOk result (λ p. FitsStorage machine.now.storage p.plan) }
-{
-    let Some(length) = look_up(machine, length) else {
-        return Err(Refusal::Name);
-    };
-    let Some(address) = look_up(machine, address) else {
-        return Err(Refusal::Name);
-    };
-    let Some(subpool) = look_up(machine, subpool) else {
-        return Err(Refusal::Name);
-    };
-    match machine
-        .storage
-        .plan_release(length, address, subpool, form.conditional)
-    {
-        Ok(plan) => Ok(Planned { plan, name: None }),
-        Err(cause) => Err(Refusal::from(cause)),
-    }
-}
-
-/// Plans POKE.
-fn plan_poke(machine: &Machine, address: &Value, content: &Content) -> Result<Planned, Refusal>
-    requires address { IsValue (written_in address.now) }
-    requires content { IsStored (stored_in content.now) }
-    ensures is { IsPlanned (settings_of machine.now.storage) (shown machine.now)
-        (poke (written_in address.now) (stored_in content.now)) result }
-    ensures fits { IfOk result (λ p. FitsStorage machine.now.storage p.plan) }
-{
-    let Some(address) = look_up(machine, address) else {
-        return Err(Refusal::Name);
-    };
-    let Some(bytes) = bytes_of(machine, content) else {
-        return Err(Refusal::Name);
-    };
-    match machine.storage.plan_store(address, bytes) {
-        Ok(plan) => Ok(Planned { plan, name: None }),
-        Err(cause) => Err(Refusal::from(cause)),
-    }
-}
-
-/// The plan for what a statement asks for. It reads alone, and takes no memory.
-///
-/// Refused with `Name` where a value is a name that isn't defined, else with `Abend` and the completion code of the first cause
-/// that holds; never with `NoMemory`.
+/// The plan for what a statement asks for, or why it is refused: an unknown name, or the first cause that holds.
 pub fn plan_of(machine: &Machine, statement: &Statement) -> Result<Planned, Refusal>
     requires { IsValidAct (act_in statement.now) }
     ensures is { IsPlanned (settings_of machine.now.storage) (shown machine.now) (act_in statement.now) result }
     ensures fits { IfOk result (λ p. FitsStorage machine.now.storage p.plan) }
 {
-    match statement {
-        Statement::Obtain {
-            length,
-            subpool,
-            place,
-            form,
-        } => plan_obtain(machine, length, subpool, place, form),
-        Statement::Release {
-            length,
-            address,
-            subpool,
-            form,
-        } => plan_release(machine, length, address, subpool, form),
-        Statement::Poke { address, content } => plan_poke(machine, address, content),
+    let mut room = [0; 4];
+    let Some(service) = service_of(machine, statement, &mut room) else {
+        return Err(Refusal::Name);
+    };
+    let name = name_of(statement);
+    let full = is_one_too_many(&machine.names, name);
+    match machine.storage.plan(service, full) {
+        Ok(plan) => {
+            let name = name_change(&machine.names, name, plan.reply());
+            Ok(Planned { plan, name })
+        }
+        Err(cause) => {
+            let code = cause.code(family_of(statement), service.is_obtain());
+            Err(Refusal::Abend(code))
+        }
     }
 }
 

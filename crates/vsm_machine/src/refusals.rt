@@ -2,7 +2,7 @@
 
 use std::alloc::AllocError;
 use thiserror::Error;
-use vsm_model::{Cause, Code};
+use vsm_model::Code;
 
 /// Why a statement is refused. A refused statement changes nothing.
 #[derive(Clone, Copy, Debug, PartialEq, Eq)]
@@ -23,18 +23,6 @@ impl From<AllocError> for Refusal {
 
     fn from(_e: AllocError) -> Refusal {
         Refusal::NoMemory
-    }
-}
-
-impl From<Cause> for Refusal {
-    ghost use Rattle.std.specs.Prelude.{◌≡◌};
-    ghost use Rattle.vsm_model.specs.Causes.{storage_code};
-    ghost use Rattle.vsm_machine.specs.declared.refusals.Refusal.TheVariants.{Abend};
-
-    ghost from_gives = { λ cause e. e ≡ Abend (storage_code cause) };
-
-    fn from(cause: Cause) -> Refusal {
-        Refusal::Abend(cause.storage_code())
     }
 }
 

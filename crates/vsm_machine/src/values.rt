@@ -1,16 +1,14 @@
 //! The words of values, as a machine has them.
 ghost use Rattle.std.specs.Prelude.{◌≡◌, ◌≤◌, length};
 ghost use Rattle.std.specs.Option.{option_map};
-ghost use Rattle.vsm_model.specs.Bytes.{fullword};
-ghost use Rattle.vsm_model.specs.Names.{is_one_too_many};
-ghost use Rattle.macro_reader.specs.Requests.{written_in, stored_in, target_in, IsValue, IsStored};
+ghost use Rattle.macro_reader.specs.Requests.{written_in, stored_in, IsValue, IsStored};
 ghost use Rattle.vsm_machine.specs.Changes.{shown};
-ghost use Rattle.vsm_machine.specs.Machine.{looked_up, bytes_in, name_in};
+ghost use Rattle.vsm_machine.specs.Machine.{looked_up, bytes_in};
 
 use crate::machine::Machine;
 use arrayvec::ArrayVec;
 use byteorder::{BigEndian, ByteOrder};
-use macro_reader::{Content, Place, Value};
+use macro_reader::{Content, Value};
 use storage_core::STORE_MOST;
 
 /// The word that a value stands for: a number itself, a name the word that it was given, a register of the current task what it has.
@@ -41,32 +39,21 @@ pub fn with_room(bytes: &[u8]) -> ArrayVec<u8, STORE_MOST>
     }
 }
 
-/// A word as four bytes, the most significant one first.
-fn fullword(word: u32) -> ArrayVec<u8, STORE_MOST>
-    ensures { result.items ≡ fullword word }
-{
-    let mut bytes = [0; 4];
-    BigEndian::write_u32(&mut bytes, word);
-    with_room(&bytes)
-}
-
-/// The bytes that are stored, where the name in them is defined.
-pub(crate) fn bytes_of(machine: &Machine, content: &Content) -> Option<ArrayVec<u8, STORE_MOST>>
+/// The bytes that are stored, where the name in them is defined: those that are spelled, or a value, which is written into
+/// `room` as a fullword, the most significant byte first.
+pub(crate) fn bytes_of<'a>(
+    machine: &Machine,
+    content: &'a Content,
+    room: &'a mut [u8; 4],
+) -> Option<&'a [u8]>
     requires { IsStored (stored_in content.now) }
-    ensures { option_map (λ b. b.items) result ≡ bytes_in (shown machine.now) (stored_in content.now) }
+    ensures { option_map (λ b. b.now) result ≡ bytes_in (shown machine.now) (stored_in content.now) }
 {
     match content {
-        Content::Spelled(bytes) => Some(with_room(bytes)),
-        Content::Word(value) => Some(fullword(look_up(machine, value)?)),
-    }
-}
-
-/// Whether the place is a new name, and as many as there may be are defined.
-pub(crate) fn is_one_too_many(machine: &Machine, place: &Option<Place>) -> bool
-    ensures { result ≡ is_one_too_many (shown machine.now).names (name_in (option_map target_in place.now)) }
-{
-    match place {
-        Some(Place::Named(name)) => machine.names.word(name).is_none() && machine.names.is_full(),
-        _ => false,
+        Content::Spelled(bytes) => Some(bytes.as_slice()),
+        Content::Word(value) => {
+            BigEndian::write_u32(room, look_up(machine, value)?);
+            Some(room)
+        }
     }
 }

@@ -1,0 +1,87 @@
+//! What a statement asks for, once its values are looked up.
+ghost use Rattle.std.specs.Prelude.{◌≡◌, IfSome};
+ghost use Rattle.std.specs.Option.{option_map};
+ghost use Rattle.vsm_model.specs.Meaning.{service_in};
+ghost use Rattle.storage_core.specs.Planned.{HasItsBounds};
+ghost use Rattle.macro_reader.specs.Requests.{act_in, target_in, IsValidAct};
+ghost use Rattle.vsm_machine.specs.Changes.{shown};
+ghost use Rattle.vsm_machine.specs.Machine.{service_asked, name_asked, family_asked, register_in};
+
+use crate::machine::Machine;
+use crate::values::{bytes_of, look_up};
+use macro_reader::{Family, Name, Place, Statement};
+use storage_core::{Obtain, Release, Service};
+
+/// The register that is set besides register 1, if the place is one.
+fn register_of(place: &Option<Place>) -> Option<u8>
+    ensures { result ≡ register_in (option_map target_in place.now) }
+{
+    match place {
+        Some(Place::Register(register)) => Some(*register),
+        _ => None,
+    }
+}
+
+/// The service that a statement asks for, with the words of its values; `None` where a name in one of them isn't defined. A
+/// value that is stored is written into `room`.
+pub(crate) fn service_of<'a>(
+    machine: &Machine,
+    statement: &'a Statement,
+    room: &'a mut [u8; 4],
+) -> Option<Service<'a>>
+    requires { IsValidAct (act_in statement.now) }
+    ensures is { option_map service_in result ≡ service_asked (shown machine.now) (act_in statement.now) }
+    ensures bounds { IfSome result (λ service. HasItsBounds (service_in service)) }
+{
+    match statement {
+        Statement::Obtain {
+            length,
+            subpool,
+            place,
+            form,
+        } => Some(Service::Obtain(Obtain {
+            length: look_up(machine, length)?,
+            number: look_up(machine, subpool)?,
+            register: register_of(place),
+            conditional: form.conditional,
+        })),
+        Statement::Release {
+            length,
+            address,
+            subpool,
+            form,
+        } => Some(Service::Release(Release {
+            length: look_up(machine, length)?,
+            address: look_up(machine, address)?,
+            number: look_up(machine, subpool)?,
+            conditional: form.conditional,
+        })),
+        Statement::Poke { address, content } => Some(Service::Store {
+            address: look_up(machine, address)?,
+            bytes: bytes_of(machine, content, room)?,
+        }),
+    }
+}
+
+/// The name that is given the address of the area that a statement obtains, if it names one.
+pub(crate) fn name_of(statement: &Statement) -> Option<&Name>
+    ensures { option_map (λ name. name.now.bytes) result ≡ name_asked (act_in statement.now) }
+{
+    match statement {
+        Statement::Obtain {
+            place: Some(Place::Named(name)),
+            ..
+        } => Some(name),
+        _ => None,
+    }
+}
+
+/// The family of a statement's completion codes; those of a statement without a form are the same in each.
+pub(crate) fn family_of(statement: &Statement) -> Family
+    ensures { result ≡ family_asked (act_in statement.now) }
+{
+    match statement {
+        Statement::Obtain { form, .. } | Statement::Release { form, .. } => form.family,
+        Statement::Poke { .. } => Family::S,
+    }
+}
