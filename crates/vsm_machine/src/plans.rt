@@ -3,7 +3,7 @@ ghost use Rattle.std.specs.Prelude.{◌≡◌, ℕ, true, List, IfOk, IfSome, On
 ghost use Rattle.std.specs.Option.{option_map};
 ghost use Rattle.storage_core.specs.Meaning.{settings_of};
 ghost use Rattle.storage_core.specs.Planned.{FitsStorage};
-ghost use Rattle.macro_reader.specs.Requests.{act_in, written_in, stored_in, target_in, obtain, release, poke, IsValue, IsStored, IsTarget, IsValidAct};
+ghost use Rattle.macro_statements.specs.Requests.{act_in, written_in, stored_in, target_in, obtain, release, poke, IsValue, IsStored, IsTarget, IsValidAct};
 ghost use Rattle.name_table.specs.Table.{rows_of, knows};
 ghost use Rattle.name_table.specs.Steps.{step_in};
 ghost use Rattle.vsm_machine.specs.Changes.{shown, step_of, CanStepBy};
@@ -13,8 +13,9 @@ ghost use Rattle.vsm_machine.specs.Planned.{step_for, step_planned, defined_by, 
 use crate::machine::{Change, Machine};
 use crate::refusals::Refusal;
 use crate::values::{bytes_of, is_one_too_many, look_up};
-use macro_reader::{Content, Form, Place, Statement, Value};
+use macro_statements::{Form, Statement};
 use name_table::{Name, NameChange, NameTable};
+use operand_texts::{Content, Place, Value};
 use std::alloc::AllocError;
 use storage_core::{Plan, Reply};
 

@@ -4,7 +4,7 @@ use Rattle.vsm_model.specs.Names.{NamedService}
 use Rattle.vsm_model.specs.Services.{Obtain}
 use Rattle.vsm_model.specs.Standing.{Accepted, Refused}
 use Rattle.vsm_model.specs.Step.{step}
-use Rattle.macro_reader.specs.Requests.{written_in, target_in, obtain}
+use Rattle.macro_statements.specs.Requests.{written_in, target_in, obtain}
 use Rattle.storage_core.specs.Meaning.{state_of, settings_of}
 use Rattle.storage_core.specs.Planned.{planned, reply_of}
 use Rattle.vsm_machine.specs.Changes.{shown}

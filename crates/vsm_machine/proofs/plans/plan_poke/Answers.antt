@@ -1,7 +1,7 @@
 use Rattle.std.proofs.Common.{None}
 use Rattle.vsm_model.specs.Names.{NamedService, is_one_too_many}
 use Rattle.vsm_model.specs.Services.{Store}
-use Rattle.macro_reader.specs.Requests.{written_in, stored_in, poke}
+use Rattle.macro_statements.specs.Requests.{written_in, stored_in, poke}
 use Rattle.storage_core.specs.Meaning.{settings_of}
 use Rattle.storage_core.specs.Planned.{reply_of}
 use Rattle.vsm_machine.specs.Changes.{shown}
