@@ -1,14 +1,15 @@
 //! A bench: a machine, and the history that it moves along.
 ghost use Rattle.std.specs.Prelude.{◌≡◌, Ok, length, IfErr, OnErr, OnOk};
 ghost use Rattle.storage_core.specs.Meaning.{settings_of};
-ghost use Rattle.macro_reader.specs.Requests.{written_in, act_in, IsValue, IsValidAct};
+ghost use Rattle.macro_statements.specs.Requests.{written_in, act_in, IsValue, IsValidAct};
 ghost use Rattle.std.proofs.Props.{props};
 ghost use Rattle.vsm_machine.specs.Changes.{machine_fits, machine_fits_prop, DefineNone, UndefineNone};
 ghost use Rattle.vsm_machine.specs.Machine.{shown_at};
 ghost use Rattle.vsm_machine.specs.Refusals.{IsRefusedFor};
 
-use macro_reader::{Family, Statement, Value};
+use macro_statements::{Family, Statement};
 use name_table::NameTable;
+use operand_texts::Value;
 use std::alloc::Global;
 use step_history::{History, Reversible, TooFar, TooFarAhead};
 use storage_core::{Reply, Settings, Storage};

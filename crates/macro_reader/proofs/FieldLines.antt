@@ -5,14 +5,14 @@ use Rattle.std.proofs.Math.Numerals.{one-add}
 use Rattle.std.proofs.Math.Seq.{take-append-add, take-append_seam}
 use Rattle.std.proofs.lemmas.Bool.{cases_lt, eq-eqb}
 use Rattle.std.proofs.lemmas.List.{get_or_at, get_or_past, length-append, length-take-le, length-drop, take-append-drop, take_all}
-use Rattle.macro_reader.specs.declared.nesting.Nesting.{Nesting}
+use Rattle.operand_texts.specs.declared.nesting.Nesting.{Nesting}
 use Rattle.macro_reader.specs.Columns.{Line, used, is_continued}
-use Rattle.macro_reader.specs.Field.{outside, past, field_len}
+use Rattle.operand_texts.specs.Field.{outside, past, field_len}
 use Rattle.macro_reader.specs.Continuation.{Joined, nesting_after, ends_with_comma, with_part, with_line, with_lines}
 use Rattle.macro_reader.specs.Scripts.{IsGroup}
-use Rattle.macro_reader.specs.declared.statements.Operation.{Operation}
-use Rattle.macro_reader.specs.declared.statements.Operation.TheVariants as operation
-use Rattle.macro_reader.proofs.OperandTexts.{Goes, IsOperand, ends, joined}
+use Rattle.macro_statements.specs.declared.statements.Operation.{Operation}
+use Rattle.macro_statements.specs.declared.statements.Operation.TheVariants as operation
+use Rattle.operand_texts.proofs.OperandTexts.{Goes, IsOperand, ends, joined}
 
 -- a text that no blank ends, and that closes its apostrophes
 abbrev pub Unbroken : Nesting → List ℕ → Type 0
@@ -157,23 +157,13 @@ laid (suc most) j (c ∷ cs) g h some few = elim (cases_lt 56 (length (c ∷ cs)
   | inr short ↦ laid_last most j c cs g h short
 ]
 
--- what stands in front of the operands on a first line, and how many bytes of them have room there
+-- what stands in front of the operands on a first line
 abbrev pub front_of : Operation → List ℕ
 front_of operation.Storage = 32 ∷ (codes "STORAGE" ++ 32 ∷ [])
 front_of operation.Poke = 32 ∷ (codes "POKE" ++ 32 ∷ [])
 front_of operation.Peek = 32 ∷ (codes "PEEK" ++ 32 ∷ [])
 front_of operation.Back = 32 ∷ (codes "BACK" ++ 32 ∷ [])
 front_of operation.Forward = 32 ∷ (codes "FORWARD" ++ 32 ∷ [])
-
-abbrev pub less : Operation → ℕ
-less operation.Storage = 61
-less operation.Poke = 64
-less operation.Peek = 64
-less operation.Back = 64
-less operation.Forward = 61
-
-abbrev pub room : Operation → ℕ
-room o = suc (less o)
 
 -- the operands of a field are unbroken
 pub unbroken_joined : (o : List ℕ) (os : List (List ℕ)) → IsOperand o → AllByRecursion IsOperand os → Unbroken outside (joined o os)

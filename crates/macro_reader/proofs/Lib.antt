@@ -1,16 +1,5 @@
-pub mod Split
 pub mod Lines
 pub mod Readings
-pub mod Names
-pub mod KeywordBits
-pub mod Digits
-pub mod Spelling
-pub mod Bytes
-pub mod InPositions
-pub mod SpelledBytes
-pub mod OperandTexts
-pub mod KeywordOperands
-pub mod ValueTexts
-pub mod RequestTexts
 pub mod FieldLines
 pub mod WrittenLines
+pub mod ReadRequests

@@ -4,15 +4,16 @@ use Rattle.std.proofs.lemmas.Bool.{cases_lt}
 use Rattle.std.proofs.lemmas.Bool.Decides.{nat_tests}
 use Rattle.std.proofs.lemmas.List.{length-drop, take-append-drop}
 use Rattle.macro_reader.specs.Columns.{Line, used, is_blank, is_comment, is_skipped}
-use Rattle.macro_reader.specs.Field.{outside}
+use Rattle.operand_texts.specs.Field.{outside}
 use Rattle.macro_reader.specs.Continuation.{Joined, no_field, begun, with_part, with_lines}
-use Rattle.macro_reader.specs.Requests.{Asked}
-use Rattle.macro_reader.specs.Statements.{of_operation, from_operands, is_misplaced, statement_with, SpellsRequest}
+use Rattle.macro_statements.specs.Requests.{Asked}
+use Rattle.macro_statements.specs.Statements.{of_operation, from_operands, is_misplaced, statement_with, SpellsRequest}
 use Rattle.macro_reader.specs.Scripts.{Answer, Answers, IsGroup, Part, whole, said_by}
-use Rattle.macro_reader.specs.declared.statements.Operation.{Operation}
-use Rattle.macro_reader.specs.declared.statements.Operation.TheVariants as operation
-use Rattle.macro_reader.proofs.OperandTexts.{ends}
-use Rattle.macro_reader.proofs.FieldLines.{Unbroken, field_stops, whole_part, used_full, continued_full, used_last, continued_last, full_goes_on, full_unbroken, laid, front_of, less, room}
+use Rattle.macro_statements.specs.declared.statements.Operation.{Operation}
+use Rattle.macro_statements.specs.declared.statements.Operation.TheVariants as operation
+use Rattle.operand_texts.proofs.OperandTexts.{ends}
+use Rattle.macro_reader.proofs.FieldLines.{Unbroken, field_stops, whole_part, used_full, continued_full, used_last, continued_last, full_goes_on, full_unbroken, laid, front_of}
+use Rattle.macro_statements.proofs.RequestTexts.{less, room}
 
 front_fits : (o : Operation) → length (front_of o) + room o ≡ 71
 front_fits operation.Storage = refl

@@ -1,13 +1,14 @@
 -- The grammar of a script: its lines fall into parts, one after another, and each part has at most one answer.
-use Rattle.std.specs.Prelude.{◌≡◌, ℕ, ◌+◌, ◌-◌, ◌^◌, ◌≤◌, ◌⊎◌, ◌==◌, min, Bool, true, false, List, [], ◌∷◌, ◌++◌, length, map, Option, Some, None, Result, Ok, Err, ⊤}
+use Rattle.std.specs.Prelude.{◌≡◌, ℕ, ◌+◌, ◌-◌, ◌^◌, ◌≤◌, ◌⊎◌, ◌==◌, min, Bool, true, false, List, [], ◌∷◌, ◌++◌}
+use Rattle.std.specs.Prelude.{length, map, Option, Some, None, Result, Ok, Err, ⊤}
 use Rattle.std.specs.List.{flat_map, AllByRecursion}
 use Rattle.macro_reader.specs.Columns.{Line, used, is_continued, is_skipped}
-use Rattle.macro_reader.specs.Requests.{Asked, asked_in, IsValidAsked}
-use Rattle.macro_reader.specs.Statements.{statement_with}
+use Rattle.macro_statements.specs.Requests.{Asked, asked_in, IsValidAsked}
+use Rattle.macro_statements.specs.Statements.{statement_with}
 use Rattle.macro_reader.specs.Continuation.{Joined, begun, with_line, with_lines}
-use Rattle.macro_reader.specs.declared.faults.FaultKind.{FaultKind}
-use Rattle.macro_reader.specs.declared.faults.FaultKind.TheVariants as kind
-use Rattle.macro_reader.specs.declared.faults.Fault.{Fault}
+use Rattle.macro_statements.specs.declared.faults.FaultKind.{FaultKind}
+use Rattle.macro_statements.specs.declared.faults.FaultKind.TheVariants as kind
+use Rattle.macro_reader.specs.declared.reading.Fault.{Fault}
 use Rattle.macro_reader.specs.declared.reading.Fed.{Fed}
 use Rattle.macro_reader.specs.declared.reading.Fed.TheVariants as fed
 
@@ -16,8 +17,8 @@ pub record Answer : Type 0 where
   pub line : ℕ
   pub what : Result Asked FaultKind
 
--- A comment or empty line; a statement with its continuation lines; a statement with those continuation lines that are good, the one that
--- breaks a rule of continuation, and the lines that are dropped behind it.
+-- A comment or empty line; a statement with its continuation lines; a statement with those continuation lines that are
+-- good, the one that breaks a rule of continuation, and the lines that are dropped behind it.
 pub data Part : Type 0 where
   skipped : Line → Part
   whole : Line → List Line → Part
@@ -42,12 +43,13 @@ abbrev pub IsDropping : Line → List Line → Type 0
 IsDropping line [] = is_continued line ≡ true
 IsDropping line (next ∷ lines) = (is_continued line ≡ true) × IsDropping next lines
 
--- A rule of continuation is broken at a line behind a first line and these continuation lines, which have this field: a rule of columns,
--- or the line would be followed by a tenth continuation line.
+-- A rule of continuation is broken at a line behind a first line and these continuation lines, which have this field: a
+-- rule of columns, or the line would be followed by a tenth continuation line.
 abbrev pub IsBreak : Joined → List Line → Line → Type 0
 IsBreak j before line = (with_line j (used line) ≡ None) ⊎ ((length before ≡ 8) × (is_continued line ≡ true))
 
--- What makes a part. A statement has at most nine continuation lines (High Level Assembler Language Reference, "Continuation lines").
+-- What makes a part. A statement has at most nine continuation lines (High Level Assembler Language Reference,
+-- "Continuation lines").
 abbrev pub IsPart : Part → Type 0
 IsPart (skipped line) = is_skipped line ≡ true
 IsPart (whole line lines) =
@@ -77,8 +79,10 @@ number_behind before = min (before + 1) (2 ^ 32 - 1)
 abbrev pub answer_to : ℕ → Part → List Answer
 answer_to before (skipped line) = []
 answer_to before (whole line lines) =
-    record { line = number_behind before; what = said_by (used line) (with_lines (begun (used line)) (map used lines)) } ∷ []
-answer_to before (broken line lines at dropped) = record { line = number_behind before; what = Err kind.Continuation } ∷ []
+    record { line = number_behind before; what = said_by (used line) (with_lines (begun (used line)) (map used lines)) }
+    ∷ []
+answer_to before (broken line lines at dropped) =
+    record { line = number_behind before; what = Err kind.Continuation } ∷ []
 
 -- The answers to parts behind so many lines.
 abbrev pub answers_behind : ℕ → List Part → List Answer
@@ -92,7 +96,8 @@ pub record Reads (lines : List Line) (answers : List Answer) (parts : List Part)
   pub told : answers ≡ answers_behind 0 parts
 
 -- The lines are whole parts, and then a statement that is open: its lines so far are good, and each is continued.
-pub record Gathers (lines : List Line) (answers : List Answer) (number : ℕ) (card : List ℕ) (j : Joined) (count : ℕ) : Type 0 where
+pub record Gathers (lines : List Line) (answers : List Answer) (number : ℕ) (card : List ℕ) (j : Joined) (count : ℕ)
+    : Type 0 where
   pub parts : List Part
   pub reads : Reads (flat_map lines_of parts) answers parts
   pub first : Line
@@ -121,9 +126,12 @@ pub record Drops (lines : List Line) (answers : List Answer) : Type 0 where
   pub breaks : (j : Joined) × (with_lines (begun (used first)) (map used before) ≡ Some j) × IsBreak j before at
   pub drops : IsDropping at dropped
   pub few : length before ≤ 8
-  pub told : answers ≡ whole_answers ++ record { line = number_behind (length (flat_map lines_of parts)); what = Err kind.Continuation } ∷ []
+  pub told : answers
+      ≡ whole_answers
+      ++ record { line = number_behind (length (flat_map lines_of parts)); what = Err kind.Continuation } ∷ []
 
--- The lines of a script that has ended are whole parts, and then a statement that is still open, whose fault is Continuation.
+-- The lines of a script that has ended are whole parts, and then a statement that is still open, whose fault is
+-- Continuation.
 pub record Opens (lines : List Line) (answers : List Answer) : Type 0 where
   pub whole_answers : List Answer
   pub number : ℕ
@@ -133,12 +141,14 @@ pub record Opens (lines : List Line) (answers : List Answer) : Type 0 where
   pub gathers : Gathers lines whole_answers number card joined count
   pub told : answers ≡ whole_answers ++ record { line = number; what = Err kind.Continuation } ∷ []
 
--- The answers to the lines of a script that has ended: whole parts; a broken statement at the end besides; or one that is still open.
+-- The answers to the lines of a script that has ended: whole parts; a broken statement at the end besides; or one that
+-- is still open.
 abbrev pub Answers : List Line → List Answer → Type 0
 Answers lines answers = ((parts : List Part) × Reads lines answers parts) ⊎ (Drops lines answers ⊎ Opens lines answers)
 
--- Where a reader stands between two lines: it awaits a statement, or drops the lines behind a broken one, or has an open statement, of
--- which it keeps the number and the columns of the first line, the field, and the count of the continuation lines.
+-- Where a reader stands between two lines: it awaits a statement, or drops the lines behind a broken one, or has an
+-- open statement, of which it keeps the number and the columns of the first line, the field, and the count of the
+-- continuation lines.
 pub data Mode : Type 0 where
   idle : Mode
   dropping : Mode
@@ -186,14 +196,18 @@ behind_break false = idle
 abbrev pub idle_with : Bool → Bool → ℕ → Line → Mode × List Answer
 idle_with true continued number line = (idle, [])
 idle_with false true number line = (gathering number (used line) (begun (used line)) 0, [])
-idle_with false false number line = (idle, record { line = number; what = statement_with (used line) (begun (used line)).text } ∷ [])
+idle_with false false number line =
+    (idle, record { line = number; what = statement_with (used line) (begun (used line)).text } ∷ [])
 
--- How a line moves a reader that has an open statement, by the field with the line, whether the line is continued, and whether it is the
--- ninth continuation line.
+-- How a line moves a reader that has an open statement, by the field with the line, whether the line is continued, and
+-- whether it is the ninth continuation line.
 abbrev pub gathered_with : Option Joined → Bool → Bool → ℕ → List ℕ → ℕ → Mode × List Answer
-gathered_with None continued ninth number card count = (behind_break continued, record { line = number; what = Err kind.Continuation } ∷ [])
-gathered_with (Some j) false ninth number card count = (idle, record { line = number; what = statement_with card j.text } ∷ [])
-gathered_with (Some j) true true number card count = (dropping, record { line = number; what = Err kind.Continuation } ∷ [])
+gathered_with None continued ninth number card count =
+    (behind_break continued, record { line = number; what = Err kind.Continuation } ∷ [])
+gathered_with (Some j) false ninth number card count =
+    (idle, record { line = number; what = statement_with card j.text } ∷ [])
+gathered_with (Some j) true true number card count =
+    (dropping, record { line = number; what = Err kind.Continuation } ∷ [])
 gathered_with (Some j) true false number card count = (gathering number card j (count + 1), [])
 
 -- How a line with this number moves a reader, and what it answers.

@@ -7,9 +7,9 @@ ghost use Rattle.macro_reader.specs.Modes.{joined};
 
 use crate::columns::is_blank;
 use crate::modes::{FIELD_BYTES, Gathered};
-use crate::nesting::{Nesting, field_len};
-use crate::statements::{from_operands, is_misplaced};
 use arrayvec::ArrayVec;
+use macro_statements::{from_operands, is_misplaced};
+use operand_texts::nesting::{Nesting, field_len};
 
 /// Where the byte behind a text stands.
 fn nesting_after(start: Nesting, text: &[u8]) -> Nesting
@@ -63,13 +63,14 @@ impl Gathered {
         self.goes_on = n == part.len() || ends_with_comma(self.text.as_slice());
     }
 
-    /// Takes one continuation line more, columns 1 to 71 of it, and says whether it is good. Where a rule of continuation is broken, the
-    /// field is of no use any more.
+    /// Takes one continuation line more, columns 1 to 71 of it, and says whether it is good. Where a rule of
+    /// continuation is broken, the field is of no use any more.
     pub(crate) fn take_line(&mut self, card: &[u8]) -> bool
         requires size { length card.now ≡ 71 }
         requires fewer { self.old.lines ≤ 8 }
         ensures lines { IsTrue result → self.new.lines ≡ self.old.lines + 1 }
-        ensures joined { MatchBool result (with_line (joined self.old) card.now ≡ Some (joined self.new)) (with_line (joined self.old) card.now ≡ None) }
+        ensures joined { MatchBool result (with_line (joined self.old) card.now ≡ Some (joined self.new))
+            (with_line (joined self.old) card.now ≡ None) }
     {
         if !is_blank(&card[..15]) {
             return false;

@@ -2,30 +2,20 @@
 #![tactic(auto)]
 
 mod columns;
-mod contents;
 mod continuation;
-mod faults;
-mod keywords;
 mod laws;
 mod modes;
-mod nesting;
-mod numbers;
-mod operands;
-mod positions;
 mod reading;
-mod requests;
-mod rows;
-mod statements;
-mod values;
-mod words;
 
-pub use faults::{Fault, FaultKind};
-pub use laws::{
-    every_script_is_read, one_reading, valid_contents_are_spelled, valid_places_are_spelled,
-    valid_requests_are_read, valid_requests_are_spelled, valid_values_are_spelled,
+pub use laws::{every_script_is_read, one_reading, valid_requests_are_read};
+pub use macro_statements::{
+    Family, FaultKind, Form, Request, Statement, valid_requests_are_spelled,
 };
-pub use reading::{Fed, Reader};
-pub use requests::{Content, Family, Form, Name, Place, Request, Statement, Value};
+pub use operand_texts::{
+    Content, Name, Place, Value, valid_contents_are_spelled, valid_places_are_spelled,
+    valid_values_are_spelled,
+};
+pub use reading::{Fault, Fed, Reader};
 
 #[cfg(test)]
 mod edge_tests;

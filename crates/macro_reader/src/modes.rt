@@ -3,8 +3,8 @@
 ghost use Rattle.std.specs.Prelude.{◌+◌, ◌*◌, ◌≤◌};
 ghost use Rattle.arrayvec.specs.ArrayVec.{array_vec_len};
 
-use crate::nesting::Nesting;
 use arrayvec::ArrayVec;
+use operand_texts::nesting::Nesting;
 
 /// The bytes of a field that a first line and nine continuation lines have at most: 71 and 9 times 56.
 pub const FIELD_BYTES: usize = 575;

@@ -2,19 +2,27 @@
 
 ghost use Rattle.std.specs.Prelude.{◌≡◌, [], ◌∷◌, ◌++◌, List};
 ghost use Rattle.macro_reader.specs.Columns.{Line, is_continued};
-ghost use Rattle.macro_reader.specs.Scripts.{Answer, Answers, IsBehind, IsValidFed, told_by, told_at_end, moved, behind_break, idle};
+ghost use Rattle.macro_reader.specs.Scripts.{Answer, Answers, IsBehind, IsValidFed, told_by, told_at_end, moved};
+ghost use Rattle.macro_reader.specs.Scripts.{behind_break, idle};
 ghost use Rattle.macro_reader.specs.Modes.{mode_of};
-ghost use Rattle.macro_reader.specs.Statements.{statement_with};
+ghost use Rattle.macro_statements.specs.Statements.{statement_with};
 ghost use Rattle.macro_reader.specs.declared.modes.Mode.TheVariants.{Gathering};
 
 use crate::columns::{is_continued, is_skipped, used};
 use crate::continuation::begin;
-use crate::faults::{Fault, FaultKind};
 use crate::modes::{Mode, OpenStatement};
-use crate::requests::Request;
-use crate::statements::statement_with;
+use macro_statements::{FaultKind, Request, statement_with};
 use std::marker::Model;
 use std::mem;
+
+/// A statement that is wrong.
+#[derive(Clone, Copy, Debug, PartialEq, Eq)]
+pub struct Fault {
+    /// What is wrong with it.
+    pub kind: FaultKind,
+    /// The number of its first line, from 1.
+    pub line: u32,
+}
 
 /// What a line brought.
 #[derive(Clone, Debug, PartialEq, Eq, Drop)]
@@ -144,12 +152,13 @@ impl Reader {
 
     /// Takes the next line of a script, without its line feed. Columns 73 on aren't read.
     ///
-    /// Answers a request where the line ends a statement that asks for one, `More` where no answer is due, and the first fault of a
-    /// statement that is wrong. A line whose column 72 isn't blank is continued by the next line, which is used from column 16 on; a
-    /// statement has at most nine continuation lines. Where a rule of continuation is broken the fault is `Continuation`, whatever else is
-    /// wrong with the statement, and it comes at the line that breaks the rule; the lines behind that are dropped as long as the line before
-    /// has a column 72 that isn't blank. Each other fault comes at the statement's last line. After a fault the reader awaits the next
-    /// statement. (High Level Assembler Language Reference, "Assembler language coding conventions".)
+    /// Answers a request where the line ends a statement that asks for one, `More` where no answer is due, and the
+    /// first fault of a statement that is wrong. A line whose column 72 isn't blank is continued by the next line,
+    /// which is used from column 16 on; a statement has at most nine continuation lines. Where a rule of continuation
+    /// is broken the fault is `Continuation`, whatever else is wrong with the statement, and it comes at the line that
+    /// breaks the rule; the lines behind that are dropped as long as the line before has a column 72 that isn't blank.
+    /// Each other fault comes at the statement's last line. After a fault the reader awaits the next statement. (High
+    /// Level Assembler Language Reference, "Assembler language coding conventions".)
     pub fn next(&mut self, line: &[u8]) -> Result<Fed, Fault>
         ensures answers { (lines : List Line) (answers : List Answer) → IsBehind lines answers self.old
             → IsBehind (lines ++ line.now ∷ []) (answers ++ told_by result) self.new }

@@ -7,7 +7,7 @@ use Rattle.macro_reader.proofs.Lines.{behind_push}
 use Rattle.vsm_model.specs.declared.limits.Settings.{Settings}
 use Rattle.vsm_model.specs.declared.replies.Reply.{Reply}
 use Rattle.vsm_model.specs.Standing.{Standing, nothing_stands}
-use Rattle.macro_reader.specs.Requests.{Act}
+use Rattle.macro_statements.specs.Requests.{Act}
 use Rattle.script_run.specs.Output.{Marked, AllMet, stands_all, stands_after}
 use Rattle.script_run.specs.Script.{columns}
 use Rattle.script_run.specs.Taken.{Told, Unended, PassesBound, answers_of}

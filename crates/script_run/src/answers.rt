@@ -1,6 +1,6 @@
 //! A bench answers what a line asks for.
 ghost use Rattle.std.specs.Prelude.{◌≡◌, ◌≤◌, IfOk, Ok};
-ghost use Rattle.macro_reader.specs.Requests.{act, peek, back, forward, act_in, asked_in, written_in, seen, IsValidAct, IsValidAsked};
+ghost use Rattle.macro_statements.specs.Requests.{act, peek, back, forward, act_in, asked_in, written_in, seen, IsValidAct, IsValidAsked};
 ghost use Rattle.macro_reader.specs.Scripts.{told_by, told_at_end, IsValidFed};
 ghost use Rattle.bench_core.specs.Stands.{bench_of, settings_in};
 ghost use Rattle.script_run.specs.Answers.{Responds, Tells, told_count, told_refused};

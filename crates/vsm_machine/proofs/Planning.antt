@@ -9,7 +9,7 @@ use Rattle.vsm_model.specs.Names.{NamedState, named, names_after, is_one_too_man
 use Rattle.vsm_model.specs.Standing.{Accepted, Refused}
 use Rattle.vsm_model.specs.Services.{Service}
 use Rattle.vsm_model.specs.Step.{step}
-use Rattle.macro_reader.specs.Requests.{Act}
+use Rattle.macro_statements.specs.Requests.{Act}
 use Rattle.storage_core.specs.Planned as storage
 use Rattle.name_table.specs.Steps.{define, reword, step_to}
 use Rattle.name_table.proofs.StepsBack.{step_to_can, step_to_rows}

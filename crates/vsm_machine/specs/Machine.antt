@@ -13,7 +13,7 @@ use Rattle.vsm_model.specs.Codes.{completion_code}
 use Rattle.vsm_model.specs.Names.{NamedState, named_step, word_of}
 use Rattle.vsm_model.specs.Services.{Service, Obtain, Release, Store}
 use Rattle.vsm_model.specs.Standing.{Outcome, Accepted, Refused}
-use Rattle.macro_reader.specs.Requests.{Written, number, named, register, Target, in_name, in_register, Stored, spelled, word, Act, obtain, release, poke}
+use Rattle.macro_statements.specs.Requests.{Written, number, named, register, Target, in_name, in_register, Stored, spelled, word, Act, obtain, release, poke}
 
 -- Why the plain machine refuses a statement: a name in a value isn't defined, or a service ends with a completion code.
 pub data Why : Type 0 where

@@ -6,7 +6,7 @@ use Rattle.vsm_model.specs.declared.replies.Reply.{Reply}
 use Rattle.vsm_model.specs.declared.replies.Reply.TheVariants.{Obtained}
 use Rattle.vsm_model.specs.Names.{NamedState}
 use Rattle.vsm_model.specs.Standing.{Accepted, Refused}
-use Rattle.macro_reader.specs.Requests.{Act}
+use Rattle.macro_statements.specs.Requests.{Act}
 use Rattle.storage_core.specs.Meaning.{state_of, settings_of, storage_in}
 use Rattle.storage_core.specs.Planned as storage
 use Rattle.name_table.specs.Steps.{NameStep, define, step_in, step_to}

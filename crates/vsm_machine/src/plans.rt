@@ -4,7 +4,7 @@ ghost use Rattle.std.specs.Option.{option_map};
 ghost use Rattle.storage_core.specs.Meaning.{settings_of};
 ghost use Rattle.storage_core.specs.Planned.{FitsStorage};
 ghost use Rattle.vsm_model.specs.Names.{is_one_too_many};
-ghost use Rattle.macro_reader.specs.Requests.{act_in, IsValidAct};
+ghost use Rattle.macro_statements.specs.Requests.{act_in, IsValidAct};
 ghost use Rattle.name_table.specs.Table.{rows_of, knows};
 ghost use Rattle.name_table.specs.Steps.{step_in};
 ghost use Rattle.vsm_machine.specs.Changes.{shown, step_of, CanStepBy};
@@ -13,7 +13,7 @@ ghost use Rattle.vsm_machine.specs.Planned.{step_for, step_planned, defined_by, 
 use crate::machine::{Change, Machine};
 use crate::refusals::Refusal;
 use crate::services::{family_of, name_of, service_of};
-use macro_reader::Statement;
+use macro_statements::Statement;
 use name_table::{Name, NameChange, NameTable};
 use std::alloc::AllocError;
 use storage_core::{Plan, Reply};

@@ -3,13 +3,14 @@ ghost use Rattle.std.specs.Prelude.{◌≡◌, IfSome};
 ghost use Rattle.std.specs.Option.{option_map};
 ghost use Rattle.vsm_model.specs.Meaning.{service_in};
 ghost use Rattle.storage_core.specs.Planned.{HasItsBounds};
-ghost use Rattle.macro_reader.specs.Requests.{act_in, target_in, IsValidAct};
+ghost use Rattle.macro_statements.specs.Requests.{act_in, target_in, IsValidAct};
 ghost use Rattle.vsm_machine.specs.Changes.{shown};
 ghost use Rattle.vsm_machine.specs.Machine.{service_asked, name_asked, family_asked, register_in};
 
 use crate::machine::Machine;
 use crate::values::{bytes_of, look_up};
-use macro_reader::{Family, Name, Place, Statement};
+use macro_statements::{Family, Statement};
+use operand_texts::{Name, Place};
 use storage_core::{Obtain, Release, Service};
 
 /// The register that is set besides register 1, if the place is one.

@@ -1,14 +1,14 @@
 //! The words of values, as a machine has them.
 ghost use Rattle.std.specs.Prelude.{◌≡◌, ◌≤◌, length};
 ghost use Rattle.std.specs.Option.{option_map};
-ghost use Rattle.macro_reader.specs.Requests.{written_in, stored_in, IsValue, IsStored};
+ghost use Rattle.macro_statements.specs.Requests.{written_in, stored_in, IsValue, IsStored};
 ghost use Rattle.vsm_machine.specs.Changes.{shown};
 ghost use Rattle.vsm_machine.specs.Machine.{looked_up, bytes_in};
 
 use crate::machine::Machine;
 use arrayvec::ArrayVec;
 use byteorder::{BigEndian, ByteOrder};
-use macro_reader::{Content, Value};
+use operand_texts::{Content, Value};
 use storage_core::STORE_MOST;
 
 /// The word that a value stands for: a number itself, a name the word that it was given, a register of the current task what it has.

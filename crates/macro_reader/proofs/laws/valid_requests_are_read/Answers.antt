@@ -1,4 +1,4 @@
-use Rattle.macro_reader.proofs.RequestTexts.{valid_request_is_read}
+use Rattle.macro_reader.proofs.ReadRequests.{valid_request_is_read}
 use Rattle.macro_reader.proofs.laws.valid_requests_are_read.Goals as goal
 
 pub returns : goal.returns

@@ -1,5 +1,5 @@
 use Rattle.std.proofs.Common.{◌≡◌, ◌-◌, ◌++◌, ◌∷◌, [], List, length, drop, sym, ◌∙◌, ap, subst}
-use Rattle.macro_reader.specs.Requests.{act_in}
+use Rattle.macro_statements.specs.Requests.{act_in}
 use Rattle.storage_core.specs.Meaning.{settings_of}
 use Rattle.step_history.specs.Log.{latest}
 use Rattle.vsm_model.specs.Standing.{Accepted}

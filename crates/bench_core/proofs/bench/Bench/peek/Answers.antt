@@ -11,6 +11,6 @@ pub returns-in-Err-clause-refused : goal.returns-in-Err-clause-refused
 returns-in-Err-clause-refused c = (
   abended (System 0x0c4),
   ap (λ o. loaded_at (shown c.args.self.now.machine) o (length c.args.out.now)) (sym c.in-Some.ensures)
-  ∙ ap or_abended c.in-Err.ensures.err,
+      ∙ ap or_abended c.in-Err.ensures.err,
   ap Abend (c.code.ensures ∙ ap (code_of (suffix S false)) c.in-Err.ensures.cause),
 )

@@ -1,0 +1,4 @@
+pub mod KeywordBits
+pub mod InPositions
+pub mod KeywordOperands
+pub mod RequestTexts

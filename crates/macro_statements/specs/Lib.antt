@@ -1,0 +1,9 @@
+pub use Rattle.operand_texts.specs.Words
+pub use Rattle.operand_texts.specs.Field
+pub use Rattle.operand_texts.specs.Written
+pub use Rattle.operand_texts.specs.Values
+pub mod Requests
+pub mod Keywords
+pub mod Rows
+pub mod Statements
+pub mod KeywordSets

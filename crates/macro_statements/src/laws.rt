@@ -1,0 +1,14 @@
+//! Laws of statements.
+
+ghost use Rattle.std.specs.Prelude.{◌↔◌, ℕ, List};
+ghost use Rattle.macro_statements.specs.Requests.{Asked, IsValidAsked, AskedHasBytes};
+ghost use Rattle.macro_statements.specs.Statements.{SpellsRequest};
+ghost use Rattle.macro_statements.specs.declared.statements.Operation.{Operation};
+
+/// A request, and so each statement, is valid exactly where some operation with some operand field spells it. (An
+/// operand field is what the lines of a statement have from the operands on, without what a continuation line has up to
+/// column 15.)
+pub fn valid_requests_are_spelled()
+    ensures { (asked : Asked) → AskedHasBytes asked
+        → IsValidAsked asked ↔ ((operation : Operation) × (field : List ℕ) × SpellsRequest operation field asked) }
+{}

@@ -1,0 +1,17 @@
+//! Statements of storage macros: what the columns of a first line and an operand field ask for, or their first fault.
+#![tactic(auto)]
+
+mod faults;
+mod keywords;
+mod laws;
+mod operands;
+mod positions;
+mod requests;
+mod rows;
+mod statements;
+
+pub use faults::FaultKind;
+pub use laws::valid_requests_are_spelled;
+pub use requests::{Form, Request, Statement};
+pub use statements::{from_operands, is_misplaced, statement_with};
+pub use vsm_model::Family;

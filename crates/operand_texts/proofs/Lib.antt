@@ -1,0 +1,8 @@
+pub mod Split
+pub mod Names
+pub mod Digits
+pub mod Spelling
+pub mod Bytes
+pub mod SpelledBytes
+pub mod OperandTexts
+pub mod ValueTexts

@@ -1,0 +1,57 @@
+-- The operand field of a statement: apostrophes and parentheses in it, where it ends, and its operands.
+use Rattle.std.specs.Prelude.{ℕ, ◌+◌, ◌-◌, Bool, false, not, ◌&&◌, ◌==◌, if◌then◌else◌, List, [], ◌∷◌, length, Option}
+use Rattle.std.specs.Prelude.{None, Some}
+use Rattle.operand_texts.specs.declared.nesting.Nesting.{Nesting}
+
+-- The start of a field stands outside apostrophes and parentheses.
+abbrev pub outside : Nesting
+outside = record { quoted = false; depth = 0 }
+
+-- A byte of the field opens or closes an apostrophe, or outside apostrophes a parenthesis (High Level Assembler
+-- Language Reference, "Operand entries").
+abbrev pub past : Nesting → ℕ → Nesting
+past n c =
+    if c == 39 then record { quoted = not n.quoted; depth = n.depth }
+    else if n.quoted then n
+    else if c == 40 then record { quoted = n.quoted; depth = n.depth + 1 }
+    else if c == 41 then record { quoted = n.quoted; depth = n.depth - 1 }
+    else n
+
+-- The field goes up to the first blank outside apostrophes; what follows is remarks (High Level Assembler Language
+-- Reference, "Remarks entries").
+abbrev pub field_len : Nesting → List ℕ → ℕ
+field_len n [] = 0
+field_len n (c ∷ cs) = if c == 32 && not n.quoted then 0 else 1 + field_len (past n c) cs
+
+-- Each apostrophe and each parenthesis is closed, and none is closed too often.
+abbrev pub is_balanced : Nesting → List ℕ → Bool
+is_balanced n [] = not n.quoted && (n.depth == 0)
+is_balanced n (c ∷ cs) = not (c == 41 && not n.quoted && (n.depth == 0)) && is_balanced (past n c) cs
+
+-- A comma outside apostrophes and parentheses stands between two operands.
+abbrev pub separates : Nesting → ℕ → Bool
+separates n c = c == 44 && not n.quoted && (n.depth == 0)
+
+-- The first operand goes up to the first comma that separates.
+abbrev pub operand_len : Nesting → List ℕ → ℕ
+operand_len n [] = 0
+operand_len n (c ∷ cs) = if separates n c then 0 else 1 + operand_len (past n c) cs
+
+-- A byte is put in front of the first operand.
+abbrev pub onto : ℕ → List (List ℕ) → List (List ℕ)
+onto c [] = (c ∷ []) ∷ []
+onto c (o ∷ os) = (c ∷ o) ∷ os
+
+-- A text is split into operands at the commas that separate.
+abbrev pub operands_from : Nesting → List ℕ → List (List ℕ)
+operands_from n [] = [] ∷ []
+operands_from n (c ∷ cs) = if separates n c then [] ∷ operands_from outside cs else onto c (operands_from (past n c) cs)
+
+-- The operands of a field, of which an empty field has none.
+abbrev pub operands : List ℕ → List (List ℕ)
+operands text = if length text == 0 then [] else operands_from outside text
+
+-- The operands behind one, where a comma and this text follow it, or nothing.
+abbrev pub operands_behind : Option (List ℕ) → List (List ℕ)
+operands_behind None = []
+operands_behind (Some text) = operands_from outside text

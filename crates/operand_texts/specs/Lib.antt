@@ -1,0 +1,4 @@
+pub mod Words
+pub mod Field
+pub mod Written
+pub mod Values

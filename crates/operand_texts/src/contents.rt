@@ -1,0 +1,130 @@
+//! What POKE stores and how much PEEK shows, as operands spell it.
+
+ghost use Rattle.std.specs.Prelude.{◌≡◌, ◌↔◌, ◌≤◌, ◌/◌, ◌%◌, IfSome, IsTrue, drop, length};
+ghost use Rattle.std.specs.Option.{option_map};
+ghost use Rattle.operand_texts.specs.Written.{written_in, stored_in, IsValue, IsStored};
+ghost use Rattle.operand_texts.specs.Values.{byte_of, hex_bytes, spelled_bytes, is_address_constant, word_of};
+ghost use Rattle.operand_texts.specs.Values.{content_of, size_of};
+
+use crate::numbers::{is_quoted, number_of};
+use crate::values::{Value, enclosed, is_enclosed, value_of};
+use arrayvec::ArrayVec;
+
+/// What is stored in bytes.
+#[derive(Clone, Debug, PartialEq, Eq, Drop)]
+pub enum Content {
+    /// These bytes, 1 to 256 of them.
+    Spelled(ArrayVec<u8, 256>),
+    /// A value as a fullword.
+    Word(Value),
+}
+
+impl Content {
+    /// Whether a statement can spell this: at least one byte, or a value that it can spell.
+    pub fn valid(&self) -> bool
+        ensures { IsTrue result ↔ IsStored (stored_in self.now) }
+    {
+        match self {
+            Content::Spelled(bytes) => matches!(bytes.len(), 1..=256),
+            Content::Word(value) => value.valid(),
+        }
+    }
+}
+
+/// The byte that two hexadecimal digits spell.
+fn byte_of(high: u8, low: u8) -> Option<u8>
+    ensures { result ≡ byte_of high low }
+{
+    let high = char::from(high).to_digit(16)?;
+    let low = char::from(low).to_digit(16)?;
+    Some((16 * high + low) as u8)
+}
+
+/// The bytes that pairs of hexadecimal digits spell.
+fn hex_bytes(digits: &[u8]) -> Option<ArrayVec<u8, 256>>
+    requires even { length digits.now % 2 ≡ 0 }
+    requires most { length digits.now ≤ 512 }
+    ensures value { option_map (λ b. b.items) result ≡ hex_bytes digits.now }
+    ensures len { IfSome result (λ b. length b.items ≡ length digits.now / 2) }
+{
+    let mut bytes = ArrayVec::new();
+    for i in 0..digits.len() / 2 {
+        let byte = byte_of(digits[2 * i], digits[2 * i + 1])?;
+        bytes.push(byte);
+    }
+    Some(bytes)
+}
+
+/// The 1 to 256 bytes that digits spell.
+fn spelled_bytes(digits: &[u8]) -> Option<ArrayVec<u8, 256>>
+    ensures value { option_map (λ b. b.items) result ≡ spelled_bytes digits.now }
+    ensures least { IfSome result (λ b. 1 ≤ length b.items) }
+    ensures most { IfSome result (λ b. length b.items ≤ 256) }
+{
+    if matches!(digits.len(), 2..=512) && digits.len() % 2 == 0 {
+        hex_bytes(digits)
+    } else {
+        None
+    }
+}
+
+/// What stands behind the first byte.
+fn behind_first(text: &[u8]) -> &[u8]
+    requires { 1 ≤ length text.now }
+    ensures { result.now ≡ drop 1 text.now }
+{
+    &text[1..]
+}
+
+/// Whether a text is an A and something in parentheses.
+fn is_address_constant(text: &[u8]) -> bool
+    ensures { result ≡ is_address_constant text.now }
+{
+    !text.is_empty() && text[0].to_ascii_uppercase() == b'A' && is_enclosed(behind_first(text))
+}
+
+/// The value that an A and parentheses make a word.
+fn word_of(text: &[u8]) -> Option<Value>
+    ensures value { option_map written_in result ≡ word_of text.now }
+    ensures valid { IfSome result (λ v. IsValue (written_in v)) }
+{
+    if is_address_constant(text) {
+        let value = enclosed(behind_first(text));
+        value_of(value)
+    } else {
+        None
+    }
+}
+
+/// What a text says is stored: X'..' with the digits of 1 to 256 bytes, or A(..) with a value. Nothing where it says
+/// neither.
+pub fn content_of(text: &[u8]) -> Option<Content>
+    ensures value { option_map stored_in result ≡ content_of text.now }
+    ensures valid { IfSome result (λ c. IsStored (stored_in c)) }
+{
+    if is_quoted(b'X', text) {
+        match spelled_bytes(&text[2..text.len() - 1]) {
+            Some(bytes) => Some(Content::Spelled(bytes)),
+            None => None,
+        }
+    } else {
+        match word_of(text) {
+            Some(value) => Some(Content::Word(value)),
+            None => None,
+        }
+    }
+}
+
+/// The size that a text spells, a number from 1 to 256. Nothing where it spells none.
+pub fn size_of(text: &[u8]) -> Option<u16>
+    ensures value { result ≡ size_of text.now }
+    ensures least { IfSome result (λ n. 1 ≤ n) }
+    ensures most { IfSome result (λ n. n ≤ 256) }
+{
+    let size = number_of(text)?;
+    if matches!(size, 1..=256) {
+        Some(size as u16)
+    } else {
+        None
+    }
+}

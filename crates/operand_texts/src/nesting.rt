@@ -1,0 +1,112 @@
+//! Apostrophes and parentheses of an operand field.
+
+ghost use Rattle.std.specs.Prelude.{◌≡◌, ◌∷◌, ◌+◌, ◌^◌, ◌<◌, ◌≤◌, length, List, ℕ, Some};
+ghost use Rattle.std.specs.Option.{option_copied};
+ghost use Rattle.operand_texts.specs.Field.{outside, past, field_len, is_balanced, operand_len, operands_from};
+ghost use Rattle.operand_texts.specs.Field.{operands_behind};
+
+/// Where a byte of a field stands: between apostrophes or not, and in how many parentheses.
+#[derive(Clone, Copy)]
+pub struct Nesting {
+    /// Whether it stands between apostrophes.
+    pub quoted: bool,
+    /// In how many parentheses it stands.
+    pub depth: usize,
+}
+
+impl Nesting {
+    /// Where the first byte of a field stands: outside apostrophes and parentheses.
+    pub fn outside() -> Nesting
+        ensures { result ≡ outside }
+    {
+        Nesting {
+            quoted: false,
+            depth: 0,
+        }
+    }
+
+    /// Where the byte behind this one stands. A parenthesis that is closed too often leaves a depth of 0.
+    pub fn past(self, byte: u8) -> Nesting
+        requires { self.depth + 1 < 2 ^ 64 }
+        ensures value { result ≡ past self byte }
+        ensures depth { result.depth ≤ self.depth + 1 }
+    {
+        let Nesting { quoted, depth } = self;
+        match byte {
+            b'\'' => Nesting {
+                quoted: !quoted,
+                depth,
+            },
+            _ if quoted => self,
+            b'(' => Nesting {
+                quoted,
+                depth: depth + 1,
+            },
+            b')' => Nesting {
+                quoted,
+                depth: depth.saturating_sub(1),
+            },
+            _ => self,
+        }
+    }
+}
+
+/// How many bytes of a text whose first byte stands so belong to the field: those up to the first blank outside
+/// apostrophes, or all.
+pub fn field_len(start: Nesting, text: &[u8]) -> usize
+    requires { start.depth + length text.now < 2 ^ 64 }
+    ensures value { result ≡ field_len start text.now }
+    ensures within { result ≤ length text.now }
+{
+    let mut at = start;
+    for (i, byte) in text.iter().enumerate() {
+        if *byte == b' ' && !at.quoted {
+            return i;
+        }
+        at = at.past(*byte);
+    }
+    text.len()
+}
+
+/// Whether each apostrophe and parenthesis of a text is closed, and none too often.
+pub fn is_balanced(text: &[u8]) -> bool
+    ensures { result ≡ is_balanced outside text.now }
+{
+    let mut at = Nesting::outside();
+    for byte in text {
+        if *byte == b')' && !at.quoted && at.depth == 0 {
+            return false;
+        }
+        at = at.past(*byte);
+    }
+    !at.quoted && at.depth == 0
+}
+
+/// How far the first operand of a field goes.
+fn operand_len(text: &[u8]) -> usize
+    ensures value { result ≡ operand_len outside text.now }
+    ensures within { result ≤ length text.now }
+{
+    let mut at = Nesting::outside();
+    for (i, byte) in text.iter().enumerate() {
+        if *byte == b',' && !at.quoted && at.depth == 0 {
+            return i;
+        }
+        at = at.past(*byte);
+    }
+    text.len()
+}
+
+/// The first operand of a text, up to a comma outside apostrophes and parentheses, and what stands behind that comma,
+/// or nothing where there is none.
+pub fn split(text: &[u8]) -> (&[u8], Option<&[u8]>)
+    ensures operands { operands_from outside text.now ≡ result.0.now ∷ operands_behind (option_copied result.1) }
+    ensures shorter { (rest : List ℕ) → option_copied result.1 ≡ Some rest → length rest < length text.now }
+{
+    let n = operand_len(text);
+    if n < text.len() {
+        (&text[..n], Some(&text[n + 1..]))
+    } else {
+        (text, None)
+    }
+}

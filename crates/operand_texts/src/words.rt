@@ -1,0 +1,112 @@
+//! Names and the words of a line.
+
+ghost use Rattle.std.specs.Prelude.{◌≡◌, ◌≤◌, IsTrue, length, map};
+ghost use Rattle.std.specs.List.{list_all};
+ghost use Rattle.std.specs.Char.{to_ascii_uppercase};
+ghost use Rattle.std.specs.Str.{IsAscii};
+ghost use Rattle.operand_texts.specs.Words.{is_letter, is_name_byte, is_name, is_word, word_len, blank_len, word};
+ghost use Rattle.operand_texts.specs.Words.{after_word, after_blanks};
+
+use arrayvec::ArrayString;
+
+fn is_letter(byte: u8) -> bool
+    ensures { result ≡ is_letter byte }
+{
+    matches!(byte, b'A'..=b'Z' | b'a'..=b'z' | b'$' | b'#' | b'@' | b'_')
+}
+
+fn is_name_byte(byte: u8) -> bool
+    ensures { result ≡ is_name_byte byte }
+{
+    is_letter(byte) || matches!(byte, b'0'..=b'9')
+}
+
+fn all_name_bytes(text: &[u8]) -> bool
+    ensures { result ≡ list_all is_name_byte text.now }
+{
+    text.iter().all(|byte| is_name_byte(*byte))
+}
+
+/// Whether a text is a name: a letter, or one of `$ # @ _`, and up to 62 of these or digits, in either case.
+pub fn is_name(text: &[u8]) -> bool
+    ensures { result ≡ is_name text.now }
+{
+    !text.is_empty() && text.len() <= 63 && is_letter(text[0]) && all_name_bytes(text)
+}
+
+/// A name in upper case. The text has to be a name.
+pub fn upper_name(text: &[u8]) -> ArrayString<63>
+    requires name { IsTrue (is_name text.now) }
+    requires ascii { IsAscii text.now }
+    ensures { result.bytes ≡ map to_ascii_uppercase text.now }
+{
+    let mut name = ArrayString::<63>::new();
+    for byte in text {
+        name.push(char::from(byte.to_ascii_uppercase()));
+    }
+    name
+}
+
+/// Whether a text is this word, in either case. The word is given in upper case.
+pub fn is_word(text: &[u8], word: &[u8]) -> bool
+    ensures { result ≡ is_word text.now word.now }
+{
+    if text.len() != word.len() {
+        return false;
+    }
+    for i in 0..text.len() {
+        if text[i].to_ascii_uppercase() != word[i] {
+            return false;
+        }
+    }
+    true
+}
+
+/// How many bytes the word in front has: those up to the first blank, or all.
+pub fn word_len(text: &[u8]) -> usize
+    ensures value { result ≡ word_len text.now }
+    ensures within { result ≤ length text.now }
+{
+    for (i, byte) in text.iter().enumerate() {
+        if *byte == b' ' {
+            return i;
+        }
+    }
+    text.len()
+}
+
+/// How far the blanks at the front go.
+fn blank_len(text: &[u8]) -> usize
+    ensures value { result ≡ blank_len text.now }
+    ensures within { result ≤ length text.now }
+{
+    for (i, byte) in text.iter().enumerate() {
+        if *byte != b' ' {
+            return i;
+        }
+    }
+    text.len()
+}
+
+/// The word in front, up to the first blank; it may be empty.
+pub fn word(text: &[u8]) -> &[u8]
+    ensures { result.now ≡ word text.now }
+{
+    &text[..word_len(text)]
+}
+
+/// What stands behind the word in front, from the first blank on.
+pub fn after_word(text: &[u8]) -> &[u8]
+    ensures value { result.now ≡ after_word text.now }
+    ensures within { length result.now ≤ length text.now }
+{
+    &text[word_len(text)..]
+}
+
+/// What stands behind the blanks in front, from the first byte on that is none.
+pub fn after_blanks(text: &[u8]) -> &[u8]
+    ensures value { result.now ≡ after_blanks text.now }
+    ensures within { length result.now ≤ length text.now }
+{
+    &text[blank_len(text)..]
+}
