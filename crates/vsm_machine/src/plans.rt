@@ -29,7 +29,7 @@ pub struct Planned {
 
 /// Whether the name is a new one, and as many as there may be are defined.
 fn is_one_too_many(names: &NameTable, name: Option<&Name>) -> bool
-    ensures { result ≡ is_one_too_many (rows_of names.now) (option_map (λ n. n.now.bytes) name) }
+    ensures { result ≡ is_one_too_many (rows_of names.now) (option_map (λ n. n.now.bytes) name.entry) }
 {
     match name {
         Some(name) => names.word(name).is_none() && names.is_full(),
@@ -39,7 +39,7 @@ fn is_one_too_many(names: &NameTable, name: Option<&Name>) -> bool
 
 /// The step of the name that gets the address, if there is one and an area was obtained.
 fn name_change(names: &NameTable, name: Option<&Name>, reply: Reply) -> Option<NameChange>
-    ensures { option_map step_in result ≡ step_for (rows_of names.now) (option_map (λ n. n.now.bytes) name) reply }
+    ensures { option_map step_in result ≡ step_for (rows_of names.now) (option_map (λ n. n.now.bytes) name.entry) reply }
 {
     match (name, reply) {
         (Some(name), Reply::Obtained { address, .. }) => Some(names.change_to(*name, address)),
