@@ -1,4 +1,4 @@
-use Rattle.std.proofs.Common.{length, sym, ◌∙◌, ap}
+use Rattle.std.proofs.Common.{false, length, sym, ◌∙◌, ap}
 use Rattle.vsm_model.specs.declared.causes.Code.TheVariants.{System}
 use Rattle.vsm_model.specs.declared.causes.Family.TheVariants.{S}
 use Rattle.vsm_model.specs.Codes.{suffix, code_of}
