@@ -3,7 +3,9 @@
 use Rattle.std.specs.Prelude.{ℕ, ◌/◌, Bool, not, ◌&&◌, ◌||◌, if◌then◌else◌, nat_lt, ◌==◌, is_some}
 use Rattle.vsm_model.specs.declared.Subpool.{Subpool}
 use Rattle.vsm_model.specs.declared.causes.Cause.{Cause}
-use Rattle.vsm_model.specs.declared.causes.Cause.TheVariants.{UnsupportedSubpool, SubpoolNotAllowed, ZeroLength, TooManyNames, NoStorage, Misaligned, NotInSubpool, OverlapsFree, NotAssigned}
+use Rattle.vsm_model.specs.declared.causes.Cause.TheVariants.{UnsupportedSubpool, SubpoolNotAllowed, ZeroLength}
+use Rattle.vsm_model.specs.declared.causes.Cause.TheVariants.{TooManyNames, NoStorage, Misaligned, NotInSubpool}
+use Rattle.vsm_model.specs.declared.causes.Cause.TheVariants.{OverlapsFree, NotAssigned}
 use Rattle.vsm_model.specs.declared.causes.Code.{Code}
 use Rattle.vsm_model.specs.declared.causes.Code.TheVariants.{System, User}
 use Rattle.vsm_model.specs.Regions.{Region, within}
@@ -12,8 +14,8 @@ use Rattle.vsm_model.specs.Areas.{belongs}
 use Rattle.vsm_model.specs.Standing.{Outcome, Refused}
 use Rattle.vsm_model.specs.declared.replies.Reply.{Reply}
 
--- The completion codes of the macro STORAGE: B78, 878, 978 and A78 are 2936, 2168, 2424 and 2680 in decimal. A reference to a
--- page that isn't assigned is 0C4, which is 196.
+-- The completion codes of the macro STORAGE: B78, 878, 978 and A78 are 2936, 2168, 2424 and 2680 in decimal. A
+-- reference to a page that isn't assigned is 0C4, which is 196.
 abbrev pub storage_code : Cause → Code
 storage_code UnsupportedSubpool = User 3007
 storage_code SubpoolNotAllowed = System 2936

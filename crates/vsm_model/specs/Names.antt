@@ -1,5 +1,6 @@
 -- The names that statements define: a name stands for a word.
-use Rattle.std.specs.Prelude.{◌≡◌, ℕ, Bool, true, false, ◌&&◌, not, nat_le, ◌==◌, if◌then◌else◌, Option, Some, None, is_some, List, [], ◌∷◌, length}
+use Rattle.std.specs.Prelude.{◌≡◌, ℕ, Bool, true, false, ◌&&◌, not, nat_le, ◌==◌, if◌then◌else◌, Option, Some, None}
+use Rattle.std.specs.Prelude.{is_some, List, [], ◌∷◌, length}
 use Rattle.vsm_model.specs.declared.causes.Cause.{Cause}
 use Rattle.vsm_model.specs.declared.limits.Settings.{Settings}
 use Rattle.vsm_model.specs.declared.replies.Reply.{Reply}
@@ -9,7 +10,8 @@ use Rattle.vsm_model.specs.State.{State, first_state}
 use Rattle.vsm_model.specs.Standing.{Outcome, Accepted, Refused}
 use Rattle.vsm_model.specs.Step.{step}
 
--- The plain machine as a whole: the state of its storage, and the names with their words in the order in which they were defined.
+-- The plain machine as a whole: the state of its storage, and the names with their words in the order in which they
+-- were defined.
 pub record NamedState : Type 0 where
   pub storage : State
   pub names : List (List ℕ × ℕ)
@@ -43,8 +45,8 @@ abbrev pub names_after : List (List ℕ × ℕ) → Option (List ℕ) → Reply 
 names_after names (Some name) (Obtained address length) = with_name names name address
 names_after names _ _ = names
 
--- What a statement does to the whole machine, by what its service does to the storage: an accepted one defines its name, one that
--- is refused or answered 4 does not.
+-- What a statement does to the whole machine, by what its service does to the storage: an accepted one defines its
+-- name, one that is refused or answered 4 does not.
 abbrev pub named : List (List ℕ × ℕ) → Option (List ℕ) → Outcome State Reply Cause → Outcome NamedState Reply Cause
 named names name (Accepted s reply) = Accepted (record { storage = s; names = names_after names name reply }) reply
 named names name (Refused cause) = Refused cause

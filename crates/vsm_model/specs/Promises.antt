@@ -1,7 +1,8 @@
--- What a caller can rely on when an obtain, a release or a store is accepted, by the storage before and after, with no word on how
--- an area is found.
--- Assembler Services Guide, "Virtual storage management", "Explicit requests for virtual storage" and "Subpool handling".
-use Rattle.std.specs.Prelude.{◌≡◌, ℕ, ◌+◌, ◌/◌, ◌%◌, ◌<◌, ◌≤◌, ◌⊎◌, Bool, ◌&&◌, ◌||◌, not, true, false, Option, Some, None, is_some, List, length}
+-- What a caller can rely on when an obtain, a release or a store is accepted, by the storage before and after, with no
+-- word on how an area is found. Assembler Services Guide, "Virtual storage management", "Explicit requests for virtual
+-- storage" and "Subpool handling".
+use Rattle.std.specs.Prelude.{◌≡◌, ℕ, ◌+◌, ◌/◌, ◌%◌, ◌<◌, ◌≤◌, ◌⊎◌, Bool, ◌&&◌, ◌||◌, not, true, false, Option, Some}
+use Rattle.std.specs.Prelude.{None, is_some, List, length}
 use Rattle.vsm_model.specs.declared.Subpool.{Subpool}
 use Rattle.vsm_model.specs.Services.{Obtain, Release, Store}
 use Rattle.vsm_model.specs.declared.limits.Settings.{Settings}
@@ -31,7 +32,8 @@ pub record IsGranted (low : Region) (s t : State) (length number address given :
   -- the area lies in pages of the subpool that the task now sees at the number
   pub in_subpool :
       (d : ℕ) → among (address / 8) (given / 8) d ≡ true →
-      (owner : ℕ) × (t.sight t.current number ≡ Some owner) × (t.pages (d / 512) ≡ Some (record { number = number; owner = owner }))
+      (owner : ℕ) × (t.sight t.current number ≡ Some owner)
+          × (t.pages (d / 512) ≡ Some (record { number = number; owner = owner }))
   -- no assigned page changes its subpool
   pub others : (k : ℕ) (p : Subpool) → s.pages k ≡ Some p → t.pages k ≡ Some p
   -- a page that is new holds zero bytes, and an assigned one keeps its bytes
@@ -40,7 +42,8 @@ pub record IsGranted (low : Region) (s t : State) (length number address given :
 
 abbrev pub ObtainGrantsFreeStorage : Type 0
 ObtainGrantsFreeStorage =
-    (settings : Settings) (names_full : Bool) (s t : State) (length number : ℕ) (register : Option ℕ) (conditional : Bool)
+    (settings : Settings) (names_full : Bool) (s t : State) (length number : ℕ) (register : Option ℕ)
+        (conditional : Bool)
     (address given : ℕ) → IsWellFormed (low_region settings) s →
     step settings names_full s (Obtain length number register conditional) ≡ Accepted t (Obtained address given) →
     IsGranted (low_region settings) s t length number address given
@@ -49,7 +52,8 @@ ObtainGrantsFreeStorage =
 -- An obtain that is accepted without an area is conditional and answered 4, and sets register 15 alone.
 abbrev pub AnswerFourSetsRegister15Alone : Type 0
 AnswerFourSetsRegister15Alone =
-    (settings : Settings) (names_full : Bool) (s t : State) (length number : ℕ) (register : Option ℕ) (conditional : Bool)
+    (settings : Settings) (names_full : Bool) (s t : State) (length number : ℕ) (register : Option ℕ)
+        (conditional : Bool)
     (code : ℕ) →
     step settings names_full s (Obtain length number register conditional) ≡ Accepted t (Returned code) →
     (conditional ≡ true) × (code ≡ 4) × (t ≡ with_register s 15 4)
@@ -61,7 +65,8 @@ pub record IsGivenBack (s t : State) (length address number : ℕ) : Type 0 wher
   pub was_taken : (d : ℕ) → among (address / 8) (doublewords length) d ≡ true → s.taken d ≡ true
   pub in_subpool :
       (d : ℕ) → among (address / 8) (doublewords length) d ≡ true →
-      (owner : ℕ) × (s.sight s.current number ≡ Some owner) × (s.pages (d / 512) ≡ Some (record { number = number; owner = owner }))
+      (owner : ℕ) × (s.sight s.current number ≡ Some owner)
+          × (s.pages (d / 512) ≡ Some (record { number = number; owner = owner }))
   -- those of the area aren't taken now, and all others are as they were
   pub taken : (d : ℕ) → t.taken d ≡ (not (among (address / 8) (doublewords length) d) && s.taken d)
   -- a page in which a doubleword is taken stays with its subpool, and no page is assigned
@@ -76,7 +81,8 @@ pub record IsGivenBack (s t : State) (length address number : ℕ) : Type 0 wher
 
 abbrev pub ReleaseGivesTakenStorageBack : Type 0
 ReleaseGivesTakenStorageBack =
-    (settings : Settings) (names_full : Bool) (s t : State) (length address number : ℕ) (conditional : Bool) (reply : Reply) →
+    (settings : Settings) (names_full : Bool) (s t : State) (length address number : ℕ) (conditional : Bool)
+        (reply : Reply) →
     step settings names_full s (Release length address number conditional) ≡ Accepted t reply →
     (IsGivenBack s t length address number × (reply ≡ Returned 0))
     ⊎ ((conditional ≡ true) × (reply ≡ Returned 4) × (t ≡ with_register s 15 4))

@@ -1,6 +1,5 @@
--- The state of the plain machine.
--- Assembler Services Guide, "Virtual storage management", "Subpool handling": storage is assigned to subpools by whole pages,
--- and a subpool belongs to a task.
+-- The state of the plain machine. Assembler Services Guide, "Virtual storage management", "Subpool handling": storage
+-- is assigned to subpools by whole pages, and a subpool belongs to a task.
 use Rattle.std.specs.Prelude.{ℕ, Bool, false, ◌&&◌, ◌==◌, if◌then◌else◌, Option, Some, None}
 use Rattle.vsm_model.specs.declared.Subpool.{Subpool}
 

@@ -18,8 +18,8 @@ pub fn least_among()
     ensures all { AllPassIsAll }
 {}
 
-/// The runs of passing numbers, of which extents and free areas are made, are just the longest ones, in ascending order with
-/// a number between each two; and a list like that is theirs.
+/// The runs of passing numbers, of which extents and free areas are made, are just the longest ones, in ascending order
+/// with a number between each two; and a list like that is theirs.
 pub fn maximal_runs()
     ensures maximal { RunsAreMaximal }
     ensures ascending { RunsAscend }
@@ -34,10 +34,10 @@ pub fn well_formed()
     ensures reached { ReachedIsWellFormed }
 {}
 
-/// An accepted obtain grants an area of storage that was free, in pages of the subpool that the task sees then, and changes
-/// nothing else of what is taken and of what was assigned; an accepted release gives back an area that was taken, and each page
-/// in which something is still taken stays with its subpool. Pages hold zero bytes when they are new, and keep their bytes as
-/// long as they stay. An answer 4 sets register 15 alone.
+/// An accepted obtain grants an area of storage that was free, in pages of the subpool that the task sees then, and
+/// changes nothing else of what is taken and of what was assigned; an accepted release gives back an area that was
+/// taken, and each page in which something is still taken stays with its subpool. Pages hold zero bytes when they are
+/// new, and keep their bytes as long as they stay. An answer 4 sets register 15 alone.
 pub fn granted_and_given_back()
     ensures granted { ObtainGrantsFreeStorage }
     ensures four { AnswerFourSetsRegister15Alone }
@@ -55,15 +55,15 @@ pub fn stored_is_loaded()
     ensures { StoredIsLoaded }
 {}
 
-/// With ample memory each call of a bench has an answer, and leaves a bench, that the relation of one call allows; the relation
-/// allows nothing else but the refusal for want of memory.
+/// With ample memory each call of a bench has an answer, and leaves a bench, that the relation of one call allows; the
+/// relation allows nothing else but the refusal for want of memory.
 pub fn plain_keeps()
     ensures allowed { PlainAnswersAreAllowed }
     ensures only { AllowedAnswersArePlain }
 {}
 
-/// After a step back, and readings and refused calls, a step forward over as many statements is accepted and gives the bench
-/// from before the step back.
+/// After a step back, and readings and refused calls, a step forward over as many statements is accepted and gives the
+/// bench from before the step back.
 pub fn forward_undoes_back()
     ensures { ForwardUndoesBack }
 {}
