@@ -31,7 +31,7 @@ belongs-is p (Some q) e =
 state_is : (s t : State) (q r : Reply) → ◌≡◌ {A = Stepped} (Accepted s q) (Accepted t r) → s ≡ t
 state_is s t q r e = cc
 
-address_is : (s t : State) (a b m n : ℕ) → ◌≡◌ {A = Stepped} (Accepted s (Obtained a m)) (Accepted t (Obtained b n)) → a ≡ b
+pub address_is : (s t : State) (a b m n : ℕ) → ◌≡◌ {A = Stepped} (Accepted s (Obtained a m)) (Accepted t (Obtained b n)) → a ≡ b
 address_is s t a b m n e = cc
 
 length_is : (s t : State) (a b m n : ℕ) → ◌≡◌ {A = Stepped} (Accepted s (Obtained a m)) (Accepted t (Obtained b n)) → m ≡ n
@@ -280,7 +280,7 @@ module _ (low : Region) (s u t : State) (w : IsWellFormed low s) (length number 
       granted_from owner (seen_there low s t number owner w seen (after.1 ∙ same.sight) (after.2 ∙ same.subpools)) same.words same.current
       (placed low s w (record { number = number; owner = owner }) (doublewords length) u address given e)
 
-other_reply : {address given code : ℕ} → ◌≡◌ {A = Reply} (Obtained address given) (Returned code) → ⊥
+pub other_reply : {address given code : ℕ} → ◌≡◌ {A = Reply} (Obtained address given) (Returned code) → ⊥
 other_reply e = cc
 
 -- an area is answered by its address

@@ -12,3 +12,6 @@ pub mod Words
 pub mod Grants
 pub mod Returns
 pub mod Stores
+pub mod Lowest
+pub mod Conditional
+pub mod Named

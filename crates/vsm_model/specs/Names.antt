@@ -1,5 +1,5 @@
 -- The names that statements define: a name stands for a word.
-use Rattle.std.specs.Prelude.{◌≡◌, ℕ, Bool, true, false, ◌&&◌, not, nat_le, ◌==◌, if◌then◌else◌, Option, Some, None}
+use Rattle.std.specs.Prelude.{◌≡◌, ◌≢◌, ◌⊎◌, ◌++◌, map, ℕ, Bool, true, false, ◌&&◌, not, nat_le, ◌==◌, if◌then◌else◌, Option, Some, None}
 use Rattle.std.specs.Prelude.{is_some, List, [], ◌∷◌, length}
 use Rattle.vsm_model.specs.declared.causes.Cause.{Cause}
 use Rattle.vsm_model.specs.declared.limits.Settings.{Settings}
@@ -75,3 +75,32 @@ abbrev pub OtherNamesKeepTheirWords : Type 0
 OtherNamesKeepTheirWords =
     (names : List (List ℕ × ℕ)) (name other : List ℕ) (word : ℕ) →
     same_name name other ≡ false → word_of (with_name names name word) other ≡ word_of names other
+
+-- Names keep their order, and a new one comes behind all others.
+abbrev pub NamesKeepTheirOrder : Type 0
+NamesKeepTheirOrder =
+    (names : List (List ℕ × ℕ)) (name : List ℕ) (word : ℕ) →
+    map (λ row. row.0) (with_name names name word)
+    ≡ (if is_some (word_of names name) then map (λ row. row.0) names else map (λ row. row.0) names ++ name ∷ [])
+
+-- An accepted statement does to the storage what its service does,
+abbrev pub StatementIsItsService : Type 0
+StatementIsItsService =
+    (settings : Settings) (m n : NamedState) (x : NamedService) (reply : Reply) →
+    named_step settings m x ≡ Accepted n reply →
+    step settings (is_one_too_many m.names x.name) m.storage x.service ≡ Accepted n.storage reply
+
+-- the name that it names stands for the address of its area, and all others for what they stood for,
+abbrev pub AreaIsNamed : Type 0
+AreaIsNamed =
+    (settings : Settings) (m n : NamedState) (x : NamedService) (name : List ℕ) (address given : ℕ) →
+    named_step settings m x ≡ Accepted n (Obtained address given) → x.name ≡ Some name →
+    (word_of n.names name ≡ Some address)
+    × ((other : List ℕ) → same_name name other ≡ false → word_of n.names other ≡ word_of m.names other)
+
+-- and where it names none or gives no area, all names are as they were.
+abbrev pub OtherwiseNamesStay : Type 0
+OtherwiseNamesStay =
+    (settings : Settings) (m n : NamedState) (x : NamedService) (reply : Reply) →
+    named_step settings m x ≡ Accepted n reply →
+    (x.name ≡ None) ⊎ ((address given : ℕ) → reply ≢ Obtained address given) → n.names ≡ m.names
