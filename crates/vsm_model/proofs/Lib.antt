@@ -8,6 +8,10 @@ pub mod Rows
 pub mod Reached
 pub mod Maximal
 pub mod Worked
+pub mod Words
 pub mod Grants
 pub mod Returns
 pub mod Stores
+pub mod Lowest
+pub mod Conditional
+pub mod Named

@@ -1,5 +1,5 @@
 -- Each accepted statement leaves a well-formed state: the cases put together.
-use Rattle.std.proofs.Common.{◌≡◌, ℕ, ◌*◌, ◌/◌, ◌%◌, Bool, true, false, not, nat_lt, ◌==◌, ◌&&◌, Option, Some, None, List, [], ◌∷◌, length, refl, sym, ◌∙◌, ap, subst, true≢false, arith}
+use Rattle.std.proofs.Common.{◌≡◌, ℕ, ◌*◌, ◌/◌, ◌%◌, Bool, true, false, not, nat_lt, ◌==◌, ◌&&◌, Option, Some, None, is_some, if◌then◌else◌, List, [], ◌∷◌, length, refl, sym, ◌∙◌, ap, subst, true≢false, arith}
 use Rattle.std.proofs.lemmas.Bool.{and_parts, and_from, or_left, eq-eqb, eqb-true, cond-true, not-false}
 use Rattle.vsm_model.specs.declared.Subpool.{Subpool}
 use Rattle.vsm_model.specs.declared.causes.Cause.{Cause}
@@ -10,7 +10,7 @@ use Rattle.vsm_model.specs.declared.limits.Settings.{Settings}
 use Rattle.vsm_model.specs.Services.{Service, Obtain, Release, Store}
 use Rattle.vsm_model.specs.Search.{all_pass, IsLeastAmong}
 use Rattle.vsm_model.specs.Regions.{Region, low_region}
-use Rattle.vsm_model.specs.State.{State, first_state}
+use Rattle.vsm_model.specs.State.{State, first_state, is_task, is_or_is_above}
 use Rattle.vsm_model.specs.Areas.{fits, is_open_run, least_fit, least_run, pages_for, place, or_fresh}
 use Rattle.vsm_model.specs.Standing.{Outcome, Accepted, Refused, state_after, alone}
 use Rattle.vsm_model.specs.Causes.{number_cause, when, is_foreign, is_taken_in}
@@ -174,6 +174,13 @@ left_well_formed : (settings : Settings) (m : NamedState) (x : NamedService) (o 
 left_well_formed settings m x (Accepted n r) e w = stays_well_formed settings m n x r w e
 left_well_formed settings m x (Refused cause) e w = w
 
+-- task 1 is the only one
+only_task : (task : ℕ) → is_task first_state task ≡ true → task ≡ 1
+only_task task e = eqb-true task 1 (tested (task == 1) e) where
+  tested : (b : Bool) → is_some {T = ℕ} (if b then Some 0 else None) ≡ true → b ≡ true
+  tested true e = refl
+  tested false e = e
+
 first_storage : (settings : Settings) → IsWellFormed (low_region settings) first_state
 first_storage settings = record {
   in_region = λ k p e. absurd (none_some p e);
@@ -187,11 +194,14 @@ first_storage settings = record {
       chosen ((task == 1) && (number == 0)) (Some 1) None (Some owner) _ e
       (λ own is. and_from (number == 0) (owner == 1) (and_parts (task == 1) (number == 0) own).1 (eq-eqb owner 1 (sym (same_some 1 owner is))))
       (λ _ none. absurd (none_some owner none));
-  owner_is_task = λ number owner there. (and_parts (number == 0) (owner == 1) there).1;
+  owner_is_task = λ number owner there. ap (is_task first_state) (eqb-true owner 1 (and_parts (number == 0) (owner == 1) there).1);
   seer_is_task = λ task number owner e.
       chosen ((task == 1) && (number == 0)) (Some 1) None (Some owner) _ e
-      (λ own _. (and_parts (task == 1) (number == 0) own).0) (λ _ none. absurd (none_some owner none));
-  sees_zero = λ task is. cond-true _ _ _ (and_from (task == 1) (0 == 0) is refl) ∙ ap Some (sym (eqb-true task 1 is));
+      (λ own _. ap (is_task first_state) (eqb-true task 1 (and_parts (task == 1) (number == 0) own).0))
+      (λ _ none. absurd (none_some owner none));
+  sees_zero = λ task is.
+      let one = only_task task is in
+      (1, ap (λ t. first_state.sight t 0) one, ap (λ t. is_or_is_above first_state 1 t) one);
   current_is_task = refl;
   has_bytes = λ a. refl;
 }

@@ -1,14 +1,14 @@
 -- What was stored is what is loaded.
 use Rattle.std.proofs.Common.{◌≡◌, ℕ, suc, ◌+◌, ◌-◌, ◌<◌, true, false, not, Some, is_some, List, [], ◌∷◌, length, slice_get, refl, sym, ◌∙◌, ap, subst, arith}
-use Rattle.std.proofs.lemmas.Bool.{cond-true, cond-false}
+use Rattle.std.proofs.lemmas.Bool.{cond-true, cond-false, not-false}
 use Rattle.vsm_model.specs.declared.causes.Cause.TheVariants.{NotAssigned}
 use Rattle.vsm_model.specs.declared.replies.Reply.TheVariants.{Stored}
 use Rattle.vsm_model.specs.Regions.{among}
 use Rattle.vsm_model.specs.State.{State}
 use Rattle.vsm_model.specs.Bytes.{are_there, with_bytes, byte_or_zero, bytes_from, load}
 use Rattle.vsm_model.specs.Promises.{StoredIsLoaded}
-use Rattle.vsm_model.proofs.Kept.{in-among, byte_is_there}
-use Rattle.vsm_model.proofs.Least.{all_pass_is_all}
+use Rattle.vsm_model.proofs.Kept.{among-in, in-among, byte_is_there}
+use Rattle.vsm_model.proofs.Least.{all_pass_at, all_pass_is_all}
 use Rattle.vsm_model.proofs.Answers.{past, accepted_is, reply_is}
 
 byte_at : (b : ℕ) (bytes : List ℕ) (t : State) (a : ℕ) → ((k : ℕ) → k < suc (length bytes) → t.bytes (a + k) ≡ slice_get (b ∷ bytes) k) → t.bytes a ≡ Some b
@@ -44,9 +44,13 @@ stored_is_loaded settings names_full s t address bytes reply e =
     past (not (are_there s address (length bytes))) NotAssigned _ t reply _ e (λ there e.
     let is = accepted_is (with_bytes s address bytes) t Stored reply e in
     subst (λ (u : State). (reply ≡ Stored) × (u ≡ record s { bytes = u.bytes }) × (load u address (length bytes) ≡ Some bytes)
+    × ((a : ℕ) → among address (length bytes) a ≡ true → is_some (s.bytes a) ≡ true)
     × ((a : ℕ) → among address (length bytes) a ≡ false → u.bytes a ≡ s.bytes a)) is (
       sym (reply_is _ t Stored reply e),
       refl,
       loaded s address bytes,
+      λ a inside.
+          let place = among-in address (length bytes) a inside in
+          all_pass_at (λ a. is_some (s.bytes a)) address (length bytes) a (not-false _ there) place.0 place.1,
       λ a outside. cond-false (among address (length bytes) a) (slice_get bytes (a - address)) (s.bytes a) outside,
     ))

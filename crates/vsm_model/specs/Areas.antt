@@ -20,7 +20,8 @@ belongs p (Some q) = same_subpool p q
 abbrev pub is_free : State → Subpool → ℕ → Bool
 is_free s p d = belongs p (s.pages (d / 512)) && not (s.taken d)
 
--- An area fits: it begins on the boundary (in doublewords), and each of its doublewords is in the region and free in the subpool.
+-- An area fits: it begins on the boundary (in doublewords), and each of its doublewords is in the region and free in
+-- the subpool.
 abbrev pub fits : State → Region → Subpool → ℕ → ℕ → ℕ → Bool
 fits s r p count boundary d = ((d % boundary) == 0) && all_pass (λ k. within r (k / 512) && is_free s p k) d count
 

@@ -1,6 +1,7 @@
 -- Load and store of bytes. A fullword is stored with its most significant byte first.
 -- Principles of Operation, "Storage", "Information formats".
-use Rattle.std.specs.Prelude.{ℕ, zero, suc, ◌-◌, ◌/◌, ◌%◌, Bool, if◌then◌else◌, Option, Some, None, is_some, List, [], ◌∷◌, length, slice_get}
+use Rattle.std.specs.Prelude.{ℕ, zero, suc, ◌-◌, ◌/◌, ◌%◌, Bool, if◌then◌else◌, Option, Some, None, is_some, List, []}
+use Rattle.std.specs.Prelude.{◌∷◌, length, slice_get}
 use Rattle.vsm_model.specs.Search.{all_pass}
 use Rattle.vsm_model.specs.Regions.{among}
 use Rattle.vsm_model.specs.State.{State}

@@ -9,11 +9,14 @@ use Rattle.vsm_model.specs.Step.{step}
 use Rattle.vsm_model.specs.declared.causes.Cause.{Cause}
 use Rattle.vsm_model.specs.declared.causes.Family.{Family}
 use Rattle.vsm_model.specs.declared.causes.Family.TheVariants.{E, R, S}
-use Rattle.vsm_model.specs.declared.causes.Cause.TheVariants.{UnsupportedSubpool, SubpoolNotAllowed, ZeroLength, TooManyNames, NoStorage, Misaligned, NotInSubpool, OverlapsFree, NotAssigned}
+use Rattle.vsm_model.specs.declared.causes.Cause.TheVariants.{UnsupportedSubpool, SubpoolNotAllowed, ZeroLength}
+use Rattle.vsm_model.specs.declared.causes.Cause.TheVariants.{TooManyNames, NoStorage, Misaligned, NotInSubpool}
+use Rattle.vsm_model.specs.declared.causes.Cause.TheVariants.{OverlapsFree, NotAssigned}
 use Rattle.vsm_model.specs.declared.replies.Reply.{Reply}
 use Rattle.vsm_model.specs.declared.replies.Reply.TheVariants.{Obtained, Returned, Stored}
 use Rattle.vsm_model.specs.Bytes.{load, fullword}
-use Rattle.vsm_model.specs.Standing.{Call, Apply, Back, Forward, Answer, Replied, RefusedFor, Moved, TooFar, Bench, new_bench, plain_after_all, plain_answers, outcome_answer}
+use Rattle.vsm_model.specs.Standing.{Call, Apply, Back, Forward, Answer, Replied, RefusedFor, Moved, TooFar, Bench}
+use Rattle.vsm_model.specs.Standing.{new_bench, plain_after_all, plain_answers, outcome_answer}
 use Rattle.vsm_model.specs.Names.{NamedState, first_named_state, word_of, NamedService, named_step}
 use Rattle.vsm_model.specs.Codes.{suffix, code_of}
 use Rattle.vsm_model.specs.Texts.{reply_text, code_text}
@@ -103,7 +106,8 @@ TwoSubpoolsNeverShareAPage =
     answers_with 1024 (storage_obtain 8 1 ∷ storage_obtain 8 2 ∷ [])
     ≡ (got (address 6 0) 8, (1, 0)) ∷ (got (address 7 0) 8, (2, 0)) ∷ []
 
--- The last of three releases empties the page; a step back takes that release back, and the next area is the first free one.
+-- The last of three releases empties the page; a step back takes that release back, and the next area is the first free
+-- one.
 abbrev pub ThreeAreasReleasedAndOneStepBack : Type 0
 ThreeAreasReleasedAndOneStepBack =
     answers_with 1024
@@ -229,7 +233,8 @@ AHistoryOfOneChange =
     ∷ (Moved, (1, 0))
     ∷ []
 
--- A page that is emptied loses its bytes; as a page of another subpool it holds zeros, and the steps back give it its byte again.
+-- A page that is emptied loses its bytes; as a page of another subpool it holds zeros, and the steps back give it its
+-- byte again.
 abbrev pub calls_on_a_page : List (Call NamedService)
 calls_on_a_page =
     storage_obtain 8 1 ∷ poke (address 6 0) (170 ∷ []) ∷ storage_release 8 (address 6 0) 1 ∷ storage_obtain 8 2 ∷ []
@@ -261,15 +266,16 @@ AnAnswerOf4IsKept =
     × (register_in (bench_in_one_page calls_without_storage) 15 ≡ 4)
     × (register_in (bench_in_one_page (calls_without_storage ++ Back 1 ∷ [])) 15 ≡ 0)
 
--- The address is in register 1 and in the register that is named, and is stored as a fullword; bytes outside assigned pages are
--- neither stored nor read, and those of which only some are there aren't either.
+-- The address is in register 1 and in the register that is named, and is stored as a fullword; bytes outside assigned
+-- pages are neither stored nor read, and those of which only some are there aren't either.
 abbrev pub calls_with_a_register : List (Call NamedService)
 calls_with_a_register = obtain_in_register 8 5 ∷ poke (address 6 0) (fullword (address 6 0)) ∷ []
 
 abbrev pub AnAddressIsStoredAsAFullword : Type 0
 AnAddressIsStoredAsAFullword =
     (answers_with 1024 (calls_with_a_register ++ poke (address 6 4095) (1 ∷ 2 ∷ []) ∷ Back 1 ∷ [])
-    ≡ (got (address 6 0) 8, (1, 0)) ∷ (Replied Stored, (2, 0)) ∷ (RefusedFor NotAssigned, (2, 0)) ∷ (Moved, (1, 1)) ∷ [])
+    ≡ (got (address 6 0) 8, (1, 0)) ∷ (Replied Stored, (2, 0)) ∷ (RefusedFor NotAssigned, (2, 0)) ∷ (Moved, (1, 1))
+    ∷ [])
     × (register_in (bench_with 1024 calls_with_a_register) 5 ≡ address 6 0)
     × (register_in (bench_with 1024 calls_with_a_register) 1 ≡ address 6 0)
     × (peeked_in (bench_with 1024 calls_with_a_register) (address 6 0) 4 ≡ Some (0 ∷ 0 ∷ 96 ∷ 0 ∷ []))
@@ -296,8 +302,8 @@ AnAnswerOf4DiscardsWhatWasUndone =
     × (peeked_in (bench_in_one_page calls_around_a_page) (address 6 0) 1 ≡ None)
     × (peeked_in (bench_in_one_page (calls_around_a_page ++ Forward 1 ∷ [])) (address 6 0) 1 ≡ Some (0 ∷ []))
 
--- An accepted obtain defines its name, and the next one gives it another word; an answer 4 defines none, and a step back
--- takes a definition away.
+-- An accepted obtain defines its name, and the next one gives it another word; an answer 4 defines none, and a step
+-- back takes a definition away.
 abbrev pub obtain_in_p : Call NamedService
 obtain_in_p = obtain_in_name 8 (codes "P") false
 
@@ -308,9 +314,9 @@ ANameStandsForAnAddress =
     × (name_in (bench_in_one_page (obtain_in_name 8192 (codes "P") true ∷ [])) (codes "P") ≡ None)
     × (name_in (bench_with 1024 (obtain_in_p ∷ Back 1 ∷ [])) (codes "P") ≡ None)
 
--- A conditional release is answered 4, and frees nothing, where a doubleword of the area is free storage or lies in an unassigned
--- page, where one lies in a page of another subpool or outside the region, and where the subpool isn't seen; in all other cases it is
--- what it is without COND=YES.
+-- A conditional release is answered 4, and frees nothing, where a doubleword of the area is free storage or lies in an
+-- unassigned page, where one lies in a page of another subpool or outside the region, and where the subpool isn't seen;
+-- in all other cases it is what it is without COND=YES.
 abbrev pub calls_answered_4 : List (Call NamedService)
 calls_answered_4 =
     storage_obtain 8 1
@@ -361,18 +367,22 @@ AnAnswerOf4MakesNoSubpool =
     × (answers_in_one_page (calls_in_subpool_5 ++ storage_release 8 (address 6 0) 5 ∷ [])
     ≡ (got (address 6 0) 4096, (1, 0)) ∷ (Replied (Returned 4), (2, 0)) ∷ (RefusedFor NotInSubpool, (2, 0)) ∷ [])
 
--- The first cause that holds is the answer: each of these services has all the causes that come behind its own as well, but for
--- those that need storage.
+-- The first cause that holds is the answer: each of these services has all the causes that come behind its own as well,
+-- but for those that need storage.
 abbrev pub first_answers : Bool → List Service → List (Answer Reply Cause)
 first_answers names_full = map (λ x. outcome_answer (step one_page names_full first_state x))
 
 abbrev pub CausesComeInOrder : Type 0
 CausesComeInOrder =
-    (first_answers true (Obtain 0 131 None true ∷ Obtain 0 200 None true ∷ Obtain 0 1 None true ∷ Obtain 8192 1 None true ∷ [])
-    ≡ RefusedFor UnsupportedSubpool ∷ RefusedFor SubpoolNotAllowed ∷ RefusedFor ZeroLength ∷ RefusedFor TooManyNames ∷ [])
-    × (first_answers false (Obtain 8192 1 None false ∷ Obtain 8192 1 None true ∷ []) ≡ RefusedFor NoStorage ∷ Replied (Returned 4) ∷ [])
+    (first_answers true (Obtain 0 131 None true ∷ Obtain 0 200 None true ∷ Obtain 0 1 None true
+    ∷ Obtain 8192 1 None true ∷ [])
+    ≡ RefusedFor UnsupportedSubpool ∷ RefusedFor SubpoolNotAllowed ∷ RefusedFor ZeroLength ∷ RefusedFor TooManyNames
+    ∷ [])
+    × (first_answers false (Obtain 8192 1 None false ∷ Obtain 8192 1 None true ∷ [])
+    ≡ RefusedFor NoStorage ∷ Replied (Returned 4) ∷ [])
     × (first_answers false
-    (Release 0 4 132 false ∷ Release 0 4 200 false ∷ Release 0 4 1 false ∷ Release 8 4 1 false ∷ Release 8 (address 6 0) 1 false ∷ Release 8 (address 6 0) 0 false ∷ [])
+    (Release 0 4 132 false ∷ Release 0 4 200 false ∷ Release 0 4 1 false ∷ Release 8 4 1 false
+    ∷ Release 8 (address 6 0) 1 false ∷ Release 8 (address 6 0) 0 false ∷ [])
     ≡ RefusedFor UnsupportedSubpool
     ∷ RefusedFor SubpoolNotAllowed
     ∷ RefusedFor ZeroLength
@@ -381,15 +391,16 @@ CausesComeInOrder =
     ∷ RefusedFor OverlapsFree
     ∷ [])
     × (answers_with 1024
-    (storage_obtain 8 1 ∷ storage_obtain 8 2 ∷ storage_release 8 (address 6 0) 1 ∷ storage_release 8192 (address 6 0) 1 ∷ [])
+    (storage_obtain 8 1 ∷ storage_obtain 8 2 ∷ storage_release 8 (address 6 0) 1 ∷ storage_release 8192 (address 6 0) 1
+    ∷ [])
     ≡ (got (address 6 0) 8, (1, 0))
     ∷ (got (address 7 0) 8, (2, 0))
     ∷ (Replied (Returned 0), (3, 0))
     ∷ (RefusedFor NotInSubpool, (3, 0))
     ∷ [])
 
--- A store goes over the border of two pages, whichever subpools they are of, as long as both are assigned; one that passes the last
--- address, or goes over into a page that isn't assigned, stores nothing.
+-- A store goes over the border of two pages, whichever subpools they are of, as long as both are assigned; one that
+-- passes the last address, or goes over into a page that isn't assigned, stores nothing.
 abbrev pub calls_over_two_pages : List (Call NamedService)
 calls_over_two_pages = storage_obtain 8 1 ∷ storage_obtain 8 2 ∷ poke (address 6 4094) (1 ∷ 2 ∷ 3 ∷ 4 ∷ []) ∷ []
 
@@ -435,4 +446,5 @@ CompletionCodesAsTexts =
 abbrev pub RepliesAsTexts : Type 0
 RepliesAsTexts =
     map reply_text (Obtained (address 6 0) 8 ∷ Obtained (address 15 4088) 61440 ∷ Returned 0 ∷ Returned 4 ∷ Stored ∷ [])
-    ≡ codes "RC=0 A=00006000 L=00000008" ∷ codes "RC=0 A=0000FFF8 L=0000F000" ∷ codes "RC=0" ∷ codes "RC=4" ∷ codes "OK" ∷ []
+    ≡ codes "RC=0 A=00006000 L=00000008" ∷ codes "RC=0 A=0000FFF8 L=0000F000" ∷ codes "RC=0" ∷ codes "RC=4" ∷ codes "OK"
+    ∷ []

@@ -17,4 +17,5 @@ pub mod Machines
 pub mod WellFormed
 pub mod Texts
 pub mod Promises
+pub mod LowestAddress
 pub mod Examples

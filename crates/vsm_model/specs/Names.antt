@@ -1,5 +1,6 @@
 -- The names that statements define: a name stands for a word.
-use Rattle.std.specs.Prelude.{◌≡◌, ℕ, Bool, true, false, ◌&&◌, not, nat_le, ◌==◌, if◌then◌else◌, Option, Some, None, is_some, List, [], ◌∷◌, length}
+use Rattle.std.specs.Prelude.{◌≡◌, ◌≢◌, ◌⊎◌, ◌++◌, map, ℕ, Bool, true, false, ◌&&◌, not, nat_le, ◌==◌, if◌then◌else◌, Option, Some, None}
+use Rattle.std.specs.Prelude.{is_some, List, [], ◌∷◌, length}
 use Rattle.vsm_model.specs.declared.causes.Cause.{Cause}
 use Rattle.vsm_model.specs.declared.limits.Settings.{Settings}
 use Rattle.vsm_model.specs.declared.replies.Reply.{Reply}
@@ -9,7 +10,8 @@ use Rattle.vsm_model.specs.State.{State, first_state}
 use Rattle.vsm_model.specs.Standing.{Outcome, Accepted, Refused}
 use Rattle.vsm_model.specs.Step.{step}
 
--- The plain machine as a whole: the state of its storage, and the names with their words in the order in which they were defined.
+-- The plain machine as a whole: the state of its storage, and the names with their words in the order in which they
+-- were defined.
 pub record NamedState : Type 0 where
   pub storage : State
   pub names : List (List ℕ × ℕ)
@@ -43,8 +45,8 @@ abbrev pub names_after : List (List ℕ × ℕ) → Option (List ℕ) → Reply 
 names_after names (Some name) (Obtained address length) = with_name names name address
 names_after names _ _ = names
 
--- What a statement does to the whole machine, by what its service does to the storage: an accepted one defines its name, one that
--- is refused or answered 4 does not.
+-- What a statement does to the whole machine, by what its service does to the storage: an accepted one defines its
+-- name, one that is refused or answered 4 does not.
 abbrev pub named : List (List ℕ × ℕ) → Option (List ℕ) → Outcome State Reply Cause → Outcome NamedState Reply Cause
 named names name (Accepted s reply) = Accepted (record { storage = s; names = names_after names name reply }) reply
 named names name (Refused cause) = Refused cause
@@ -73,3 +75,32 @@ abbrev pub OtherNamesKeepTheirWords : Type 0
 OtherNamesKeepTheirWords =
     (names : List (List ℕ × ℕ)) (name other : List ℕ) (word : ℕ) →
     same_name name other ≡ false → word_of (with_name names name word) other ≡ word_of names other
+
+-- Names keep their order, and a new one comes behind all others.
+abbrev pub NamesKeepTheirOrder : Type 0
+NamesKeepTheirOrder =
+    (names : List (List ℕ × ℕ)) (name : List ℕ) (word : ℕ) →
+    map (λ row. row.0) (with_name names name word)
+    ≡ (if is_some (word_of names name) then map (λ row. row.0) names else map (λ row. row.0) names ++ name ∷ [])
+
+-- An accepted statement does to the storage what its service does,
+abbrev pub StatementIsItsService : Type 0
+StatementIsItsService =
+    (settings : Settings) (m n : NamedState) (x : NamedService) (reply : Reply) →
+    named_step settings m x ≡ Accepted n reply →
+    step settings (is_one_too_many m.names x.name) m.storage x.service ≡ Accepted n.storage reply
+
+-- the name that it names stands for the address of its area, and all others for what they stood for,
+abbrev pub AreaIsNamed : Type 0
+AreaIsNamed =
+    (settings : Settings) (m n : NamedState) (x : NamedService) (name : List ℕ) (address given : ℕ) →
+    named_step settings m x ≡ Accepted n (Obtained address given) → x.name ≡ Some name →
+    (word_of n.names name ≡ Some address)
+    × ((other : List ℕ) → same_name name other ≡ false → word_of n.names other ≡ word_of m.names other)
+
+-- and where it names none or gives no area, all names are as they were.
+abbrev pub OtherwiseNamesStay : Type 0
+OtherwiseNamesStay =
+    (settings : Settings) (m n : NamedState) (x : NamedService) (reply : Reply) →
+    named_step settings m x ≡ Accepted n reply →
+    (x.name ≡ None) ⊎ ((address given : ℕ) → reply ≢ Obtained address given) → n.names ≡ m.names

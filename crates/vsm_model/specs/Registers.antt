@@ -1,5 +1,5 @@
--- The registers that a service sets.
--- Assembler Services Reference, STORAGE, "Output register information": register 1 has the address, register 15 the return code.
+-- The registers that a service sets. Assembler Services Reference, STORAGE, "Output register information": register 1
+-- has the address, register 15 the return code.
 use Rattle.std.specs.Prelude.{ℕ, Bool, true, false, ◌&&◌, ◌==◌, if◌then◌else◌, Option, Some, None}
 use Rattle.vsm_model.specs.declared.causes.Cause.{Cause}
 use Rattle.vsm_model.specs.declared.causes.Cause.TheVariants.{NoStorage, NotInSubpool, OverlapsFree}
@@ -38,7 +38,8 @@ answers_four NotInSubpool = true
 answers_four OverlapsFree = true
 answers_four _ = false
 
--- A conditional form is accepted with return code 4 where one of these causes is the first, and leaves the state as it was.
+-- A conditional form is accepted with return code 4 where one of these causes is the first, and leaves the state as it
+-- was.
 abbrev pub conditionally : State → Bool → Outcome State Reply Cause → Outcome State Reply Cause
 conditionally s conditional (Accepted t reply) = Accepted t reply
 conditionally s conditional (Refused cause) =

@@ -1,5 +1,6 @@
 -- The least number that passes a test, and tests over a run of numbers.
-use Rattle.std.specs.Prelude.{◌≡◌, ℕ, zero, suc, ◌+◌, ◌<◌, ◌≤◌, ◌↔◌, Bool, true, false, ◌&&◌, if◌then◌else◌, Option, Some, None}
+use Rattle.std.specs.Prelude.{◌≡◌, ℕ, zero, suc, ◌+◌, ◌<◌, ◌≤◌, ◌↔◌, Bool, true, false, ◌&&◌, if◌then◌else◌, Option}
+use Rattle.std.specs.Prelude.{Some, None}
 
 -- the least number that passes among the count numbers from first on
 abbrev pub least : (ℕ → Bool) → ℕ → ℕ → Option ℕ
@@ -11,8 +12,8 @@ abbrev pub all_pass : (ℕ → Bool) → ℕ → ℕ → Bool
 all_pass passes first zero = true
 all_pass passes first (suc count) = passes first && all_pass passes (suc first) count
 
--- What "the least among these" means, with no search in it: the answer passes, and nothing below it does; without an answer
--- none passes.
+-- What "the least among these" means, with no search in it: the answer passes, and nothing below it does; without an
+-- answer none passes.
 abbrev pub IsLeastAmong : (ℕ → Bool) → ℕ → ℕ → Option ℕ → Type 0
 IsLeastAmong passes first count None = (k : ℕ) → first ≤ k → k < first + count → passes k ≡ false
 IsLeastAmong passes first count (Some d) =

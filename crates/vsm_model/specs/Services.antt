@@ -1,11 +1,10 @@
--- The requests for services, with numbers for their values. Lengths and addresses are in bytes, as they were written and not
--- rounded; a subpool is given by its number.
--- Assembler Services Reference, STORAGE.
+-- The requests for services, with numbers for their values. Lengths and addresses are in bytes, as they were written
+-- and not rounded; a subpool is given by its number. Assembler Services Reference, STORAGE.
 use Rattle.std.specs.Prelude.{ℕ, Bool, true, false, Option, List}
 
 pub data Service : Type 0 where
-  -- STORAGE OBTAIN: the length, the subpool, the register that is set to the address besides register 1, and whether the form is
-  -- conditional
+  -- STORAGE OBTAIN: the length, the subpool, the register that is set to the address besides register 1, and whether
+  -- the form is conditional
   Obtain : ℕ → ℕ → Option ℕ → Bool → Service
   -- STORAGE RELEASE: the length, the address, the subpool, and whether the form is conditional
   Release : ℕ → ℕ → ℕ → Bool → Service

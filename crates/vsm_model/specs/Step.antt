@@ -1,5 +1,5 @@
--- What each service does to the storage of the plain machine: a new state and a reply, or the first cause that refuses it.
--- What a statement does to the machine with its names is in Names.antt.
+-- What each service does to the storage of the plain machine: a new state and a reply, or the first cause that refuses
+-- it. What a statement does to the machine with its names is in Names.antt.
 use Rattle.std.specs.Prelude.{Bool}
 use Rattle.vsm_model.specs.declared.limits.Settings.{Settings}
 use Rattle.vsm_model.specs.declared.causes.Cause.{Cause}

@@ -1,10 +1,11 @@
--- What an obtain and a release do to the state.
--- Assembler Services Guide, "Virtual storage management", "Explicit requests for virtual storage" and "Subpool handling";
--- Assembler Services Reference, STORAGE.
-use Rattle.std.specs.Prelude.{ℕ, ◌+◌, ◌*◌, ◌/◌, ◌%◌, Bool, not, ◌&&◌, ◌||◌, if◌then◌else◌, ◌==◌, Option, Some, None, List, length}
+-- What an obtain and a release do to the state. Assembler Services Guide, "Virtual storage management", "Explicit
+-- requests for virtual storage" and "Subpool handling"; Assembler Services Reference, STORAGE.
+use Rattle.std.specs.Prelude.{ℕ, ◌+◌, ◌*◌, ◌/◌, ◌%◌, Bool, not, ◌&&◌, ◌||◌, if◌then◌else◌, ◌==◌, Option, Some, None}
+use Rattle.std.specs.Prelude.{List, length}
 use Rattle.vsm_model.specs.declared.Subpool.{Subpool}
 use Rattle.vsm_model.specs.declared.causes.Cause.{Cause}
-use Rattle.vsm_model.specs.declared.causes.Cause.TheVariants.{ZeroLength, TooManyNames, NoStorage, Misaligned, NotInSubpool, OverlapsFree, NotAssigned}
+use Rattle.vsm_model.specs.declared.causes.Cause.TheVariants.{ZeroLength, TooManyNames, NoStorage, Misaligned}
+use Rattle.vsm_model.specs.declared.causes.Cause.TheVariants.{NotInSubpool, OverlapsFree, NotAssigned}
 use Rattle.vsm_model.specs.declared.replies.Reply.{Reply}
 use Rattle.vsm_model.specs.declared.replies.Reply.TheVariants.{Obtained, Returned, Stored}
 use Rattle.vsm_model.specs.Search.{all_pass}
@@ -60,7 +61,8 @@ released s p d count = without_idle_pages (without_taken s d count) p
 abbrev pub doublewords : ℕ → ℕ
 doublewords length = (length + 7) / 8
 
--- The subpool that the task sees at the number, given by its owner; where it sees none, the one of its own that it is to have,
+-- The subpool that the task sees at the number, given by its owner; where it sees none, the one of its own that it is
+-- to have,
 abbrev pub seen_or_own : ℕ → ℕ → Option ℕ → Subpool
 seen_or_own task number None = record { number = number; owner = task }
 seen_or_own task number (Some owner) = record { number = number; owner = owner }
@@ -74,7 +76,8 @@ with_own s number (Some owner) = s
 abbrev pub obtained : State → Subpool → ℕ → Place → Outcome State Reply Cause
 obtained s p count (Inside d) = Accepted (with_taken s d count) (Obtained (8 * d) (8 * count))
 obtained s p count (Fresh page) =
-    Accepted (with_taken (with_pages s p page (pages_for count)) (512 * page) count) (Obtained (4096 * page) (8 * count))
+    Accepted (with_taken (with_pages s p page (pages_for count)) (512 * page) count)
+    (Obtained (4096 * page) (8 * count))
 obtained s p count Nowhere = Refused NoStorage
 
 -- An area of a length in bytes from the subpool of this number, for a statement whose name is or isn't one too many

@@ -4,7 +4,7 @@ use Rattle.vsm_model.specs.declared.Subpool.{Subpool}
 use Rattle.vsm_model.specs.declared.limits.Settings.{Settings}
 use Rattle.vsm_model.specs.declared.replies.Reply.{Reply}
 use Rattle.vsm_model.specs.Regions.{Region, low_region, within}
-use Rattle.vsm_model.specs.State.{State, is_task}
+use Rattle.vsm_model.specs.State.{State, is_task, is_or_is_above}
 use Rattle.vsm_model.specs.Standing.{Accepted, alone}
 use Rattle.vsm_model.specs.Names.{NamedState, first_named_state, AreDistinct, NamedService, named_step}
 
@@ -20,8 +20,10 @@ pub record IsWellFormed (low : Region) (s : State) : Type 0 where
   pub owner_sees : (number owner : ℕ) → s.subpools number owner ≡ true → s.sight owner number ≡ Some owner
   pub seer_is_task : (task number owner : ℕ) → s.sight task number ≡ Some owner → is_task s task ≡ true
   pub seen_is_there : (task number owner : ℕ) → s.sight task number ≡ Some owner → s.subpools number owner ≡ true
-  -- each task sees the subpool 0 that it owns, and the current task is one
-  pub sees_zero : (task : ℕ) → is_task s task ≡ true → s.sight task 0 ≡ Some task
+  -- each task sees a subpool 0, whose owner is that task or above it in the tree; and the current task is one
+  pub sees_zero :
+      (task : ℕ) → is_task s task ≡ true →
+      (owner : ℕ) × (s.sight task 0 ≡ Some owner) × (is_or_is_above s owner task ≡ true)
   pub current_is_task : is_task s s.current ≡ true
   -- there is a byte at just the addresses of assigned pages
   pub has_bytes : (a : ℕ) → is_some (s.bytes a) ≡ is_some (s.pages (a / 4096))
@@ -40,7 +42,8 @@ FirstIsWellFormed = (settings : Settings) → IsWellFormedNamed (low_region sett
 abbrev pub StaysWellFormed : Type 0
 StaysWellFormed =
     (settings : Settings) (m n : NamedState) (x : NamedService) (r : Reply) →
-    IsWellFormedNamed (low_region settings) m → named_step settings m x ≡ Accepted n r → IsWellFormedNamed (low_region settings) n
+    IsWellFormedNamed (low_region settings) m → named_step settings m x ≡ Accepted n r
+    → IsWellFormedNamed (low_region settings) n
 
 -- So the state after any list of statements alone is well-formed.
 abbrev pub ReachedIsWellFormed : Type 0

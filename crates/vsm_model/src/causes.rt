@@ -29,7 +29,8 @@ pub enum Cause {
     NotAssigned,
 }
 
-/// A completion code: a system code of three hexadecimal digits (`Sxxx`), or a user code of four decimal ones (`Unnnn`).
+/// A completion code: a system code of three hexadecimal digits (`Sxxx`), or a user code of four decimal ones
+/// (`Unnnn`).
 #[derive(Clone, Copy, Debug, PartialEq, Eq)]
 pub enum Code {
     System(u16),

@@ -1,5 +1,6 @@
 //! The plain machine of z/OS virtual storage: what a storage service does, as definitions over sets, maps and lists
-//! (`specs/`), with the types that they speak of, the laws of the definitions (`laws`) and worked examples (`examples`).
+//! (`specs/`), with the types that they speak of, the laws of the definitions (`laws`) and worked examples
+//! (`examples`).
 #![tactic(auto)]
 
 mod causes;
