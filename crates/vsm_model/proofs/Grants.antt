@@ -1,10 +1,10 @@
 -- An accepted obtain grants storage that was free.
 use Rattle.std.proofs.Common.{◌≡◌, ℕ, ◌*◌, ◌/◌, ◌%◌, ◌<◌, ◌≤◌, Bool, true, false, not, ◌&&◌, ◌||◌, nat_lt, ◌==◌, Option, Some, None, is_some, arith, refl, sym, ◌∙◌, ap, subst, true≢false, inl, inr}
-use Rattle.std.proofs.lemmas.Bool.{cases_Bool, and_parts, and_from, cond-true, cond-false, eqb-true, not-true, both_ways, false_from_ne_true, or_left, ltb-false, eqb-false}
+use Rattle.std.proofs.lemmas.Bool.{cases_Bool, and_parts, cond-true, cond-false, eqb-true, not-true, both_ways, false_from_ne_true, or_left, ltb-false, eqb-false}
 use Rattle.vsm_model.specs.declared.Subpool.{Subpool}
 use Rattle.vsm_model.specs.declared.causes.Cause.TheVariants.{ZeroLength, TooManyNames, NoStorage}
 use Rattle.vsm_model.specs.declared.replies.Reply.{Reply}
-use Rattle.vsm_model.specs.declared.replies.Reply.TheVariants.{Obtained, Returned, Stored}
+use Rattle.vsm_model.specs.declared.replies.Reply.TheVariants.{Obtained, Returned}
 use Rattle.vsm_model.specs.Search.{all_pass, IsLeastAmong}
 use Rattle.vsm_model.specs.Regions.{Region, among, within, low_region}
 use Rattle.vsm_model.specs.Registers.{with_reply}

@@ -1,11 +1,10 @@
 -- What an accepted statement does to the names.
-use Rattle.std.proofs.Common.{◌≡◌, ◌≢◌, ◌⊎◌, ℕ, Bool, true, false, if◌then◌else◌, Option, Some, None, is_some, List, [], ◌∷◌, ◌++◌, map, refl, sym, ◌∙◌, ap, subst, inl, inr}
+use Rattle.std.proofs.Common.{◌≡◌, ◌≢◌, ◌⊎◌, ℕ, Bool, true, false, if◌then◌else◌, Option, Some, None, is_some, List, [], ◌∷◌, ◌++◌, map, refl, sym, ◌∙◌, ap, inl, inr}
 use Rattle.vsm_model.specs.declared.causes.Cause.{Cause}
 use Rattle.vsm_model.specs.declared.replies.Reply.{Reply}
 use Rattle.vsm_model.specs.declared.replies.Reply.TheVariants.{Obtained, Returned, Stored}
-use Rattle.vsm_model.specs.State.{State}
 use Rattle.vsm_model.specs.Standing.{Outcome, Accepted, Refused}
-use Rattle.vsm_model.specs.Names.{NamedState, NamedService, word_of, same_name, with_name, is_one_too_many, names_after, named, NamesKeepTheirOrder, StatementIsItsService, AreaIsNamed, OtherwiseNamesStay}
+use Rattle.vsm_model.specs.Names.{NamedState, word_of, same_name, with_name, is_one_too_many, names_after, named, NamesKeepTheirOrder, StatementIsItsService, AreaIsNamed, OtherwiseNamesStay}
 use Rattle.vsm_model.specs.Step.{step}
 use Rattle.vsm_model.proofs.Answers.{Stepped}
 use Rattle.vsm_model.proofs.Rows.{name_stands, others_stand}

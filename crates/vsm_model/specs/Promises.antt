@@ -2,7 +2,7 @@
 -- word on how an area is found. Assembler Services Guide, "Virtual storage management", "Explicit requests for virtual
 -- storage" and "Subpool handling"; Assembler Services Reference, STORAGE.
 use Rattle.std.specs.Prelude.{◌≡◌, ◌≢◌, ℕ, ◌+◌, ◌/◌, ◌%◌, ◌<◌, ◌≤◌, ◌⊎◌, Bool, ◌&&◌, ◌||◌, not, true, false, Option}
-use Rattle.std.specs.Prelude.{Some, None, is_some, if◌then◌else◌, List, length}
+use Rattle.std.specs.Prelude.{Some, None, is_some, List, length}
 use Rattle.vsm_model.specs.declared.Subpool.{Subpool}
 use Rattle.vsm_model.specs.declared.causes.Cause.{Cause}
 use Rattle.vsm_model.specs.declared.limits.Settings.{Settings}
