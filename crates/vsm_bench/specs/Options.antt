@@ -13,7 +13,6 @@ use Rattle.clap.specs.declared.Error.{Error}
 use Rattle.vsm_model.specs.declared.limits.Settings.{Settings}
 use Rattle.vsm_model.specs.declared.limits.Residence.{Residence}
 use Rattle.vsm_model.specs.declared.limits.Residence.TheVariants.{Below, Above}
-use Rattle.vsm_bench.specs.declared.options.TheConstants.{DEFAULT_SETTINGS}
 
 -- ---- the options
 
@@ -39,6 +38,10 @@ command_line values =
 
 -- ---- what they say
 
+-- where no option is written: 64K below the line and above it, a caller below it, and 1,024 changes that can be undone
+abbrev pub default_settings : Settings
+default_settings = record { low_k = 64; high_k = 64; residence = Below; history = 1024 }
+
 abbrev pub is_numeral : Text → Bool
 is_numeral digits = nat_lt 0 (length digits) && list_all (λ d. nat_lt (digit_value d) 10) digits
 
@@ -55,7 +58,7 @@ abbrev pub residence_in : Text → Residence
 residence_in text = if bytes_eq text (codes "31") then Above else Below
 
 abbrev pub residence_asked : List Row → Residence
-residence_asked rows = option_map_or residence_in (first_of (codes "residence") rows) DEFAULT_SETTINGS.residence
+residence_asked rows = option_map_or residence_in (first_of (codes "residence") rows) default_settings.residence
 
 abbrev pub settings_from : Option ℕ → Option ℕ → Residence → Option ℕ → Option Settings
 settings_from (Some low) (Some high) residence (Some history) =
@@ -65,10 +68,10 @@ settings_from _ _ residence _ = None
 -- the settings, unless a number has more than 32 bits
 abbrev pub settings_asked : List Row → Option Settings
 settings_asked rows = settings_from
-    (number_asked (codes "low") DEFAULT_SETTINGS.low_k rows)
-    (number_asked (codes "high") DEFAULT_SETTINGS.high_k rows)
+    (number_asked (codes "low") default_settings.low_k rows)
+    (number_asked (codes "high") default_settings.high_k rows)
     (residence_asked rows)
-    (number_asked (codes "history") DEFAULT_SETTINGS.history rows)
+    (number_asked (codes "history") default_settings.history rows)
 
 abbrev pub file_asked : List Row → Option Text
 file_asked rows = first_of (codes "FILE") rows

@@ -2,18 +2,17 @@
 ghost use Rattle.std.specs.Prelude.{◌≡◌, ◌≤◌, length, map};
 ghost use Rattle.std.specs.String.{string_bytes};
 ghost use Rattle.clap.specs.Words.{kind_of};
-ghost use Rattle.vsm_bench.specs.Command.{Answers, Commanded, CommandedFile, CommandedWith, Does, fault_status};
+ghost use Rattle.vsm_bench.specs.Command.{Answers, Commanded, CommandedWith, Does, fault_status};
 
 use crate::driver::run;
 use crate::faults::RunFault;
 use crate::options::{file_asked, read_words, settings_asked};
 use crate::refusals::NewFault;
+use crate::script_files::ScriptFiles;
 use clap::Error;
 use clap::error::ErrorKind;
 use std::alloc::Global;
-use std::fs;
 use std::io::{Read, Write};
-use std::rt::Files;
 use storage_core::Settings;
 
 /// The exit status of a fault.
@@ -50,23 +49,6 @@ fn run_script<I: Read, O: Write, E: Write>(
     }
 }
 
-/// Runs the script in a file. One that can't be opened is a fault of reading.
-fn run_file<R: Files, O: Write, E: Write>(
-    rt: &R,
-    alloc: Global,
-    path: &str,
-    settings: Settings,
-    output: &mut O,
-    errors: &mut E,
-) -> u8
-    ensures { CommandedFile O.contents settings output.old output.new result }
-{
-    match fs::open(rt, path) {
-        Ok(mut file) => run_script(alloc, settings, &mut file, output, errors),
-        Err(_) => tell_fault(errors, RunFault::Read),
-    }
-}
-
 /// Answers words that ask for no run: writes help to `output`, and what is wrong with the words to `errors`.
 fn answer<O: Write, E: Write>(error: &Error, output: &mut O, errors: &mut E) -> u8
     ensures { Answers (kind_of error.now) output.old output.new result }
@@ -91,7 +73,7 @@ fn answer<O: Write, E: Write>(error: &Error, output: &mut O, errors: &mut E) -> 
 /// be opened, reading or writing failed or the script is too long, and 16 where the words are wrong, the settings are out of their
 /// limits or there is no memory. What is wrong is found in this order: the words, a number above 32 bits, opening the file, the
 /// run.
-pub fn command<R: Files + AllocGlobal, I: Read, O: Write, E: Write>(
+pub fn command<R: ScriptFiles + AllocGlobal, I: Read, O: Write, E: Write>(
     rt: &R,
     words: &[String],
     input: &mut I,
@@ -99,7 +81,7 @@ pub fn command<R: Files + AllocGlobal, I: Read, O: Write, E: Write>(
     errors: &mut E,
 ) -> u8
     ensures runs { length words.now ≤ 1 → Commanded (I.remaining input.old) (I.remaining input.new) (O.contents output.old) (O.contents output.new) result }
-    ensures does { Does I.remaining O.contents input.old input.new output.old output.new result (map string_bytes words.now) }
+    ensures does { Does (R.opened rt.now) R.Script.remaining I.remaining O.contents input.old input.new output.old output.new result (map string_bytes words.now) }
 {
     let matches = match read_words(rt.alloc(), words) {
         Ok(matches) => matches,
@@ -110,6 +92,9 @@ pub fn command<R: Files + AllocGlobal, I: Read, O: Write, E: Write>(
     };
     match file_asked(&matches) {
         None => run_script(rt.alloc(), settings, input, output, errors),
-        Some(path) => run_file(rt, rt.alloc(), path, settings, output, errors),
+        Some(path) => match rt.open_script(path) {
+            Ok(mut script) => run_script(rt.alloc(), settings, &mut script, output, errors),
+            Err(_) => tell_fault(errors, RunFault::Read),
+        },
     }
 }
