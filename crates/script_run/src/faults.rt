@@ -1,0 +1,28 @@
+//! How a run ends.
+
+use thiserror::Error;
+use vsm_machine::NewFault;
+
+/// What a run counted: the numbered lines of output, and those of them that are faults, refusals or abends.
+#[derive(Clone, Copy, Debug, PartialEq, Eq)]
+pub struct RunTotals {
+    pub statements: u32,
+    pub refused: u32,
+}
+
+/// Why a run ended before the end of its script. What went out stands for the statements that were complete.
+#[derive(Clone, Copy, Debug, PartialEq, Eq, Error)]
+pub enum RunFault {
+    /// A read failed.
+    #[error("read")]
+    Read,
+    /// A write failed, or took no bytes.
+    #[error("write")]
+    Write,
+    /// The script has more than 1,048,576 lines, or a line of more than 65,536 bytes.
+    #[error("too long")]
+    TooLong,
+    /// The bench can't be made. Nothing was read or written.
+    #[error("{0}")]
+    New(NewFault),
+}

@@ -1,0 +1,13 @@
+//! Runs of scripts: what a reader gives is carried out on a bench, line by line, and answered to a writer.
+#![tactic(auto)]
+
+mod answers;
+mod faults;
+mod lines;
+mod responses;
+mod runs;
+mod session;
+mod writing;
+
+pub use faults::{RunFault, RunTotals};
+pub use runs::run;
