@@ -20,7 +20,7 @@ map_few f (x ∷ []) few = few
 map_few f (x ∷ y ∷ xs) few = absurd (omega arith)
 
 -- without words there is no file
-pub names_no_file : (values : Residences) (words : List Text) (rows : List Row) (path : Text) → rows ≡ matches_of (command_line values) words
+names_no_file : (values : Residences) (words : List Text) (rows : List Row) (path : Text) → rows ≡ matches_of (command_line values) words
     → Some path ≡ file_asked rows → length words ≤ 1 → ⊥
 names_no_file values words rows path is named few =
     none-some path (sym (subst (λ (rs : List Row). Some path ≡ file_asked rs) (is ∙ nothing_said values words few) named))
@@ -41,6 +41,11 @@ module _ {I O : Type 0} (remaining : I → Option (List ℕ)) (contents : O → 
       let idle : (later ≡ output) × (code ≡ 16) = subst (λ k. Answers k output later code) memory answers in
       no_memory contents (remaining input) output later code idle.0 idle.1
   runs_refuse values words e (inr is) answers few = absurd (subst (IsAmong (kind_of e)) (nothing_wrong values words few) is)
+
+  -- a file that is named is a word
+  pub runs_named : (values : Residences) (words : List Text) (rows : List Row) (path : Text) → rows ≡ matches_of (command_line values) words
+      → Some path ≡ file_asked rows → length words ≤ 1 → Commanded (remaining input) (remaining input) (contents output) (contents later) code
+  runs_named values words rows path is named few = absurd (names_no_file values words rows path is named few)
 
 module _ {F I O : Type 0} (opened : Text → Option F → Type 0) (unread : F → Option (List ℕ)) (remaining : I → Option (List ℕ)) (contents : O → Option (List ℕ)) (input : I) (output later : O) (code : ℕ) where
   among : (kinds : Kinds) (what : ErrorKind) (rows : List Row) → IsAmong what kinds → Answers what output later code

@@ -3,7 +3,7 @@ use Rattle.std.specs.String.{string_bytes}
 use Rattle.clap.specs.Words.{found_of, rows_of}
 use Rattle.vsm_bench.specs.Command.{Obeys}
 use Rattle.vsm_bench.specs.Options.{file_asked}
-use Rattle.vsm_bench.proofs.Obeys.{does_obey, does_refuse, map_few, names_no_file, obeys_by, runs_refuse, runs_obey}
+use Rattle.vsm_bench.proofs.Obeys.{does_obey, does_refuse, map_few, obeys_by, runs_named, runs_obey, runs_refuse}
 use Rattle.vsm_bench.proofs.commands.command.Goals as goal
 
 pub returns-in-Err-clause-runs : goal.returns-in-Err-clause-runs
@@ -41,14 +41,16 @@ returns-in-None-clause-runs g c = λ few.
 pub returns-in-Ok-open_script-clause-runs : goal.returns-in-Ok-open_script-clause-runs
 returns-in-Ok-open_script-clause-runs g c = λ few.
     let read = c.in-Ok.ensures in
-    absurd (names_no_file read.0 (map string_bytes c.args.words.now) (rows_of (found_of c.in-Ok.matches)) c.in-Some-file_asked.path.now read.2.1
-    c.in-Some-file_asked.ensures (map_few string_bytes c.args.words.now few))
+    runs_named g.I.Read.remaining g.O.Write.contents c.args.input.now c.args.output.now c.run_script-in-Ok-open_script.new.output c.run_script-in-Ok-open_script.result read.0
+    (map string_bytes c.args.words.now) (rows_of (found_of c.in-Ok.matches)) c.in-Some-file_asked.path.now read.2.1 c.in-Some-file_asked.ensures
+    (map_few string_bytes c.args.words.now few)
 
 pub returns-clause-runs : goal.returns-clause-runs
 returns-clause-runs g c = λ few.
     let read = c.in-Ok.ensures in
-    absurd (names_no_file read.0 (map string_bytes c.args.words.now) (rows_of (found_of c.in-Ok.matches)) c.in-Some-file_asked.path.now read.2.1
-    c.in-Some-file_asked.ensures (map_few string_bytes c.args.words.now few))
+    runs_named g.I.Read.remaining g.O.Write.contents c.args.input.now c.args.output.now c.args.output.now c.tell_fault-in-Err-open_script.result read.0
+    (map string_bytes c.args.words.now) (rows_of (found_of c.in-Ok.matches)) c.in-Some-file_asked.path.now read.2.1 c.in-Some-file_asked.ensures
+    (map_few string_bytes c.args.words.now few)
 
 pub returns-clause-does : goal.returns-clause-does
 returns-clause-does g c =
@@ -58,4 +60,4 @@ returns-clause-does g c =
     c.args.output.now c.args.output.now c.tell_fault-in-Err-open_script.result read.0 (map string_bytes c.args.words.now) rows read.1 read.2.0 read.2.1
     (obeys_by (g.R.ScriptFiles.opened c.args.rt.now) g.R.Script.Read.remaining g.I.Read.remaining g.O.Write.contents c.args.input.now c.args.input.now
     c.args.output.now c.args.output.now c.tell_fault-in-Err-open_script.result rows (Some c.in-Some.settings) (Some c.in-Some-file_asked.path.now)
-    c.in-Some.ensures c.in-Some-file_asked.ensures (refl, (None, (c.in-Err-open_script.ensures, (refl, c.tell_fault-in-Err-open_script.ensures)))))
+    c.in-Some.ensures c.in-Some-file_asked.ensures (refl, (None, c.in-Err-open_script.ensures, (refl, c.tell_fault-in-Err-open_script.ensures))))
