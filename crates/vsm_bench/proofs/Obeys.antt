@@ -75,9 +75,12 @@ module _ {F I O : Type 0} (opened : Text → Option F → Type 0) (unread : F �
       → Does opened unread remaining contents input left output later code words
   does_obey values words rows are right is obeys =
       let by_rows : DoesBy opened unread remaining contents input left output later code [] (matches_of (command_line values) words) =
-          subst (λ (rs : List Row). Obeys opened unread remaining contents input left output later code (settings_asked rs) (file_asked rs)) is obeys in
-      inr (values, are,
-      subst (λ (ks : Kinds). DoesBy opened unread remaining contents input left output later code ks (matches_of (command_line values) words)) (sym right) by_rows)
+      subst (λ (rs : List Row). Obeys opened unread remaining contents input left output later code (settings_asked rs) (file_asked rs)) is obeys in
+      inr (
+        values,
+        are,
+        subst (λ (ks : Kinds). DoesBy opened unread remaining contents input left output later code ks (matches_of (command_line values) words)) (sym right) by_rows,
+      )
 
   -- without words it's a run by default
   pub runs_obey : (values : Residences) (words : List Text) (rows : List Row) → rows ≡ matches_of (command_line values) words

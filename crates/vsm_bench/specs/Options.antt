@@ -1,12 +1,14 @@
 -- What the words of the command line ask for.
-use Rattle.std.specs.Prelude.{◌≡◌, ◌&&◌, ◌^◌, ℕ, Bool, List, [], ◌∷◌, length, map, nat_lt, if◌then◌else◌, codes, Option, Some, None, Result, Ok, Err}
+use Rattle.std.specs.Prelude.{◌≡◌, ◌&&◌, ◌^◌, ℕ, Bool, List, [], ◌∷◌, length, map, nat_lt, if◌then◌else◌, codes, Option}
+use Rattle.std.specs.Prelude.{Some, None, Result, Ok, Err}
 use Rattle.std.specs.List.{list_all}
 use Rattle.std.specs.Option.{option_map_or}
 use Rattle.std.specs.Borrow.{Bor}
 use Rattle.std.specs.Char.{digit_value}
 use Rattle.std.specs.Str.{bytes_eq}
 use Rattle.std.specs.Str.Parse.{digits_value, without_leading_plus}
-use Rattle.clap.specs.Words.{App, Row, Rule, Text, new_app, new_rule, with_rule, first_of, one_of, rows_of, found_of, matches_of, fault_of, HasKind}
+use Rattle.clap.specs.Words.{App, Row, Rule, Text, new_app, new_rule, with_rule, first_of, one_of, rows_of, found_of}
+use Rattle.clap.specs.Words.{matches_of, fault_of, HasKind}
 use Rattle.clap.specs.declared.builder.ValueParser.TheVariants as parser
 use Rattle.clap.specs.declared.parser.ArgMatches.{ArgMatches}
 use Rattle.clap.specs.declared.Error.{Error}
@@ -17,7 +19,8 @@ use Rattle.vsm_model.specs.declared.limits.Residence.TheVariants.{Below, Above}
 -- ---- the options
 
 abbrev pub number_option : Text → Rule
-number_option name = record (new_rule name) { long = Some name; value_names = 1; parser = Some (parser.Unsigned 0 18446744073709551615) }
+number_option name =
+    record (new_rule name) { long = Some name; value_names = 1; parser = Some (parser.Unsigned 0 18446744073709551615) }
 
 -- what --residence takes
 abbrev pub Residences : Type 0
@@ -27,13 +30,15 @@ abbrev pub AreResidences : Residences → Type 0
 AreResidences values = map (λ s. s.now) values.now ≡ codes "24" ∷ codes "31" ∷ []
 
 abbrev pub residence_option : Residences → Rule
-residence_option values = record (new_rule (codes "residence")) { long = Some (codes "residence"); value_names = 1; parser = Some (parser.Names values) }
+residence_option values = record (new_rule (codes "residence"))
+    { long = Some (codes "residence"); value_names = 1; parser = Some (parser.Names values) }
 
 -- four options and an operand, each of them once at most
 abbrev pub command_line : Residences → App
 command_line values =
     with_rule (with_rule (with_rule (with_rule (with_rule (new_app (codes "vsm"))
-    (number_option (codes "low"))) (number_option (codes "high"))) (residence_option values)) (number_option (codes "history")))
+    (number_option (codes "low"))) (number_option (codes "high"))) (residence_option values))
+    (number_option (codes "history")))
     (new_rule (codes "FILE"))
 
 -- ---- what they say
@@ -76,8 +81,9 @@ settings_asked rows = settings_from
 abbrev pub file_asked : List Row → Option Text
 file_asked rows = first_of (codes "FILE") rows
 
--- The words were read as this command line is read: the matches are those of the words, or the error is of a kind that they have
--- (or memory was wanting).
+-- The words were read as this command line is read: the matches are those of the words, or the error is of a kind that
+-- they have (or memory was wanting).
 abbrev pub Reads : Residences → List Text → Result ArgMatches Error → Type 0
-Reads values words (Ok m) = (fault_of (command_line values) words ≡ []) × (rows_of (found_of m) ≡ matches_of (command_line values) words)
+Reads values words (Ok m) =
+    (fault_of (command_line values) words ≡ []) × (rows_of (found_of m) ≡ matches_of (command_line values) words)
 Reads values words (Err e) = HasKind (fault_of (command_line values) words) e

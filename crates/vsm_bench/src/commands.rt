@@ -40,7 +40,8 @@ fn run_script<I: Read, O: Write, E: Write>(
     output: &mut O,
     errors: &mut E,
 ) -> u8
-    ensures { CommandedWith settings (I.remaining input.old) (I.remaining input.new) (O.contents output.old) (O.contents output.new) result }
+    ensures { CommandedWith settings (I.remaining input.old) (I.remaining input.new) (O.contents output.old)
+        (O.contents output.new) result }
 {
     match run(alloc, input, output, settings) {
         Ok(totals) => { if totals.refused == 0 { 0 } else { 4 } }
@@ -65,13 +66,16 @@ fn answer<O: Write, E: Write>(error: &Error, output: &mut O, errors: &mut E) -> 
     }
 }
 
-/// Runs the program on these words (its name, and what follows): reads the script from the file that they name or else from
-/// `input`, writes its output to `output`, and what is wrong with the words or the run to `errors`. Gives the exit status.
+/// Runs the program on these words (its name, and what follows): reads the script from the file that they name or else
+/// from `input`, writes its output to `output`, and what is wrong with the words or the run to `errors`. Gives the exit
+/// status.
 ///
-/// The status is 0 where no statement was refused or help was asked for, 4 where a statement was refused, 8 where the file can't
-/// be opened, reading or writing failed or the script is too long, and 16 where the words are wrong, the settings are out of their
-/// limits or there is no memory. What is wrong is found in this order: the words, a number above 32 bits, opening the file, the
-/// run.
+/// Where the words name a file, what `rt` opens for it is what is run, from where it stands when it's opened, and
+/// `input` isn't read. The status is 0 where no statement was refused or help was asked for, 4 where a statement was
+/// refused, 8 where the file can't be opened, reading or writing failed or the script is too long, and 16 where the
+/// words are wrong, the settings are out of their limits or there is no memory. What is wrong is found in this order:
+/// the words, a number above 32 bits, opening the file, the run. Before the run nothing is read, and nothing but help
+/// is written to `output`.
 pub fn command<R: ScriptFiles + AllocGlobal, I: Read, O: Write, E: Write>(
     rt: &R,
     words: &[String],
@@ -79,8 +83,10 @@ pub fn command<R: ScriptFiles + AllocGlobal, I: Read, O: Write, E: Write>(
     output: &mut O,
     errors: &mut E,
 ) -> u8
-    ensures runs { length words.now ≤ 1 → Commanded (I.remaining input.old) (I.remaining input.new) (O.contents output.old) (O.contents output.new) result }
-    ensures does { Does (R.opened rt.now) R.Script.remaining I.remaining O.contents input.old input.new output.old output.new result (map string_bytes words.now) }
+    ensures runs { length words.now ≤ 1 → Commanded (I.remaining input.old) (I.remaining input.new)
+        (O.contents output.old) (O.contents output.new) result }
+    ensures does { Does (R.opened rt.now) R.Script.remaining I.remaining O.contents input.old input.new output.old
+        output.new result (map string_bytes words.now) }
 {
     let matches = match read_words(rt.alloc(), words) {
         Ok(matches) => matches,

@@ -2,10 +2,9 @@
 ghost use Rattle.std.specs.Prelude.{ℕ, List, Option, ⊤};
 ghost use Rattle.std.specs.Result.{result_ok};
 
-use std::fs;
-use std::io;
 use std::io::Read;
 use std::rt::Files;
+use std::{fs, io};
 
 /// What scripts are opened in: the files of a runtime, or what stands in for them.
 pub trait ScriptFiles {
