@@ -5,8 +5,8 @@ use Rattle.clap.specs.declared.error.ErrorKind.{ErrorKind}
 use Rattle.clap.specs.declared.error.ErrorKind.TheVariants as kind
 use Rattle.vsm_model.specs.declared.limits.Settings.{Settings}
 use Rattle.script_run.specs.Run.{Ran}
-use Rattle.vsm_bench.specs.Options.{Residences, AreResidences, command_line, settings_asked, file_asked}
-use Rattle.vsm_bench.specs.declared.options.TheConstants.{DEFAULT_SETTINGS}
+use Rattle.vsm_bench.specs.Options.{Residences, AreResidences, command_line, default_settings, settings_asked}
+use Rattle.vsm_bench.specs.Options.{file_asked}
 use Rattle.script_run.specs.declared.faults.RunFault.{RunFault}
 use Rattle.script_run.specs.declared.faults.RunFault.TheVariants as fault
 use Rattle.script_run.specs.declared.faults.RunTotals.{RunTotals}
@@ -29,23 +29,29 @@ CommandedWith settings unread left at_first now code =
 
 -- A run with the default settings, and its status.
 abbrev pub Commanded : Option (List ℕ) → Option (List ℕ) → Option (List ℕ) → Option (List ℕ) → ℕ → Type 0
-Commanded = CommandedWith DEFAULT_SETTINGS
-
--- Nothing was written, since the script couldn't be opened; or it was run, whatever was in it.
-abbrev pub CommandedFile : {O : Type 0} → (O → Option (List ℕ)) → Settings → O → O → ℕ → Type 0
-CommandedFile contents settings output later code = ((later ≡ output) × (code ≡ 8))
-    ⊎ ((unread left : Option (List ℕ)) × CommandedWith settings unread left (contents output) (contents later) code)
+Commanded = CommandedWith default_settings
 
 -- An answer to words that ask for no run: help, with status 0; or status 16, and nothing is written.
 abbrev pub Answers : {O : Type 0} → ErrorKind → O → O → ℕ → Type 0
 Answers kind.DisplayHelp output later code = code ≡ 0
 Answers _ output later code = (later ≡ output) × (code ≡ 16)
 
--- What the program does with its input, its output and its status.
-module _ {I O : Type 0} (remaining : I → Option (List ℕ)) (contents : O → Option (List ℕ)) (input left : I) (output later : O) (code : ℕ) where
+-- What the program does with its input, its output and its status. `opened` says what opening a path gave, and `unread`
+-- what an open script has left to be read.
+module _ {F I O : Type 0} (opened : Text → Option F → Type 0) (unread : F → Option (List ℕ))
+    (remaining : I → Option (List ℕ)) (contents : O → Option (List ℕ))
+    (input left : I) (output later : O) (code : ℕ) where
+  -- The script that was opened was run, and what it had left is what was read; or none was opened, and nothing is
+  -- written.
+  abbrev pub RunsOpened : Settings → Option F → Type 0
+  RunsOpened settings (Some script) =
+      (rest : F) × CommandedWith settings (unread script) (unread rest) (contents output) (contents later) code
+  RunsOpened settings None = (later ≡ output) × (code ≡ 8)
+
+  -- the input is read where the words name no file, and else left as it was
   abbrev pub Runs : Settings → Option Text → Type 0
   Runs settings None = CommandedWith settings (remaining input) (remaining left) (contents output) (contents later) code
-  Runs settings (Some file) = (left ≡ input) × CommandedFile contents settings output later code
+  Runs settings (Some path) = (left ≡ input) × ((script : Option F) × opened path script × RunsOpened settings script)
 
   -- a number above 32 bits is refused before the file is opened
   abbrev pub Obeys : Option Settings → Option Text → Type 0
@@ -60,4 +66,5 @@ module _ {I O : Type 0} (remaining : I → Option (List ℕ)) (contents : O → 
   -- or there is no memory to read the words
   abbrev pub Does : List Text → Type 0
   Does words = ((left ≡ input) × (later ≡ output) × (code ≡ 16))
-      ⊎ ((values : Residences) × AreResidences values × DoesBy (fault_of (command_line values) words) (matches_of (command_line values) words))
+      ⊎ ((values : Residences) × AreResidences values
+      × DoesBy (fault_of (command_line values) words) (matches_of (command_line values) words))

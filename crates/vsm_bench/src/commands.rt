@@ -2,16 +2,15 @@
 ghost use Rattle.std.specs.Prelude.{◌≡◌, ◌≤◌, length, map};
 ghost use Rattle.std.specs.String.{string_bytes};
 ghost use Rattle.clap.specs.Words.{kind_of};
-ghost use Rattle.vsm_bench.specs.Command.{Answers, Commanded, CommandedFile, CommandedWith, Does, fault_status};
+ghost use Rattle.vsm_bench.specs.Command.{Answers, Commanded, CommandedWith, Does, fault_status};
 
 use crate::options::{file_asked, read_words, settings_asked};
+use crate::script_files::ScriptFiles;
 use clap::Error;
 use clap::error::ErrorKind;
 use script_run::{RunFault, run};
 use std::alloc::Global;
-use std::fs;
 use std::io::{Read, Write};
-use std::rt::Files;
 use vsm_machine::NewFault;
 use vsm_model::Settings;
 
@@ -41,28 +40,12 @@ fn run_script<I: Read, O: Write, E: Write>(
     output: &mut O,
     errors: &mut E,
 ) -> u8
-    ensures { CommandedWith settings (I.remaining input.old) (I.remaining input.new) (O.contents output.old) (O.contents output.new) result }
+    ensures { CommandedWith settings (I.remaining input.old) (I.remaining input.new) (O.contents output.old)
+        (O.contents output.new) result }
 {
     match run(alloc, input, output, settings) {
         Ok(totals) => { if totals.refused == 0 { 0 } else { 4 } }
         Err(fault) => tell_fault(errors, fault),
-    }
-}
-
-/// Runs the script in a file. One that can't be opened is a fault of reading.
-fn run_file<R: Files, O: Write, E: Write>(
-    rt: &R,
-    alloc: Global,
-    path: &str,
-    settings: Settings,
-    output: &mut O,
-    errors: &mut E,
-) -> u8
-    ensures { CommandedFile O.contents settings output.old output.new result }
-{
-    match fs::open(rt, path) {
-        Ok(mut file) => run_script(alloc, settings, &mut file, output, errors),
-        Err(_) => tell_fault(errors, RunFault::Read),
     }
 }
 
@@ -83,22 +66,27 @@ fn answer<O: Write, E: Write>(error: &Error, output: &mut O, errors: &mut E) -> 
     }
 }
 
-/// Runs the program on these words (its name, and what follows): reads the script from the file that they name or else from
-/// `input`, writes its output to `output`, and what is wrong with the words or the run to `errors`. Gives the exit status.
+/// Runs the program on these words (its name, and what follows): reads the script from the file that they name or else
+/// from `input`, writes its output to `output`, and what is wrong with the words or the run to `errors`. Gives the exit
+/// status.
 ///
-/// The status is 0 where no statement was refused or help was asked for, 4 where a statement was refused, 8 where the file can't
-/// be opened, reading or writing failed or the script is too long, and 16 where the words are wrong, the settings are out of their
-/// limits or there is no memory. What is wrong is found in this order: the words, a number above 32 bits, opening the file, the
-/// run.
-pub fn command<R: Files + AllocGlobal, I: Read, O: Write, E: Write>(
+/// Where the words name a file, what `rt` opens for it is what is run, from where it stands when it's opened, and
+/// `input` isn't read. The status is 0 where no statement was refused or help was asked for, 4 where a statement was
+/// refused, 8 where the file can't be opened, reading or writing failed or the script is too long, and 16 where the
+/// words are wrong, the settings are out of their limits or there is no memory. What is wrong is found in this order:
+/// the words, a number above 32 bits, opening the file, the run. Before the run nothing is read, and nothing but help
+/// is written to `output`.
+pub fn command<R: ScriptFiles + AllocGlobal, I: Read, O: Write, E: Write>(
     rt: &R,
     words: &[String],
     input: &mut I,
     output: &mut O,
     errors: &mut E,
 ) -> u8
-    ensures runs { length words.now ≤ 1 → Commanded (I.remaining input.old) (I.remaining input.new) (O.contents output.old) (O.contents output.new) result }
-    ensures does { Does I.remaining O.contents input.old input.new output.old output.new result (map string_bytes words.now) }
+    ensures runs { length words.now ≤ 1 → Commanded (I.remaining input.old) (I.remaining input.new)
+        (O.contents output.old) (O.contents output.new) result }
+    ensures does { Does (R.opened rt.now) R.Script.remaining I.remaining O.contents input.old input.new output.old
+        output.new result (map string_bytes words.now) }
 {
     let matches = match read_words(rt.alloc(), words) {
         Ok(matches) => matches,
@@ -109,6 +97,9 @@ pub fn command<R: Files + AllocGlobal, I: Read, O: Write, E: Write>(
     };
     match file_asked(&matches) {
         None => run_script(rt.alloc(), settings, input, output, errors),
-        Some(path) => run_file(rt, rt.alloc(), path, settings, output, errors),
+        Some(path) => match rt.open_script(path) {
+            Ok(mut script) => run_script(rt.alloc(), settings, &mut script, output, errors),
+            Err(_) => tell_fault(errors, RunFault::Read),
+        },
     }
 }

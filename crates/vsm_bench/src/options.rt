@@ -2,13 +2,15 @@
 ghost use Rattle.std.specs.Prelude.{◌≡◌, IfOk, List, ℕ, false, map, option_map};
 ghost use Rattle.std.specs.String.{string_bytes};
 ghost use Rattle.clap.specs.Words.{app_of, found_of, rows_of, rule_of};
-ghost use Rattle.vsm_bench.specs.Options.{Residences, AreResidences, command_line, number_option, residence_option, number_asked, residence_asked, settings_asked, file_asked, Reads};
+ghost use Rattle.vsm_bench.specs.Options.{Residences, AreResidences, command_line, number_option, residence_option};
+ghost use Rattle.vsm_bench.specs.Options.{number_asked, residence_asked, settings_asked, file_asked, Reads};
 
 use clap::{Arg, ArgMatches, Command, Error, value_parser};
 use std::alloc::{AllocError, Global};
 use vsm_model::{Residence, Settings};
 
-/// The settings where no option is written: 64K below and above the line, a caller below it, and 1,024 changes that can be undone.
+/// The settings where no option is written: 64K below and above the line, a caller below it, and 1,024 changes that can
+/// be undone.
 pub const DEFAULT_SETTINGS: Settings = Settings {
     low_k: 64,
     high_k: 64,
@@ -103,7 +105,8 @@ fn command_line<'a>(alloc: Global) -> Result<Command<'a>, AllocError>
         .arg(file)
 }
 
-/// What the words say, the first of which is the program's name; or the text for whoever wrote them: help, or what is wrong.
+/// What the words say, the first of which is the program's name; or the text for whoever wrote them: help, or what is
+/// wrong.
 pub(crate) fn read_words<'a>(alloc: Global, words: &'a [String]) -> Result<ArgMatches<'a>, Error>
     ensures { (values : Residences) × AreResidences values × Reads values (map string_bytes words.entry.now) result }
 {

@@ -3,7 +3,7 @@ use Rattle.std.specs.String.{string_bytes}
 use Rattle.clap.specs.Words.{found_of, rows_of}
 use Rattle.vsm_bench.specs.Command.{Obeys}
 use Rattle.vsm_bench.specs.Options.{file_asked}
-use Rattle.vsm_bench.proofs.Obeys.{does_refuse, map_few, obeys_by, runs_refuse, runs_obey}
+use Rattle.vsm_bench.proofs.Obeys.{does_obey, does_refuse, map_few, obeys_by, runs_named, runs_obey, runs_refuse}
 use Rattle.vsm_bench.proofs.commands.command.Goals as goal
 
 pub returns-in-Err-clause-runs : goal.returns-in-Err-clause-runs
@@ -15,16 +15,16 @@ returns-in-Err-clause-runs g c = λ few.
 pub returns-in-Err-clause-does : goal.returns-in-Err-clause-does
 returns-in-Err-clause-does g c =
     let read = c.in-Err.ensures in
-    does_refuse g.I.Read.remaining g.O.Write.contents c.args.input.now c.args.output.now c.answer.new.output c.answer.result read.0
+    does_refuse (g.R.ScriptFiles.opened c.args.rt.now) g.R.Script.Read.remaining g.I.Read.remaining g.O.Write.contents c.args.input.now c.args.output.now c.answer.new.output c.answer.result read.0
     (map string_bytes c.args.words.now) c.in-Err.error read.1 read.2 c.answer.ensures
 
 pub returns-in_default-clause-runs : goal.returns-in_default-clause-runs
 returns-in_default-clause-runs g c = λ few.
     let read = c.in-Ok.ensures in
     let rows = rows_of (found_of c.in-Ok.matches) in
-    runs_obey g.I.Read.remaining g.O.Write.contents c.args.input.now c.args.input.now c.args.output.now c.args.output.now c.tell_fault.result read.0
+    runs_obey (g.R.ScriptFiles.opened c.args.rt.now) g.R.Script.Read.remaining g.I.Read.remaining g.O.Write.contents c.args.input.now c.args.input.now c.args.output.now c.args.output.now c.tell_fault.result read.0
     (map string_bytes c.args.words.now) rows read.2.1
-    (subst (λ s. Obeys g.I.Read.remaining g.O.Write.contents c.args.input.now c.args.input.now c.args.output.now c.args.output.now c.tell_fault.result s (file_asked rows))
+    (subst (λ s. Obeys (g.R.ScriptFiles.opened c.args.rt.now) g.R.Script.Read.remaining g.I.Read.remaining g.O.Write.contents c.args.input.now c.args.input.now c.args.output.now c.args.output.now c.tell_fault.result s (file_asked rows))
     c.in_default.ensures (refl, refl, c.tell_fault.ensures))
     (map_few string_bytes c.args.words.now few)
 
@@ -32,8 +32,32 @@ pub returns-in-None-clause-runs : goal.returns-in-None-clause-runs
 returns-in-None-clause-runs g c = λ few.
     let read = c.in-Ok.ensures in
     let rows = rows_of (found_of c.in-Ok.matches) in
-    runs_obey g.I.Read.remaining g.O.Write.contents c.args.input.now c.run_script.new.input c.args.output.now c.run_script.new.output c.run_script.result read.0
+    runs_obey (g.R.ScriptFiles.opened c.args.rt.now) g.R.Script.Read.remaining g.I.Read.remaining g.O.Write.contents c.args.input.now c.run_script.new.input c.args.output.now c.run_script.new.output c.run_script.result read.0
     (map string_bytes c.args.words.now) rows read.2.1
-    (obeys_by g.I.Read.remaining g.O.Write.contents c.args.input.now c.run_script.new.input c.args.output.now c.run_script.new.output c.run_script.result
+    (obeys_by (g.R.ScriptFiles.opened c.args.rt.now) g.R.Script.Read.remaining g.I.Read.remaining g.O.Write.contents c.args.input.now c.run_script.new.input c.args.output.now c.run_script.new.output c.run_script.result
     rows (Some c.in-Some.settings) None c.in-Some.ensures c.in-None.ensures c.run_script.ensures)
     (map_few string_bytes c.args.words.now few)
+
+pub returns-in-Ok-open_script-clause-runs : goal.returns-in-Ok-open_script-clause-runs
+returns-in-Ok-open_script-clause-runs g c = λ few.
+    let read = c.in-Ok.ensures in
+    runs_named g.I.Read.remaining g.O.Write.contents c.args.input.now c.args.output.now c.run_script-in-Ok-open_script.new.output c.run_script-in-Ok-open_script.result read.0
+    (map string_bytes c.args.words.now) (rows_of (found_of c.in-Ok.matches)) c.in-Some-file_asked.path.now read.2.1 c.in-Some-file_asked.ensures
+    (map_few string_bytes c.args.words.now few)
+
+pub returns-clause-runs : goal.returns-clause-runs
+returns-clause-runs g c = λ few.
+    let read = c.in-Ok.ensures in
+    runs_named g.I.Read.remaining g.O.Write.contents c.args.input.now c.args.output.now c.args.output.now c.tell_fault-in-Err-open_script.result read.0
+    (map string_bytes c.args.words.now) (rows_of (found_of c.in-Ok.matches)) c.in-Some-file_asked.path.now read.2.1 c.in-Some-file_asked.ensures
+    (map_few string_bytes c.args.words.now few)
+
+pub returns-clause-does : goal.returns-clause-does
+returns-clause-does g c =
+    let read = c.in-Ok.ensures in
+    let rows = rows_of (found_of c.in-Ok.matches) in
+    does_obey (g.R.ScriptFiles.opened c.args.rt.now) g.R.Script.Read.remaining g.I.Read.remaining g.O.Write.contents c.args.input.now c.args.input.now
+    c.args.output.now c.args.output.now c.tell_fault-in-Err-open_script.result read.0 (map string_bytes c.args.words.now) rows read.1 read.2.0 read.2.1
+    (obeys_by (g.R.ScriptFiles.opened c.args.rt.now) g.R.Script.Read.remaining g.I.Read.remaining g.O.Write.contents c.args.input.now c.args.input.now
+    c.args.output.now c.args.output.now c.tell_fault-in-Err-open_script.result rows (Some c.in-Some.settings) (Some c.in-Some-file_asked.path.now)
+    c.in-Some.ensures c.in-Some-file_asked.ensures (refl, (None, c.in-Err-open_script.ensures, (refl, c.tell_fault-in-Err-open_script.ensures))))
