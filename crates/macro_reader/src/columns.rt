@@ -1,7 +1,7 @@
 //! The columns of a line.
 
-ghost use Rattle.std.specs.Prelude.{◌≡◌, slice_index_or};
-ghost use Rattle.macro_reader.specs.Columns.{used, is_continued, is_blank, is_comment, is_skipped};
+ghost use Rattle.std.specs.Prelude.{◌≡◌, ◌||◌, slice_index_or};
+ghost use Rattle.macro_reader.specs.Columns.{used, is_continued, is_blank, is_comment};
 
 /// The byte of a column, counted from 0.
 fn column(line: &[u8], i: usize) -> u8
@@ -15,9 +15,8 @@ pub(crate) fn used(line: &[u8]) -> [u8; 71]
     ensures { result ≡ used line.now }
 {
     let mut card = [b' '; 71];
-    for i in 0..71 {
-        card[i] = column(line, i);
-    }
+    let n = line.len().min(71);
+    card[..n].copy_from_slice(&line[..n]);
     card
 }
 
@@ -42,10 +41,9 @@ pub(crate) fn is_comment(card: &[u8]) -> bool
     !card.is_empty() && card[0] == b'*'
 }
 
-/// Whether a line is a comment or empty.
-pub(crate) fn is_skipped(line: &[u8]) -> bool
-    ensures { result ≡ is_skipped line.now }
+/// Whether a line, columns 1 to 71 of it, is a comment or empty.
+pub(crate) fn is_skipped(card: &[u8]) -> bool
+    ensures { result ≡ (is_blank card.now || is_comment card.now) }
 {
-    let card = used(line);
-    is_blank(&card) || is_comment(&card)
+    is_blank(card) || is_comment(card)
 }

@@ -50,6 +50,22 @@ fn part_of(card: &[u8]) -> &[u8]
 }
 
 impl Gathered {
+    /// Takes the field's part on a first line, columns 1 to 71 of it, in place of what was gathered.
+    pub(crate) fn begin(&mut self, card: &[u8])
+        requires { length card.now ≡ 71 }
+        ensures joined { joined self.new ≡ begun card.now }
+        ensures lines { self.new.lines ≡ 0 }
+    {
+        self.text.clear();
+        self.at = Nesting::outside();
+        self.goes_on = false;
+        self.lines = 0;
+        let rest = from_operands(card);
+        if !is_misplaced(card) && !rest.is_empty() {
+            self.take_part(rest);
+        }
+    }
+
     /// Takes what a line has of the field.
     fn take_part(&mut self, part: &[u8])
         requires room { array_vec_len self.old.text + length part.now ≤ 71 + 56 * self.old.lines }
@@ -89,23 +105,4 @@ impl Gathered {
         self.take_part(part_of(card));
         true
     }
-}
-
-/// The field's part on a first line.
-pub(crate) fn begin(card: &[u8]) -> Gathered
-    requires { length card.now ≡ 71 }
-    ensures joined { joined result ≡ begun card.now }
-    ensures lines { result.lines ≡ 0 }
-{
-    let rest = from_operands(card);
-    let mut gathered = Gathered {
-        text: ArrayVec::new(),
-        at: Nesting::outside(),
-        goes_on: false,
-        lines: 0,
-    };
-    if !is_misplaced(card) && !rest.is_empty() {
-        gathered.take_part(rest);
-    }
-    gathered
 }

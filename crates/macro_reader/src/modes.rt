@@ -25,7 +25,7 @@ pub struct Gathered {
     ghost few: { lines ≤ 9 },
 }
 
-/// A statement that is continued.
+/// The statement that is open, or was the last one that was. What it holds of lines stays where it is, and is lent.
 #[derive(Drop)]
 pub struct OpenStatement {
     /// The number of its first line.
@@ -33,16 +33,31 @@ pub struct OpenStatement {
     /// Columns 1 to 71 of its first line.
     pub first: [u8; 71],
     pub gathered: Gathered,
-    ghost fewer: { gathered.lines ≤ 8 },
+}
+
+impl OpenStatement {
+    /// No statement so far.
+    pub(crate) fn none() -> OpenStatement {
+        OpenStatement {
+            number: 0,
+            first: [b' '; 71],
+            gathered: Gathered {
+                text: ArrayVec::new(),
+                at: Nesting::outside(),
+                goes_on: false,
+                lines: 0,
+            },
+        }
+    }
 }
 
 /// Where a reader stands between two lines.
-#[derive(Drop)]
+#[derive(Clone, Copy)]
 pub enum Mode {
     /// It awaits a statement.
     Idle,
     /// It drops the lines behind a statement that is broken.
     Dropping,
-    /// It has an open statement.
-    Gathering(OpenStatement),
+    /// Its statement is open.
+    Gathering,
 }

@@ -1,15 +1,15 @@
 //! A reader that is fed line by line.
 
-ghost use Rattle.std.specs.Prelude.{◌≡◌, [], ◌∷◌, ◌++◌, List};
+ghost use Rattle.std.specs.Prelude.{◌≡◌, ◌≤◌, [], ◌∷◌, ◌++◌, List};
 ghost use Rattle.macro_reader.specs.Columns.{Line, is_continued};
 ghost use Rattle.macro_reader.specs.Scripts.{Answer, Answers, IsBehind, IsValidFed, told_by, told_at_end, moved};
 ghost use Rattle.macro_reader.specs.Scripts.{behind_break, idle};
-ghost use Rattle.macro_reader.specs.Modes.{mode_of};
+ghost use Rattle.macro_reader.specs.Modes.{mode_of, most_lines};
 ghost use Rattle.macro_statements.specs.Statements.{statement_with};
+ghost use Rattle.macro_reader.specs.declared.modes.OpenStatement.{OpenStatement};
 ghost use Rattle.macro_reader.specs.declared.modes.Mode.TheVariants.{Gathering};
 
 use crate::columns::{is_continued, is_skipped, used};
-use crate::continuation::begin;
 use crate::modes::{Mode, OpenStatement};
 use macro_statements::{FaultKind, Request, statement_with};
 use std::marker::Model;
@@ -39,6 +39,8 @@ pub enum Fed {
 pub struct Reader {
     count: u32,
     mode: Mode,
+    statement: OpenStatement,
+    ghost few: { statement.gathered.lines ≤ most_lines mode },
 }
 
 impl Model for Reader {
@@ -47,7 +49,7 @@ impl Model for Reader {
 
     ghost Value = { Kept };
 
-    ghost view = { λ r. record { count = r.count; mode = mode_of r.mode } };
+    ghost view = { λ r. record { count = r.count; mode = mode_of r.mode r.statement } };
 }
 
 /// What a whole statement asks for, with the number of its first line.
@@ -62,30 +64,32 @@ fn said(number: u32, first: &[u8], text: &[u8]) -> Result<Fed, Fault>
 }
 
 /// How a line moves a reader that awaits a statement.
-fn start(number: u32, line: &[u8]) -> (Mode, Result<Fed, Fault>)
-    ensures mode { mode_of result.0 ≡ (moved number idle line.now).0 }
+fn start(number: u32, statement: &mut OpenStatement, line: &[u8]) -> (Mode, Result<Fed, Fault>)
+    ensures mode { mode_of result.0 statement.new ≡ (moved number idle line.now).0 }
+    ensures few { statement.new.gathered.lines ≤ most_lines result.0 }
     ensures told { told_by result.1 ≡ (moved number idle line.now).1 }
     ensures valid { IsValidFed result.1 }
 {
-    if is_skipped(line) {
+    let first = used(line);
+    if is_skipped(&first) {
         return (Mode::Idle, Ok(Fed::More));
     }
-    let first = used(line);
-    let gathered = begin(&first);
+    statement.gathered.begin(&first);
     if is_continued(line) {
-        let statement = OpenStatement {
-            number,
-            first,
-            gathered,
-        };
-        return (Mode::Gathering(statement), Ok(Fed::More));
+        statement.number = number;
+        statement.first = first;
+        return (Mode::Gathering, Ok(Fed::More));
     }
-    (Mode::Idle, said(number, &first, gathered.text.as_slice()))
+    (
+        Mode::Idle,
+        said(number, &first, statement.gathered.text.as_slice()),
+    )
 }
 
-/// How a reader stands behind a line that breaks a rule of continuation or is dropped.
+/// How a reader stands behind a line that breaks a rule of continuation or is dropped, whatever statement it has.
 fn behind_break(line: &[u8]) -> Mode
-    ensures { mode_of result ≡ behind_break (is_continued line.now) }
+    ensures mode { (s : OpenStatement) → mode_of result s ≡ behind_break (is_continued line.now) }
+    ensures few { most_lines result ≡ 9 }
 {
     if is_continued(line) {
         Mode::Dropping
@@ -94,48 +98,52 @@ fn behind_break(line: &[u8]) -> Mode
     }
 }
 
-/// How a line moves a reader that has an open statement.
-fn go_on(statement: OpenStatement, line: &[u8]) -> (Mode, Result<Fed, Fault>)
-    ensures mode { mode_of result.0 ≡ (moved 0 (mode_of (Gathering statement)) line.now).0 }
-    ensures told { told_by result.1 ≡ (moved 0 (mode_of (Gathering statement)) line.now).1 }
+/// How a line moves a reader whose statement is open.
+fn go_on(statement: &mut OpenStatement, line: &[u8]) -> (Mode, Result<Fed, Fault>)
+    requires { statement.old.gathered.lines ≤ 8 }
+    ensures mode { mode_of result.0 statement.new ≡ (moved 0 (mode_of Gathering statement.old) line.now).0 }
+    ensures few { statement.new.gathered.lines ≤ most_lines result.0 }
+    ensures told { told_by result.1 ≡ (moved 0 (mode_of Gathering statement.old) line.now).1 }
     ensures valid { IsValidFed result.1 }
 {
-    let OpenStatement {
-        number,
-        first,
-        mut gathered,
-    } = statement;
     let broken = Fault {
         kind: FaultKind::Continuation,
-        line: number,
+        line: statement.number,
     };
-    if !gathered.take_line(&used(line)) {
+    if !statement.gathered.take_line(&used(line)) {
         return (behind_break(line), Err(broken));
     }
     if !is_continued(line) {
-        return (Mode::Idle, said(number, &first, gathered.text.as_slice()));
+        let fed = said(
+            statement.number,
+            &statement.first,
+            statement.gathered.text.as_slice(),
+        );
+        return (Mode::Idle, fed);
     }
-    if gathered.lines > 8 {
+    if statement.gathered.lines > 8 {
         return (Mode::Dropping, Err(broken));
     }
-    let statement = OpenStatement {
-        number,
-        first,
-        gathered,
-    };
-    (Mode::Gathering(statement), Ok(Fed::More))
+    (Mode::Gathering, Ok(Fed::More))
 }
 
 /// How a line moves a reader.
-fn move_on(number: u32, mode: Mode, line: &[u8]) -> (Mode, Result<Fed, Fault>)
-    ensures mode { mode_of result.0 ≡ (moved number (mode_of mode) line.now).0 }
-    ensures told { told_by result.1 ≡ (moved number (mode_of mode) line.now).1 }
+fn move_on(
+    number: u32,
+    mode: Mode,
+    statement: &mut OpenStatement,
+    line: &[u8],
+) -> (Mode, Result<Fed, Fault>)
+    requires { statement.old.gathered.lines ≤ most_lines mode }
+    ensures mode { mode_of result.0 statement.new ≡ (moved number (mode_of mode statement.old) line.now).0 }
+    ensures few { statement.new.gathered.lines ≤ most_lines result.0 }
+    ensures told { told_by result.1 ≡ (moved number (mode_of mode statement.old) line.now).1 }
     ensures valid { IsValidFed result.1 }
 {
     match mode {
-        Mode::Idle => start(number, line),
+        Mode::Idle => start(number, statement, line),
         Mode::Dropping => (behind_break(line), Ok(Fed::More)),
-        Mode::Gathering(statement) => go_on(statement, line),
+        Mode::Gathering => go_on(statement, line),
     }
 }
 
@@ -147,6 +155,7 @@ impl Reader {
         Reader {
             count: 0,
             mode: Mode::Idle,
+            statement: OpenStatement::none(),
         }
     }
 
@@ -165,8 +174,7 @@ impl Reader {
         ensures valid { IsValidFed result }
     {
         let number = self.count.saturating_add(1);
-        let mode = mem::replace(&mut self.mode, Mode::Idle);
-        let (mode, fed) = move_on(number, mode, line);
+        let (mode, fed) = move_on(number, self.mode, &mut self.statement, line);
         self.count = number;
         self.mode = mode;
         fed
@@ -182,9 +190,9 @@ impl Reader {
         ensures count { self.new.count ≡ self.old.count }
     {
         match mem::replace(&mut self.mode, Mode::Idle) {
-            Mode::Gathering(statement) => Err(Fault {
+            Mode::Gathering => Err(Fault {
                 kind: FaultKind::Continuation,
-                line: statement.number,
+                line: self.statement.number,
             }),
             _ => Ok(()),
         }

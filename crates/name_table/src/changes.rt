@@ -1,9 +1,6 @@
 //! The steps by which a table of names changes.
 
-use arrayvec::ArrayString;
-
-/// A name: a letter and up to 62 letters or digits, in upper case.
-pub type Name = ArrayString<63>;
+use operand_texts::Name;
 
 /// One step of the names with their words.
 #[derive(Clone, Copy, Debug, PartialEq, Eq)]

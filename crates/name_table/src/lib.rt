@@ -7,7 +7,8 @@
 mod changes;
 mod tables;
 
-pub use changes::{Name, NameChange};
+pub use changes::NameChange;
+pub use operand_texts::Name;
 pub use tables::NameTable;
 
 #[cfg(test)]

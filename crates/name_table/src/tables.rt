@@ -2,8 +2,9 @@
 ghost use Rattle.std.specs.Prelude.{◌≤◌};
 ghost use Rattle.indexmap.specs.IndexMap.{index_map_len};
 
-use crate::changes::{Name, NameChange};
+use crate::changes::NameChange;
 use indexmap::IndexMap;
+use operand_texts::Name;
 use std::alloc::{AllocError, Global};
 
 /// How many names may be defined.

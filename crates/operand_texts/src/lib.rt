@@ -11,4 +11,5 @@ pub mod words;
 
 pub use contents::Content;
 pub use laws::{valid_contents_are_spelled, valid_places_are_spelled, valid_values_are_spelled};
-pub use values::{Name, Place, Value};
+pub use values::{Place, Value};
+pub use words::Name;

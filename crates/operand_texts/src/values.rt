@@ -9,11 +9,7 @@ ghost use Rattle.operand_texts.specs.Values.{is_value, target_of, is_condition, 
 
 use crate::nesting::split;
 use crate::numbers::number_of;
-use crate::words::{is_name, is_word, upper_name};
-use arrayvec::ArrayString;
-
-/// A name: a letter and up to 62 letters or digits, in upper case.
-pub type Name = ArrayString<63>;
+use crate::words::{Name, is_name, is_word, upper_name};
 
 /// The value of an operand.
 #[derive(Clone, Copy, Debug, PartialEq, Eq)]

@@ -9,6 +9,9 @@ ghost use Rattle.operand_texts.specs.Words.{after_word, after_blanks};
 
 use arrayvec::ArrayString;
 
+/// A name: a letter and up to 62 letters or digits, in upper case.
+pub type Name = ArrayString<63>;
+
 fn is_letter(byte: u8) -> bool
     ensures { result ≡ is_letter byte }
 {
@@ -35,12 +38,12 @@ pub fn is_name(text: &[u8]) -> bool
 }
 
 /// A name in upper case. The text has to be a name.
-pub fn upper_name(text: &[u8]) -> ArrayString<63>
+pub fn upper_name(text: &[u8]) -> Name
     requires name { IsTrue (is_name text.now) }
     requires ascii { IsAscii text.now }
     ensures { result.bytes ≡ map to_ascii_uppercase text.now }
 {
-    let mut name = ArrayString::<63>::new();
+    let mut name = Name::new();
     for byte in text {
         name.push(char::from(byte.to_ascii_uppercase()));
     }

@@ -1,12 +1,11 @@
-use Rattle.std.proofs.Common.{ap, ◌∙◌}
-use Rattle.macro_reader.specs.Modes.{mode_of}
+use Rattle.std.proofs.Common.{ap}
 use Rattle.macro_reader.specs.Scripts.{Kept}
 use Rattle.macro_reader.proofs.Lines.{behind_push}
 use Rattle.macro_reader.proofs.reading.Reader.next.Goals as goal
 
 pub returns-clause-answers : goal.returns-clause-answers
 returns-clause-answers c = λ lines answers h.
-    behind_push lines answers c.args.self.now c.args.line.now c.saturating_add-number.result (mode_of c.replace-mode.result) _ _ h
+    behind_push lines answers c.args.self.now c.args.line.now c.saturating_add-number.result _ _ _ h
     (rw (← c.self.view_is) c.saturating_add-number.ensures)
-    (ap mode_of c.replace-mode.ensures.value ∙ ap (λ (k : Kept). k.mode) c.self.view_is)
+    (ap (λ (k : Kept). k.mode) c.self.view_is)
     c.move_on-mode.ensures.mode c.move_on-mode.ensures.told
