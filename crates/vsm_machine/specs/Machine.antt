@@ -11,7 +11,8 @@ use Rattle.vsm_model.specs.Causes.{storage_code}
 use Rattle.vsm_model.specs.Names.{NamedState, NamedService, named_step, word_of}
 use Rattle.vsm_model.specs.Services.{Obtain, Release, Store}
 use Rattle.vsm_model.specs.Standing.{Outcome, Accepted, Refused}
-use Rattle.macro_reader.specs.Requests.{Written, number, named, register, Target, in_name, in_register, Stored, spelled, word, Act, obtain, release, poke}
+use Rattle.macro_reader.specs.Requests.{Written, number, named, register, Target, in_name, in_register, Stored, spelled}
+use Rattle.macro_reader.specs.Requests.{word, Act, obtain, release, poke}
 
 -- Why the plain machine refuses a statement: a name in a value isn't defined, or a service ends with a completion code.
 pub data Why : Type 0 where
@@ -54,7 +55,8 @@ abbrev pub store_of : Option ℕ → Option (List ℕ) → Option NamedService
 store_of (Some address) (Some bytes) = Some (record { service = Store address bytes; name = None })
 store_of _ _ = None
 
--- The service that a statement asks for, with the words of its values; there is none where one of its names isn't defined.
+-- The service that a statement asks for, with the words of its values; there is none where one of its names isn't
+-- defined.
 abbrev pub service_in : NamedState → Act → Option NamedService
 service_in m (obtain length subpool target form) =
     both (λ l n. record { service = Obtain l n (register_in target) form.conditional; name = name_in target })

@@ -1,9 +1,11 @@
 //! What a statement will do to a machine, found by reading alone, and the change that does it.
 ghost use Rattle.std.specs.Prelude.{◌≡◌, ℕ, true, List, IfOk, IfSome, OnErr, OnOk};
 ghost use Rattle.std.specs.Option.{option_map};
+ghost use Rattle.vsm_model.specs.Names.{is_one_too_many};
 ghost use Rattle.storage_core.specs.Meaning.{settings_of};
 ghost use Rattle.storage_core.specs.Planned.{FitsStorage};
-ghost use Rattle.macro_reader.specs.Requests.{act_in, written_in, stored_in, target_in, obtain, release, poke, IsValue, IsStored, IsTarget, IsValidAct};
+ghost use Rattle.macro_reader.specs.Requests.{act_in, written_in, stored_in, target_in, obtain, release, poke, IsValue};
+ghost use Rattle.macro_reader.specs.Requests.{IsStored, IsTarget, IsValidAct};
 ghost use Rattle.name_table.specs.Table.{rows_of, knows};
 ghost use Rattle.name_table.specs.Steps.{step_in};
 ghost use Rattle.vsm_machine.specs.Changes.{shown, step_of, CanStepBy};
@@ -12,19 +14,30 @@ ghost use Rattle.vsm_machine.specs.Planned.{step_for, step_planned, defined_by, 
 
 use crate::machine::{Change, Machine};
 use crate::refusals::Refusal;
-use crate::values::{bytes_of, is_one_too_many, look_up};
+use crate::values::{bytes_of, look_up};
 use macro_reader::{Content, Form, Place, Statement, Value};
 use name_table::{Name, NameChange, NameTable};
 use std::alloc::AllocError;
 use storage_core::{Plan, Reply};
 
-/// What an accepted statement will do: the plan of its service, and the step of the name that gets the address of the area.
+/// What an accepted statement will do: the plan of its service, and the step of the name that gets the address of the
+/// area.
 #[derive(Drop)]
 pub struct Planned {
     /// The plan of the service.
     pub plan: Plan,
     /// The step of the name; `None` where the statement names none.
     pub name: Option<NameChange>,
+}
+
+/// Whether the place is a new name, and as many as there may be are defined.
+fn is_one_too_many(machine: &Machine, place: &Option<Place>) -> bool
+    ensures { result ≡ is_one_too_many (shown machine.now).names (name_in (option_map target_in place.now)) }
+{
+    match place {
+        Some(Place::Named(name)) => machine.names.word(name).is_none() && machine.names.is_full(),
+        _ => false,
+    }
 }
 
 /// The register that is set besides register 1, if the place is one.
@@ -39,7 +52,8 @@ fn register_of(place: &Option<Place>) -> Option<u8>
 
 /// The step of the name that gets the address, if the place is one and an area was obtained.
 fn name_change(names: &NameTable, place: &Option<Place>, reply: Reply) -> Option<NameChange>
-    ensures { option_map step_in result ≡ step_for (rows_of names.now) (name_in (option_map target_in place.now)) reply }
+    ensures { option_map step_in result ≡ step_for (rows_of names.now) (name_in (option_map target_in place.now))
+        reply }
 {
     match (place, reply) {
         (Some(Place::Named(name)), Reply::Obtained { address, .. }) => {
@@ -139,8 +153,8 @@ fn plan_poke(machine: &Machine, address: &Value, content: &Content) -> Result<Pl
 
 /// The plan for what a statement asks for. It reads alone, and takes no memory.
 ///
-/// Refused with `Name` where a value is a name that isn't defined, else with `Abend` and the completion code of the first cause
-/// that holds; never with `NoMemory`.
+/// Refused with `Name` where a value is a name that isn't defined, else with `Abend` and the completion code of the
+/// first cause that holds; never with `NoMemory`.
 pub fn plan_of(machine: &Machine, statement: &Statement) -> Result<Planned, Refusal>
     requires { IsValidAct (act_in statement.now) }
     ensures is { IsPlanned (settings_of machine.now.storage) (shown machine.now) (act_in statement.now) result }
@@ -173,8 +187,8 @@ fn new_name(change: &Option<NameChange>) -> Option<Name>
     }
 }
 
-/// Puts a new name behind all others of the table, and takes the names of undone statements out of it; where there is no memory for
-/// the new one, all names stay.
+/// Puts a new name behind all others of the table, and takes the names of undone statements out of it; where there is
+/// no memory for the new one, all names stay.
 fn make_ready(names: &mut NameTable, new: Option<Name>) -> Result<(), AllocError>
     ensures rows { rows_of names.new ≡ rows_of names.old }
     ensures ok { OnOk result (IfSome new (λ name. knows names.new name.bytes ≡ true)) }
@@ -195,9 +209,9 @@ fn make_ready(names: &mut NameTable, new: Option<Name>) -> Result<(), AllocError
     }
 }
 
-/// The change that carries out a plan, with all the memory that it needs: the storage's, and last a place for a new name. Behind that
-/// nothing can be refused, and the names of undone statements are taken out. The storage and the defined names are as they were,
-/// whatever the answer.
+/// The change that carries out a plan, with all the memory that it needs: the storage's, and last room for a new name.
+/// Behind that nothing can be refused, and the names of undone statements are taken out. The storage and the defined
+/// names are as they were, whatever the answer.
 ///
 /// Refused where there is no memory for it; the table then holds the names that it held.
 pub fn reserve(machine: &mut Machine, planned: Planned) -> Result<Change, AllocError>

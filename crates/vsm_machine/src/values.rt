@@ -2,19 +2,18 @@
 ghost use Rattle.std.specs.Prelude.{◌≡◌, ◌≤◌, length};
 ghost use Rattle.std.specs.Option.{option_map};
 ghost use Rattle.vsm_model.specs.Bytes.{fullword};
-ghost use Rattle.vsm_model.specs.Names.{is_one_too_many};
-ghost use Rattle.macro_reader.specs.Requests.{written_in, stored_in, target_in, IsValue, IsStored};
+ghost use Rattle.macro_reader.specs.Requests.{written_in, stored_in, IsValue, IsStored};
 ghost use Rattle.vsm_machine.specs.Changes.{shown};
-ghost use Rattle.vsm_machine.specs.Machine.{looked_up, bytes_in, name_in};
+ghost use Rattle.vsm_machine.specs.Machine.{looked_up, bytes_in};
 
 use crate::machine::Machine;
 use arrayvec::ArrayVec;
 use byteorder::{BigEndian, ByteOrder};
-use macro_reader::{Content, Place, Value};
+use macro_reader::{Content, Value};
 use storage_core::STORE_MOST;
 
-/// The word that a value stands for: a number itself, a name the word that it was given, a register of the current task what it has.
-/// `None` where a name isn't defined.
+/// The word that a value stands for: a number itself, a name the word that it was given, a register of the current task
+/// what it has. `None` where a name isn't defined.
 pub fn look_up(machine: &Machine, value: &Value) -> Option<u32>
     requires { IsValue (written_in value.now) }
     ensures { result ≡ looked_up (shown machine.now) (written_in value.now) }
@@ -35,10 +34,8 @@ pub fn with_room(bytes: &[u8]) -> ArrayVec<u8, STORE_MOST>
     ensures { result.items ≡ bytes.now }
 {
     let mut room = ArrayVec::new();
-    match room.try_extend_from_slice(bytes) {
-        Ok(()) => room,
-        Err(_) => unreachable!(),
-    }
+    room.try_extend_from_slice(bytes).unwrap();
+    room
 }
 
 /// A word as four bytes, the most significant one first.
@@ -58,15 +55,5 @@ pub(crate) fn bytes_of(machine: &Machine, content: &Content) -> Option<ArrayVec<
     match content {
         Content::Spelled(bytes) => Some(with_room(bytes)),
         Content::Word(value) => Some(fullword(look_up(machine, value)?)),
-    }
-}
-
-/// Whether the place is a new name, and as many as there may be are defined.
-pub(crate) fn is_one_too_many(machine: &Machine, place: &Option<Place>) -> bool
-    ensures { result ≡ is_one_too_many (shown machine.now).names (name_in (option_map target_in place.now)) }
-{
-    match place {
-        Some(Place::Named(name)) => machine.names.word(name).is_none() && machine.names.is_full(),
-        _ => false,
     }
 }
