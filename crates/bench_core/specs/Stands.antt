@@ -49,6 +49,7 @@ answer_to_forward (Err e) = plain.TooFar e.undone
 
 -- A new bench is in the first state, under the settings; or one of them is out of its limits; or there was no memory.
 abbrev pub IsNew : Settings → Result Bench NewFault → Type 0
-IsNew settings (Ok b) = (settings_valid settings ≡ true) × (bench_of b ≡ plain.new_bench first_named_state) × (settings_in b ≡ settings)
+IsNew settings (Ok b) =
+    (settings_valid settings ≡ true) × (bench_of b ≡ plain.new_bench first_named_state) × (settings_in b ≡ settings)
 IsNew settings (Err Setting) = settings_valid settings ≡ false
 IsNew settings (Err new_fault.NoMemory) = settings_valid settings ≡ true

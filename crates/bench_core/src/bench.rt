@@ -31,11 +31,13 @@ pub struct Bench {
 impl Bench {
     ghost use Rattle.vsm_model.specs.Standing.{Keeps, Apply, Back, Forward};
     ghost use Rattle.vsm_machine.specs.Machine.{statement_step};
-    ghost use Rattle.bench_core.specs.Stands.{bench_of, settings_in, IsNew, answer_to_apply, answer_to_back, answer_to_forward};
+    ghost use Rattle.bench_core.specs.Stands.{bench_of, settings_in, IsNew, answer_to_apply, answer_to_back};
+    ghost use Rattle.bench_core.specs.Stands.{answer_to_forward};
 
     /// A bench in the first state, under these settings: task 1 is current and owns an empty subpool 0.
     ///
-    /// Refused with `Setting` where a setting is out of its limits, and with `NoMemory` where there is no memory for it.
+    /// Refused with `Setting` where a setting is out of its limits, and with `NoMemory` where there is no memory for
+    /// it.
     pub fn new(alloc: Global, settings: Settings) -> Result<Bench, NewFault>
         ensures { IsNew settings result }
     {
@@ -55,12 +57,13 @@ impl Bench {
 
     /// Carries out a statement and keeps its change, or refuses it and changes nothing.
     ///
-    /// An accepted statement discards what was undone; past the limit of the history the oldest change can't be undone any more. It is
-    /// refused with `Name` where a value is a name that isn't defined, else with `Abend` and the completion code of the first cause
-    /// that holds, and last with `NoMemory`.
+    /// An accepted statement discards what was undone; past the limit of the history the oldest change can't be undone
+    /// any more. It is refused with `Name` where a value is a name that isn't defined, else with `Abend` and the
+    /// completion code of the first cause that holds, and last with `NoMemory`.
     pub fn apply(&mut self, statement: &Statement) -> Result<Reply, Refusal>
         requires valid { IsValidAct (act_in statement.now) }
-        ensures keeps { Keeps (statement_step (settings_in self.old)) (settings_in self.old).history (bench_of self.old) (Apply (act_in statement.now)) (answer_to_apply result) (bench_of self.new) }
+        ensures keeps { Keeps (statement_step (settings_in self.old)) (settings_in self.old).history (bench_of self.old)
+            (Apply (act_in statement.now)) (answer_to_apply result) (bench_of self.new) }
         ensures settings { settings_in self.new ≡ settings_in self.old }
     {
         let planned = match plan_of(&self.machine, statement) {
@@ -80,12 +83,15 @@ impl Bench {
 
     /// Reads the bytes from an address on, as many as `out` has. Takes no memory.
     ///
-    /// Refused with `Name` where the address is a name that isn't defined, and with `Abend` (0C4) where one of the bytes doesn't lie in
-    /// an assigned page; `out` is then as it was. Where there is room for no byte, no page is asked for.
+    /// Refused with `Name` where the address is a name that isn't defined, and with `Abend` (0C4) where one of the
+    /// bytes doesn't lie in an assigned page; `out` is then as it was. Where there is room for no byte, no page is
+    /// asked for.
     pub fn peek(&self, address: Value, out: &mut [u8]) -> Result<(), Refusal>
         requires valid { IsValue (written_in address) }
-        ensures shown { OnOk result (shown_at (bench_of self.now).present (written_in address) (length out.old) ≡ Ok out.new) }
-        ensures refused { IfErr result (IsRefusedFor (shown_at (bench_of self.now).present (written_in address) (length out.old))) }
+        ensures shown { OnOk result (shown_at (bench_of self.now).present (written_in address) (length out.old)
+            ≡ Ok out.new) }
+        ensures refused { IfErr result (IsRefusedFor
+            (shown_at (bench_of self.now).present (written_in address) (length out.old))) }
         ensures kept { OnErr result (out.new ≡ out.old) }
     {
         let Some(address) = look_up(&self.machine, &address) else {
@@ -99,7 +105,8 @@ impl Bench {
 
     /// Undoes the last `n` changes, or none where fewer are kept.
     pub fn back(&mut self, n: u32) -> Result<(), TooFar>
-        ensures keeps { Keeps (statement_step (settings_in self.old)) (settings_in self.old).history (bench_of self.old) (Back n) (answer_to_back result) (bench_of self.new) }
+        ensures keeps { Keeps (statement_step (settings_in self.old)) (settings_in self.old).history (bench_of self.old)
+            (Back n) (answer_to_back result) (bench_of self.new) }
         ensures settings { settings_in self.new ≡ settings_in self.old }
     {
         self.history.back(&mut self.machine, n)
@@ -107,7 +114,8 @@ impl Bench {
 
     /// Makes the first `n` undone changes again, or none where fewer are undone.
     pub fn forward(&mut self, n: u32) -> Result<(), TooFarAhead>
-        ensures keeps { Keeps (statement_step (settings_in self.old)) (settings_in self.old).history (bench_of self.old) (Forward n) (answer_to_forward result) (bench_of self.new) }
+        ensures keeps { Keeps (statement_step (settings_in self.old)) (settings_in self.old).history (bench_of self.old)
+            (Forward n) (answer_to_forward result) (bench_of self.new) }
         ensures settings { settings_in self.new ≡ settings_in self.old }
     {
         self.history.forward(&mut self.machine, n)

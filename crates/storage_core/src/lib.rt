@@ -16,7 +16,7 @@ mod reserve;
 mod search;
 
 pub use changes::Change;
-pub use plans::Plan;
+pub use plans::{Plan, with_room};
 use std::alloc::{AllocError, Global};
 pub use vsm_model::{
     Cause, Code, Family, Obtain, Release, Reply, Residence, Service, Settings, Subpool,

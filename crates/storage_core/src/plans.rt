@@ -14,6 +14,7 @@ mod store;
 
 use super::{Cause, Reply, STORE_MOST, Subpool};
 use arrayvec::ArrayVec;
+pub use store::with_room;
 
 /// What is done to the doublewords of an area, or to bytes. A page or a doubleword is counted from the region's first
 /// one.

@@ -6,15 +6,18 @@ use Rattle.vsm_model.specs.Names.{first_named_state}
 use Rattle.vsm_model.specs.Standing.{StandsAlone, StaysWithin, GoesForwardAgain}
 use Rattle.vsm_machine.specs.Machine.{statement_step}
 
--- The present state and the replies that stand are those of the standing statements run alone on the plain machine, and what is
--- kept and undone are as many states as statements.
+-- The present state and the replies that stand are those of the standing statements run alone on the plain machine, and
+-- what is kept and undone are as many states as statements.
 abbrev pub RunsAlone : Type 0
-RunsAlone = (settings : Settings) → settings_valid settings ≡ true → StandsAlone first_named_state (statement_step settings) settings.history
+RunsAlone = (settings : Settings) → settings_valid settings ≡ true
+    → StandsAlone first_named_state (statement_step settings) settings.history
 
 -- What is kept and what is undone are together at most the limit of the history.
 abbrev pub StaysWithinLimit : Type 0
-StaysWithinLimit = (settings : Settings) → settings_valid settings ≡ true → StaysWithin first_named_state (statement_step settings) settings.history
+StaysWithinLimit = (settings : Settings) → settings_valid settings ≡ true
+    → StaysWithin first_named_state (statement_step settings) settings.history
 
 -- Steps forward after as many steps back give what was there before.
 abbrev pub ForwardGivesBack : Type 0
-ForwardGivesBack = (settings : Settings) → settings_valid settings ≡ true → GoesForwardAgain (statement_step settings) settings.history
+ForwardGivesBack = (settings : Settings) → settings_valid settings ≡ true
+    → GoesForwardAgain (statement_step settings) settings.history

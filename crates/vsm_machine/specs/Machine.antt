@@ -13,7 +13,8 @@ use Rattle.vsm_model.specs.Codes.{completion_code}
 use Rattle.vsm_model.specs.Names.{NamedState, named_step, word_of}
 use Rattle.vsm_model.specs.Services.{Service, Obtain, Release, Store}
 use Rattle.vsm_model.specs.Standing.{Outcome, Accepted, Refused}
-use Rattle.macro_statements.specs.Requests.{Written, number, named, register, Target, in_name, in_register, Stored, spelled, word, Act, obtain, release, poke}
+use Rattle.macro_statements.specs.Requests.{Written, number, named, register, Target, in_name, in_register, Stored}
+use Rattle.macro_statements.specs.Requests.{spelled, word, Act, obtain, release, poke}
 
 -- Why the plain machine refuses a statement: a name in a value isn't defined, or a service ends with a completion code.
 pub data Why : Type 0 where
@@ -54,7 +55,8 @@ abbrev pub with_bytes : Option ℕ → Option (List ℕ) → Option Service
 with_bytes (Some address) (Some bytes) = Some (Store address bytes)
 with_bytes _ _ = None
 
--- The service that a statement asks for, with the words of its values; there is none where one of its names isn't defined.
+-- The service that a statement asks for, with the words of its values; there is none where one of its names isn't
+-- defined.
 abbrev pub service_asked : NamedState → Act → Option Service
 service_asked m (obtain length subpool target form) =
     with_two (λ l n. Obtain l n (register_in target) form.conditional) (looked_up m length) (looked_up m subpool)
@@ -69,8 +71,8 @@ name_asked (obtain length subpool target form) = name_in target
 name_asked (release length address subpool form) = None
 name_asked (poke address content) = None
 
--- The family of a statement's completion codes, by its form. A statement of the bench's own has no form: its codes are the
--- same in each.
+-- The family of a statement's completion codes, by its form. A statement of the bench's own has no form: its codes are
+-- the same in each.
 abbrev pub family_asked : Act → Family
 family_asked (obtain length subpool target form) = form.family
 family_asked (release length address subpool form) = form.family

@@ -18,7 +18,8 @@ pub struct Machine {
     pub names: NameTable,
 }
 
-/// What takes a machine to another state, and back from there: a change of its storage, and at most one name with its other word.
+/// What takes a machine to another state, and back from there: a change of its storage, and at most one name with its
+/// other word.
 #[derive(Drop)]
 pub struct Change {
     /// The change of the storage.
@@ -42,7 +43,8 @@ fn swap_name(names: &mut NameTable, change: &mut Option<NameChange>)
 
 impl Reversible for Machine {
     ghost use Rattle.vsm_model.specs.Names.{NamedState};
-    ghost use Rattle.vsm_machine.specs.Changes.{shown, machine_fits, machine_states, Alike, always, CanSwap, Swaps, Discards, machine_laws};
+    ghost use Rattle.vsm_machine.specs.Changes.{shown, machine_fits, machine_states, Alike, always, CanSwap, Swaps};
+    ghost use Rattle.vsm_machine.specs.Changes.{Discards, machine_laws};
 
     type Change = Change;
 

@@ -1,9 +1,9 @@
 //! What a statement will do to a machine, found by reading alone, and the change that does it.
 ghost use Rattle.std.specs.Prelude.{◌≡◌, ℕ, true, List, IfOk, IfSome, OnErr, OnOk};
 ghost use Rattle.std.specs.Option.{option_map};
+ghost use Rattle.vsm_model.specs.Names.{is_one_too_many};
 ghost use Rattle.storage_core.specs.Meaning.{settings_of};
 ghost use Rattle.storage_core.specs.Planned.{FitsStorage};
-ghost use Rattle.vsm_model.specs.Names.{is_one_too_many};
 ghost use Rattle.macro_statements.specs.Requests.{act_in, IsValidAct};
 ghost use Rattle.name_table.specs.Table.{rows_of, knows};
 ghost use Rattle.name_table.specs.Steps.{step_in};
@@ -18,7 +18,8 @@ use name_table::{Name, NameChange, NameTable};
 use std::alloc::AllocError;
 use storage_core::{Plan, Reply};
 
-/// What an accepted statement will do: the plan of its service, and the step of the name that gets the address of the area.
+/// What an accepted statement will do: the plan of its service, and the step of the name that gets the address of the
+/// area.
 #[derive(Drop)]
 pub struct Planned {
     /// The plan of the service.
@@ -39,7 +40,8 @@ fn is_one_too_many(names: &NameTable, name: Option<&Name>) -> bool
 
 /// The step of the name that gets the address, if there is one and an area was obtained.
 fn name_change(names: &NameTable, name: Option<&Name>, reply: Reply) -> Option<NameChange>
-    ensures { option_map step_in result ≡ step_for (rows_of names.now) (option_map (λ n. n.now.bytes) name.entry) reply }
+    ensures { option_map step_in result ≡ step_for (rows_of names.now) (option_map (λ n. n.now.bytes) name.entry)
+        reply }
 {
     match (name, reply) {
         (Some(name), Reply::Obtained { address, .. }) => Some(names.change_to(*name, address)),
@@ -81,8 +83,8 @@ fn new_name(change: &Option<NameChange>) -> Option<Name>
     }
 }
 
-/// Puts a new name behind all others of the table, and takes the names of undone statements out of it; where there is no memory for
-/// the new one, all names stay.
+/// Puts a new name behind all others of the table, and takes the names of undone statements out of it; where there is
+/// no memory for the new one, all names stay.
 fn make_ready(names: &mut NameTable, new: Option<Name>) -> Result<(), AllocError>
     ensures rows { rows_of names.new ≡ rows_of names.old }
     ensures ok { OnOk result (IfSome new (λ name. knows names.new name.bytes ≡ true)) }
@@ -103,9 +105,9 @@ fn make_ready(names: &mut NameTable, new: Option<Name>) -> Result<(), AllocError
     }
 }
 
-/// The change that carries out a plan, with all the memory that it needs: the storage's, and last a place for a new name. Behind that
-/// nothing can be refused, and the names of undone statements are taken out. The storage and the defined names are as they were,
-/// whatever the answer.
+/// The change that carries out a plan, with all the memory that it needs: the storage's, and last room for a new name.
+/// Behind that nothing can be refused, and the names of undone statements are taken out. The storage and the defined
+/// names are as they were, whatever the answer.
 ///
 /// Refused where there is no memory for it; the table then holds the names that it held.
 pub fn reserve(machine: &mut Machine, planned: Planned) -> Result<Change, AllocError>

@@ -23,8 +23,8 @@ fn register_of(place: &Option<Place>) -> Option<u8>
     }
 }
 
-/// The service that a statement asks for, with the words of its values; `None` where a name in one of them isn't defined. A
-/// value that is stored is written into `room`.
+/// The service that a statement asks for, with the words of its values; `None` where a name in one of them isn't
+/// defined. A value that is stored is written into `room`.
 pub(crate) fn service_of<'a>(
     machine: &Machine,
     statement: &'a Statement,

@@ -1,18 +1,16 @@
 //! The words of values, as a machine has them.
-ghost use Rattle.std.specs.Prelude.{◌≡◌, ◌≤◌, length};
+ghost use Rattle.std.specs.Prelude.{◌≡◌};
 ghost use Rattle.std.specs.Option.{option_map};
 ghost use Rattle.macro_statements.specs.Requests.{written_in, stored_in, IsValue, IsStored};
 ghost use Rattle.vsm_machine.specs.Changes.{shown};
 ghost use Rattle.vsm_machine.specs.Machine.{looked_up, bytes_in};
 
 use crate::machine::Machine;
-use arrayvec::ArrayVec;
 use byteorder::{BigEndian, ByteOrder};
 use operand_texts::{Content, Value};
-use storage_core::STORE_MOST;
 
-/// The word that a value stands for: a number itself, a name the word that it was given, a register of the current task what it has.
-/// `None` where a name isn't defined.
+/// The word that a value stands for: a number itself, a name the word that it was given, a register of the current task
+/// what it has. `None` where a name isn't defined.
 pub fn look_up(machine: &Machine, value: &Value) -> Option<u32>
     requires { IsValue (written_in value.now) }
     ensures { result ≡ looked_up (shown machine.now) (written_in value.now) }
@@ -27,20 +25,8 @@ pub fn look_up(machine: &Machine, value: &Value) -> Option<u32>
     }
 }
 
-/// Bytes in room for as many as a store may have, which is 256.
-pub fn with_room(bytes: &[u8]) -> ArrayVec<u8, STORE_MOST>
-    requires { length bytes.now ≤ 256 }
-    ensures { result.items ≡ bytes.now }
-{
-    let mut room = ArrayVec::new();
-    match room.try_extend_from_slice(bytes) {
-        Ok(()) => room,
-        Err(_) => unreachable!(),
-    }
-}
-
-/// The bytes that are stored, where the name in them is defined: those that are spelled, or a value, which is written into
-/// `room` as a fullword, the most significant byte first.
+/// The bytes that are stored, where the name in them is defined: those that are spelled, or a value, which is written
+/// into `room` as a fullword, the most significant byte first.
 pub(crate) fn bytes_of<'a>(
     machine: &Machine,
     content: &'a Content,

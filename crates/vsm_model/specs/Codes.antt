@@ -17,8 +17,8 @@ suffix E obtains = if obtains then 0x04 else 0x05
 suffix R obtains = 0x0a
 suffix S obtains = 0x78
 
--- B04 and B05, B0A, B78 for a subpool number, and likewise 8xx, 9xx and Axx; a reference to a page that isn't assigned is
--- 0C4.
+-- B04 and B05, B0A, B78 for a subpool number, and likewise 8xx, 9xx and Axx; a reference to a page that isn't assigned
+-- is 0C4.
 abbrev pub code_of : ℕ → Cause → Code
 code_of suffix SubpoolNotAllowed = System (0xb00 + suffix)
 code_of suffix NoStorage = System (0x800 + suffix)

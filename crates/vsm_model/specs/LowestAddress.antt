@@ -28,16 +28,16 @@ AreUnassigned r s count page =
 abbrev pub IsLowest : (ℕ → Type 0) → ℕ → Type 0
 IsLowest has n = has n × ((k : ℕ) → has k → n ≤ k)
 
--- The free storage of the subpool, if it has room for so many doublewords, comes first, at the lowest address; else come
--- unassigned pages, enough of them and the lowest, from their first byte on.
+-- The free storage of the subpool, if it has room for so many doublewords, comes first, at the lowest address; else
+-- come unassigned pages, enough of them and the lowest, from their first byte on.
 abbrev pub IsLowestAddress : Region → State → Subpool → ℕ → ℕ → Type 0
 IsLowestAddress r s p count address =
     ((address % 8 ≡ 0) × IsLowest (AreFree r s p count) (address / 8))
     ⊎ (((d : ℕ) → AreFree r s p count d → ⊥)
     × (address % 4096 ≡ 0) × IsLowest (AreUnassigned r s (pages_for count)) (address / 4096))
 
--- An accepted obtain takes the lowest address for the rounded length, in the subpool that the task sees at the number or
--- is to have there.
+-- An accepted obtain takes the lowest address for the rounded length, in the subpool that the task sees at the number
+-- or is to have there.
 abbrev pub ObtainTakesTheLowestAddress : Type 0
 ObtainTakesTheLowestAddress =
     (settings : Settings) (names_full : Bool) (s t : State) (length number : ℕ) (register : Option ℕ)

@@ -46,10 +46,10 @@ pub fn well_formed()
 /// An accepted obtain grants an area that was free, of the rounded length, in the subpool that the task sees then: the
 /// one that it saw, or a new one of its own. Only the area is taken besides what was; a page is assigned only where the
 /// area needs it, and holds zero bytes then; register 1 and the one that is named have the address. Or it's conditional
-/// and answered 4. An accepted release takes back exactly the rounded area, which was taken and the subpool's: each page
-/// of the subpool that has nothing taken is unassigned then, with its bytes, and all other pages stay with theirs; or
-/// it's conditional and answered 4. All else is as it was: the current task, other subpools, what each task sees, other
-/// registers, and after an answer 4 all but register 15. COND=YES makes no difference but that answer.
+/// and answered 4. An accepted release takes back exactly the rounded area, which was taken and the subpool's: each
+/// page of the subpool that has nothing taken is unassigned then, with its bytes, and all other pages stay with theirs;
+/// or it's conditional and answered 4. All else is as it was: the current task, other subpools, what each task sees,
+/// other registers, and after an answer 4 all but register 15. COND=YES makes no difference but that answer.
 pub fn granted_and_given_back()
     ensures granted { ObtainGrantsFreeStorage }
     ensures four { AnswerFourSetsRegister15Alone }
@@ -77,8 +77,8 @@ pub fn names_stand()
     ensures stay { OtherwiseNamesStay }
 {}
 
-/// An accepted store stores into bytes that were there; what it stored is what is loaded at the address then, and nothing
-/// else is changed.
+/// An accepted store stores into bytes that were there; what it stored is what is loaded at the address then, and
+/// nothing else is changed.
 pub fn stored_is_loaded()
     ensures { StoredIsLoaded }
 {}

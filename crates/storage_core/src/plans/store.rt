@@ -10,13 +10,13 @@ use super::{Action, Plan};
 use crate::{Cause, Reply, STORE_MOST, Storage, Subpool};
 use arrayvec::ArrayVec;
 
-/// Bytes in room for as many as a store may have.
-fn with_room(bytes: &[u8]) -> ArrayVec<u8, STORE_MOST>
+/// Bytes in room for as many as a store may have, which is 256.
+pub fn with_room(bytes: &[u8]) -> ArrayVec<u8, STORE_MOST>
     requires { length bytes.now ≤ 256 }
     ensures { result.items ≡ bytes.now }
 {
     let mut room = ArrayVec::new();
-    let _ = room.try_extend_from_slice(bytes);
+    room.try_extend_from_slice(bytes).unwrap();
     room
 }
 

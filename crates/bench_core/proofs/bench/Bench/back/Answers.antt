@@ -9,7 +9,7 @@ back-requires c = c.args.self.now.fits
 pub invariant_of-self : goal.invariant_of-self
 invariant_of-self c =
     let b = c.args.self.now in
-    let stays = back_stays c.args.n b.history c.back.new.self b.machine c.back.new.s (sound_of b) c.back.result c.back.ensures.ok c.back.ensures.unchanged in
+    let stays = back_stays _ b.history c.back.new.self b.machine c.back.new.s (sound_of b) c.back.result c.back.ensures.ok c.back.ensures.unchanged in
     record {
       fits = c.back.ensures.fits;
       kept_define_none = stays.1.kept_define_none;
@@ -28,4 +28,4 @@ returns-clause-keeps c =
 pub returns-clause-settings : goal.returns-clause-settings
 returns-clause-settings c =
     let b = c.args.self.now in
-    (back_stays c.args.n b.history c.back.new.self b.machine c.back.new.s (sound_of b) c.back.result c.back.ensures.ok c.back.ensures.unchanged).0
+    (back_stays _ b.history c.back.new.self b.machine c.back.new.s (sound_of b) c.back.result c.back.ensures.ok c.back.ensures.unchanged).0

@@ -9,7 +9,7 @@ forward-requires c = c.args.self.now.fits
 pub invariant_of-self : goal.invariant_of-self
 invariant_of-self c =
     let b = c.args.self.now in
-    let stays = forward_stays c.args.n b.history c.forward.new.self b.machine c.forward.new.s (sound_of b) c.forward.result c.forward.ensures.ok c.forward.ensures.unchanged in
+    let stays = forward_stays _ b.history c.forward.new.self b.machine c.forward.new.s (sound_of b) c.forward.result c.forward.ensures.ok c.forward.ensures.unchanged in
     record {
       fits = c.forward.ensures.fits;
       kept_define_none = stays.1.kept_define_none;
@@ -28,4 +28,4 @@ returns-clause-keeps c =
 pub returns-clause-settings : goal.returns-clause-settings
 returns-clause-settings c =
     let b = c.args.self.now in
-    (forward_stays c.args.n b.history c.forward.new.self b.machine c.forward.new.s (sound_of b) c.forward.result c.forward.ensures.ok c.forward.ensures.unchanged).0
+    (forward_stays _ b.history c.forward.new.self b.machine c.forward.new.s (sound_of b) c.forward.result c.forward.ensures.ok c.forward.ensures.unchanged).0
