@@ -1,29 +1,16 @@
-//! Worked scripts with their outputs, and readers and writers that fail, as tests of the whole bench.
+//! What only a Rust caller of the bench can try: readers, writers and files of its own, and calls of a `Bench`.
 //!
-//! The expected texts are written by hand from the rules of docs/STATEMENTS.md and docs/MESSAGES.md, never taken from a run.
+//! Scripts and command lines are tried with the built program, by the rows of tests/rows. Expected texts are written by hand from the
+//! rules of docs/STATEMENTS.md and docs/MESSAGES.md, never taken from a run.
 #![tactic(auto)]
 
 #[cfg(test)]
-mod bytes;
-#[cfg(test)]
-mod contents;
-#[cfg(test)]
-mod continued;
+mod benches;
 #[cfg(test)]
 mod files;
 #[cfg(test)]
-mod lengths;
-#[cfg(test)]
-mod limits;
-#[cfg(test)]
-mod names;
+mod opened;
 #[cfg(test)]
 mod running;
 #[cfg(test)]
-mod scripts;
-#[cfg(test)]
 mod streams;
-#[cfg(test)]
-mod words;
-#[cfg(test)]
-mod worked;

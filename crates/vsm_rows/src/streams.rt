@@ -28,9 +28,9 @@ const OUTPUT: &[u8] = b"0000001 RC=0 A=00006000 L=00000008
 
 /// A reader that gives one byte a call, and then its end or an error.
 #[derive(Drop)]
-pub(crate) struct Slow<'a> {
-    pub(crate) bytes: &'a [u8],
-    pub(crate) fails: bool,
+struct Slow<'a> {
+    bytes: &'a [u8],
+    fails: bool,
 }
 
 impl<'a> Read for Slow<'a> {
@@ -157,5 +157,32 @@ fn a_write_error_has_its_text_and_status(rt: HostRuntime) -> Result<(), Fail> {
     assert_eq!(rt; writer.bytes.as_slice(), b"0000001 R".as_slice());
     assert_eq!(rt; errors.as_slice(), b"vsm: write\n".as_slice());
     assert_eq!(rt; status, 8);
+    Ok(())
+}
+
+/// A reader that gives one byte a call, always the same, and has no end.
+#[derive(Drop)]
+struct Endless {
+    byte: u8,
+}
+
+impl Read for Endless {
+    fn read(&mut self, buf: &mut [u8]) -> io::Result<usize> {
+        if buf.is_empty() {
+            return Ok(0);
+        }
+        buf[0] = self.byte;
+        Ok(1)
+    }
+}
+
+#[test]
+fn bytes_without_an_end_end_the_run_one_by_one(rt: HostRuntime) -> Result<(), Fail> {
+    for byte in [b'\n', b'A'] {
+        let outcome = outcome_of(rt.alloc(), &mut Endless { byte })?;
+        assert!(rt; outcome.output.is_empty());
+        assert_eq!(rt; outcome.errors.as_slice(), b"vsm: too long\n".as_slice());
+        assert_eq!(rt; outcome.status, 8);
+    }
     Ok(())
 }
