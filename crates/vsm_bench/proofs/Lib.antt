@@ -5,9 +5,9 @@ pub mod Known
 pub mod Columns
 pub mod Feeds
 pub mod Gathering
+pub mod DigitByDigit
 pub mod Standings
 pub mod Takes
-pub mod Extends
 pub mod Runs
 pub mod Planning
 pub mod Asked

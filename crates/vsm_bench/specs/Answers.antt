@@ -32,6 +32,10 @@ Tells settings b [] None c = c ≡ b
 Tells settings b (a ∷ []) (Some told) c = (told.0 ≡ a.line) × Responds settings b a.what told.1 c
 Tells settings b _ _ c = ⊥
 
+-- What it tells whatever the bench is, which stays as it was.
+abbrev pub IsToldAlone : List grammar.Answer → Option (ℕ × Response) → Type 0
+IsToldAlone told shown = (settings : Settings) (b : Bench NamedState) → Tells settings b told shown b
+
 -- the printed line of an answer, if there is one
 abbrev pub told_text : Option (ℕ × Response) → List ℕ
 told_text None = []

@@ -8,10 +8,9 @@ use Rattle.vsm_bench.specs.Machine.{statement_step}
 use Rattle.vsm_bench.specs.Output.{Marked, AllMet, heard_all, refusals, stands_all, texts}
 use Rattle.vsm_bench.specs.Script.{columns, Within, IsPast, last_line}
 use Rattle.vsm_bench.specs.Stands.{bench_of, settings_in}
-use Rattle.vsm_bench.specs.declared.faults.RunFault.{RunFault}
-use Rattle.vsm_bench.specs.declared.faults.RunFault.TheVariants as fault
 use Rattle.vsm_bench.specs.declared.faults.RunTotals.{RunTotals}
 use Rattle.vsm_bench.specs.declared.session.Session.{Session}
+use Rattle.vsm_bench.specs.declared.session.TooLong.{TooLong}
 
 abbrev pub answers_of : List Marked → List grammar.Answer
 answers_of = map (λ m. m.answer)
@@ -69,9 +68,9 @@ pub record Took (settings : Settings) (given : List ℕ) (answers : List Marked)
   pub refused : s.refused ≡ refusals settings nothing_stands answers
 
 -- Bytes of a line were taken; or one of them passes a bound, whatever stands behind them.
-abbrev pub TakesBytes : Settings → List ℕ → List Marked → Session → Result (Unit {0}) RunFault → Type 0
+abbrev pub TakesBytes : Settings → List ℕ → List Marked → Session → Result (Unit {0}) TooLong → Type 0
 TakesBytes settings given answers s (Ok u) = Took settings given answers s
-TakesBytes settings given answers s (Err e) = (e ≡ fault.TooLong) × ((behind : List ℕ) → PassesBound settings (given ++ behind) answers)
+TakesBytes settings given answers s (Err e) = (behind : List ℕ) → PassesBound settings (given ++ behind) answers
 
 -- These further answers are told by this text.
 abbrev pub IsTold : Settings → List Marked → List Marked → List ℕ → Type 0

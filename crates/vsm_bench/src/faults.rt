@@ -1,6 +1,8 @@
 //! How a run ends.
 
 use crate::refusals::NewFault;
+use crate::session::TooLong;
+use crate::writing::WriteFault;
 use thiserror::Error;
 
 /// What a run counted: the numbered lines of output, and those of them that are faults, refusals or abends.
@@ -25,4 +27,26 @@ pub enum RunFault {
     /// The bench can't be made. Nothing was read or written.
     #[error("{0}")]
     New(NewFault),
+}
+
+impl From<TooLong> for RunFault {
+    ghost use Rattle.std.specs.Prelude.{◌≡◌};
+    ghost use Rattle.vsm_bench.specs.declared.faults.RunFault.TheVariants as fault;
+
+    ghost from_gives = { λ _ e. e ≡ fault.TooLong };
+
+    fn from(_e: TooLong) -> RunFault {
+        RunFault::TooLong
+    }
+}
+
+impl From<WriteFault> for RunFault {
+    ghost use Rattle.std.specs.Prelude.{◌≡◌};
+    ghost use Rattle.vsm_bench.specs.declared.faults.RunFault.TheVariants as fault;
+
+    ghost from_gives = { λ _ e. e ≡ fault.Write };
+
+    fn from(_e: WriteFault) -> RunFault {
+        RunFault::Write
+    }
 }

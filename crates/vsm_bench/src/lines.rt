@@ -12,9 +12,9 @@ ghost use Rattle.vsm_bench.specs.Taken.{Took, TakesBytes, IsTold, Ended, Counts}
 
 use crate::answers::{tell, tell_end, told_count, told_refused};
 use crate::bench::Bench;
-use crate::faults::{RunFault, RunTotals};
+use crate::faults::RunTotals;
 use crate::responses::Response;
-use crate::session::{LINE_BYTES, LINES, Session};
+use crate::session::{LINE_BYTES, LINES, Session, TooLong};
 use arrayvec::ArrayVec;
 use macro_reader::Reader;
 
@@ -71,7 +71,7 @@ fn take_last(
     if size == 0 {
         return None;
     }
-    tell(bench, reader.next(kept))
+    tell(bench, &reader.next(kept))
 }
 
 impl Session {
@@ -91,7 +91,7 @@ impl Session {
     }
 
     /// Takes bytes of a line, none of them a line feed. `TooLong` where one of them passes a bound.
-    pub(crate) fn take_bytes(&mut self, bytes: &[u8]) -> Result<(), RunFault>
+    pub(crate) fn take_bytes(&mut self, bytes: &[u8]) -> Result<(), TooLong>
         requires plain { NoFeed bytes.now }
         ensures { (settings : Settings) (given : List ℕ) (answers : List Marked) → Took settings given answers self.old
             → TakesBytes settings (given ++ bytes.now) answers self.new result }
@@ -100,10 +100,10 @@ impl Session {
             return Ok(());
         }
         if self.lines >= LINES {
-            return Err(RunFault::TooLong);
+            return Err(TooLong);
         }
         if bytes.len() > (LINE_BYTES - self.length) as usize {
-            return Err(RunFault::TooLong);
+            return Err(TooLong);
         }
         keep(&mut self.kept, bytes);
         self.length += bytes.len() as u32;
@@ -112,12 +112,12 @@ impl Session {
 
     /// Takes the line feed that ends a line, and gives the response to the line, if it has one.
     pub(crate) fn end_line(&mut self) -> Option<(u32, Response)>
-        requires { self.old.lines < LINES }
+        requires { self.old.lines < 1048576 }
         ensures { (settings : Settings) (given : List ℕ) (answers : List Marked) → Took settings given answers self.old
             → (more : List Marked) × IsTold settings answers more (told_text result) × Took settings (given ++ 10 ∷ []) (answers ++ more) self.new }
     {
         let fed = self.reader.next(columns(self.kept.as_slice(), self.length));
-        let told = tell(&mut self.bench, fed);
+        let told = tell(&mut self.bench, &fed);
         self.kept.clear();
         self.length = 0;
         self.lines += 1;
@@ -142,7 +142,7 @@ impl Session {
             ..
         } = self;
         let last = take_last(&mut reader, &mut bench, kept.as_slice(), length);
-        let open_statement = tell_end(&mut bench, reader.finish());
+        let open_statement = tell_end(reader.finish());
         let totals = RunTotals {
             statements: statements + told_count(&last) + told_count(&open_statement),
             refused: refused + told_refused(&last) + told_refused(&open_statement),
