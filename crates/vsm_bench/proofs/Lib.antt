@@ -1,14 +1,2 @@
-pub mod Trails
-pub mod Moves
-pub mod Applied
-pub mod Known
-pub mod Columns
-pub mod Feeds
-pub mod Gathering
-pub mod DigitByDigit
-pub mod Standings
-pub mod Takes
-pub mod Runs
-pub mod Planning
 pub mod Asked
-pub mod Commands
+pub mod Obeys

@@ -4,12 +4,12 @@ use Rattle.clap.specs.Words.{Row, Text, Kinds, IsAmong, fault_of, matches_of}
 use Rattle.clap.specs.declared.error.ErrorKind.{ErrorKind}
 use Rattle.clap.specs.declared.error.ErrorKind.TheVariants as kind
 use Rattle.vsm_model.specs.declared.limits.Settings.{Settings}
-use Rattle.vsm_bench.specs.Run.{Ran}
+use Rattle.script_run.specs.Run.{Ran}
 use Rattle.vsm_bench.specs.Options.{Residences, AreResidences, command_line, settings_asked, file_asked}
 use Rattle.vsm_bench.specs.declared.options.TheConstants.{DEFAULT_SETTINGS}
-use Rattle.vsm_bench.specs.declared.faults.RunFault.{RunFault}
-use Rattle.vsm_bench.specs.declared.faults.RunFault.TheVariants as fault
-use Rattle.vsm_bench.specs.declared.faults.RunTotals.{RunTotals}
+use Rattle.script_run.specs.declared.faults.RunFault.{RunFault}
+use Rattle.script_run.specs.declared.faults.RunFault.TheVariants as fault
+use Rattle.script_run.specs.declared.faults.RunTotals.{RunTotals}
 
 abbrev pub fault_status : RunFault → ℕ
 fault_status fault.Read = 8

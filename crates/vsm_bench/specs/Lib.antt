@@ -1,15 +1,3 @@
-pub mod Machine
-pub mod Refusals
-pub mod Changes
-pub mod Planned
-pub mod Stands
 pub mod Headline
-pub mod Responses
-pub mod Output
-pub mod Answers
-pub mod Script
-pub mod Taken
-pub mod Writing
-pub mod Run
 pub mod Options
 pub mod Command

@@ -6,7 +6,7 @@ ghost use Rattle.vsm_bench.specs.Options.{Residences, AreResidences, command_lin
 
 use clap::{Arg, ArgMatches, Command, Error, value_parser};
 use std::alloc::{AllocError, Global};
-use storage_core::{Residence, Settings};
+use vsm_model::{Residence, Settings};
 
 /// The settings where no option is written: 64K below and above the line, a caller below it, and 1,024 changes that can be undone.
 pub const DEFAULT_SETTINGS: Settings = Settings {

@@ -1,0 +1,203 @@
+-- A machine that moves along its history.
+use Rattle.std.proofs.Common.{◌≡◌, ℕ, zero, suc, ◌+◌, ◌≤◌, ◌↔◌, List, [], ◌∷◌, ◌++◌, length, drop, Option, Some, None, Result, Ok, Err, OnOk, OnErr, IfErr, IsOk, sym, ◌∙◌, ap, subst, refl, arith, append_assoc, inl, inr, true, true≢false}
+use Rattle.std.proofs.lemmas.Bool.{and_parts, cases_lt}
+use Rattle.std.proofs.lemmas.List.{length-reverse}
+use Rattle.vsm_model.specs.declared.limits.Settings.{Settings}
+use Rattle.std.specs.List.{AllByRecursion}
+use Rattle.vsm_model.specs.Standing.{Keeps, Back, Forward}
+use Rattle.storage_core.specs.Meaning.{settings_of}
+use Rattle.name_table.specs.Steps.{NameStep, define, undefine, reword}
+use Rattle.name_table.specs.Table.{rows_of}
+use Rattle.step_history.specs.Log.{Log}
+use Rattle.step_history.specs.Trail.{trail_of, trail_back, past_count, later_count}
+use Rattle.step_history.specs.Walk.{Moment, moment, Times, StepsBack, StepsForward, DiscardsAll}
+use Rattle.step_history.specs.declared.too_far.TooFar.{TooFar}
+use Rattle.step_history.specs.declared.too_far.TooFarAhead.{TooFarAhead}
+use Rattle.vsm_machine.specs.Machine.{statement_step}
+use Rattle.vsm_machine.specs.Changes.{shown, step_of, turned_by, is_alike, all_alike, Alike, Swaps, Discards, machine_fits, machine_states, machine_laws, swap_settings, swap_alike, all_pick, all_put, defines_none, undefines_none, DefineNone, UndefineNone}
+use Rattle.bench_core.specs.Stands.{bench_at, answer_to_back, answer_to_forward}
+use Rattle.vsm_machine.specs.declared.machine.Machine.{Machine}
+use Rattle.vsm_machine.specs.declared.machine.Change.{Change}
+use Rattle.bench_core.specs.declared.bench.Bench.{Bench}
+use Rattle.bench_core.proofs.Trails.{moves_back, moves_forward}
+
+all_front : {C : Type 0} (P : C → Type 0) (xs ys : List C) → AllByRecursion P (xs ++ ys) → AllByRecursion P xs
+all_front P [] ys h = tt
+all_front P (x ∷ xs) ys h = (h.0, all_front P xs ys h.1)
+
+all_last : {C : Type 0} (P : C → Type 0) (xs : List C) (y : C) → AllByRecursion P (xs ++ y ∷ []) → P y
+all_last P [] y h = h.0
+all_last P (x ∷ xs) y h = all_last P xs y h.1
+
+pub all_push : {C : Type 0} (P : C → Type 0) (xs : List C) (y : C) → AllByRecursion P xs → P y → AllByRecursion P (xs ++ y ∷ [])
+all_push P [] y h e = (e, tt)
+all_push P (x ∷ xs) y h e = (h.0, all_push P xs y h.1 e)
+
+pub all_dropped : {C : Type 0} (P : C → Type 0) (n : ℕ) (xs : List C) → AllByRecursion P xs → AllByRecursion P (drop n xs)
+all_dropped P zero xs h = h
+all_dropped P (suc n) [] h = tt
+all_dropped P (suc n) (x ∷ xs) h = all_dropped P n xs h.1
+
+-- a step that is turned takes back what it did
+back_undefines_none : (names : List (List ℕ × ℕ)) (step : Option NameStep) → defines_none step ≡ true → undefines_none (turned_by names step) ≡ true
+back_undefines_none names None h = refl
+back_undefines_none names (Some (define name word)) h = absurd (true≢false (sym h))
+back_undefines_none names (Some (undefine name)) h = refl
+back_undefines_none names (Some (reword name word)) h = refl
+
+back_defines_none : (names : List (List ℕ × ℕ)) (step : Option NameStep) → undefines_none step ≡ true → defines_none (turned_by names step) ≡ true
+back_defines_none names None h = refl
+back_defines_none names (Some (define name word)) h = refl
+back_defines_none names (Some (undefine name)) h = absurd (true≢false (sym h))
+back_defines_none names (Some (reword name word)) h = refl
+
+pub swap_undefines_none : (m n : Machine) (c d : Change) → Swaps m c n d → defines_none (step_of c) ≡ true → undefines_none (step_of d) ≡ true
+swap_undefines_none m n c d w h = ap undefines_none w.inverse_step ∙ back_undefines_none (rows_of m.names) (step_of c) h
+
+pub swap_defines_none : (m n : Machine) (c d : Change) → Swaps m c n d → undefines_none (step_of c) ≡ true → defines_none (step_of d) ≡ true
+swap_defines_none m n c d w h = ap defines_none w.inverse_step ∙ back_defines_none (rows_of m.names) (step_of c) h
+
+-- the kept changes take statements back, and the undone ones make them again
+pub record Directed (kept undone : List Change) : Type 0 where
+  pub kept_define_none : DefineNone kept
+  pub undone_undefine_none : UndefineNone undone
+
+pub record Sound (p : Moment Machine Change) : Type 0 where
+  pub alike : Alike p.state (p.kept ++ p.undone)
+  pub directed : Directed p.kept p.undone
+
+abbrev pub Goes : Moment Machine Change → Moment Machine Change → Type 0
+Goes p q = (settings_of q.state.storage ≡ settings_of p.state.storage) × Sound q
+
+-- a step leaves the settings as they were, the changes alike, and those that are kept and undone as such
+step_back : (p q : Moment Machine Change) → StepsBack Swaps p q → Sound p → Goes p q
+step_back p q step h =
+    let c = step.change in
+    let d = step.inverse in
+    let split : Alike p.state (q.kept ++ c ∷ p.undone) = subst (Alike p.state) (ap (λ ks. ks ++ p.undone) step.last ∙ append_assoc q.kept (c ∷ []) p.undone) h.alike in
+    let picked = all_pick q.kept p.undone c p.state split in
+    let first = and_parts (is_alike p.state c) (all_alike p.state (q.kept ++ p.undone)) picked in
+    let put = all_put q.kept p.undone d q.state (swap_alike p.state q.state c d (q.kept ++ p.undone) picked step.swapped) in
+    let kept : DefineNone (q.kept ++ c ∷ []) = subst DefineNone step.last h.directed.kept_define_none in
+    let none = all_last (λ x. defines_none (step_of x) ≡ true) q.kept c kept in (
+      swap_settings p.state q.state c d first.0 step.swapped,
+      record {
+        alike = subst (λ us. Alike q.state (q.kept ++ us)) (sym step.first) put;
+        directed = record {
+          kept_define_none = all_front (λ x. defines_none (step_of x) ≡ true) q.kept (c ∷ []) kept;
+          undone_undefine_none = subst UndefineNone (sym step.first) (swap_undefines_none p.state q.state c d step.swapped none, h.directed.undone_undefine_none);
+        };
+      },
+    )
+
+step_forward : (p q : Moment Machine Change) → StepsForward Swaps p q → Sound p → Goes p q
+step_forward p q step h =
+    let c = step.change in
+    let d = step.inverse in
+    let split : Alike p.state (p.kept ++ c ∷ q.undone) = subst (λ us. Alike p.state (p.kept ++ us)) step.first h.alike in
+    let picked = all_pick p.kept q.undone c p.state split in
+    let first = and_parts (is_alike p.state c) (all_alike p.state (p.kept ++ q.undone)) picked in
+    let put = all_put p.kept q.undone d q.state (swap_alike p.state q.state c d (p.kept ++ q.undone) picked step.swapped) in
+    let undone : UndefineNone (c ∷ q.undone) = subst UndefineNone step.first h.directed.undone_undefine_none in
+    let defined = swap_defines_none p.state q.state c d step.swapped undone.0 in (
+      swap_settings p.state q.state c d first.0 step.swapped,
+      record {
+        alike = subst (Alike q.state) (sym (ap (λ ks. ks ++ q.undone) step.last ∙ append_assoc p.kept (d ∷ []) q.undone)) put;
+        directed = record {
+          kept_define_none = subst DefineNone (sym step.last) (all_push (λ x. defines_none (step_of x) ≡ true) p.kept d h.directed.kept_define_none defined);
+          undone_undefine_none = undone.1;
+        };
+      },
+    )
+
+all_back : (n : ℕ) (p q : Moment Machine Change) → Times (StepsBack Swaps) n p q → Sound p → Goes p q
+all_back zero p q e h = subst (Goes p) e (refl, h)
+all_back (suc n) p q (m, steps, step) h =
+    let before = all_back n p m steps h in
+    let then = step_back m q step before.1 in
+    (then.0 ∙ before.0, then.1)
+
+all_forward : (n : ℕ) (p q : Moment Machine Change) → Times (StepsForward Swaps) n p q → Sound p → Goes p q
+all_forward zero p q e h = subst (Goes p) e (refl, h)
+all_forward (suc n) p q (m, steps, step) h =
+    let before = all_forward n p m steps h in
+    let then = step_forward m q step before.1 in
+    (then.0 ∙ before.0, then.1)
+
+-- after steps, or a refusal of them: the settings, and the direction of the changes
+abbrev pub Stays : Log Change → Machine → Machine → Type 0
+Stays new s t = (settings_of t.storage ≡ settings_of s.storage) × Directed new.kept new.undone
+
+module _ (n : ℕ) (old new : Log Change) (s t : Machine) (h : Sound (moment old.kept s old.undone)) where
+  unmoved : (new ≡ old) × (t ≡ s) → Stays new s t
+  unmoved same = (ap (λ (m : Machine). settings_of m.storage) same.1, subst (λ (l : Log Change). Directed l.kept l.undone) (sym same.0) h.directed)
+
+  pub back_stays : (r : Result (Unit {0}) TooFar) →
+      OnOk r (Times (StepsBack Swaps) n (moment old.kept s old.undone) (moment new.kept t new.undone)) → OnErr r ((new ≡ old) × (t ≡ s)) → Stays new s t
+  back_stays (Ok u) steps same = let goes = all_back n _ _ steps h in (goes.0, goes.1.directed)
+  back_stays (Err e) steps same = unmoved same
+
+  pub forward_stays : (r : Result (Unit {0}) TooFarAhead) →
+      OnOk r (Times (StepsForward Swaps) n (moment old.kept s old.undone) (moment new.kept t new.undone)) → OnErr r ((new ≡ old) × (t ≡ s)) → Stays new s t
+  forward_stays (Ok u) steps same = let goes = all_forward n _ _ steps h in (goes.0, goes.1.directed)
+  forward_stays (Err e) steps same = unmoved same
+
+-- a discarded copy leaves the machine as it was
+pub discards_all : (cs : List Change) (s t : Machine) → DiscardsAll Discards cs s t → t ≡ s
+discards_all [] s t e = e
+discards_all (c ∷ cs) s t (m, all, one) = one ∙ discards_all cs s m all
+
+pub past_is : (ks us : List Change) (s : Machine) → machine_fits ks s us → length (bench_at ks s us).past ≡ length ks
+past_is ks us s f = length-reverse (trail_of shown machine_states ks s us).past ∙ past_count machine_laws ks us s f
+
+pub later_is : (ks us : List Change) (s : Machine) → machine_fits ks s us → length (bench_at ks s us).later ≡ length us
+later_is ks us s f = later_count machine_laws ks us s f
+
+module _ (settings : Settings) (n : ℕ) (old new : Log Change) (s t : Machine) where
+  pub back_keeps : (r : Result (Unit {0}) TooFar) → machine_fits old.kept s old.undone → machine_fits new.kept t new.undone →
+      machine_states new.kept t new.undone ≡ machine_states old.kept s old.undone → (IsOk r ↔ (n ≤ length old.kept)) →
+      OnOk r (length new.kept + n ≡ length old.kept) → IfErr r (λ e. e.kept ≡ length old.kept) → OnErr r ((new ≡ old) × (t ≡ s)) →
+      Keeps (statement_step settings) settings.history (bench_at old.kept s old.undone) (Back n) (answer_to_back r) (bench_at new.kept t new.undone)
+  back_keeps (Ok u) f g states accepted steps err same =
+      let count = past_is old.kept old.undone s f in (
+        omega (arith, count, steps),
+        moves_back n (trail_of shown machine_states old.kept s old.undone) (trail_of shown machine_states new.kept t new.undone)
+            (trail_back machine_laws n old.kept old.undone new.kept new.undone s t f g states steps),
+      )
+  back_keeps (Err e) f g states accepted steps err same =
+      let count = past_is old.kept old.undone s f in (
+        elim (cases_lt (length old.kept) n) [
+          | inl less ↦ omega (arith, count, less)
+          | inr more ↦ absurd (true≢false (sym (accepted.1 more)))
+        ],
+        err ∙ sym count,
+        λ i. bench_at (same.0 i).kept (same.1 i) (same.0 i).undone,
+      )
+
+  pub forward_keeps : (r : Result (Unit {0}) TooFarAhead) → machine_fits old.kept s old.undone → machine_fits new.kept t new.undone →
+      machine_states new.kept t new.undone ≡ machine_states old.kept s old.undone → (IsOk r ↔ (n ≤ length old.undone)) →
+      OnOk r (length old.kept + n ≡ length new.kept) → IfErr r (λ e. e.undone ≡ length old.undone) → OnErr r ((new ≡ old) × (t ≡ s)) →
+      Keeps (statement_step settings) settings.history (bench_at old.kept s old.undone) (Forward n) (answer_to_forward r) (bench_at new.kept t new.undone)
+  forward_keeps (Ok u) f g states accepted steps err same =
+      let count = later_is old.kept old.undone s f in
+      let few : n ≤ length old.undone = accepted.0 refl in (
+        omega (arith, count, few),
+        moves_forward n (trail_of shown machine_states old.kept s old.undone) (trail_of shown machine_states new.kept t new.undone)
+            (trail_back machine_laws n new.kept new.undone old.kept old.undone t s g f (sym states) steps),
+      )
+  forward_keeps (Err e) f g states accepted steps err same =
+      let count = later_is old.kept old.undone s f in (
+        elim (cases_lt (length old.undone) n) [
+          | inl less ↦ omega (arith, count, less)
+          | inr more ↦ absurd (true≢false (sym (accepted.1 more)))
+        ],
+        err ∙ sym count,
+        λ i. bench_at (same.0 i).kept (same.1 i) (same.0 i).undone,
+      )
+
+-- a bench is sound
+pub sound_of : (b : Bench) → Sound (moment b.history.kept b.machine b.history.undone)
+sound_of b = record {
+  alike = b.fits.1;
+  directed = record { kept_define_none = b.kept_define_none; undone_undefine_none = b.undone_undefine_none };
+}

@@ -1,0 +1,128 @@
+//! A bench: a machine, and the history that it moves along.
+ghost use Rattle.std.specs.Prelude.{◌≡◌, Ok, length, IfErr, OnErr, OnOk};
+ghost use Rattle.storage_core.specs.Meaning.{settings_of};
+ghost use Rattle.macro_reader.specs.Requests.{written_in, act_in, IsValue, IsValidAct};
+ghost use Rattle.std.proofs.Props.{props};
+ghost use Rattle.vsm_machine.specs.Changes.{machine_fits, machine_fits_prop, DefineNone, UndefineNone};
+ghost use Rattle.vsm_machine.specs.Machine.{shown_at};
+ghost use Rattle.vsm_machine.specs.Refusals.{IsRefusedFor};
+
+use macro_reader::{Statement, Value};
+use name_table::NameTable;
+use std::alloc::Global;
+use step_history::{History, Reversible, TooFar, TooFarAhead};
+use storage_core::{Reply, Settings, Storage};
+use vsm_machine::{Machine, NewFault, Refusal, look_up, plan_of, reserve};
+
+/// A bench over one private region.
+///
+/// It stands for the states that it can go back to, the present one and those that it can go forward to.
+#[derive(Drop)]
+pub struct Bench {
+    machine: Machine,
+    history: History<Machine>,
+    ghost fits: { machine_fits history.kept machine history.undone } by { machine_fits_prop history.kept machine history.undone },
+    ghost kept_define_none: { DefineNone history.kept } by { Prim.hlevel props },
+    ghost undone_undefine_none: { UndefineNone history.undone } by { Prim.hlevel props },
+    ghost limit: { history.limit ≡ (settings_of machine.storage).history },
+}
+
+impl Bench {
+    ghost use Rattle.vsm_model.specs.Standing.{Keeps, Apply, Back, Forward};
+    ghost use Rattle.vsm_machine.specs.Machine.{statement_step};
+    ghost use Rattle.bench_core.specs.Stands.{bench_of, settings_in, IsNew, answer_to_apply, answer_to_back, answer_to_forward};
+
+    /// A bench in the first state, under these settings: task 1 is current and owns an empty subpool 0.
+    ///
+    /// Refused with `Setting` where a setting is out of its limits, and with `NoMemory` where there is no memory for it.
+    pub fn new(alloc: Global, settings: Settings) -> Result<Bench, NewFault>
+        ensures { IsNew settings result }
+    {
+        if !settings.valid() {
+            return Err(NewFault::Setting);
+        }
+        let storage = Storage::new(alloc, settings)?;
+        let history = History::new(alloc, settings.history)?;
+        Ok(Bench {
+            machine: Machine {
+                storage,
+                names: NameTable::new(alloc),
+            },
+            history,
+        })
+    }
+
+    /// Carries out a statement and keeps its change, or refuses it and changes nothing.
+    ///
+    /// An accepted statement discards what was undone; past the limit of the history the oldest change can't be undone any more. It is
+    /// refused with `Name` where a value is a name that isn't defined, else with `Abend` and the completion code of the first cause
+    /// that holds, and last with `NoMemory`.
+    pub fn apply(&mut self, statement: &Statement) -> Result<Reply, Refusal>
+        requires valid { IsValidAct (act_in statement.now) }
+        ensures keeps { Keeps (statement_step (settings_in self.old)) (settings_in self.old).history (bench_of self.old) (Apply (act_in statement.now)) (answer_to_apply result) (bench_of self.new) }
+        ensures settings { settings_in self.new ≡ settings_in self.old }
+    {
+        let planned = match plan_of(&self.machine, statement) {
+            Ok(planned) => planned,
+            Err(refusal) => return Err(refusal),
+        };
+        let reply = planned.plan.reply();
+        self.history.reserve_place()?;
+        let mut change = match reserve(&mut self.machine, planned) {
+            Ok(change) => change,
+            Err(_) => return Err(Refusal::NoMemory),
+        };
+        self.machine.swap(&mut change);
+        self.history.push_reserved(&mut self.machine, change);
+        Ok(reply)
+    }
+
+    /// Reads the bytes from an address on, as many as `out` has. Takes no memory.
+    ///
+    /// Refused with `Name` where the address is a name that isn't defined, and with `Abend` (0C4) where one of the bytes doesn't lie in
+    /// an assigned page; `out` is then as it was. Where there is room for no byte, no page is asked for.
+    pub fn peek(&self, address: Value, out: &mut [u8]) -> Result<(), Refusal>
+        requires valid { IsValue (written_in address) }
+        ensures shown { OnOk result (shown_at (bench_of self.now).present (written_in address) (length out.old) ≡ Ok out.new) }
+        ensures refused { IfErr result (IsRefusedFor (shown_at (bench_of self.now).present (written_in address) (length out.old))) }
+        ensures kept { OnErr result (out.new ≡ out.old) }
+    {
+        let Some(address) = look_up(&self.machine, &address) else {
+            return Err(Refusal::Name);
+        };
+        match self.machine.storage.load(address, out) {
+            Ok(()) => Ok(()),
+            Err(cause) => Err(Refusal::from(cause)),
+        }
+    }
+
+    /// Undoes the last `n` changes, or none where fewer are kept.
+    pub fn back(&mut self, n: u32) -> Result<(), TooFar>
+        ensures keeps { Keeps (statement_step (settings_in self.old)) (settings_in self.old).history (bench_of self.old) (Back n) (answer_to_back result) (bench_of self.new) }
+        ensures settings { settings_in self.new ≡ settings_in self.old }
+    {
+        self.history.back(&mut self.machine, n)
+    }
+
+    /// Makes the first `n` undone changes again, or none where fewer are undone.
+    pub fn forward(&mut self, n: u32) -> Result<(), TooFarAhead>
+        ensures keeps { Keeps (statement_step (settings_in self.old)) (settings_in self.old).history (bench_of self.old) (Forward n) (answer_to_forward result) (bench_of self.new) }
+        ensures settings { settings_in self.new ≡ settings_in self.old }
+    {
+        self.history.forward(&mut self.machine, n)
+    }
+
+    /// How many changes can be undone.
+    pub fn kept(&self) -> u32
+        ensures { result ≡ length (bench_of self.now).past }
+    {
+        self.history.kept()
+    }
+
+    /// How many changes are undone and can be made again.
+    pub fn undone(&self) -> u32
+        ensures { result ≡ length (bench_of self.now).later }
+    {
+        self.history.undone()
+    }
+}

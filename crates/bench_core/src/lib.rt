@@ -1,0 +1,6 @@
+//! A bench: a machine, and the history of changes that it goes back and forward over.
+#![tactic(auto)]
+
+mod bench;
+
+pub use bench::Bench;

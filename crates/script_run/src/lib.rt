@@ -1,0 +1,15 @@
+//! Runs of scripts: what a reader gives is carried out on a bench, line by line, and answered to a writer.
+#![tactic(auto)]
+
+mod answers;
+mod faults;
+mod lines;
+mod numbers;
+mod responses;
+mod runs;
+mod session;
+mod texts;
+mod writing;
+
+pub use faults::{RunFault, RunTotals};
+pub use runs::run;

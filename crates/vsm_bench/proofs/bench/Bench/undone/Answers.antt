@@ -1,8 +1,0 @@
-use Rattle.std.proofs.Common.{sym, ◌∙◌}
-use Rattle.vsm_bench.proofs.Moves.{later_is}
-use Rattle.vsm_bench.proofs.bench.Bench.undone.Goals as goal
-
-pub returns : goal.returns
-returns c =
-    let b = c.args.self.now in
-    c.undone.ensures.undone ∙ sym (later_is b.history.kept b.history.undone b.machine b.fits)

@@ -1,8 +1,0 @@
-use Rattle.std.proofs.Common.{◌≡◌, ℕ, List, []}
-use Rattle.std.specs.Io.KnownBytes.{Consumes}
-use Rattle.vsm_bench.specs.Run.{Runs}
-use Rattle.vsm_bench.proofs.driver.run.Given as goal
-
-abbrev pub invariant-reads : goal.invariant-reads
-invariant-reads g l = (given : List ℕ) × Consumes (g.R.Read.remaining l.fn.reader) (g.R.Read.remaining l.reader) given
-    × Runs l.fn.settings (g.W.Write.contents l.fn.writer) (g.W.Write.contents l.writer) [] given l.session × (l.gathered.text.items ≡ [])

@@ -1,9 +1,0 @@
-use Rattle.std.proofs.Common.{◌≡◌, ◌-◌, ◌++◌, min, length, take, ap, ◌∙◌}
-use Rattle.vsm_bench.proofs.Takes.{kept_more}
-use Rattle.vsm_bench.proofs.lines.keep.Goals as goal
-
-pub returns : goal.returns
-returns c = λ line e.
-    let count : c.min-count.result ≡ min (length c.args.bytes.now) (80 - length c.args.kept.now.items) =
-    c.min-count.ensures ∙ ap (λ n. min (length c.args.bytes.now) (80 - n)) c.len.ensures.value in
-    c.in-Ok.ensures.ok ∙ ap (λ n. c.args.kept.now.items ++ take n c.args.bytes.now) count ∙ kept_more line c.args.kept.now.items c.args.bytes.now e

@@ -1,9 +1,0 @@
-use Rattle.std.proofs.Common.{◌≡◌, true, IfSome, sym, subst}
-use Rattle.name_table.specs.Table.{knows}
-use Rattle.vsm_bench.proofs.Planning.{now_known}
-use Rattle.vsm_bench.proofs.plans.make_ready.Goals as goal
-
-pub returns-in-Ok-clause-ok : goal.returns-in-Ok-clause-ok
-returns-in-Ok-clause-ok c =
-    subst (λ o. IfSome o (λ name. knows c.forget_undone.new.self name.bytes ≡ true)) (sym c.in-Some.is)
-    (c.forget_undone.ensures.own (now_known c.in-Some.name.bytes _ _ (c.in-Ok.ensures.ok c.in-Some.name.bytes)))

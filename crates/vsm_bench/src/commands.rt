@@ -1,0 +1,114 @@
+//! The command line: runs a script, and gives the exit status.
+ghost use Rattle.std.specs.Prelude.{◌≡◌, ◌≤◌, length, map};
+ghost use Rattle.std.specs.String.{string_bytes};
+ghost use Rattle.clap.specs.Words.{kind_of};
+ghost use Rattle.vsm_bench.specs.Command.{Answers, Commanded, CommandedFile, CommandedWith, Does, fault_status};
+
+use crate::options::{file_asked, read_words, settings_asked};
+use clap::Error;
+use clap::error::ErrorKind;
+use script_run::{RunFault, run};
+use std::alloc::Global;
+use std::fs;
+use std::io::{Read, Write};
+use std::rt::Files;
+use vsm_machine::NewFault;
+use vsm_model::Settings;
+
+/// The exit status of a fault.
+fn fault_status(fault: RunFault) -> u8
+    ensures { result ≡ fault_status fault }
+{
+    match fault {
+        RunFault::New(_) => 16,
+        RunFault::Read | RunFault::Write | RunFault::TooLong => 8,
+    }
+}
+
+/// Tells a fault, and gives its exit status.
+fn tell_fault<E: Write>(errors: &mut E, fault: RunFault) -> u8
+    ensures { result ≡ fault_status fault }
+{
+    let _ = writeln!(errors, "vsm: {fault}");
+    fault_status(fault)
+}
+
+/// Runs a script, tells a fault, and gives the exit status.
+fn run_script<I: Read, O: Write, E: Write>(
+    alloc: Global,
+    settings: Settings,
+    input: &mut I,
+    output: &mut O,
+    errors: &mut E,
+) -> u8
+    ensures { CommandedWith settings (I.remaining input.old) (I.remaining input.new) (O.contents output.old) (O.contents output.new) result }
+{
+    match run(alloc, input, output, settings) {
+        Ok(totals) => { if totals.refused == 0 { 0 } else { 4 } }
+        Err(fault) => tell_fault(errors, fault),
+    }
+}
+
+/// Runs the script in a file. One that can't be opened is a fault of reading.
+fn run_file<R: Files, O: Write, E: Write>(
+    rt: &R,
+    alloc: Global,
+    path: &str,
+    settings: Settings,
+    output: &mut O,
+    errors: &mut E,
+) -> u8
+    ensures { CommandedFile O.contents settings output.old output.new result }
+{
+    match fs::open(rt, path) {
+        Ok(mut file) => run_script(alloc, settings, &mut file, output, errors),
+        Err(_) => tell_fault(errors, RunFault::Read),
+    }
+}
+
+/// Answers words that ask for no run: writes help to `output`, and what is wrong with the words to `errors`.
+fn answer<O: Write, E: Write>(error: &Error, output: &mut O, errors: &mut E) -> u8
+    ensures { Answers (kind_of error.now) output.old output.new result }
+{
+    match error.kind() {
+        ErrorKind::DisplayHelp => {
+            let _ = write!(output, "{error}");
+            0
+        }
+        ErrorKind::OutOfMemory => tell_fault(errors, RunFault::New(NewFault::NoMemory)),
+        _ => {
+            let _ = write!(errors, "{error}");
+            16
+        }
+    }
+}
+
+/// Runs the program on these words (its name, and what follows): reads the script from the file that they name or else from
+/// `input`, writes its output to `output`, and what is wrong with the words or the run to `errors`. Gives the exit status.
+///
+/// The status is 0 where no statement was refused or help was asked for, 4 where a statement was refused, 8 where the file can't
+/// be opened, reading or writing failed or the script is too long, and 16 where the words are wrong, the settings are out of their
+/// limits or there is no memory. What is wrong is found in this order: the words, a number above 32 bits, opening the file, the
+/// run.
+pub fn command<R: Files + AllocGlobal, I: Read, O: Write, E: Write>(
+    rt: &R,
+    words: &[String],
+    input: &mut I,
+    output: &mut O,
+    errors: &mut E,
+) -> u8
+    ensures runs { length words.now ≤ 1 → Commanded (I.remaining input.old) (I.remaining input.new) (O.contents output.old) (O.contents output.new) result }
+    ensures does { Does I.remaining O.contents input.old input.new output.old output.new result (map string_bytes words.now) }
+{
+    let matches = match read_words(rt.alloc(), words) {
+        Ok(matches) => matches,
+        Err(error) => return answer(&error, output, errors),
+    };
+    let Some(settings) = settings_asked(&matches) else {
+        return tell_fault(errors, RunFault::New(NewFault::Setting));
+    };
+    match file_asked(&matches) {
+        None => run_script(rt.alloc(), settings, input, output, errors),
+        Some(path) => run_file(rt, rt.alloc(), path, settings, output, errors),
+    }
+}

@@ -1,0 +1,84 @@
+-- A plan of a service is a plan of the statement that asks for it.
+use Rattle.std.proofs.Common.{◌≡◌, ℕ, Bool, true, false, ◌||◌, if◌then◌else◌, Option, Some, None, is_some, List, refl, sym, ap, ◌∙◌, subst}
+use Rattle.vsm_model.specs.declared.limits.Settings.{Settings}
+use Rattle.vsm_model.specs.declared.causes.Cause.{Cause}
+use Rattle.vsm_model.specs.declared.replies.Reply.{Reply}
+use Rattle.vsm_model.specs.declared.replies.Reply.TheVariants.{Obtained, Returned, Stored}
+use Rattle.vsm_model.specs.Causes.{storage_code}
+use Rattle.vsm_model.specs.Names.{NamedState, NamedService, named, names_after, is_one_too_many, same_name, word_of}
+use Rattle.vsm_model.specs.Standing.{Accepted, Refused}
+use Rattle.vsm_model.specs.Step.{step}
+use Rattle.macro_reader.specs.Requests.{Act}
+use Rattle.storage_core.specs.Planned as storage
+use Rattle.name_table.specs.Steps.{define, reword, step_to}
+use Rattle.name_table.proofs.StepsBack.{step_to_can, step_to_rows}
+use Rattle.name_table.proofs.SameName.{same_name-self}
+use Rattle.vsm_machine.specs.declared.plans.Planned.{Planned}
+use Rattle.vsm_machine.specs.declared.refusals.Refusal.{Refusal}
+use Rattle.vsm_machine.specs.declared.refusals.Refusal.TheVariants.{Abend}
+use Rattle.vsm_machine.specs.Changes.{stepped_by, CanStepBy, undefines_none}
+use Rattle.vsm_machine.specs.Machine.{Why, abended, with_code, served, service_in, statement_step}
+use Rattle.vsm_machine.specs.Planned.{step_for, step_planned, IsAcceptedBy}
+use Rattle.vsm_machine.specs.Refusals.{refusal_for}
+
+-- without a name no step is taken
+pub no_step : (names : List (List ℕ × ℕ)) (reply : Reply) → None ≡ step_for names None reply
+no_step names (Obtained address length) = refl
+no_step names (Returned code) = refl
+no_step names Stored = refl
+
+names_stepped : (names : List (List ℕ × ℕ)) (name : Option (List ℕ)) (reply : Reply) → stepped_by names (step_for names name reply) ≡ names_after names name reply
+names_stepped names None (Obtained address length) = refl
+names_stepped names None (Returned code) = refl
+names_stepped names None Stored = refl
+names_stepped names (Some name) (Obtained address length) = step_to_rows names name address
+names_stepped names (Some name) (Returned code) = refl
+names_stepped names (Some name) Stored = refl
+
+can_step : (names : List (List ℕ × ℕ)) (name : Option (List ℕ)) (reply : Reply) → CanStepBy names (λ name. true) (step_for names name reply)
+can_step names None (Obtained address length) = tt
+can_step names None (Returned code) = tt
+can_step names None Stored = tt
+can_step names (Some name) (Obtained address length) = step_to_can names (λ name. true) name address refl
+can_step names (Some name) (Returned code) = tt
+can_step names (Some name) Stored = tt
+
+to_undefines_none : (names : List (List ℕ × ℕ)) (name : List ℕ) (word : ℕ) → undefines_none (Some (step_to names name word)) ≡ true
+to_undefines_none names name word =
+    elim (is_some (word_of names name)) as (λ b. undefines_none (Some (if b then reword name word else define name word)) ≡ true) [
+      | true ↦ refl
+      | false ↦ refl
+    ]
+
+gives : (names : List (List ℕ × ℕ)) (name : Option (List ℕ)) (reply : Reply) → undefines_none (step_for names name reply) ≡ true
+gives names None (Obtained address length) = refl
+gives names None (Returned code) = refl
+gives names None Stored = refl
+gives names (Some name) (Obtained address length) = to_undefines_none names name address
+gives names (Some name) (Returned code) = refl
+gives names (Some name) Stored = refl
+
+module _ (settings : Settings) (m : NamedState) (x : Act) (service : NamedService) (is : Some service ≡ service_in m x) where
+  pub accepted_by : (p : Planned) →
+      step settings (is_one_too_many m.names service.name) m.storage service.service ≡ Accepted (storage.planned m.storage p.plan) (storage.reply_of p.plan) →
+      step_planned p ≡ step_for m.names service.name (storage.reply_of p.plan) → IsAcceptedBy settings m x p
+  accepted_by p e named_by =
+      let reply = storage.reply_of p.plan in
+      let names : names_after m.names service.name reply ≡ stepped_by m.names (step_planned p) =
+      sym (names_stepped m.names service.name reply) ∙ ap (stepped_by m.names) (sym named_by) in
+      record {
+        accepted =
+            ap (served settings m) (sym is) ∙ ap (λ o. with_code (named m.names service.name o)) e
+            ∙ (λ i. Accepted (record { storage = storage.planned m.storage p.plan; names = names i }) reply);
+        can = subst (CanStepBy m.names (λ name. true)) (sym named_by) (can_step m.names service.name reply);
+        gives = ap undefines_none named_by ∙ gives m.names service.name reply;
+      }
+
+  pub refused_by : (cause : Cause) (e : Refusal) → step settings (is_one_too_many m.names service.name) m.storage service.service ≡ Refused cause →
+      e ≡ Abend (storage_code cause) → (why : Why) × (statement_step settings m x ≡ Refused why) × (e ≡ refusal_for why)
+  refused_by cause e refused told =
+      (abended (storage_code cause), ap (served settings m) (sym is) ∙ ap (λ o. with_code (named m.names service.name o)) refused, told)
+
+-- a name that is put into a table is there
+pub now_known : (name : List ℕ) (b c : Bool) → b ≡ (same_name name name || c) → b ≡ true
+now_known name b c e = e ∙ ap (λ s. s || c) (same_name-self name)

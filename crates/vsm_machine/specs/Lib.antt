@@ -1,0 +1,4 @@
+pub mod Machine
+pub mod Refusals
+pub mod Changes
+pub mod Planned

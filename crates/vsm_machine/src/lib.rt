@@ -1,0 +1,16 @@
+//! The machine of a bench: its storage with the names that its statements define, plans of statements, and the changes that carry
+//! them out.
+//!
+//! [`plan_of`] finds by reading alone what a statement will do, or why it's refused; [`reserve`] makes a [`Change`] of the plan,
+//! with all the memory that it needs; and the machine's `swap` applies the change and leaves what takes it back.
+#![tactic(auto)]
+
+mod machine;
+mod plans;
+mod refusals;
+mod values;
+
+pub use machine::{Change, Machine};
+pub use plans::{Planned, plan_of, reserve};
+pub use refusals::{NewFault, Refusal};
+pub use values::{look_up, with_room};

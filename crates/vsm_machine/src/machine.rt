@@ -1,0 +1,78 @@
+//! What the history moves back and forward.
+ghost use Rattle.std.specs.Prelude.{◌≡◌, ℕ, true, List};
+ghost use Rattle.std.specs.Option.{option_map};
+ghost use Rattle.name_table.specs.Table.{rows_of, knows};
+ghost use Rattle.name_table.specs.Steps.{step_in};
+ghost use Rattle.vsm_machine.specs.Changes.{stepped_by, turned_by, CanStepBy, is_ready};
+
+use name_table::{NameChange, NameTable};
+use step_history::Reversible;
+use storage_core::Storage;
+
+/// The machine of a bench: its storage, and the names that its statements defined.
+#[derive(Drop)]
+pub struct Machine {
+    /// The private storage, with its bytes and registers, and the settings that it was made under.
+    pub storage: Storage,
+    /// The defined names with their words, and those of undone statements.
+    pub names: NameTable,
+}
+
+/// What takes a machine to another state, and back from there: a change of its storage, and at most one name with its other word.
+#[derive(Drop)]
+pub struct Change {
+    /// The change of the storage.
+    pub storage: storage_core::Change,
+    /// The step of a name, where the statement gives one an address.
+    pub name: Option<NameChange>,
+}
+
+/// Takes the step of a name, if there is one, and leaves the one that takes it back.
+fn swap_name(names: &mut NameTable, change: &mut Option<NameChange>)
+    requires { CanStepBy (rows_of names.old) (knows names.old) (option_map step_in change.old) }
+    ensures rows { rows_of names.new ≡ stepped_by (rows_of names.old) (option_map step_in change.old) }
+    ensures turned { option_map step_in change.new ≡ turned_by (rows_of names.old) (option_map step_in change.old) }
+    ensures same { (name : List ℕ) → knows names.new name ≡ knows names.old name }
+    ensures ready { is_ready names.new (option_map step_in change.new) ≡ true }
+{
+    if let Some(step) = change {
+        names.swap(step);
+    }
+}
+
+impl Reversible for Machine {
+    ghost use Rattle.vsm_model.specs.Names.{NamedState};
+    ghost use Rattle.vsm_machine.specs.Changes.{shown, machine_fits, machine_states, Alike, always, CanSwap, Swaps, Discards, machine_laws};
+
+    type Change = Change;
+
+    ghost Meaning = { NamedState };
+
+    ghost shows = { shown };
+
+    ghost fits = { machine_fits };
+
+    ghost states = { machine_states };
+
+    ghost apart = { Alike };
+
+    ghost whole = { always };
+
+    ghost can_swap = { CanSwap };
+
+    ghost swaps = { Swaps };
+
+    ghost discards = { Discards };
+
+    fn swap(&mut self, c: &mut Change) {
+        self.storage.swap(&mut c.storage);
+        swap_name(&mut self.names, &mut c.name);
+    }
+
+    fn discard(&mut self, c: Change) {
+        let Change { storage, .. } = c;
+        self.storage.discard(storage);
+    }
+
+    ghost laws = { machine_laws };
+}

@@ -1,0 +1,61 @@
+//! Why a statement is refused, and why a bench can't be made.
+
+use std::alloc::AllocError;
+use thiserror::Error;
+use vsm_model::{Cause, Code};
+
+/// Why a statement is refused. A refused statement changes nothing.
+#[derive(Clone, Copy, Debug, PartialEq, Eq)]
+pub enum Refusal {
+    /// A name that stands for a value isn't defined.
+    Name,
+    /// The completion code of the first cause that holds.
+    Abend(Code),
+    /// The statement would have been accepted, but there was no memory for it.
+    NoMemory,
+}
+
+impl From<AllocError> for Refusal {
+    ghost use Rattle.std.specs.Prelude.{◌≡◌};
+    ghost use Rattle.vsm_machine.specs.declared.refusals.Refusal.TheVariants.{NoMemory};
+
+    ghost from_gives = { λ _ e. e ≡ NoMemory };
+
+    fn from(_e: AllocError) -> Refusal {
+        Refusal::NoMemory
+    }
+}
+
+impl From<Cause> for Refusal {
+    ghost use Rattle.std.specs.Prelude.{◌≡◌};
+    ghost use Rattle.vsm_model.specs.Causes.{storage_code};
+    ghost use Rattle.vsm_machine.specs.declared.refusals.Refusal.TheVariants.{Abend};
+
+    ghost from_gives = { λ cause e. e ≡ Abend (storage_code cause) };
+
+    fn from(cause: Cause) -> Refusal {
+        Refusal::Abend(cause.storage_code())
+    }
+}
+
+/// Why a bench can't be made.
+#[derive(Clone, Copy, Debug, PartialEq, Eq, Error)]
+pub enum NewFault {
+    /// A setting is out of its limits.
+    #[error("settings")]
+    Setting,
+    /// There was no memory for it.
+    #[error("memory")]
+    NoMemory,
+}
+
+impl From<AllocError> for NewFault {
+    ghost use Rattle.std.specs.Prelude.{◌≡◌};
+    ghost use Rattle.vsm_machine.specs.declared.refusals.NewFault.TheVariants.{NoMemory};
+
+    ghost from_gives = { λ _ e. e ≡ NoMemory };
+
+    fn from(_e: AllocError) -> NewFault {
+        NewFault::NoMemory
+    }
+}
