@@ -1,10 +1,8 @@
 -- Numbers digit by digit.
-use Rattle.std.proofs.Common.{◌≡◌, ℕ, zero, suc, ◌+◌, ◌-◌, ◌/◌, ◌%◌, ◌^◌, ◌<◌, ◌≤◌, ◌⊎◌, inl, inr, true, List, [], ◌∷◌, ◌++◌, length, take, replicate, sym, ◌∙◌, ap, refl, arith, append_assoc}
-use Rattle.std.proofs.lemmas.Bool.{cases_lt}
+use Rattle.std.proofs.Common.{◌≡◌, ℕ, zero, suc, ◌+◌, ◌-◌, ◌/◌, ◌%◌, ◌^◌, ◌<◌, ◌≤◌, ◌⊎◌, inl, inr, true, false, cond, List, [], ◌∷◌, ◌++◌, length, take, replicate, sym, ◌∙◌, ap, refl, arith, append_assoc}
+use Rattle.std.proofs.lemmas.Bool.{cases_lt, eq-eqb, ne_eqb}
 use Rattle.std.proofs.lemmas.List.{append-nil, length-append}
 use Rattle.std.specs.Fmt.{digits, digits_onto, digit_glyph, decimal, padded_integral, format_spec, char_count}
-use Rattle.core.proofs.fmt.DigitsParse.{digits_onto-nil, digits_onto_last, digits_onto_step}
-use Rattle.core.proofs.fmt.Padding.{padded_integral_zeros}
 use Rattle.vsm_model.specs.Texts.{hexadecimal, padded_decimal}
 
 abbrev spell : ℕ → ℕ → List ℕ → List ℕ
@@ -14,10 +12,10 @@ abbrev glyph : ℕ → ℕ
 glyph n = digit_glyph true (n % 16)
 
 spell_last : (k n : ℕ) (acc : List ℕ) → n < 16 → spell (suc k) n acc ≡ glyph n ∷ acc
-spell_last k n acc h = digits_onto_last 16 true n acc (suc k) (omega arith) (omega arith)
+spell_last k n acc h = ap (λ t. cond t (glyph n ∷ acc) (spell k (n / 16) (glyph n ∷ acc))) (eq-eqb (n / 16) 0 (omega arith))
 
 spell_next : (k n : ℕ) (acc : List ℕ) → 16 ≤ n → spell (suc k) n acc ≡ spell k (n / 16) (glyph n ∷ acc)
-spell_next k n acc h = digits_onto_step 16 true n acc (suc k) (omega arith) (λ e. omega arith)
+spell_next k n acc h = ap (λ t. cond t (glyph n ∷ acc) (spell k (n / 16) (glyph n ∷ acc))) (ne_eqb (n / 16) 0 (λ e. omega arith))
 
 spell-append : (k n : ℕ) (acc : List ℕ) → spell k n acc ≡ spell k n [] ++ acc
 spell-append zero n acc = refl
@@ -37,21 +35,28 @@ spell_enough (suc j) (suc k) n acc p q = elim (cases_lt n 16) [
   | inr l ↦ spell_next (suc j) n acc l ∙ spell_enough j k (n / 16) (glyph n ∷ acc) (omega arith) (omega arith) ∙ sym (spell_next (suc k) n acc l)
 ]
 
+spelled : (n : ℕ) → spell 64 n [] ≡ digits 16 true n
+unfolding digits
+spelled n = refl
+
 digits_one : (n : ℕ) → n < 16 → digits 16 true n ≡ glyph n ∷ []
-digits_one n small = sym (digits_onto-nil 16 true n) ∙ spell_last 63 n [] small
+digits_one n small = sym (spelled n) ∙ spell_last 63 n [] small
 
 digits_more : (n : ℕ) → 16 ≤ n → n < 16 ^ 63 → digits 16 true n ≡ digits 16 true (n / 16) ++ glyph n ∷ []
 digits_more n large small =
-    sym (digits_onto-nil 16 true n) ∙ spell_next 63 n [] large ∙ spell_enough 62 63 (n / 16) (glyph n ∷ []) (omega arith) (omega arith)
-    ∙ spell-append 64 (n / 16) (glyph n ∷ []) ∙ ap (λ x. x ++ glyph n ∷ []) (digits_onto-nil 16 true (n / 16))
+    sym (spelled n) ∙ spell_next 63 n [] large ∙ spell_enough 62 63 (n / 16) (glyph n ∷ []) (omega arith) (omega arith)
+    ∙ spell-append 64 (n / 16) (glyph n ∷ []) ∙ ap (λ x. x ++ glyph n ∷ []) (spelled (n / 16))
 
-zeros_push : (k : ℕ) → replicate (suc k) 48 ≡ replicate k 48 ++ 48 ∷ []
+zeros_push : (k : ℕ) → replicate {A = ℕ} (suc k) 48 ≡ replicate k 48 ++ 48 ∷ []
 zeros_push zero = refl
 zeros_push (suc k) = ap (λ x. 48 ∷ x) (zeros_push k)
 
 -- leading zeros stand before the digits
 pub with_zeros : (width : ℕ) (numeral : List ℕ) → padded_integral (format_spec 32 0 4 width (2 ^ 64 - 1)) false [] numeral ≡ replicate (width - length numeral) 48 ++ numeral
-with_zeros width numeral = padded_integral_zeros (format_spec 32 0 4 width (2 ^ 64 - 1)) numeral refl refl
+unfolding padded_integral char_count
+with_zeros width numeral =
+    let short : width - length numeral - 0 - 0 ≡ width - length numeral = omega arith in
+    ap (λ k. replicate k 48 ++ (numeral ++ [])) short ∙ ap (λ x. replicate (width - length numeral) 48 ++ x) (append-nil numeral)
 
 -- One digit, where neither zeros nor digits stand before it,
 pub hexadecimal_one : (width n : ℕ) → width ≤ 1 → n < 16 → hexadecimal width n ≡ glyph n ∷ []
@@ -91,7 +96,7 @@ hexadecimal_more width n some small = elim (cases_lt n 16) [
 ]
 
 -- a front of zeros
-pub front_of_zeros : (n k : ℕ) → k ≤ n → take k (replicate n 48) ≡ replicate k 48
+pub front_of_zeros : (n k : ℕ) → k ≤ n → take {A = ℕ} k (replicate n 48) ≡ replicate k 48
 front_of_zeros n zero h = refl
 front_of_zeros zero (suc k) h = absurd (omega arith)
 front_of_zeros (suc n) (suc k) h = ap (λ x. 48 ∷ x) (front_of_zeros n k (omega arith))

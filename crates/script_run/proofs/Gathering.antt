@@ -62,9 +62,13 @@ pub puts_none : (now : Option (List ℕ)) (g : Gathered) → Puts now now g g []
 puts_none now g = λ first text before. subst (Holds first now g) (sym (append-nil text)) before
 
 -- the text is written behind what went out, or a front of it
-pub written_where : (failed : Bool) (first now new : Option (List ℕ)) (text more : List ℕ) (r : Result (Unit {0}) WriteFault) → is_err r ≡ failed →
+pub written_where : (failed : Bool) (first now new : Option (List ℕ)) (text more : List ℕ) (r : Result (Unit {0}) WriteFault) → failed ≡ is_err r →
     Writes now new more r → Appends first now text → HoldsWhere failed first new [] (text ++ more)
-written_where false first now new text more (Ok u) is w h = none_gathered first new (text ++ more) (written first now new text more (Ok u) w h)
-written_where true first now new text more (Err x) is w h = written first now new text more (Err x) w h
-written_where true first now new text more (Ok u) is w h = absurd is
-written_where false first now new text more (Err x) is w h = absurd is
+written_where failed first now new text more (Ok u) is w h =
+    subst (λ b. HoldsWhere b first new [] (text ++ more)) (sym is) (none_gathered first new (text ++ more) (written first now new text more (Ok u) w h))
+written_where failed first now new text more (Err x) is w h =
+    subst (λ b. HoldsWhere b first new [] (text ++ more)) (sym is) (written first now new text more (Err x) w h)
+
+-- more text behind that of which a front went out
+pub held_failed : (first now : Option (List ℕ)) (g : Gathered) (text more : List ℕ) → g.failed ≡ true → AppendsFront first now text → Holds first now g (text ++ more)
+held_failed first now g text more failed h = subst (λ b. HoldsWhere b first now g.text.items (text ++ more)) (sym failed) (front_more first now text more h)

@@ -7,10 +7,10 @@ ghost use Rattle.script_run.specs.Answers.{Responds, Tells, told_count, told_ref
 ghost use Rattle.vsm_machine.specs.Machine.{shown_at};
 ghost use Rattle.script_run.specs.Responses.{reading_response};
 
-use bench_core::Bench;
 use crate::responses::Response;
-use vsm_machine::with_room;
+use bench_core::Bench;
 use macro_reader::{Fault, Fed, Request, Statement, Value};
+use vsm_machine::with_room;
 
 /// Carries out a statement, or refuses it.
 fn carry_out(bench: &mut Bench, statement: &Statement) -> Response

@@ -11,11 +11,11 @@ ghost use Rattle.bench_core.specs.Stands.{IsNew, bench_of, settings_in};
 ghost use Rattle.script_run.specs.Taken.{Took, TakesBytes, IsTold, Ended, Counts};
 
 use crate::answers::{tell, tell_end, told_count, told_refused};
-use bench_core::Bench;
 use crate::faults::RunTotals;
 use crate::responses::Response;
 use crate::session::{LINE_BYTES, LINES, Session, TooLong};
 use arrayvec::ArrayVec;
+use bench_core::Bench;
 use macro_reader::Reader;
 
 /// What the end of a script brings: the totals, and the responses to a last line without a line feed and to a statement that

@@ -45,12 +45,7 @@ fn hexadecimal_digit(n: u32) -> u8
 }
 
 /// Puts a number in upper case hexadecimal digits, with leading zeros to so many.
-pub(crate) fn put_hexadecimal<W: Write>(
-    gathered: &mut Gathered,
-    writer: &mut W,
-    width: u32,
-    n: u32,
-)
+pub(crate) fn put_hexadecimal<W: Write>(gathered: &mut Gathered, writer: &mut W, width: u32, n: u32)
     ensures { Puts (W.contents writer.old) (W.contents writer.new) gathered.old gathered.new (hexadecimal width n) }
 {
     if width > 1 || n >= 16 {
@@ -64,5 +59,8 @@ pub(crate) fn put_byte<W: Write>(gathered: &mut Gathered, writer: &mut W, byte: 
     ensures { Puts (W.contents writer.old) (W.contents writer.new) gathered.old gathered.new (hexadecimal 2 byte) }
 {
     let n = u32::from(byte);
-    gathered.put(writer, &[hexadecimal_digit(n / 16), hexadecimal_digit(n % 16)]);
+    gathered.put(
+        writer,
+        &[hexadecimal_digit(n / 16), hexadecimal_digit(n % 16)],
+    );
 }

@@ -2,9 +2,9 @@
 ghost use Rattle.std.specs.Prelude.{◌≡◌};
 ghost use Rattle.script_run.specs.Responses.{is_refused};
 
-use vsm_machine::Refusal;
 use arrayvec::ArrayVec;
 use macro_reader::FaultKind;
+use vsm_machine::Refusal;
 use vsm_model::Reply;
 
 /// What a bench responds to a statement of a script.

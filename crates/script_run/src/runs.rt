@@ -7,22 +7,18 @@ ghost use Rattle.script_run.specs.Script.{NoFeed};
 ghost use Rattle.script_run.specs.Writing.{Puts, IsEmpty};
 ghost use Rattle.script_run.specs.Run.{Runs, Takes, TakesLine, TakesRead, Finishes, Ran};
 
-use bench_core::Bench;
 use crate::faults::{RunFault, RunTotals};
 use crate::responses::Response;
 use crate::session::{LINES, Session, TooLong};
 use crate::texts::put_numbered;
 use crate::writing::Gathered;
+use bench_core::Bench;
 use std::alloc::Global;
 use std::io::{Read, Write};
 use vsm_model::Settings;
 
 /// Puts the line of a response, if there is one.
-fn put_told<W: Write>(
-    gathered: &mut Gathered,
-    writer: &mut W,
-    told: &Option<(u32, Response)>,
-)
+fn put_told<W: Write>(gathered: &mut Gathered, writer: &mut W, told: &Option<(u32, Response)>)
     ensures { Puts (W.contents writer.old) (W.contents writer.new) gathered.old gathered.new (told_text told.now) }
 {
     if let Some((line, response)) = told {
@@ -163,7 +159,9 @@ pub fn run<R: Read, W: Write>(
         if n == 0 {
             return finish(session, &mut gathered, writer);
         }
-        take_read(&mut session, &mut gathered, writer, &buffer[..n])?;
+        if let Err(fault) = take_read(&mut session, &mut gathered, writer, &buffer[..n]) {
+            return Err(fault);
+        }
     }
     Err(RunFault::Read)
 }

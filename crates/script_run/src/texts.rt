@@ -5,11 +5,11 @@ ghost use Rattle.script_run.specs.Responses.{fault_word, refusal_text, shown_tex
 ghost use Rattle.script_run.specs.Writing.{Puts};
 
 use crate::numbers::{put_byte, put_decimal, put_hexadecimal, put_padded_decimal};
-use vsm_machine::Refusal;
 use crate::responses::Response;
 use crate::writing::Gathered;
 use macro_reader::FaultKind;
 use std::io::Write;
+use vsm_machine::Refusal;
 use vsm_model::{Code, Reply};
 
 fn fault_word(kind: FaultKind) -> &'static str
@@ -27,6 +27,7 @@ fn fault_word(kind: FaultKind) -> &'static str
     }
 }
 
+#[tactic(auto, using(crate::proofs::Gathering::puts_both))]
 fn put_reply<W: Write>(gathered: &mut Gathered, writer: &mut W, reply: Reply)
     ensures { Puts (W.contents writer.old) (W.contents writer.new) gathered.old gathered.new (reply_text reply) }
 {
@@ -45,6 +46,7 @@ fn put_reply<W: Write>(gathered: &mut Gathered, writer: &mut W, reply: Reply)
     }
 }
 
+#[tactic(auto, using(crate::proofs::Gathering::puts_both))]
 fn put_code<W: Write>(gathered: &mut Gathered, writer: &mut W, code: Code)
     ensures { Puts (W.contents writer.old) (W.contents writer.new) gathered.old gathered.new (code_text code) }
 {
@@ -60,6 +62,7 @@ fn put_code<W: Write>(gathered: &mut Gathered, writer: &mut W, code: Code)
     }
 }
 
+#[tactic(auto, using(crate::proofs::Gathering::puts_both))]
 fn put_refusal<W: Write>(gathered: &mut Gathered, writer: &mut W, refusal: Refusal)
     ensures { Puts (W.contents writer.old) (W.contents writer.new) gathered.old gathered.new (refusal_text refusal) }
 {
@@ -84,6 +87,7 @@ fn put_bytes<W: Write>(gathered: &mut Gathered, writer: &mut W, bytes: &[u8])
 }
 
 /// Puts a word and a number behind it.
+#[tactic(auto, using(crate::proofs::Gathering::puts_both))]
 fn put_count<W: Write>(gathered: &mut Gathered, writer: &mut W, word: &[u8], n: u32)
     ensures { Puts (W.contents writer.old) (W.contents writer.new) gathered.old gathered.new (word.now ++ decimal n) }
 {
@@ -91,6 +95,7 @@ fn put_count<W: Write>(gathered: &mut Gathered, writer: &mut W, word: &[u8], n: 
     put_decimal(gathered, writer, n);
 }
 
+#[tactic(auto, using(crate::proofs::Gathering::puts_both))]
 fn put_response<W: Write>(gathered: &mut Gathered, writer: &mut W, response: &Response)
     ensures { Puts (W.contents writer.old) (W.contents writer.new) gathered.old gathered.new (response_text response.now) }
 {
@@ -109,6 +114,7 @@ fn put_response<W: Write>(gathered: &mut Gathered, writer: &mut W, response: &Re
 }
 
 /// Puts the line of a response: the number of the statement's first line, a blank, the text, a line feed.
+#[tactic(auto, using(crate::proofs::Gathering::puts_both))]
 pub(crate) fn put_numbered<W: Write>(
     gathered: &mut Gathered,
     writer: &mut W,
