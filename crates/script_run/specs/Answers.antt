@@ -22,7 +22,8 @@ RespondsTo settings b call told c =
 abbrev pub Responds : Settings → Bench NamedState → Result Asked FaultKind → Response → Bench NamedState → Type 0
 Responds settings b (Err kind) told c = (told ≡ response.Fault kind) × (c ≡ b)
 Responds settings b (Ok (act x)) told c = RespondsTo settings b (Apply x) told c
-Responds settings b (Ok (peek address count)) told c = (told ≡ reading_response (shown_at b.present address count)) × (c ≡ b)
+Responds settings b (Ok (peek address count)) told c =
+    (told ≡ reading_response (shown_at b.present address count)) × (c ≡ b)
 Responds settings b (Ok (back n)) told c = RespondsTo settings b (Back n) told c
 Responds settings b (Ok (forward n)) told c = RespondsTo settings b (Forward n) told c
 

@@ -7,7 +7,8 @@ use Rattle.macro_reader.specs.declared.faults.FaultKind.TheVariants as kind
 use Rattle.macro_reader.specs.Requests.{Act}
 use Rattle.vsm_model.specs.declared.replies.Reply.{Reply}
 use Rattle.vsm_model.specs.Texts.{reply_text, code_text, hexadecimal, padded_decimal}
-use Rattle.vsm_model.specs.Standing.{Call, Apply, Back, Forward, Look, Answer, Replied, RefusedFor, NoMemory, Moved, TooFar, Shown}
+use Rattle.vsm_model.specs.Standing.{Call, Apply, Back, Forward, Look, Answer, Replied, RefusedFor, NoMemory, Moved}
+use Rattle.vsm_model.specs.Standing.{TooFar, Shown}
 use Rattle.vsm_machine.specs.Machine.{Why}
 use Rattle.vsm_machine.specs.Refusals.{refusal_for}
 use Rattle.vsm_machine.specs.declared.refusals.Refusal.{Refusal}

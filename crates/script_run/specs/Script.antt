@@ -17,8 +17,8 @@ with_feed line = line ++ 10 ∷ []
 abbrev pub IsLine : List ℕ → Type 0
 IsLine line = NoFeed line × (length line ≤ 65536)
 
--- These bytes are these lines, each with its line feed, and a rest without one; and they pass no bound: there are 1,048,576 lines at
--- most, counting the rest where there is one.
+-- These bytes are these lines, each with its line feed, and a rest without one; and they pass no bound: there are
+-- 1,048,576 lines at most, counting the rest where there is one.
 pub record Within (given : List ℕ) (lines : List (List ℕ)) (rest : List ℕ) : Type 0 where
   pub cut : given ≡ flat_map with_feed lines ++ rest
   pub each : AllByRecursion IsLine lines

@@ -19,9 +19,11 @@ answers_of = map (λ m. m.answer)
 abbrev pub Told : List (List ℕ) → List grammar.Answer → Type 0
 Told lines answers = (kept : grammar.Kept) × grammar.IsBehind lines answers kept
 
--- A bench is led by the answers so far, of which only statements that would have been accepted were refused for want of memory.
+-- A bench is led by the answers so far, of which only statements that would have been accepted were refused for want of
+-- memory.
 pub record Led (settings : Settings) (answers : List Marked) (b : Bench NamedState) : Type 0 where
-  pub leads : Leads (statement_step settings) settings.history (new_bench first_named_state) (heard_all settings nothing_stands answers) b
+  pub leads : Leads (statement_step settings) settings.history (new_bench first_named_state)
+      (heard_all settings nothing_stands answers) b
   pub met : AllMet settings nothing_stands answers
 
 -- The answers of a script that passes no bound and has ended,
@@ -78,4 +80,5 @@ IsTold settings answers more text = text ≡ texts settings (stands_all settings
 
 -- The totals of a script with these answers.
 abbrev pub Counts : Settings → List Marked → RunTotals → Type 0
-Counts settings answers totals = (totals.statements ≡ length answers) × (totals.refused ≡ refusals settings nothing_stands answers)
+Counts settings answers totals =
+    (totals.statements ≡ length answers) × (totals.refused ≡ refusals settings nothing_stands answers)

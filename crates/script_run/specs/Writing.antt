@@ -24,7 +24,8 @@ Holds at_first now g text = HoldsWhere g.failed at_first now g.text.items text
 -- More text follows all text before it.
 abbrev pub Puts : Option (List ℕ) → Option (List ℕ) → Gathered → Gathered → List ℕ → Type 0
 Puts old new before after more =
-    (at_first : Option (List ℕ)) (text : List ℕ) → Holds at_first old before text → Holds at_first new after (text ++ more)
+    (at_first : Option (List ℕ)) (text : List ℕ) → Holds at_first old before text
+    → Holds at_first new after (text ++ more)
 
 -- Nothing is gathered, and no write has failed.
 abbrev pub IsEmpty : Gathered → Type 0

@@ -1,6 +1,7 @@
 //! A bench answers what a line asks for.
 ghost use Rattle.std.specs.Prelude.{◌≡◌, ◌≤◌, Ok};
-ghost use Rattle.macro_reader.specs.Requests.{act, peek, back, forward, act_in, asked_in, written_in, IsValidAct, IsValidAsked};
+ghost use Rattle.macro_reader.specs.Requests.{act, peek, back, forward, act_in, asked_in, written_in, IsValidAct};
+ghost use Rattle.macro_reader.specs.Requests.{IsValidAsked};
 ghost use Rattle.macro_reader.specs.Scripts.{told_by, told_at_end, IsValidFed};
 ghost use Rattle.bench_core.specs.Stands.{bench_of, settings_in};
 ghost use Rattle.script_run.specs.Answers.{Responds, Tells, told_count, told_refused, IsToldAlone};
@@ -15,7 +16,8 @@ use vsm_machine::with_room;
 /// Carries out a statement, or refuses it.
 fn carry_out(bench: &mut Bench, statement: &Statement) -> Response
     requires { IsValidAct (act_in statement.now) }
-    ensures responds { Responds (settings_in bench.old) (bench_of bench.old) (Ok (act (act_in statement.now))) result (bench_of bench.new) }
+    ensures responds { Responds (settings_in bench.old) (bench_of bench.old) (Ok (act (act_in statement.now))) result
+        (bench_of bench.new) }
     ensures settings { settings_in bench.new ≡ settings_in bench.old }
 {
     match bench.apply(statement) {
@@ -50,7 +52,8 @@ fn step_back(bench: &mut Bench, n: u32) -> Response
 
 /// Makes the first `n` undone changes again, or none where fewer are undone.
 fn step_forward(bench: &mut Bench, n: u32) -> Response
-    ensures responds { Responds (settings_in bench.old) (bench_of bench.old) (Ok (forward n)) result (bench_of bench.new) }
+    ensures responds { Responds (settings_in bench.old) (bench_of bench.old) (Ok (forward n)) result
+        (bench_of bench.new) }
     ensures settings { settings_in bench.new ≡ settings_in bench.old }
 {
     match bench.forward(n) {
@@ -62,7 +65,8 @@ fn step_forward(bench: &mut Bench, n: u32) -> Response
 /// The response of a bench to a request.
 fn respond(bench: &mut Bench, request: &Request) -> Response
     requires { IsValidAsked (asked_in request.now) }
-    ensures responds { Responds (settings_in bench.old) (bench_of bench.old) (Ok (asked_in request.now)) result (bench_of bench.new) }
+    ensures responds { Responds (settings_in bench.old) (bench_of bench.old) (Ok (asked_in request.now)) result
+        (bench_of bench.new) }
     ensures settings { settings_in bench.new ≡ settings_in bench.old }
 {
     match request {

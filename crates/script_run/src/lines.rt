@@ -18,8 +18,8 @@ use arrayvec::ArrayVec;
 use bench_core::Bench;
 use macro_reader::Reader;
 
-/// What the end of a script brings: the totals, and the responses to a last line without a line feed and to a statement that
-/// is still open.
+/// What the end of a script brings: the totals, and the responses to a last line without a line feed and to a statement
+/// that is still open.
 #[derive(Drop)]
 pub(crate) struct Ending {
     pub(crate) totals: RunTotals,
@@ -63,7 +63,8 @@ fn take_last(
     kept: &[u8],
     size: u32,
 ) -> Option<(u32, Response)>
-    ensures tells { (lines : List Line) (answers : List Answer) (rest : List ℕ) → IsBehind lines answers reader.old → size ≡ length rest → kept.now ≡ take 80 rest
+    ensures tells { (lines : List Line) (answers : List Answer) (rest : List ℕ) → IsBehind lines answers reader.old
+        → size ≡ length rest → kept.now ≡ take 80 rest
         → (more : List Answer) × IsBehind (lines ++ last_line rest) (answers ++ more) reader.new
         × Tells (settings_in bench.old) (bench_of bench.old) more result (bench_of bench.new) }
     ensures settings { settings_in bench.new ≡ settings_in bench.old }
@@ -114,7 +115,8 @@ impl Session {
     pub(crate) fn end_line(&mut self) -> Option<(u32, Response)>
         requires { self.old.lines < 1048576 }
         ensures { (settings : Settings) (given : List ℕ) (answers : List Marked) → Took settings given answers self.old
-            → (more : List Marked) × IsTold settings answers more (told_text result) × Took settings (given ++ 10 ∷ []) (answers ++ more) self.new }
+            → (more : List Marked) × IsTold settings answers more (told_text result)
+            × Took settings (given ++ 10 ∷ []) (answers ++ more) self.new }
     {
         let fed = self.reader.next(columns(self.kept.as_slice(), self.length));
         let told = tell(&mut self.bench, &fed);
@@ -129,7 +131,8 @@ impl Session {
     /// Takes the end of the script.
     pub(crate) fn end(self) -> Ending
         ensures { (settings : Settings) (given : List ℕ) (answers : List Marked) → Took settings given answers self
-            → (more : List Marked) × IsTold settings answers more (told_text result.last ++ told_text result.open_statement)
+            → (more : List Marked) × IsTold settings answers more
+            (told_text result.last ++ told_text result.open_statement)
             × Ended settings given (answers ++ more) × Counts settings (answers ++ more) result.totals }
     {
         let Session {

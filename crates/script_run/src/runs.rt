@@ -1,5 +1,6 @@
 //! A run over a reader and a writer.
-ghost use Rattle.std.specs.Prelude.{◌≡◌, ◌++◌, [], ◌∷◌, ◌<◌, ◌≤◌, ℕ, List, Option, length, slice_index, take, IfOk, OnOk};
+ghost use Rattle.std.specs.Prelude.{◌≡◌, ◌++◌, [], ◌∷◌, ◌<◌, ◌≤◌, ℕ, List, Option, length, slice_index, take, IfOk};
+ghost use Rattle.std.specs.Prelude.{OnOk};
 ghost use Rattle.std.specs.Io.KnownBytes.{IsAtEnd};
 ghost use Rattle.vsm_model.specs.declared.limits.Settings.{Settings};
 ghost use Rattle.script_run.specs.Answers.{told_text};
@@ -46,7 +47,8 @@ fn take_feed<W: Write>(
     gathered: &mut Gathered,
     writer: &mut W,
 ) -> Result<(), TooLong>
-    ensures { (settings : Settings) (first : Option (List ℕ)) (given : List ℕ) → Runs settings first (W.contents writer.old) gathered.old given session.old
+    ensures { (settings : Settings) (first : Option (List ℕ)) (given : List ℕ)
+        → Runs settings first (W.contents writer.old) gathered.old given session.old
         → Takes settings first (W.contents writer.new) gathered.new (given ++ 10 ∷ []) session.new result }
 {
     if session.lines >= LINES {
@@ -65,7 +67,8 @@ fn take_line<W: Write>(
     rest: &[u8],
 ) -> Result<usize, TooLong>
     requires { 0 < length rest.now }
-    ensures takes { (settings : Settings) (first : Option (List ℕ)) (given : List ℕ) → Runs settings first (W.contents writer.old) gathered.old given session.old
+    ensures takes { (settings : Settings) (first : Option (List ℕ)) (given : List ℕ)
+        → Runs settings first (W.contents writer.old) gathered.old given session.old
         → TakesLine settings first (W.contents writer.new) gathered.new given rest.now session.new result }
     ensures some { IfOk result (λ n. 0 < n) }
     ensures within { IfOk result (λ n. n ≤ length rest.now) }
@@ -86,7 +89,8 @@ fn take_piece<W: Write>(
     writer: &mut W,
     piece: &[u8],
 ) -> Result<(), TooLong>
-    ensures { (settings : Settings) (first : Option (List ℕ)) (given : List ℕ) → Runs settings first (W.contents writer.old) gathered.old given session.old
+    ensures { (settings : Settings) (first : Option (List ℕ)) (given : List ℕ)
+        → Runs settings first (W.contents writer.old) gathered.old given session.old
         → Takes settings first (W.contents writer.new) gathered.new (given ++ piece.now) session.new result }
 {
     let mut rest = piece;
@@ -104,7 +108,8 @@ fn take_read<W: Write>(
     writer: &mut W,
     piece: &[u8],
 ) -> Result<(), RunFault>
-    ensures takes { (settings : Settings) (first : Option (List ℕ)) (given : List ℕ) → Runs settings first (W.contents writer.old) gathered.old given session.old
+    ensures takes { (settings : Settings) (first : Option (List ℕ)) (given : List ℕ)
+        → Runs settings first (W.contents writer.old) gathered.old given session.old
         → TakesRead settings first (W.contents writer.new) gathered.new (given ++ piece.now) session.new result }
     ensures empty { OnOk result (IsEmpty gathered.new) }
 {
@@ -120,7 +125,8 @@ fn finish<W: Write>(
     gathered: &mut Gathered,
     writer: &mut W,
 ) -> Result<RunTotals, RunFault>
-    ensures { (settings : Settings) (left first : Option (List ℕ)) (given : List ℕ) → IsAtEnd left → Runs settings first (W.contents writer.old) gathered.old given session
+    ensures { (settings : Settings) (left first : Option (List ℕ)) (given : List ℕ) → IsAtEnd left
+        → Runs settings first (W.contents writer.old) gathered.old given session
         → Finishes settings left first (W.contents writer.new) given result }
 {
     let ending = session.end();
@@ -130,20 +136,22 @@ fn finish<W: Write>(
     Ok(ending.totals)
 }
 
-/// Reads a script to its end, carries its statements out on a new bench under these settings, and writes a line for each
-/// statement that is complete or faulty.
+/// Reads a script to its end, carries its statements out on a new bench under these settings, and writes a line for
+/// each statement that is complete or faulty.
 ///
-/// A line ends at a line feed, which isn't part of it, nor is a carriage return before it; bytes after the last line feed are a
-/// line where there are any. Output is gathered, and handed out when there is no room for more and before each read. After `Read`
-/// the output is that of the complete lines, after `TooLong` that of the lines before the byte that passes a bound, and after
-/// `Write` a front of it; after `New` nothing was read or written.
+/// A line ends at a line feed, which isn't part of it, nor is a carriage return before it; bytes after the last line
+/// feed are a line where there are any. Output is gathered, and handed out when there is no room for more and before
+/// each read. After `Read` the output is that of the complete lines, after `TooLong` that of the lines before the byte
+/// that passes a bound, and after `Write` a front of one of these, or of all output where the reader has met its end; after
+/// `New` nothing was read or written.
 pub fn run<R: Read, W: Write>(
     alloc: Global,
     reader: &mut R,
     writer: &mut W,
     settings: Settings,
 ) -> Result<RunTotals, RunFault>
-    ensures { Ran settings (R.remaining reader.old) (R.remaining reader.new) (W.contents writer.old) (W.contents writer.new) result }
+    ensures { Ran settings (R.remaining reader.old) (R.remaining reader.new) (W.contents writer.old)
+        (W.contents writer.new) result }
 {
     let bench = match Bench::new(alloc, settings) {
         Ok(bench) => bench,

@@ -97,7 +97,8 @@ fn put_count<W: Write>(gathered: &mut Gathered, writer: &mut W, word: &[u8], n: 
 
 #[tactic(auto, using(crate::proofs::Gathering::puts_both))]
 fn put_response<W: Write>(gathered: &mut Gathered, writer: &mut W, response: &Response)
-    ensures { Puts (W.contents writer.old) (W.contents writer.new) gathered.old gathered.new (response_text response.now) }
+    ensures { Puts (W.contents writer.old) (W.contents writer.new) gathered.old gathered.new
+        (response_text response.now) }
 {
     match response {
         Response::Replied(reply) => put_reply(gathered, writer, *reply),
@@ -121,7 +122,8 @@ pub(crate) fn put_numbered<W: Write>(
     line: u32,
     response: &Response,
 )
-    ensures { Puts (W.contents writer.old) (W.contents writer.new) gathered.old gathered.new (numbered line (response_text response.now)) }
+    ensures { Puts (W.contents writer.old) (W.contents writer.new) gathered.old gathered.new
+        (numbered line (response_text response.now)) }
 {
     put_padded_decimal(gathered, writer, 7, line);
     gathered.put(writer, b" ");

@@ -9,8 +9,8 @@ use std::io::Write;
 #[derive(Clone, Copy, Debug)]
 pub(crate) struct WriteFault;
 
-/// Output that is gathered, and handed to the writer when there is no room for more or when the run has to wait. Once a write has
-/// failed, nothing more goes out.
+/// Output that is gathered, and handed to the writer when there is no room for more or when the run has to wait. Once a
+/// write has failed, nothing more goes out.
 #[derive(Drop)]
 pub(crate) struct Gathered {
     text: ArrayVec<u8, 4096>,
@@ -45,7 +45,8 @@ impl Gathered {
 
     /// Hands out what is gathered; an error where this or an earlier write failed.
     pub(crate) fn hand_out<W: Write>(&mut self, writer: &mut W) -> Result<(), WriteFault>
-        ensures writes { (at_first : Option (List ℕ)) (text : List ℕ) → Holds at_first (W.contents writer.old) self.old text
+        ensures writes { (at_first : Option (List ℕ)) (text : List ℕ)
+            → Holds at_first (W.contents writer.old) self.old text
             → Writes at_first (W.contents writer.new) text result }
         ensures empty { OnOk result (IsEmpty self.new) }
         ensures failed { OnErr result (self.new.failed ≡ true) }
@@ -59,8 +60,8 @@ impl Gathered {
         outcome
     }
 
-    /// Puts more text behind what was put before. Where there is no room for it, what was gathered is handed out, and then the text: a
-    /// write fails there alone.
+    /// Puts more text behind what was put before. Where there is no room for it, what was gathered is handed out, and
+    /// then the text: a write fails there alone.
     pub(crate) fn put<W: Write>(&mut self, writer: &mut W, more: &[u8])
         ensures puts { Puts (W.contents writer.old) (W.contents writer.new) self.old self.new more.now }
         ensures room { length self.old.text.items + length more.now ≤ 4096 → self.new.failed ≡ self.old.failed }
