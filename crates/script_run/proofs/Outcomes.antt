@@ -1,20 +1,27 @@
 -- A run, one piece more.
-use Rattle.std.proofs.Common.{◌≡◌, ◌≢◌, ℕ, List, [], ◌∷◌, ◌++◌, length, take, Option, Result, Ok, Err, sym, ◌∙◌, ap, subst, refl, arith, append_assoc, inr}
+use Rattle.std.proofs.Common.{◌≡◌, ◌≢◌, ℕ, List, [], ◌∷◌, ◌++◌, length, take, Option, Result, Ok, Err, IsErrAnd, sym, ◌∙◌, ap, subst, refl, arith, append_assoc, inl, inr}
 use Rattle.std.proofs.lemmas.List.{append-nil}
-use Rattle.std.specs.Io.KnownBytes.{Consumes, IsAtEnd}
+use Rattle.std.specs.Io.KnownBytes.{Appends, Consumes, IsAtEnd}
 use Rattle.vsm_model.specs.declared.limits.Settings.{Settings}
-use Rattle.script_run.specs.Output.{Marked, output, texts, stands_all}
-use Rattle.script_run.specs.Script.{last_line}
 use Rattle.vsm_model.specs.Standing.{nothing_stands}
+use Rattle.script_run.specs.Output.{Marked, output}
+use Rattle.script_run.specs.Script.{last_line}
 use Rattle.script_run.specs.Taken.{Took, Unended, PassesBound, IsTold}
-use Rattle.script_run.proofs.Standings.{texts_push}
-use Rattle.script_run.proofs.Extends.{extends}
-use Rattle.script_run.specs.Writing.{AppendsFront, Holds}
-use Rattle.script_run.specs.Run.{Runs, FaultAt, FaultIn, Finishes, Ran}
+use Rattle.script_run.specs.Writing.{AppendsFront, Holds, Puts, IsEmpty}
+use Rattle.script_run.specs.Run.{Runs, Passes, Takes, TakesLine, FaultAt, Finishes, Ran}
+use Rattle.script_run.specs.declared.faults.RunTotals.{RunTotals}
 use Rattle.script_run.specs.declared.faults.RunFault.{RunFault}
 use Rattle.script_run.specs.declared.faults.RunFault.TheVariants as fault
-use Rattle.script_run.specs.declared.faults.RunTotals.{RunTotals}
 use Rattle.script_run.specs.declared.session.Session.{Session}
+use Rattle.script_run.specs.declared.session.TooLong.{TooLong}
+use Rattle.script_run.specs.declared.writing.Gathered.{Gathered}
+use Rattle.script_run.proofs.Gathering.{empty_holds, empty_out}
+use Rattle.script_run.proofs.Standings.{texts_push}
+
+-- the fault that a conversion makes
+pub passed_up : {T : Type 0} (r : Result T RunFault) (e : RunFault) → IsErrAnd r (λ x. x ≡ e) → r ≡ Err e
+passed_up (Ok x) e h = absurd h
+passed_up (Err x) e h = ap Err h
 
 module _ (settings : Settings) where
   pub unended : (given : List ℕ) (answers : List Marked) (s : Session) → Took settings given answers s → Unended settings given answers
@@ -29,64 +36,61 @@ module _ (settings : Settings) where
   bound_passed given answers h = subst (λ g. PassesBound settings g answers) (append-nil given) (h [])
 
   module _ (first : Option (List ℕ)) where
-    -- a write fault, whatever stands behind it
-    pub write_fault : (now : Option (List ℕ)) (given : List ℕ) (answers : List Marked) (gathered : List ℕ) → Unended settings given answers →
-        AppendsFront first now (output settings answers) → FaultIn settings first now gathered given fault.Write
-    write_fault now given answers gathered u (front, rest, e, out) behind =
-        let x = extends settings behind given answers u in
-        let more = output_more answers x.0 (texts settings (stands_all settings nothing_stands answers) x.0) refl in (
-          answers ++ x.0,
-          inr x.1,
-          (
-            front,
-            rest ++ texts settings (stands_all settings nothing_stands answers) x.0,
-            more ∙ ap (λ t. t ++ texts settings (stands_all settings nothing_stands answers) x.0) e ∙ append_assoc front rest _,
-            out,
-          ),
-        )
+    -- the text of further answers is put behind that of others
+    pub out_more : (old now : Option (List ℕ)) (before after : Gathered) (answers more : List Marked) (text : List ℕ) → IsTold settings answers more text →
+        Puts old now before after text → Holds first old before (output settings answers) → Holds first now after (output settings (answers ++ more))
+    out_more old now before after answers more text told puts h =
+        subst (Holds first now after) (sym (output_more answers more text told)) (puts first (output settings answers) h)
 
-    -- bytes of a line were taken, or one of them passes a bound
-    pub bytes_taken : (now : Option (List ℕ)) (gathered given : List ℕ) (answers : List Marked) (s : Session) → Took settings given answers s →
-        Holds first now gathered (output settings answers) → Runs settings first now gathered given s
-    bytes_taken now gathered given answers s took out = record { answers = answers; took = took; out = out }
-
-    pub bytes_fault : (now : Option (List ℕ)) (gathered given : List ℕ) (answers : List Marked) (e : RunFault) →
-        (e ≡ fault.TooLong) × ((behind : List ℕ) → PassesBound settings (given ++ behind) answers) → Holds first now gathered (output settings answers) →
-        FaultIn settings first now gathered given e
-    bytes_fault now gathered given answers e (is, passes) out = subst (FaultIn settings first now gathered given) (sym is) (answers, passes, out)
-
-    -- a fault in a piece, with the rest of the piece behind it
-    pub fault_behind : (now : Option (List ℕ)) (gathered given front rest : List ℕ) (e : RunFault) → FaultIn settings first now gathered (given ++ front) e →
-        FaultIn settings first now gathered (given ++ (front ++ rest)) e
-    fault_behind now gathered given front rest fault.Read h = absurd h
-    fault_behind now gathered given front rest fault.Write h = λ behind.
-        let same : (given ++ front) ++ (rest ++ behind) ≡ (given ++ (front ++ rest)) ++ behind =
-        sym (append_assoc (given ++ front) rest behind) ∙ ap (λ x. x ++ behind) (append_assoc given front rest) in
-        subst (λ g. FaultAt settings first now g fault.Write) same (h (rest ++ behind))
-    fault_behind now gathered given front rest fault.TooLong (answers, passes, out) = (
-      answers,
-      λ behind.
+    -- a bound that is passed in a front of the bytes is passed in all of them
+    pub passes_behind : (now : Option (List ℕ)) (g : Gathered) (given front rest : List ℕ) → Passes settings first now g (given ++ front) →
+        Passes settings first now g (given ++ (front ++ rest))
+    passes_behind now g given front rest h = record {
+      answers = h.answers;
+      past = λ behind.
           let same : (given ++ front) ++ (rest ++ behind) ≡ (given ++ (front ++ rest)) ++ behind =
           sym (append_assoc (given ++ front) rest behind) ∙ ap (λ x. x ++ behind) (append_assoc given front rest) in
-          subst (λ g. PassesBound settings g answers) same (passes (rest ++ behind)),
-      out,
-    )
-    fault_behind now gathered given front rest (fault.New f) h = absurd h
+          subst (λ x. PassesBound settings x h.answers) same (h.past (rest ++ behind));
+      out = h.out;
+    }
 
-    -- where the piece ends
-    pub write_fault_here : (now : Option (List ℕ)) (gathered given : List ℕ) → FaultIn settings first now gathered given fault.Write → FaultAt settings first now given fault.Write
-    write_fault_here now gathered given h = subst (λ g. FaultAt settings first now g fault.Write) (append-nil given) (h [])
+    -- what a read brought is handed out, or a front of it
+    pub write_fault : (now new left : Option (List ℕ)) (g : Gathered) (given : List ℕ) (s : Session) (r : Result (Unit {0}) TooLong) →
+        Takes settings first now g given s r → ((text : List ℕ) → Holds first now g text → AppendsFront first new text) →
+        FaultAt settings left first new given fault.Write
+    write_fault now new left g given s (Ok u) h w = (h.answers, inl (inl (unended given h.answers s h.took)), w (output settings h.answers) h.out)
+    write_fault now new left g given s (Err e) h w = (h.answers, inl (inr (bound_passed given h.answers h.past)), w (output settings h.answers) h.out)
 
-    -- a fault that isn't that of a bound
-    pub fault_here : (now : Option (List ℕ)) (gathered given : List ℕ) (e : RunFault) → e ≢ fault.TooLong → FaultIn settings first now gathered given e →
-        FaultAt settings first now given e
-    fault_here now gathered given fault.Read ne h = absurd h
-    fault_here now gathered given fault.Write ne h = write_fault_here now gathered given h
-    fault_here now gathered given fault.TooLong ne h = absurd (ne refl)
-    fault_here now gathered given (fault.New f) ne h = absurd h
+    pub bound_fault : (now new left : Option (List ℕ)) (g : Gathered) (given : List ℕ) → Passes settings first now g given →
+        ((text : List ℕ) → Holds first now g text → Appends first new text) → FaultAt settings left first new given fault.TooLong
+    bound_fault now new left g given h w = (h.answers, bound_passed given h.answers h.past, w (output settings h.answers) h.out)
+
+    pub read_taken : (now new : Option (List ℕ)) (g after : Gathered) (given : List ℕ) (s : Session) → Runs settings first now g given s → IsEmpty after →
+        ((text : List ℕ) → Holds first now g text → Appends first new text) → Runs settings first new after given s
+    read_taken now new g after given s h empty w = record {
+      answers = h.answers;
+      took = h.took;
+      out = empty_holds first new after (output settings h.answers) empty (w (output settings h.answers) h.out);
+    }
+
+    -- a read fault, where nothing is gathered
+    pub read_fault : (now left : Option (List ℕ)) (g : Gathered) (given : List ℕ) (s : Session) → Runs settings first now g given s → IsEmpty g →
+        FaultAt settings left first now given fault.Read
+    read_fault now left g given s h empty = (h.answers, unended given h.answers s h.took, empty_out first now g (output settings h.answers) empty h.out)
+
+    -- a bound that is passed is answered by an error
+    pub line_past : {P : TooLong → Type 0} (now : Option (List ℕ)) (g : Gathered) (given rest : List ℕ) (s : Session) (r : Result ℕ TooLong) → IsErrAnd r P →
+        Passes settings first now g (given ++ rest) → TakesLine settings first now g given rest s r
+    line_past now g given rest s (Ok n) is h = absurd is
+    line_past now g given rest s (Err e) is h = h
+
+    pub piece_past : {P : TooLong → Type 0} (now : Option (List ℕ)) (g : Gathered) (given : List ℕ) (s : Session) (r : Result (Unit {0}) TooLong) → IsErrAnd r P →
+        Passes settings first now g given → Takes settings first now g given s r
+    piece_past now g given s (Ok u) is h = absurd is
+    piece_past now g given s (Err e) is h = h
 
     pub finished : (unread left now : Option (List ℕ)) (given : List ℕ) (r : Result RunTotals RunFault) → Consumes unread left given → IsAtEnd left →
-        Finishes settings first now given r → Ran settings unread left first now r
+        Finishes settings left first now given r → Ran settings unread left first now r
     finished unread left now given (Ok totals) c e h = (given, c, e, h)
     finished unread left now given (Err x) c e h = (given, c, h)
 

@@ -8,7 +8,6 @@ use Rattle.vsm_model.specs.declared.limits.Settings.{Settings}
 use Rattle.script_run.specs.Output.{Marked}
 use Rattle.script_run.specs.Script.{NoFeed, Within, IsLine, with_feed}
 use Rattle.script_run.specs.Taken.{Took, PassesBound}
-use Rattle.script_run.specs.declared.session.TheConstants.{LINES, LINE_BYTES}
 use Rattle.script_run.specs.declared.session.Session.{Session}
 use Rattle.script_run.proofs.Feeds.{each_push, each_append}
 
@@ -53,8 +52,8 @@ split_at [] n d inside = absurd (omega arith)
 split_at (x ∷ xs) zero d inside = refl
 split_at (x ∷ xs) (suc n) d inside = ap (λ ys. x ∷ ys) (split_at xs n d (omega arith))
 
-pub within_more : (given : List ℕ) (lines : List (List ℕ)) (rest bytes : List ℕ) → Within given lines rest → NoFeed bytes → length lines < LINES →
-    length rest + length bytes ≤ LINE_BYTES → Within (given ++ bytes) lines (rest ++ bytes)
+pub within_more : (given : List ℕ) (lines : List (List ℕ)) (rest bytes : List ℕ) → Within given lines rest → NoFeed bytes → length lines < 1048576 →
+    length rest + length bytes ≤ 65536 → Within (given ++ bytes) lines (rest ++ bytes)
 within_more given lines rest bytes h plain room short = record {
   cut = ap (λ x. x ++ bytes) h.cut ∙ append_assoc (flat_map with_feed lines) rest bytes;
   each = h.each;
@@ -63,7 +62,7 @@ within_more given lines rest bytes h plain room short = record {
   room = λ _. room;
 }
 
-pub within_feed : (given : List ℕ) (lines : List (List ℕ)) (rest : List ℕ) → Within given lines rest → length lines < LINES →
+pub within_feed : (given : List ℕ) (lines : List (List ℕ)) (rest : List ℕ) → Within given lines rest → length lines < 1048576 →
     Within (given ++ 10 ∷ []) (lines ++ rest ∷ []) []
 within_feed given lines rest h room = record {
   cut = ap (λ x. x ++ 10 ∷ []) h.cut ∙ append_assoc (flat_map with_feed lines) rest (10 ∷ [])
@@ -76,7 +75,7 @@ within_feed given lines rest h room = record {
 
 module _ (settings : Settings) (given : List ℕ) (answers : List Marked) (s : Session) (h : Took settings given answers s) where
   -- a byte where no line may follow
-  pub past_lines : (bytes behind : List ℕ) → 0 < length bytes → LINES ≤ s.lines → PassesBound settings ((given ++ bytes) ++ behind) answers
+  pub past_lines : (bytes behind : List ℕ) → 0 < length bytes → 1048576 ≤ s.lines → PassesBound settings ((given ++ bytes) ++ behind) answers
   past_lines [] behind some full = absurd (omega arith)
   past_lines (b ∷ bytes) behind some full = record {
     front = given;
@@ -92,14 +91,14 @@ module _ (settings : Settings) (given : List ℕ) (answers : List Marked) (s : S
   }
 
   -- a byte that makes the line too long
-  pub past_length : (bytes behind : List ℕ) → NoFeed bytes → s.lines < LINES → LINE_BYTES - s.length < length bytes →
+  pub past_length : (bytes behind : List ℕ) → NoFeed bytes → s.lines < 1048576 → 65536 - s.length < length bytes →
       PassesBound settings ((given ++ bytes) ++ behind) answers
   past_length bytes behind plain room long =
-      let n = LINE_BYTES - s.length in
+      let n = 65536 - s.length in
       let byte = get_or bytes n 0 in
       let count = h.within.unended.1 in
       let size : length (take n bytes) ≡ n = length-take-le n bytes (omega arith) in
-      let total : length h.rest + length (take n bytes) ≡ LINE_BYTES = omega (arith, size, h.long, count) in
+      let total : length h.rest + length (take n bytes) ≡ 65536 = omega (arith, size, h.long, count) in
       record {
         front = given ++ take n bytes;
         byte = byte;

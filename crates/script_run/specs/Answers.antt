@@ -22,7 +22,8 @@ RespondsTo settings b call told c =
 abbrev pub Responds : Settings → Bench NamedState → Result Asked FaultKind → Response → Bench NamedState → Type 0
 Responds settings b (Err kind) told c = (told ≡ response.Fault kind) × (c ≡ b)
 Responds settings b (Ok (act x)) told c = RespondsTo settings b (Apply x) told c
-Responds settings b (Ok (peek address count)) told c = (told ≡ reading_response (shown_at b.present address count)) × (c ≡ b)
+Responds settings b (Ok (peek address count)) told c =
+    (told ≡ reading_response (shown_at b.present address count)) × (c ≡ b)
 Responds settings b (Ok (back n)) told c = RespondsTo settings b (Back n) told c
 Responds settings b (Ok (forward n)) told c = RespondsTo settings b (Forward n) told c
 
@@ -31,6 +32,10 @@ abbrev pub Tells : Settings → Bench NamedState → List grammar.Answer → Opt
 Tells settings b [] None c = c ≡ b
 Tells settings b (a ∷ []) (Some told) c = (told.0 ≡ a.line) × Responds settings b a.what told.1 c
 Tells settings b _ _ c = ⊥
+
+-- What it tells whatever the bench is, which stays as it was.
+abbrev pub IsToldAlone : List grammar.Answer → Option (ℕ × Response) → Type 0
+IsToldAlone told shown = (settings : Settings) (b : Bench NamedState) → Tells settings b told shown b
 
 -- the printed line of an answer, if there is one
 abbrev pub told_text : Option (ℕ × Response) → List ℕ

@@ -1,12 +1,14 @@
 -- The output of a script: each response is that of the plain machine, run alone over the statements that stand there.
-use Rattle.std.specs.Prelude.{ℕ, ◌+◌, List, [], ◌∷◌, ◌++◌, length, map, Bool, true, false, nat_le, if◌then◌else◌, Option, Some, None, Result, Ok, Err}
+use Rattle.std.specs.Prelude.{ℕ, ◌+◌, List, [], ◌∷◌, ◌++◌, length, map, Bool, true, false, nat_le, if◌then◌else◌}
+use Rattle.std.specs.Prelude.{Option, Some, None, Result, Ok, Err}
 use Rattle.macro_statements.specs.declared.faults.FaultKind.{FaultKind}
 use Rattle.macro_statements.specs.Requests.{Act, Asked, act, peek, back, forward}
 use Rattle.macro_reader.specs.Scripts as grammar
 use Rattle.vsm_model.specs.declared.limits.Settings.{Settings}
 use Rattle.vsm_model.specs.declared.replies.Reply.{Reply}
 use Rattle.vsm_model.specs.Names.{NamedState, first_named_state}
-use Rattle.vsm_model.specs.Standing.{Standing, Call, Apply, Back, Forward, Look, Answer, NoMemory, Moved, TooFar, Shown, Heard, IsAccepted, nothing_stands, stand, alone, outcome_answer}
+use Rattle.vsm_model.specs.Standing.{Standing, Call, Apply, Back, Forward, Look, Answer, NoMemory, Moved, TooFar, Shown}
+use Rattle.vsm_model.specs.Standing.{Heard, IsAccepted, nothing_stands, stand, alone, outcome_answer}
 use Rattle.vsm_machine.specs.Machine.{Why, statement_step, shown_at}
 use Rattle.script_run.specs.Responses.{response_to, reading_response, response_text, is_refused, numbered}
 use Rattle.script_run.specs.declared.responses.Response.{Response}
@@ -79,23 +81,27 @@ module _ (settings : Settings) where
   -- The lines of output,
   abbrev pub texts : Standing Act Reply → List Marked → List ℕ
   texts l [] = []
-  texts l (m ∷ ms) = numbered m.answer.line (response_text (responded l m.unmet m.answer.what)) ++ texts (stands_after l m) ms
+  texts l (m ∷ ms) =
+      numbered m.answer.line (response_text (responded l m.unmet m.answer.what)) ++ texts (stands_after l m) ms
 
   -- and how many of them are refusals.
   abbrev pub refusals : Standing Act Reply → List Marked → ℕ
   refusals l [] = 0
-  refusals l (m ∷ ms) = (if is_refused (responded l m.unmet m.answer.what) then 1 else 0) + refusals (stands_after l m) ms
+  refusals l (m ∷ ms) =
+      (if is_refused (responded l m.unmet m.answer.what) then 1 else 0) + refusals (stands_after l m) ms
 
   -- The output of a script with these answers, none of whose statements stood at first.
   abbrev pub output : List Marked → List ℕ
   output = texts nothing_stands
 
   -- The calls that the answers stand for, each with its answer.
-  abbrev pub heard_call : Standing Act Reply → Bool → Option (Call Act) → List (Heard Act Reply Why) → List (Heard Act Reply Why)
+  abbrev pub heard_call : Standing Act Reply → Bool → Option (Call Act) → List (Heard Act Reply Why)
+      → List (Heard Act Reply Why)
   heard_call l unmet None hs = hs
   heard_call l unmet (Some call) hs = record { call = call; answer = answer_to l unmet call } ∷ hs
 
-  abbrev pub heard_with : Standing Act Reply → Bool → Result Asked FaultKind → List (Heard Act Reply Why) → List (Heard Act Reply Why)
+  abbrev pub heard_with : Standing Act Reply → Bool → Result Asked FaultKind → List (Heard Act Reply Why)
+      → List (Heard Act Reply Why)
   heard_with l unmet (Err kind) hs = hs
   heard_with l unmet (Ok asked) hs = heard_call l unmet (call_in asked) hs
 

@@ -7,21 +7,20 @@ use Rattle.macro_statements.specs.declared.faults.FaultKind.TheVariants as kind
 use Rattle.macro_statements.specs.Requests.{Act}
 use Rattle.vsm_model.specs.declared.replies.Reply.{Reply}
 use Rattle.vsm_model.specs.Texts.{reply_text, code_text, hexadecimal, padded_decimal}
-use Rattle.vsm_model.specs.Standing.{Call, Apply, Back, Forward, Look, Answer, Replied, RefusedFor, NoMemory, Moved, TooFar, Shown}
-use Rattle.vsm_machine.specs.Machine.{Why, unknown_name, abended}
+use Rattle.vsm_model.specs.Standing.{Call, Apply, Back, Forward, Look, Answer, Replied, RefusedFor, NoMemory, Moved}
+use Rattle.vsm_model.specs.Standing.{TooFar, Shown}
+use Rattle.vsm_machine.specs.Machine.{Why}
+use Rattle.vsm_machine.specs.Refusals.{refusal_for}
+use Rattle.vsm_machine.specs.declared.refusals.Refusal.{Refusal}
+use Rattle.vsm_machine.specs.declared.refusals.Refusal.TheVariants as refusal
 use Rattle.script_run.specs.declared.responses.Response.{Response}
 use Rattle.script_run.specs.declared.responses.Response.TheVariants as response
-
--- the response to a statement that is refused
-abbrev pub refused_response : Why → Response
-refused_response unknown_name = response.Name
-refused_response (abended code) = response.Abend code
 
 -- The response to a call, by its answer and by the number of changes that are kept behind it.
 abbrev pub response_to : Call Act → Answer Reply Why → ℕ → Response
 response_to call (Replied reply) kept = response.Replied reply
-response_to call (RefusedFor why) kept = refused_response why
-response_to call NoMemory kept = response.NoMemory
+response_to call (RefusedFor why) kept = response.Refused (refusal_for why)
+response_to call NoMemory kept = response.Refused refusal.NoMemory
 response_to call Moved kept = response.Kept kept
 response_to (Apply x) (TooFar n) kept = response.TooFar n
 response_to (Back m) (TooFar n) kept = response.TooFar n
@@ -32,7 +31,7 @@ response_to call Shown kept = response.Kept kept
 -- the response to a reading: the bytes, or why they aren't shown
 abbrev pub reading_response : Result (List ℕ) Why → Response
 reading_response (Ok bytes) = response.Shown (record { items = bytes })
-reading_response (Err why) = refused_response why
+reading_response (Err why) = response.Refused (refusal_for why)
 
 abbrev pub fault_word : FaultKind → List ℕ
 fault_word kind.Column = codes "COLUMN"
@@ -48,11 +47,14 @@ fault_word kind.LeftOut = codes "LEFTOUT"
 abbrev pub shown_text : List ℕ → List ℕ
 shown_text bytes = codes "D=" ++ flat_map (hexadecimal 2) bytes
 
+abbrev pub refusal_text : Refusal → List ℕ
+refusal_text refusal.Name = codes "REFUSED NAME"
+refusal_text (refusal.Abend code) = codes "ABEND " ++ code_text code
+refusal_text refusal.NoMemory = codes "REFUSED MEMORY"
+
 abbrev pub response_text : Response → List ℕ
 response_text (response.Replied reply) = reply_text reply
-response_text (response.Abend code) = codes "ABEND " ++ code_text code
-response_text response.Name = codes "REFUSED NAME"
-response_text response.NoMemory = codes "REFUSED MEMORY"
+response_text (response.Refused r) = refusal_text r
 response_text (response.Shown bytes) = shown_text bytes.items
 response_text (response.Kept n) = codes "KEPT=" ++ decimal n
 response_text (response.TooFar n) = codes "REFUSED KEPT=" ++ decimal n
@@ -62,9 +64,7 @@ response_text (response.Fault k) = codes "FAULT " ++ fault_word k
 -- a response that counts as refused: a fault, a refusal or an abend
 abbrev pub is_refused : Response → Bool
 is_refused (response.Replied reply) = false
-is_refused (response.Abend code) = true
-is_refused response.Name = true
-is_refused response.NoMemory = true
+is_refused (response.Refused r) = true
 is_refused (response.Shown bytes) = false
 is_refused (response.Kept n) = false
 is_refused (response.TooFar n) = true

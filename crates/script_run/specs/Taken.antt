@@ -8,10 +8,9 @@ use Rattle.vsm_machine.specs.Machine.{statement_step}
 use Rattle.script_run.specs.Output.{Marked, AllMet, heard_all, refusals, stands_all, texts}
 use Rattle.script_run.specs.Script.{columns, Within, IsPast, last_line}
 use Rattle.bench_core.specs.Stands.{bench_of, settings_in}
-use Rattle.script_run.specs.declared.faults.RunFault.{RunFault}
-use Rattle.script_run.specs.declared.faults.RunFault.TheVariants as fault
 use Rattle.script_run.specs.declared.faults.RunTotals.{RunTotals}
 use Rattle.script_run.specs.declared.session.Session.{Session}
+use Rattle.script_run.specs.declared.session.TooLong.{TooLong}
 
 abbrev pub answers_of : List Marked → List grammar.Answer
 answers_of = map (λ m. m.answer)
@@ -20,9 +19,11 @@ answers_of = map (λ m. m.answer)
 abbrev pub Told : List (List ℕ) → List grammar.Answer → Type 0
 Told lines answers = (kept : grammar.Kept) × grammar.IsBehind lines answers kept
 
--- A bench is led by the answers so far, of which only statements that would have been accepted were refused for want of memory.
+-- A bench is led by the answers so far, of which only statements that would have been accepted were refused for want of
+-- memory.
 pub record Led (settings : Settings) (answers : List Marked) (b : Bench NamedState) : Type 0 where
-  pub leads : Leads (statement_step settings) settings.history (new_bench first_named_state) (heard_all settings nothing_stands answers) b
+  pub leads : Leads (statement_step settings) settings.history (new_bench first_named_state)
+      (heard_all settings nothing_stands answers) b
   pub met : AllMet settings nothing_stands answers
 
 -- The answers of a script that passes no bound and has ended,
@@ -69,9 +70,9 @@ pub record Took (settings : Settings) (given : List ℕ) (answers : List Marked)
   pub refused : s.refused ≡ refusals settings nothing_stands answers
 
 -- Bytes of a line were taken; or one of them passes a bound, whatever stands behind them.
-abbrev pub TakesBytes : Settings → List ℕ → List Marked → Session → Result (Unit {0}) RunFault → Type 0
+abbrev pub TakesBytes : Settings → List ℕ → List Marked → Session → Result (Unit {0}) TooLong → Type 0
 TakesBytes settings given answers s (Ok u) = Took settings given answers s
-TakesBytes settings given answers s (Err e) = (e ≡ fault.TooLong) × ((behind : List ℕ) → PassesBound settings (given ++ behind) answers)
+TakesBytes settings given answers s (Err e) = (behind : List ℕ) → PassesBound settings (given ++ behind) answers
 
 -- These further answers are told by this text.
 abbrev pub IsTold : Settings → List Marked → List Marked → List ℕ → Type 0
@@ -79,4 +80,5 @@ IsTold settings answers more text = text ≡ texts settings (stands_all settings
 
 -- The totals of a script with these answers.
 abbrev pub Counts : Settings → List Marked → RunTotals → Type 0
-Counts settings answers totals = (totals.statements ≡ length answers) × (totals.refused ≡ refusals settings nothing_stands answers)
+Counts settings answers totals =
+    (totals.statements ≡ length answers) × (totals.refused ≡ refusals settings nothing_stands answers)

@@ -1,28 +1,28 @@
 //! A bench answers what a line asks for.
-ghost use Rattle.std.specs.Prelude.{◌≡◌, ◌≤◌, IfOk, Ok};
-ghost use Rattle.macro_statements.specs.Requests.{act, peek, back, forward, act_in, asked_in, written_in, seen, IsValidAct, IsValidAsked};
+ghost use Rattle.std.specs.Prelude.{◌≡◌, ◌≤◌, Ok};
+ghost use Rattle.macro_statements.specs.Requests.{act, peek, back, forward, act_in, asked_in, written_in, IsValidAct};
+ghost use Rattle.macro_statements.specs.Requests.{IsValidAsked};
 ghost use Rattle.macro_reader.specs.Scripts.{told_by, told_at_end, IsValidFed};
 ghost use Rattle.bench_core.specs.Stands.{bench_of, settings_in};
-ghost use Rattle.script_run.specs.Answers.{Responds, Tells, told_count, told_refused};
+ghost use Rattle.script_run.specs.Answers.{Responds, Tells, told_count, told_refused, IsToldAlone};
 ghost use Rattle.vsm_machine.specs.Machine.{shown_at};
 ghost use Rattle.script_run.specs.Responses.{reading_response};
 
 use crate::responses::Response;
 use bench_core::Bench;
-use macro_reader::{Fault, FaultKind, Fed, Request, Statement, Value};
-use vsm_machine::{Refusal, with_room};
+use macro_reader::{Fault, Fed, Request, Statement, Value};
+use vsm_machine::with_room;
 
 /// Carries out a statement, or refuses it.
 fn carry_out(bench: &mut Bench, statement: &Statement) -> Response
     requires { IsValidAct (act_in statement.now) }
-    ensures responds { Responds (settings_in bench.old) (bench_of bench.old) (Ok (act (act_in statement.now))) result (bench_of bench.new) }
+    ensures responds { Responds (settings_in bench.old) (bench_of bench.old) (Ok (act (act_in statement.now))) result
+        (bench_of bench.new) }
     ensures settings { settings_in bench.new ≡ settings_in bench.old }
 {
     match bench.apply(statement) {
         Ok(reply) => Response::Replied(reply),
-        Err(Refusal::Name) => Response::Name,
-        Err(Refusal::Abend(code)) => Response::Abend(code),
-        Err(Refusal::NoMemory) => Response::NoMemory,
+        Err(refusal) => Response::Refused(refusal),
     }
 }
 
@@ -35,9 +35,7 @@ fn show(bench: &Bench, address: Value, count: u16) -> Response
     let out = &mut room[..count as usize];
     match bench.peek(address, out) {
         Ok(()) => Response::Shown(with_room(out)),
-        Err(Refusal::Name) => Response::Name,
-        Err(Refusal::Abend(code)) => Response::Abend(code),
-        Err(Refusal::NoMemory) => unreachable!(),
+        Err(refusal) => Response::Refused(refusal),
     }
 }
 
@@ -54,7 +52,8 @@ fn step_back(bench: &mut Bench, n: u32) -> Response
 
 /// Makes the first `n` undone changes again, or none where fewer are undone.
 fn step_forward(bench: &mut Bench, n: u32) -> Response
-    ensures responds { Responds (settings_in bench.old) (bench_of bench.old) (Ok (forward n)) result (bench_of bench.new) }
+    ensures responds { Responds (settings_in bench.old) (bench_of bench.old) (Ok (forward n)) result
+        (bench_of bench.new) }
     ensures settings { settings_in bench.new ≡ settings_in bench.old }
 {
     match bench.forward(n) {
@@ -63,42 +62,41 @@ fn step_forward(bench: &mut Bench, n: u32) -> Response
     }
 }
 
-/// The response of a bench to a request or a fault.
-fn respond(bench: &mut Bench, asked: Result<Request, FaultKind>) -> Response
-    requires { IfOk asked (λ request. IsValidAsked (asked_in request)) }
-    ensures responds { Responds (settings_in bench.old) (bench_of bench.old) (seen asked) result (bench_of bench.new) }
+/// The response of a bench to a request.
+fn respond(bench: &mut Bench, request: &Request) -> Response
+    requires { IsValidAsked (asked_in request.now) }
+    ensures responds { Responds (settings_in bench.old) (bench_of bench.old) (Ok (asked_in request.now)) result
+        (bench_of bench.new) }
     ensures settings { settings_in bench.new ≡ settings_in bench.old }
 {
-    match asked {
-        Err(kind) => Response::Fault(kind),
-        Ok(Request::Act(statement)) => carry_out(bench, &statement),
-        Ok(Request::Peek { addr, len }) => show(bench, addr, len),
-        Ok(Request::Back(n)) => step_back(bench, n),
-        Ok(Request::Forward(n)) => step_forward(bench, n),
+    match request {
+        Request::Act(statement) => carry_out(bench, statement),
+        Request::Peek { addr, len } => show(bench, *addr, *len),
+        Request::Back(n) => step_back(bench, *n),
+        Request::Forward(n) => step_forward(bench, *n),
     }
 }
 
 /// The response to what a line brought, with the number of the statement's first line.
-pub(crate) fn tell(bench: &mut Bench, fed: Result<Fed, Fault>) -> Option<(u32, Response)>
-    requires { IsValidFed fed }
-    ensures tells { Tells (settings_in bench.old) (bench_of bench.old) (told_by fed) result (bench_of bench.new) }
+pub(crate) fn tell(bench: &mut Bench, fed: &Result<Fed, Fault>) -> Option<(u32, Response)>
+    requires { IsValidFed fed.now }
+    ensures tells { Tells (settings_in bench.old) (bench_of bench.old) (told_by fed.now) result (bench_of bench.new) }
     ensures settings { settings_in bench.new ≡ settings_in bench.old }
 {
     match fed {
         Ok(Fed::More) => None,
-        Ok(Fed::Ready(request, line)) => Some((line, respond(bench, Ok(request)))),
-        Err(fault) => Some((fault.line, respond(bench, Err(fault.kind)))),
+        Ok(Fed::Ready(request, line)) => Some((*line, respond(bench, request))),
+        Err(fault) => Some((fault.line, Response::Fault(fault.kind))),
     }
 }
 
-/// The response to a statement that is open at the end of the script.
-pub(crate) fn tell_end(bench: &mut Bench, ended: Result<(), Fault>) -> Option<(u32, Response)>
-    ensures tells { Tells (settings_in bench.old) (bench_of bench.old) (told_at_end ended) result (bench_of bench.new) }
-    ensures settings { settings_in bench.new ≡ settings_in bench.old }
+/// The response to a statement that is open at the end of the script. It leaves a bench as it is.
+pub(crate) fn tell_end(ended: Result<(), Fault>) -> Option<(u32, Response)>
+    ensures { IsToldAlone (told_at_end ended) result }
 {
     match ended {
         Ok(()) => None,
-        Err(fault) => Some((fault.line, respond(bench, Err(fault.kind)))),
+        Err(fault) => Some((fault.line, Response::Fault(fault.kind))),
     }
 }
 

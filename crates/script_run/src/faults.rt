@@ -1,5 +1,7 @@
 //! How a run ends.
 
+use crate::session::TooLong;
+use crate::writing::WriteFault;
 use thiserror::Error;
 use vsm_machine::NewFault;
 
@@ -25,4 +27,26 @@ pub enum RunFault {
     /// The bench can't be made. Nothing was read or written.
     #[error("{0}")]
     New(NewFault),
+}
+
+impl From<TooLong> for RunFault {
+    ghost use Rattle.std.specs.Prelude.{◌≡◌};
+    ghost use Rattle.script_run.specs.declared.faults.RunFault.TheVariants as fault;
+
+    ghost from_gives = { λ _ e. e ≡ fault.TooLong };
+
+    fn from(_e: TooLong) -> RunFault {
+        RunFault::TooLong
+    }
+}
+
+impl From<WriteFault> for RunFault {
+    ghost use Rattle.std.specs.Prelude.{◌≡◌};
+    ghost use Rattle.script_run.specs.declared.faults.RunFault.TheVariants as fault;
+
+    ghost from_gives = { λ _ e. e ≡ fault.Write };
+
+    fn from(_e: WriteFault) -> RunFault {
+        RunFault::Write
+    }
 }

@@ -4,9 +4,11 @@
 mod answers;
 mod faults;
 mod lines;
+mod numbers;
 mod responses;
 mod runs;
 mod session;
+mod texts;
 mod writing;
 
 pub use faults::{RunFault, RunTotals};

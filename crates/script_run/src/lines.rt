@@ -11,15 +11,15 @@ ghost use Rattle.bench_core.specs.Stands.{IsNew, bench_of, settings_in};
 ghost use Rattle.script_run.specs.Taken.{Took, TakesBytes, IsTold, Ended, Counts};
 
 use crate::answers::{tell, tell_end, told_count, told_refused};
-use crate::faults::{RunFault, RunTotals};
+use crate::faults::RunTotals;
 use crate::responses::Response;
-use crate::session::{LINE_BYTES, LINES, Session};
+use crate::session::{LINE_BYTES, LINES, Session, TooLong};
 use arrayvec::ArrayVec;
 use bench_core::Bench;
 use macro_reader::Reader;
 
-/// What the end of a script brings: the totals, and the responses to a last line without a line feed and to a statement that
-/// is still open.
+/// What the end of a script brings: the totals, and the responses to a last line without a line feed and to a statement
+/// that is still open.
 #[derive(Drop)]
 pub(crate) struct Ending {
     pub(crate) totals: RunTotals,
@@ -63,7 +63,8 @@ fn take_last(
     kept: &[u8],
     size: u32,
 ) -> Option<(u32, Response)>
-    ensures tells { (lines : List Line) (answers : List Answer) (rest : List ℕ) → IsBehind lines answers reader.old → size ≡ length rest → kept.now ≡ take 80 rest
+    ensures tells { (lines : List Line) (answers : List Answer) (rest : List ℕ) → IsBehind lines answers reader.old
+        → size ≡ length rest → kept.now ≡ take 80 rest
         → (more : List Answer) × IsBehind (lines ++ last_line rest) (answers ++ more) reader.new
         × Tells (settings_in bench.old) (bench_of bench.old) more result (bench_of bench.new) }
     ensures settings { settings_in bench.new ≡ settings_in bench.old }
@@ -71,7 +72,7 @@ fn take_last(
     if size == 0 {
         return None;
     }
-    tell(bench, reader.next(kept))
+    tell(bench, &reader.next(kept))
 }
 
 impl Session {
@@ -91,7 +92,7 @@ impl Session {
     }
 
     /// Takes bytes of a line, none of them a line feed. `TooLong` where one of them passes a bound.
-    pub(crate) fn take_bytes(&mut self, bytes: &[u8]) -> Result<(), RunFault>
+    pub(crate) fn take_bytes(&mut self, bytes: &[u8]) -> Result<(), TooLong>
         requires plain { NoFeed bytes.now }
         ensures { (settings : Settings) (given : List ℕ) (answers : List Marked) → Took settings given answers self.old
             → TakesBytes settings (given ++ bytes.now) answers self.new result }
@@ -100,10 +101,10 @@ impl Session {
             return Ok(());
         }
         if self.lines >= LINES {
-            return Err(RunFault::TooLong);
+            return Err(TooLong);
         }
         if bytes.len() > (LINE_BYTES - self.length) as usize {
-            return Err(RunFault::TooLong);
+            return Err(TooLong);
         }
         keep(&mut self.kept, bytes);
         self.length += bytes.len() as u32;
@@ -112,12 +113,13 @@ impl Session {
 
     /// Takes the line feed that ends a line, and gives the response to the line, if it has one.
     pub(crate) fn end_line(&mut self) -> Option<(u32, Response)>
-        requires { self.old.lines < LINES }
+        requires { self.old.lines < 1048576 }
         ensures { (settings : Settings) (given : List ℕ) (answers : List Marked) → Took settings given answers self.old
-            → (more : List Marked) × IsTold settings answers more (told_text result) × Took settings (given ++ 10 ∷ []) (answers ++ more) self.new }
+            → (more : List Marked) × IsTold settings answers more (told_text result)
+            × Took settings (given ++ 10 ∷ []) (answers ++ more) self.new }
     {
         let fed = self.reader.next(columns(self.kept.as_slice(), self.length));
-        let told = tell(&mut self.bench, fed);
+        let told = tell(&mut self.bench, &fed);
         self.kept.clear();
         self.length = 0;
         self.lines += 1;
@@ -129,7 +131,8 @@ impl Session {
     /// Takes the end of the script.
     pub(crate) fn end(self) -> Ending
         ensures { (settings : Settings) (given : List ℕ) (answers : List Marked) → Took settings given answers self
-            → (more : List Marked) × IsTold settings answers more (told_text result.last ++ told_text result.open_statement)
+            → (more : List Marked) × IsTold settings answers more
+            (told_text result.last ++ told_text result.open_statement)
             × Ended settings given (answers ++ more) × Counts settings (answers ++ more) result.totals }
     {
         let Session {
@@ -142,7 +145,7 @@ impl Session {
             ..
         } = self;
         let last = take_last(&mut reader, &mut bench, kept.as_slice(), length);
-        let open_statement = tell_end(&mut bench, reader.finish());
+        let open_statement = tell_end(reader.finish());
         let totals = RunTotals {
             statements: statements + told_count(&last) + told_count(&open_statement),
             refused: refused + told_refused(&last) + told_refused(&open_statement),

@@ -1,38 +1,29 @@
 //! A run over a reader and a writer.
-ghost use Rattle.std.specs.Prelude.{◌≡◌, ◌++◌, [], ◌∷◌, ◌<◌, ◌≤◌, ℕ, List, Option, length, slice_index, take, IfOk, OnOk};
+ghost use Rattle.std.specs.Prelude.{◌≡◌, ◌++◌, [], ◌∷◌, ◌<◌, ◌≤◌, ℕ, List, Option, length, slice_index, take, IfOk};
+ghost use Rattle.std.specs.Prelude.{OnOk};
+ghost use Rattle.std.specs.Io.KnownBytes.{IsAtEnd};
 ghost use Rattle.vsm_model.specs.declared.limits.Settings.{Settings};
 ghost use Rattle.script_run.specs.Answers.{told_text};
 ghost use Rattle.script_run.specs.Script.{NoFeed};
-ghost use Rattle.script_run.specs.Writing.{Holds, Gathers};
-ghost use Rattle.script_run.specs.Run.{Runs, Takes, TakesLine, TakesRead, Finishes, FaultIn, FaultAt, Ran};
+ghost use Rattle.script_run.specs.Writing.{Puts, IsEmpty};
+ghost use Rattle.script_run.specs.Run.{Runs, Takes, TakesLine, TakesRead, Finishes, Ran};
 
 use crate::faults::{RunFault, RunTotals};
-use crate::lines::Ending;
-use crate::responses::{LINE_MOST, Response, numbered};
-use crate::session::{LINES, Session};
-use crate::writing::{Gathered, WriteFault};
-use arrayvec::ArrayString;
+use crate::responses::Response;
+use crate::session::{LINES, Session, TooLong};
+use crate::texts::put_numbered;
+use crate::writing::Gathered;
 use bench_core::Bench;
 use std::alloc::Global;
 use std::io::{Read, Write};
 use vsm_model::Settings;
 
-/// Gathers the line of a response, if there is one.
-fn tell<W: Write>(
-    gathered: &mut Gathered,
-    writer: &mut W,
-    told: Option<(u32, Response)>,
-) -> Result<(), WriteFault>
-    ensures { (first : Option (List ℕ)) (text : List ℕ) → Holds first (W.contents writer.old) gathered.old.text.items text
-        → Gathers first (W.contents writer.new) gathered.new.text.items (text ++ told_text told) result }
+/// Puts the line of a response, if there is one.
+fn put_told<W: Write>(gathered: &mut Gathered, writer: &mut W, told: &Option<(u32, Response)>)
+    ensures { Puts (W.contents writer.old) (W.contents writer.new) gathered.old gathered.new (told_text told.now) }
 {
-    let Some((line, response)) = told else {
-        return Ok(());
-    };
-    let mut text = ArrayString::<LINE_MOST>::new();
-    match numbered(&mut text, line, &response) {
-        Ok(()) => gathered.gather(writer, text.as_str().as_bytes()),
-        Err(_) => Err(WriteFault),
+    if let Some((line, response)) = told {
+        put_numbered(gathered, writer, *line, response);
     }
 }
 
@@ -50,23 +41,22 @@ fn before_feed(bytes: &[u8]) -> usize
     bytes.len()
 }
 
-/// Takes a line feed, and tells the response to the line that it ends.
+/// Takes a line feed, and puts the response to the line that it ends.
 fn take_feed<W: Write>(
     session: &mut Session,
     gathered: &mut Gathered,
     writer: &mut W,
-) -> Result<(), RunFault>
-    ensures { (settings : Settings) (first : Option (List ℕ)) (given : List ℕ) → Runs settings first (W.contents writer.old) gathered.old.text.items given session.old
-        → Takes settings first (W.contents writer.new) gathered.new.text.items (given ++ 10 ∷ []) session.new result }
+) -> Result<(), TooLong>
+    ensures { (settings : Settings) (first : Option (List ℕ)) (given : List ℕ)
+        → Runs settings first (W.contents writer.old) gathered.old given session.old
+        → Takes settings first (W.contents writer.new) gathered.new (given ++ 10 ∷ []) session.new result }
 {
     if session.lines >= LINES {
-        return Err(RunFault::TooLong);
+        return Err(TooLong);
     }
     let told = session.end_line();
-    match tell(gathered, writer, told) {
-        Ok(()) => Ok(()),
-        Err(_) => Err(RunFault::Write),
-    }
+    put_told(gathered, writer, &told);
+    Ok(())
 }
 
 /// Takes the bytes up to the first line feed, and that; or all bytes where there is none. Gives how many these are.
@@ -75,24 +65,21 @@ fn take_line<W: Write>(
     gathered: &mut Gathered,
     writer: &mut W,
     rest: &[u8],
-) -> Result<usize, RunFault>
+) -> Result<usize, TooLong>
     requires { 0 < length rest.now }
-    ensures takes { (settings : Settings) (first : Option (List ℕ)) (given : List ℕ) → Runs settings first (W.contents writer.old) gathered.old.text.items given session.old
-        → TakesLine settings first (W.contents writer.new) gathered.new.text.items given rest.now session.new result }
+    ensures takes { (settings : Settings) (first : Option (List ℕ)) (given : List ℕ)
+        → Runs settings first (W.contents writer.old) gathered.old given session.old
+        → TakesLine settings first (W.contents writer.new) gathered.new given rest.now session.new result }
     ensures some { IfOk result (λ n. 0 < n) }
     ensures within { IfOk result (λ n. n ≤ length rest.now) }
 {
     let size = before_feed(rest);
-    if let Err(fault) = session.take_bytes(&rest[..size]) {
-        return Err(fault);
-    }
+    session.take_bytes(&rest[..size])?;
     if size == rest.len() {
         return Ok(size);
     }
-    match take_feed(session, gathered, writer) {
-        Ok(()) => Ok(size + 1),
-        Err(fault) => Err(fault),
-    }
+    take_feed(session, gathered, writer)?;
+    Ok(size + 1)
 }
 
 /// Takes the bytes of one read.
@@ -101,70 +88,35 @@ fn take_piece<W: Write>(
     gathered: &mut Gathered,
     writer: &mut W,
     piece: &[u8],
-) -> Result<(), RunFault>
-    ensures { (settings : Settings) (first : Option (List ℕ)) (given : List ℕ) → Runs settings first (W.contents writer.old) gathered.old.text.items given session.old
-        → Takes settings first (W.contents writer.new) gathered.new.text.items (given ++ piece.now) session.new result }
+) -> Result<(), TooLong>
+    ensures { (settings : Settings) (first : Option (List ℕ)) (given : List ℕ)
+        → Runs settings first (W.contents writer.old) gathered.old given session.old
+        → Takes settings first (W.contents writer.new) gathered.new (given ++ piece.now) session.new result }
 {
     let mut rest = piece;
     while !rest.is_empty() {
-        match take_line(session, gathered, writer, rest) {
-            Ok(n) => rest = &rest[n..],
-            Err(fault) => return Err(fault),
-        }
+        let n = take_line(session, gathered, writer, rest)?;
+        rest = &rest[n..];
     }
     Ok(())
 }
 
-/// The fault of a run, once what was gathered before it is handed out.
-fn end_at<W: Write>(gathered: &mut Gathered, writer: &mut W, fault: RunFault) -> RunFault
-    ensures { (settings : Settings) (first : Option (List ℕ)) (given : List ℕ) → FaultIn settings first (W.contents writer.old) gathered.old.text.items given fault
-        → FaultAt settings first (W.contents writer.new) given result }
-{
-    match fault {
-        RunFault::TooLong => match gathered.hand_out(writer) {
-            Ok(()) => RunFault::TooLong,
-            Err(_) => RunFault::Write,
-        },
-        other => other,
-    }
-}
-
-/// Takes the bytes of one read, and hands out what they bring.
+/// Takes the bytes of one read, and hands out what they bring, also up to a byte that passes a bound.
 fn take_read<W: Write>(
     session: &mut Session,
     gathered: &mut Gathered,
     writer: &mut W,
     piece: &[u8],
 ) -> Result<(), RunFault>
-    ensures takes { (settings : Settings) (first : Option (List ℕ)) (given : List ℕ) → Runs settings first (W.contents writer.old) gathered.old.text.items given session.old
-        → TakesRead settings first (W.contents writer.new) (given ++ piece.now) session.new result }
-    ensures nothing { OnOk result (gathered.new.text.items ≡ []) }
+    ensures takes { (settings : Settings) (first : Option (List ℕ)) (given : List ℕ)
+        → Runs settings first (W.contents writer.old) gathered.old given session.old
+        → TakesRead settings first (W.contents writer.new) gathered.new (given ++ piece.now) session.new result }
+    ensures empty { OnOk result (IsEmpty gathered.new) }
 {
-    match take_piece(session, gathered, writer, piece) {
-        Ok(()) => match gathered.hand_out(writer) {
-            Ok(()) => Ok(()),
-            Err(_) => Err(RunFault::Write),
-        },
-        Err(fault) => Err(end_at(gathered, writer, fault)),
-    }
-}
-
-/// Tells what the end of a script brings, and hands out all that is gathered.
-fn tell_ending<W: Write>(
-    gathered: &mut Gathered,
-    writer: &mut W,
-    ending: Ending,
-) -> Result<(), WriteFault>
-    ensures { (first : Option (List ℕ)) (text : List ℕ) → Holds first (W.contents writer.old) gathered.old.text.items text
-        → Gathers first (W.contents writer.new) [] (text ++ (told_text ending.last ++ told_text ending.open_statement)) result }
-{
-    match tell(gathered, writer, ending.last) {
-        Ok(()) => match tell(gathered, writer, ending.open_statement) {
-            Ok(()) => gathered.hand_out(writer),
-            Err(fault) => Err(fault),
-        },
-        Err(fault) => Err(fault),
-    }
+    let taken = take_piece(session, gathered, writer, piece);
+    gathered.hand_out(writer)?;
+    taken?;
+    Ok(())
 }
 
 /// Takes the end of the script.
@@ -173,30 +125,33 @@ fn finish<W: Write>(
     gathered: &mut Gathered,
     writer: &mut W,
 ) -> Result<RunTotals, RunFault>
-    ensures { (settings : Settings) (first : Option (List ℕ)) (given : List ℕ) → Runs settings first (W.contents writer.old) gathered.old.text.items given session
-        → Finishes settings first (W.contents writer.new) given result }
+    ensures { (settings : Settings) (left first : Option (List ℕ)) (given : List ℕ) → IsAtEnd left
+        → Runs settings first (W.contents writer.old) gathered.old given session
+        → Finishes settings left first (W.contents writer.new) given result }
 {
     let ending = session.end();
-    let totals = ending.totals;
-    match tell_ending(gathered, writer, ending) {
-        Ok(()) => Ok(totals),
-        Err(_) => Err(RunFault::Write),
-    }
+    put_told(gathered, writer, &ending.last);
+    put_told(gathered, writer, &ending.open_statement);
+    gathered.hand_out(writer)?;
+    Ok(ending.totals)
 }
 
-/// Reads a script to its end, carries its statements out on a new bench under these settings, and writes a line for each
-/// statement that is complete or faulty.
+/// Reads a script to its end, carries its statements out on a new bench under these settings, and writes a line for
+/// each statement that is complete or faulty.
 ///
-/// A line ends at a line feed, which isn't part of it, nor is a carriage return before it; bytes after the last line feed are a
-/// line where there are any. Output is gathered, and handed out when there is no room for more and before each read. After
-/// `Read`, `Write` or `TooLong` the output stands for the statements that were complete; after `New` nothing was read or written.
+/// A line ends at a line feed, which isn't part of it, nor is a carriage return before it; bytes after the last line
+/// feed are a line where there are any. Output is gathered, and handed out when there is no room for more and before
+/// each read. After `Read` the output is that of the complete lines, after `TooLong` that of the lines before the byte
+/// that passes a bound, and after `Write` a front of one of these, or of all output where the reader has met its end;
+/// after `New` nothing was read or written.
 pub fn run<R: Read, W: Write>(
     alloc: Global,
     reader: &mut R,
     writer: &mut W,
     settings: Settings,
 ) -> Result<RunTotals, RunFault>
-    ensures { Ran settings (R.remaining reader.old) (R.remaining reader.new) (W.contents writer.old) (W.contents writer.new) result }
+    ensures { Ran settings (R.remaining reader.old) (R.remaining reader.new) (W.contents writer.old)
+        (W.contents writer.new) result }
 {
     let bench = match Bench::new(alloc, settings) {
         Ok(bench) => bench,

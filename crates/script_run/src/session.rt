@@ -6,10 +6,14 @@ use bench_core::Bench;
 use macro_reader::Reader;
 
 /// The most lines of a script.
-pub const LINES: u32 = 1_048_576;
+pub(crate) const LINES: u32 = 1_048_576;
 
 /// The most bytes of a line, without its line feed.
-pub const LINE_BYTES: u32 = 65_536;
+pub(crate) const LINE_BYTES: u32 = 65_536;
+
+/// A byte of a script passes one of its bounds.
+#[derive(Clone, Copy, Debug)]
+pub(crate) struct TooLong;
 
 /// What is kept of a run between two pieces of its script.
 #[derive(Drop)]

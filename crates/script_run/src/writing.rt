@@ -1,7 +1,6 @@
 //! Writing, so that what went out is known after a fault.
-ghost use Rattle.std.specs.Prelude.{◌≡◌, ◌++◌, [], List, ℕ, Option, MatchResult};
-ghost use Rattle.std.specs.Io.KnownBytes.{Appends};
-ghost use Rattle.script_run.specs.Writing.{AppendsFront, Holds, Gathers};
+ghost use Rattle.std.specs.Prelude.{◌≡◌, ◌+◌, ◌<◌, ◌≤◌, true, List, ℕ, Option, length, OnOk, OnErr};
+ghost use Rattle.script_run.specs.Writing.{Writes, Holds, Puts, IsEmpty};
 
 use arrayvec::ArrayVec;
 use std::io::Write;
@@ -10,16 +9,18 @@ use std::io::Write;
 #[derive(Clone, Copy, Debug)]
 pub(crate) struct WriteFault;
 
-/// Output that is gathered, and handed to the writer when there is no room for more or when the run has to wait.
+/// Output that is gathered, and handed to the writer when there is no room for more or when the run has to wait. Once a
+/// write has failed, nothing more goes out.
 #[derive(Drop)]
 pub(crate) struct Gathered {
-    pub(crate) text: ArrayVec<u8, 4096>,
+    text: ArrayVec<u8, 4096>,
+    failed: bool,
 }
 
-/// Writes the whole text; or a front of it, where a write fails or takes nothing.
-pub(crate) fn write_out<W: Write>(writer: &mut W, text: &[u8]) -> Result<(), WriteFault>
-    ensures { MatchResult result (λ _. Appends (W.contents writer.old) (W.contents writer.new) text.now)
-        (λ _. AppendsFront (W.contents writer.old) (W.contents writer.new) text.now) }
+/// Writes the whole text; or a front of it, where a write fails or takes nothing. No text is always written.
+fn write_out<W: Write>(writer: &mut W, text: &[u8]) -> Result<(), WriteFault>
+    ensures writes { Writes (W.contents writer.old) (W.contents writer.new) text.now result }
+    ensures some { OnErr result (0 < length text.now) }
 {
     let mut rest = text;
     while !rest.is_empty() {
@@ -34,35 +35,42 @@ pub(crate) fn write_out<W: Write>(writer: &mut W, text: &[u8]) -> Result<(), Wri
 impl Gathered {
     /// No text is gathered.
     pub(crate) fn new() -> Gathered
-        ensures { result.text.items ≡ [] }
+        ensures { IsEmpty result }
     {
         Gathered {
             text: ArrayVec::new(),
+            failed: false,
         }
     }
 
-    /// Hands out what is gathered.
+    /// Hands out what is gathered; an error where this or an earlier write failed.
     pub(crate) fn hand_out<W: Write>(&mut self, writer: &mut W) -> Result<(), WriteFault>
-        ensures gathers { (first : Option (List ℕ)) (text : List ℕ) → Holds first (W.contents writer.old) self.old.text.items text
-            → Gathers first (W.contents writer.new) [] text result }
-        ensures nothing { self.new.text.items ≡ [] }
+        ensures writes { (at_first : Option (List ℕ)) (text : List ℕ)
+            → Holds at_first (W.contents writer.old) self.old text
+            → Writes at_first (W.contents writer.new) text result }
+        ensures empty { OnOk result (IsEmpty self.new) }
+        ensures failed { OnErr result (self.new.failed ≡ true) }
     {
+        if self.failed {
+            return Err(WriteFault);
+        }
         let outcome = write_out(writer, self.text.as_slice());
         self.text.clear();
+        self.failed = outcome.is_err();
         outcome
     }
 
-    /// Gathers more text. Where there is no room for it, what was gathered is handed out, and then the text.
-    pub(crate) fn gather<W: Write>(&mut self, writer: &mut W, more: &[u8]) -> Result<(), WriteFault>
-        ensures { (first : Option (List ℕ)) (text : List ℕ) → Holds first (W.contents writer.old) self.old.text.items text
-            → Gathers first (W.contents writer.new) self.new.text.items (text ++ more.now) result }
+    /// Puts more text behind what was put before. Where there is no room for it, what was gathered is handed out, and
+    /// then the text: a write fails there alone.
+    pub(crate) fn put<W: Write>(&mut self, writer: &mut W, more: &[u8])
+        ensures puts { Puts (W.contents writer.old) (W.contents writer.new) self.old self.new more.now }
+        ensures room { length self.old.text.items + length more.now ≤ 4096 → self.new.failed ≡ self.old.failed }
     {
-        match self.text.try_extend_from_slice(more) {
-            Ok(()) => Ok(()),
-            Err(_) => match self.hand_out(writer) {
-                Ok(()) => write_out(writer, more),
-                Err(fault) => Err(fault),
-            },
+        if let Ok(()) = self.text.try_extend_from_slice(more) {
+            return;
+        }
+        if let Ok(()) = self.hand_out(writer) {
+            self.failed = write_out(writer, more).is_err();
         }
     }
 }

@@ -6,8 +6,8 @@ use Rattle.script_run.proofs.runs.take_piece.Given as goal
 abbrev pub invariant-loop-rest : goal.invariant-loop-rest
 invariant-loop-rest g l = (front : List ℕ) × (l.piece ≡ front ++ l.rest)
     × ((settings : Settings) (first : Option (List ℕ)) (given : List ℕ) →
-    Runs settings first (g.W.Write.contents l.fn.writer) l.fn.gathered.text.items given l.fn.session →
-    Runs settings first (g.W.Write.contents l.writer) l.gathered.text.items (given ++ front) l.session)
+    Runs settings first (g.W.Write.contents l.fn.writer) l.fn.gathered given l.fn.session →
+    Runs settings first (g.W.Write.contents l.writer) l.gathered (given ++ front) l.session)
 
 abbrev pub decreases-loop-rest : goal.decreases-loop-rest
 decreases-loop-rest g l = length l.rest

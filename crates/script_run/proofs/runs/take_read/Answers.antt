@@ -1,22 +1,22 @@
-use Rattle.std.proofs.Common.{[], ◌++◌}
-use Rattle.script_run.specs.Output.{output}
-use Rattle.script_run.proofs.Outcomes.{unended, write_fault, write_fault_here}
+use Rattle.std.proofs.Common.{◌++◌, sym, subst}
+use Rattle.script_run.specs.Run.{TakesRead}
+use Rattle.script_run.specs.declared.faults.RunFault.TheVariants as fault
+use Rattle.script_run.proofs.Outcomes.{write_fault, bound_fault, passed_up}
 use Rattle.script_run.proofs.runs.take_read.Goals as goal
 
-pub returns-in-Ok-hand_out-clause-takes : goal.returns-in-Ok-hand_out-clause-takes
-returns-in-Ok-hand_out-clause-takes g c = λ settings first given h.
-    let r = c.in-Ok.ensures settings first given h in
-    record { answers = r.answers; took = r.took; out = c.in-Ok-hand_out.ensures.gathers first (output settings r.answers) r.out }
-
-pub returns-in-Err-hand_out-clause-takes : goal.returns-in-Err-hand_out-clause-takes
-returns-in-Err-hand_out-clause-takes g c = λ settings first given h.
-    let r = c.in-Ok.ensures settings first given h in
+pub returns-in_err-hand_out-clause-takes : goal.returns-in_err-hand_out-clause-takes
+returns-in_err-hand_out-clause-takes g c = λ settings first given h.
     let all = given ++ c.args.piece.now in
     let new = g.W.Write.contents c.hand_out.new.writer in
-    write_fault_here settings first new [] all
-    (write_fault settings first new all r.answers [] (unended settings all r.answers c.take_piece.new.session r.took)
-    (c.in-Err-hand_out.ensures.gathers first (output settings r.answers) r.out))
+    subst (TakesRead settings first new c.hand_out.new.self all c.take_piece-taken.new.session) (sym (passed_up c.from_residual.result fault.Write c.from_residual.ensures.1))
+    (λ left. write_fault settings first (g.W.Write.contents c.take_piece-taken.new.writer) new left c.take_piece-taken.new.gathered all c.take_piece-taken.new.session
+    c.take_piece-taken.result (c.take_piece-taken.ensures settings first given h) (c.in_err-hand_out.ensures.writes first))
 
-pub returns-in-Err-clause-takes : goal.returns-in-Err-clause-takes
-returns-in-Err-clause-takes g c = λ settings first given h.
-    c.end_at.ensures settings first (given ++ c.args.piece.now) (c.in-Err.ensures settings first given h)
+pub returns-in_err-taken-clause-takes : goal.returns-in_err-taken-clause-takes
+returns-in_err-taken-clause-takes g c = λ settings first given h.
+    let all = given ++ c.args.piece.now in
+    let new = g.W.Write.contents c.hand_out.new.writer in
+    subst (TakesRead settings first new c.hand_out.new.self all c.take_piece-taken.new.session)
+    (sym (passed_up c.from_residual-in_err-taken.result fault.TooLong c.from_residual-in_err-taken.ensures.1))
+    (λ left. bound_fault settings first (g.W.Write.contents c.take_piece-taken.new.writer) new left c.take_piece-taken.new.gathered all
+    (c.in_err-taken.ensures settings first given h) (c.in_ok-hand_out.ensures.writes first))

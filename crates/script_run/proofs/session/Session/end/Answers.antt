@@ -14,16 +14,13 @@ pub returns : goal.returns
 returns c = λ settings given answers h.
     let b0 = bench_of c.args.self.bench in
     let b1 = bench_of c.take_last-last.new.bench in
-    let b2 = bench_of c.tell_end-open_statement.new.bench in
     let shown = c.take_last-last.result in
     let shown2 = c.tell_end-open_statement.result in
     let at_end = told_at_end c.finish.result in
     let last = c.take_last-last.ensures.tells (map columns h.lines) (answers_of answers) h.rest h.told h.long (c.as_slice.ensures.value ∙ h.kept) in
     let tells : Tells settings b0 last.0 shown b1 = subst (λ s. Tells s b0 last.0 shown b1) h.under last.2 in
     let t = tells_more settings answers b0 b1 last.0 shown h.led tells in
-    let tells2 : Tells settings b1 at_end shown2 b2 =
-    subst (λ s. Tells s b1 at_end shown2 b2) (c.take_last-last.ensures.settings ∙ h.under) c.tell_end-open_statement.ensures.tells in
-    let u = tells_more settings (answers ++ t.more) b1 b2 at_end shown2 t.led tells2 in
+    let u = tells_more settings (answers ++ t.more) b1 b1 at_end shown2 t.led (c.tell_end-open_statement.ensures settings b1) in
     let more = t.more ++ u.more in
     let all : (answers_of answers ++ last.0) ++ at_end ≡ answers_of (answers ++ more) =
     (λ i. (answers_of answers ++ sym t.answers i) ++ sym u.answers i)
