@@ -65,6 +65,12 @@ module _ (f : ℕ → Bool) (a count first last : ℕ) (seen : Searched f a coun
       let at : a + (k - a) ≡ k = omega arith in
       subst (λ j. all_pass f j count ≡ false) at (none_further (subst (λ j. f (a + j) ≡ false) (sym all) ends) (k - a) (omega arith)))
 
+-- more numbers than there are can't pass
+pub searched-too_many : (f : ℕ → Bool) (a count n : ℕ) → n < count → f (a + n) ≡ false → None ≡ least (λ j. all_pass f j count) a n
+searched-too_many f a count n many ends =
+    least_by (λ j. all_pass f j count) a n None
+    (λ k from below. all_pass_none f k count (a + n) (omega arith) (omega arith) ends)
+
 module _ (s : State) (pages : ℕ) (p : Subpool) where
   -- a doubleword is in the region and free in the subpool
   abbrev pub is_free_here : ℕ → Bool

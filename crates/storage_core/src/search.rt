@@ -36,6 +36,9 @@ impl Storage {
         ensures value { option_map (λ first. FIRST_DOUBLEWORD + first) result
             ≡ least_fit (state_of self.now) (region_of self.now) subpool count 1 }
     {
+        if count > self.taken.len() {
+            return None;
+        }
         // No area begins below `first`, and all from there to `last` is free.
         let mut first = 0;
         for last in 0..self.taken.len() {
@@ -55,6 +58,9 @@ impl Storage {
         ensures value { option_map (λ page. FIRST_PAGE + page) result
             ≡ least_run (state_of self.now) (region_of self.now) count }
     {
+        if count > self.pages.len() {
+            return None;
+        }
         // No run begins below `first`, and none from there to `last` is assigned.
         let mut first = 0;
         for last in 0..self.pages.len() {

@@ -1,6 +1,6 @@
 use Rattle.std.proofs.Common.{◌*◌, ◌+◌, ◌/◌, ◌∙◌, arith, refl, rules, subst, sym}
 use Rattle.storage_core.specs.Meaning.{state_of}
-use Rattle.storage_core.proofs.Searches.{Searched, is_free_here, free_here, not_free_here, region_ends, least_fit-on_one, searched-broken, searched-longer, searched-found, searched-nowhere}
+use Rattle.storage_core.proofs.Searches.{Searched, is_free_here, free_here, not_free_here, region_ends, least_fit-on_one, searched-broken, searched-longer, searched-found, searched-nowhere, searched-too_many}
 use Rattle.storage_core.proofs.Storage.least_fit.Goals as goal
 use Rattle.storage_core.proofs.Storage.least_fit.Goals.{then-not-is_free, else-not-is_free+else-last-first}
 
@@ -32,5 +32,13 @@ returns-clause-value c =
     let pages = c.args.self.now.settings.low_k / 4 in
     let s = state_of c.args.self.now in
     searched-nowhere (is_free_here s pages c.args.subpool) 3072 c.args.count c.loop-last.first c.loop-last.last c.loop-last.invariant (pages * 512) (omega arith)
+    (region_ends s pages c.args.subpool)
+    ∙ least_fit-on_one s pages c.args.subpool c.args.count
+
+pub returns-then-count-len-clause-value : goal.returns-then-count-len-clause-value
+returns-then-count-len-clause-value c =
+    let pages = c.args.self.now.settings.low_k / 4 in
+    let s = state_of c.args.self.now in
+    searched-too_many (is_free_here s pages c.args.subpool) 3072 c.args.count (pages * 512) (omega arith)
     (region_ends s pages c.args.subpool)
     ∙ least_fit-on_one s pages c.args.subpool c.args.count

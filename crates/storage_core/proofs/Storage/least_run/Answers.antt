@@ -2,7 +2,7 @@ use Rattle.std.proofs.Common.{◌+◌, ◌/◌, ◌∙◌, ap, arith, is_some, r
 use Rattle.std.proofs.lemmas.Grind.{common_steps}
 use Rattle.storage_core.specs.Meaning.{state_of}
 use Rattle.storage_core.proofs.Views.{assigned_at-inside}
-use Rattle.storage_core.proofs.Searches.{Searched, is_open_here, open_here, not_open_here, pages_end, searched-broken, searched-longer, searched-found, searched-nowhere}
+use Rattle.storage_core.proofs.Searches.{Searched, is_open_here, open_here, not_open_here, pages_end, searched-broken, searched-longer, searched-found, searched-nowhere, searched-too_many}
 use Rattle.storage_core.proofs.Storage.least_run.Goals as goal
 use Rattle.storage_core.proofs.Storage.least_run.Goals.{then-is_some, else-is_some+else-last-first}
 
@@ -35,3 +35,9 @@ returns-clause-value c =
     let pages = c.args.self.now.settings.low_k / 4 in
     let s = state_of c.args.self.now in
     searched-nowhere (is_open_here s pages) 6 c.args.count c.loop-last.first c.loop-last.last c.loop-last.invariant pages (omega arith) (pages_end s pages)
+
+pub returns-then-count-len-clause-value : goal.returns-then-count-len-clause-value
+returns-then-count-len-clause-value c =
+    let pages = c.args.self.now.settings.low_k / 4 in
+    searched-too_many (is_open_here (state_of c.args.self.now) pages) 6 c.args.count pages (omega arith)
+    (pages_end (state_of c.args.self.now) pages)
