@@ -189,7 +189,7 @@ fn park_one(region: &mut Region, page: u32) -> Parked
     region.park(page, 1)
 }
 
-// bench/region-refusals runs it with each growth refused in turn.
+// tests/refused-reserves runs it with each growth refused in turn.
 #[test]
 fn what_grew_before_a_refusal_is_released(rt: HostRuntime) -> Result<(), Fail> {
     let Ok(mut region) = Region::new(rt.alloc(), SMALL) else {

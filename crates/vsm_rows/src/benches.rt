@@ -2,7 +2,10 @@
 
 use std::process::Abort;
 use std::test::Fail;
-use vsm_bench::{Bench, Code, DEFAULT_SETTINGS, Family, Form, NewFault, Refusal, Reply, Residence, Settings, Statement, Value};
+use vsm_bench::{
+    Bench, Code, DEFAULT_SETTINGS, Family, Form, NewFault, Refusal, Reply, Residence, Settings,
+    Statement, Value,
+};
 
 fn settings_of(low_k: u32, high_k: u32, history: u32) -> Settings {
     Settings {

@@ -1,7 +1,7 @@
 //! What only a Rust caller of the bench can try: readers, writers and files of its own, and calls of a `Bench`.
 //!
-//! Scripts and command lines are tried with the built program, by the rows of tests/rows. Expected texts are written by hand from the
-//! rules of docs/STATEMENTS.md and docs/MESSAGES.md, never taken from a run.
+//! Scripts and command lines are tried with the built program, by the rows of tests/rows. Expected texts are written by
+//! hand from the rules of docs/STATEMENTS.md and docs/MESSAGES.md, never taken from a run.
 #![tactic(auto)]
 
 #[cfg(test)]

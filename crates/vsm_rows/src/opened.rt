@@ -22,47 +22,17 @@ static FILES: [Stored; 3] = [
     },
 ];
 
-/// Words, with what the program writes and its exit status.
-struct Row {
-    words: &'static [&'static str],
-    output: &'static [u8],
-    errors: &'static [u8],
-    status: u8,
-}
+/// Words, with what the program writes, its error text and its exit status.
+type Row = (&'static [&'static str], &'static [u8], &'static [u8], u8);
 
 const ROWS: [Row; 5] = [
-    Row {
-        words: &["script", "--low", "60"],
-        output: b"0000001 ABEND S878\n",
-        errors: b"",
-        status: 4,
-    },
-    Row {
-        words: &["empty"],
-        output: b"",
-        errors: b"",
-        status: 0,
-    },
+    (&["script", "--low", "60"], b"0000001 ABEND S878\n", b"", 4),
+    (&["empty"], b"", b"", 0),
     // It's opened, and can't be read.
-    Row {
-        words: &["folder"],
-        output: b"",
-        errors: b"vsm: read\n",
-        status: 8,
-    },
-    Row {
-        words: &["nowhere"],
-        output: b"",
-        errors: b"vsm: read\n",
-        status: 8,
-    },
+    (&["folder"], b"", b"vsm: read\n", 8),
+    (&["nowhere"], b"", b"vsm: read\n", 8),
     // It's opened, and read once there is a bench.
-    Row {
-        words: &["--low", "6", "folder"],
-        output: b"",
-        errors: b"vsm: settings\n",
-        status: 16,
-    },
+    (&["--low", "6", "folder"], b"", b"vsm: settings\n", 16),
 ];
 
 #[test]
@@ -70,11 +40,11 @@ fn a_file_that_is_named_is_the_script(rt: HostRuntime) -> Result<(), Fail> {
     let files = Shelf {
         files: FILES.as_slice(),
     };
-    for row in &ROWS {
-        let outcome = outcome_of_words(rt.alloc(), row.words, files, &mut INPUT)?;
-        assert_eq!(rt; outcome.output.as_slice(), row.output, "{:?}", row.words);
-        assert_eq!(rt; outcome.errors.as_slice(), row.errors, "{:?}", row.words);
-        assert_eq!(rt; outcome.status, row.status, "{:?}", row.words);
+    for (words, output, errors, status) in ROWS {
+        let outcome = outcome_of_words(rt.alloc(), words, files, &mut INPUT)?;
+        assert_eq!(rt; outcome.output.as_slice(), output, "{words:?}");
+        assert_eq!(rt; outcome.errors.as_slice(), errors, "{words:?}");
+        assert_eq!(rt; outcome.status, status, "{words:?}");
     }
     Ok(())
 }
