@@ -31,6 +31,14 @@ CommandedWith settings unread left at_first now code =
 abbrev pub Commanded : Option (List ℕ) → Option (List ℕ) → Option (List ℕ) → Option (List ℕ) → ℕ → Type 0
 Commanded = CommandedWith default_settings
 
+-- The script that was opened was run, and what is read is what it had left (`unread`); or none was opened, and nothing
+-- is written.
+abbrev pub RunsOpened : {F O : Type 0} → (F → Option (List ℕ)) → (O → Option (List ℕ)) → Settings → O → O → ℕ
+    → Option F → Type 0
+RunsOpened {F} unread contents settings output later code (Some script) =
+    (rest : F) × CommandedWith settings (unread script) (unread rest) (contents output) (contents later) code
+RunsOpened unread contents settings output later code None = (later ≡ output) × (code ≡ 8)
+
 -- An answer to words that ask for no run: help, with status 0; or status 16, and nothing is written.
 abbrev pub Answers : {O : Type 0} → ErrorKind → O → O → ℕ → Type 0
 Answers kind.DisplayHelp output later code = code ≡ 0
@@ -41,17 +49,11 @@ Answers _ output later code = (later ≡ output) × (code ≡ 16)
 module _ {F I O : Type 0} (opened : Text → Option F → Type 0) (unread : F → Option (List ℕ))
     (remaining : I → Option (List ℕ)) (contents : O → Option (List ℕ))
     (input left : I) (output later : O) (code : ℕ) where
-  -- The script that was opened was run, and what it had left is what was read; or none was opened, and nothing is
-  -- written.
-  abbrev pub RunsOpened : Settings → Option F → Type 0
-  RunsOpened settings (Some script) =
-      (rest : F) × CommandedWith settings (unread script) (unread rest) (contents output) (contents later) code
-  RunsOpened settings None = (later ≡ output) × (code ≡ 8)
-
   -- the input is read where the words name no file, and else left as it was
   abbrev pub Runs : Settings → Option Text → Type 0
   Runs settings None = CommandedWith settings (remaining input) (remaining left) (contents output) (contents later) code
-  Runs settings (Some path) = (left ≡ input) × ((script : Option F) × opened path script × RunsOpened settings script)
+  Runs settings (Some path) = (left ≡ input) × ((script : Option F) × opened path script
+      × RunsOpened unread contents settings output later code script)
 
   -- a number above 32 bits is refused before the file is opened
   abbrev pub Obeys : Option Settings → Option Text → Type 0

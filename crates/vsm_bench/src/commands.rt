@@ -1,8 +1,9 @@
 //! The command line: runs a script, and gives the exit status.
 ghost use Rattle.std.specs.Prelude.{◌≡◌, ◌≤◌, length, map};
+ghost use Rattle.std.specs.Result.{result_ok};
 ghost use Rattle.std.specs.String.{string_bytes};
 ghost use Rattle.clap.specs.Words.{kind_of};
-ghost use Rattle.vsm_bench.specs.Command.{Answers, Commanded, CommandedWith, Does, fault_status};
+ghost use Rattle.vsm_bench.specs.Command.{Answers, Commanded, CommandedWith, Does, RunsOpened, fault_status};
 
 use crate::options::{file_asked, read_words, settings_asked};
 use crate::script_files::ScriptFiles;
@@ -10,6 +11,7 @@ use clap::Error;
 use clap::error::ErrorKind;
 use script_run::{RunFault, run};
 use std::alloc::Global;
+use std::io;
 use std::io::{Read, Write};
 use vsm_machine::NewFault;
 use vsm_model::Settings;
@@ -46,6 +48,22 @@ fn run_script<I: Read, O: Write, E: Write>(
     match run(alloc, input, output, settings) {
         Ok(totals) => { if totals.refused == 0 { 0 } else { 4 } }
         Err(fault) => tell_fault(errors, fault),
+    }
+}
+
+/// Runs the script that was opened. Where none was, that is a fault of reading.
+fn run_opened<S: Read + Drop, O: Write, E: Write>(
+    alloc: Global,
+    opened: io::Result<S>,
+    settings: Settings,
+    output: &mut O,
+    errors: &mut E,
+) -> u8
+    ensures { RunsOpened S.remaining O.contents settings output.old output.new result (result_ok opened) }
+{
+    match opened {
+        Ok(mut script) => run_script(alloc, settings, &mut script, output, errors),
+        Err(_) => tell_fault(errors, RunFault::Read),
     }
 }
 
@@ -97,9 +115,6 @@ pub fn command<R: ScriptFiles + AllocGlobal, I: Read, O: Write, E: Write>(
     };
     match file_asked(&matches) {
         None => run_script(rt.alloc(), settings, input, output, errors),
-        Some(path) => match rt.open_script(path) {
-            Ok(mut script) => run_script(rt.alloc(), settings, &mut script, output, errors),
-            Err(_) => tell_fault(errors, RunFault::Read),
-        },
+        Some(path) => run_opened(rt.alloc(), rt.open_script(path), settings, output, errors),
     }
 }

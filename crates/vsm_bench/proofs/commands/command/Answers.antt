@@ -1,4 +1,5 @@
 use Rattle.std.proofs.Common.{map, refl, subst, None, Some}
+use Rattle.std.specs.Result.{result_ok}
 use Rattle.std.specs.String.{string_bytes}
 use Rattle.clap.specs.Words.{found_of, rows_of}
 use Rattle.vsm_bench.specs.Command.{Obeys}
@@ -38,17 +39,10 @@ returns-in-None-clause-runs g c = λ few.
     rows (Some c.in-Some.settings) None c.in-Some.ensures c.in-None.ensures c.run_script.ensures)
     (map_few string_bytes c.args.words.now few)
 
-pub returns-in-Ok-open_script-clause-runs : goal.returns-in-Ok-open_script-clause-runs
-returns-in-Ok-open_script-clause-runs g c = λ few.
-    let read = c.in-Ok.ensures in
-    runs_named g.I.Read.remaining g.O.Write.contents c.args.input.now c.args.output.now c.run_script-in-Ok-open_script.new.output c.run_script-in-Ok-open_script.result read.0
-    (map string_bytes c.args.words.now) (rows_of (found_of c.in-Ok.matches)) c.in-Some-file_asked.path.now read.2.1 c.in-Some-file_asked.ensures
-    (map_few string_bytes c.args.words.now few)
-
 pub returns-clause-runs : goal.returns-clause-runs
 returns-clause-runs g c = λ few.
     let read = c.in-Ok.ensures in
-    runs_named g.I.Read.remaining g.O.Write.contents c.args.input.now c.args.output.now c.args.output.now c.tell_fault-in-Err-open_script.result read.0
+    runs_named g.I.Read.remaining g.O.Write.contents c.args.input.now c.args.output.now c.run_opened.new.output c.run_opened.result read.0
     (map string_bytes c.args.words.now) (rows_of (found_of c.in-Ok.matches)) c.in-Some-file_asked.path.now read.2.1 c.in-Some-file_asked.ensures
     (map_few string_bytes c.args.words.now few)
 
@@ -57,7 +51,7 @@ returns-clause-does g c =
     let read = c.in-Ok.ensures in
     let rows = rows_of (found_of c.in-Ok.matches) in
     does_obey (g.R.ScriptFiles.opened c.args.rt.now) g.R.Script.Read.remaining g.I.Read.remaining g.O.Write.contents c.args.input.now c.args.input.now
-    c.args.output.now c.args.output.now c.tell_fault-in-Err-open_script.result read.0 (map string_bytes c.args.words.now) rows read.1 read.2.0 read.2.1
+    c.args.output.now c.run_opened.new.output c.run_opened.result read.0 (map string_bytes c.args.words.now) rows read.1 read.2.0 read.2.1
     (obeys_by (g.R.ScriptFiles.opened c.args.rt.now) g.R.Script.Read.remaining g.I.Read.remaining g.O.Write.contents c.args.input.now c.args.input.now
-    c.args.output.now c.args.output.now c.tell_fault-in-Err-open_script.result rows (Some c.in-Some.settings) (Some c.in-Some-file_asked.path.now)
-    c.in-Some.ensures c.in-Some-file_asked.ensures (refl, (None, c.in-Err-open_script.ensures, (refl, c.tell_fault-in-Err-open_script.ensures))))
+    c.args.output.now c.run_opened.new.output c.run_opened.result rows (Some c.in-Some.settings) (Some c.in-Some-file_asked.path.now)
+    c.in-Some.ensures c.in-Some-file_asked.ensures (refl, (result_ok c.open_script.result, c.open_script.ensures, c.run_opened.ensures)))
