@@ -3,7 +3,7 @@ ghost use Rattle.std.specs.Prelude.{◌≡◌, Ok, length, IfErr, OnErr, OnOk};
 ghost use Rattle.storage_core.specs.Meaning.{settings_of};
 ghost use Rattle.macro_statements.specs.Requests.{written_in, act_in, IsValue, IsValidAct};
 ghost use Rattle.std.proofs.Props.{props};
-ghost use Rattle.vsm_machine.specs.Changes.{machine_fits, machine_fits_prop, DefineNone, UndefineNone};
+ghost use Rattle.vsm_machine.specs.Changes.{machine_fits as fit, machine_fits_prop as fit_prop, DefineNone, UndefineNone};
 ghost use Rattle.vsm_machine.specs.Machine.{shown_at};
 ghost use Rattle.vsm_machine.specs.Refusals.{IsRefusedFor};
 
@@ -22,7 +22,7 @@ use vsm_machine::{Machine, NewFault, Refusal, look_up, plan_of, reserve};
 pub struct Bench {
     machine: Machine,
     history: History<Machine>,
-    ghost fits: { machine_fits history.kept machine history.undone } by { machine_fits_prop history.kept machine history.undone },
+    ghost fits: { fit history.kept machine history.undone } by { fit_prop history.kept machine history.undone },
     ghost kept_define_none: { DefineNone history.kept } by { Prim.hlevel props },
     ghost undone_undefine_none: { UndefineNone history.undone } by { Prim.hlevel props },
     ghost limit: { history.limit ≡ (settings_of machine.storage).history },
