@@ -142,8 +142,9 @@ fn finish<W: Write>(
 /// A line ends at a line feed, which isn't part of it, nor is a carriage return before it; bytes after the last line
 /// feed are a line where there are any. Output is gathered, and handed out when there is no room for more and before
 /// each read. After `Read` the output is that of the complete lines, after `TooLong` that of the lines before the byte
-/// that passes a bound, and after `Write` a front of one of these, or of all output where the reader has met its end; after
-/// `New` nothing was read or written.
+/// that passes a bound, and after `Write` a front of one of these, or of all output where the reader has met its end;
+/// after `New` nothing was read or written.
+#[tactic(auto, using(crate::proofs::Outcomes::read_fault))]
 pub fn run<R: Read, W: Write>(
     alloc: Global,
     reader: &mut R,
