@@ -1,4 +1,4 @@
-use Rattle.std.proofs.Common.{◌≡◌, ◌-◌, ◌≤◌, ◌++◌, length, take, decimal, subst, sym, ap, ◌∙◌, arith, append_assoc}
+use Rattle.std.proofs.Common.{◌≡◌, ◌-◌, ◌++◌, length, take, decimal, subst, sym, ap, ◌∙◌, arith, append_assoc}
 use Rattle.vsm_model.specs.Texts.{padded_decimal}
 use Rattle.script_run.specs.Writing.{Holds}
 use Rattle.script_run.proofs.DigitByDigit.{zeros, with_zeros, front_of_zeros}
