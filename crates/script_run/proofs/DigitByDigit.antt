@@ -1,9 +1,9 @@
 -- Numbers digit by digit.
-use Rattle.std.proofs.Common.{◌≡◌, ℕ, zero, suc, ◌+◌, ◌-◌, ◌/◌, ◌%◌, ◌^◌, ◌<◌, ◌≤◌, ◌⊎◌, inl, inr, true, false, cond, List, [], ◌∷◌, ◌++◌, length, take, replicate, sym, ◌∙◌, ap, refl, arith, append_assoc}
+use Rattle.std.proofs.Common.{◌≡◌, ℕ, zero, suc, ◌-◌, ◌/◌, ◌%◌, ◌^◌, ◌<◌, ◌≤◌, ◌⊎◌, inl, inr, true, false, cond, List, [], ◌∷◌, ◌++◌, length, take, replicate, sym, ◌∙◌, ap, refl, arith, append_assoc}
 use Rattle.std.proofs.lemmas.Bool.{cases_lt, eq-eqb, ne_eqb}
 use Rattle.std.proofs.lemmas.List.{append-nil, length-append}
-use Rattle.std.specs.Fmt.{digits, digits_onto, digit_glyph, decimal, padded_integral, format_spec, char_count}
-use Rattle.vsm_model.specs.Texts.{hexadecimal, padded_decimal}
+use Rattle.std.specs.Fmt.{digits, digits_onto, digit_glyph, padded_integral, format_spec, char_count}
+use Rattle.vsm_model.specs.Texts.{hexadecimal}
 
 abbrev spell : ℕ → ℕ → List ℕ → List ℕ
 spell k n acc = digits_onto k 16 true n acc
@@ -47,42 +47,48 @@ digits_more n large small =
     sym (spelled n) ∙ spell_next 63 n [] large ∙ spell_enough 62 63 (n / 16) (glyph n ∷ []) (omega arith) (omega arith)
     ∙ spell-append 64 (n / 16) (glyph n ∷ []) ∙ ap (λ x. x ++ glyph n ∷ []) (spelled (n / 16))
 
-zeros_push : (k : ℕ) → replicate {A = ℕ} (suc k) 48 ≡ replicate k 48 ++ 48 ∷ []
+abbrev pub zeros : ℕ → List ℕ
+zeros k = replicate k 48
+
+zeros_push : (k : ℕ) → zeros (suc k) ≡ zeros k ++ 48 ∷ []
 zeros_push zero = refl
 zeros_push (suc k) = ap (λ x. 48 ∷ x) (zeros_push k)
 
 -- leading zeros stand before the digits
-pub with_zeros : (width : ℕ) (numeral : List ℕ) → padded_integral (format_spec 32 0 4 width (2 ^ 64 - 1)) false [] numeral ≡ replicate (width - length numeral) 48 ++ numeral
+pub with_zeros : (width : ℕ) (numeral : List ℕ) → padded_integral (format_spec 32 0 4 width (2 ^ 64 - 1)) false [] numeral ≡ zeros (width - length numeral) ++ numeral
 unfolding padded_integral char_count
 with_zeros width numeral =
     let short : width - length numeral - 0 - 0 ≡ width - length numeral = omega arith in
-    ap (λ k. replicate k 48 ++ (numeral ++ [])) short ∙ ap (λ x. replicate (width - length numeral) 48 ++ x) (append-nil numeral)
+    ap (λ k. zeros k ++ (numeral ++ [])) short ∙ ap (λ x. zeros (width - length numeral) ++ x) (append-nil numeral)
+
+-- the same of digits that are known
+filled : (width n : ℕ) (ds : List ℕ) → digits 16 true n ≡ ds → hexadecimal width n ≡ zeros (width - length ds) ++ ds
+filled width n ds is = with_zeros width (digits 16 true n) ∙ ap (λ d. zeros (width - length d) ++ d) is
 
 -- One digit, where neither zeros nor digits stand before it,
 pub hexadecimal_one : (width n : ℕ) → width ≤ 1 → n < 16 → hexadecimal width n ≡ glyph n ∷ []
 hexadecimal_one width n narrow small =
     let none : width - 1 ≡ 0 = omega arith in
-    with_zeros width (digits 16 true n) ∙ ap (λ d. replicate (width - length d) 48 ++ d) (digits_one n small)
-    ∙ ap (λ k. replicate k 48 ++ glyph n ∷ []) none
+    filled width n (glyph n ∷ []) (digits_one n small) ∙ ap (λ k. zeros k ++ glyph n ∷ []) none
 
 hexadecimal_small : (width n : ℕ) → 1 < width → n < 16 → hexadecimal width n ≡ hexadecimal (width - 1) (n / 16) ++ glyph n ∷ []
 hexadecimal_small width n wide small =
     let high : n / 16 ≡ 0 = omega arith in
-    let zeros : width - 1 ≡ suc (width - 1 - 1) = omega arith in
-    with_zeros width (digits 16 true n) ∙ ap (λ d. replicate (width - length d) 48 ++ d) (digits_one n small)
-    ∙ ap (λ k. replicate k 48 ++ glyph n ∷ []) zeros
-    ∙ ap (λ z. z ++ glyph n ∷ []) (zeros_push (width - 1 - 1))
-    ∙ ap (λ z. z ++ glyph n ∷ []) (sym (ap (hexadecimal (width - 1)) high ∙ with_zeros (width - 1) (digits 16 true 0)
-    ∙ ap (λ d. replicate (width - 1 - length d) 48 ++ d) (digits_one 0 (omega arith))))
+    let one_more : width - 1 ≡ suc (width - 1 - 1) = omega arith in
+    let front : hexadecimal (width - 1) (n / 16) ≡ zeros (width - 1 - 1) ++ 48 ∷ [] =
+    ap (hexadecimal (width - 1)) high ∙ filled (width - 1) 0 (48 ∷ []) (digits_one 0 (omega arith)) in
+    filled width n (glyph n ∷ []) (digits_one n small)
+    ∙ ap (λ k. zeros k ++ glyph n ∷ []) one_more
+    ∙ ap (λ z. z ++ glyph n ∷ []) (zeros_push (width - 1 - 1) ∙ sym front)
 
 hexadecimal_large : (width n : ℕ) → 16 ≤ n → n < 16 ^ 63 → hexadecimal width n ≡ hexadecimal (width - 1) (n / 16) ++ glyph n ∷ []
 hexadecimal_large width n large small =
     let front = digits 16 true (n / 16) in
     let size = length-append front (glyph n ∷ []) in
     let shorter : width - length (front ++ glyph n ∷ []) ≡ width - 1 - length front = omega (arith, size) in
-    with_zeros width (digits 16 true n) ∙ ap (λ d. replicate (width - length d) 48 ++ d) (digits_more n large small)
-    ∙ ap (λ k. replicate k 48 ++ (front ++ glyph n ∷ [])) shorter
-    ∙ sym (append_assoc (replicate (width - 1 - length front) 48) front (glyph n ∷ []))
+    filled width n (front ++ glyph n ∷ []) (digits_more n large small)
+    ∙ ap (λ k. zeros k ++ (front ++ glyph n ∷ [])) shorter
+    ∙ sym (append_assoc (zeros (width - 1 - length front)) front (glyph n ∷ []))
     ∙ ap (λ z. z ++ glyph n ∷ []) (sym (with_zeros (width - 1) front))
 
 -- and else the last digit behind the others.
@@ -96,7 +102,7 @@ hexadecimal_more width n some small = elim (cases_lt n 16) [
 ]
 
 -- a front of zeros
-pub front_of_zeros : (n k : ℕ) → k ≤ n → take {A = ℕ} k (replicate n 48) ≡ replicate k 48
+pub front_of_zeros : (n k : ℕ) → k ≤ n → take k (zeros n) ≡ zeros k
 front_of_zeros n zero h = refl
 front_of_zeros zero (suc k) h = absurd (omega arith)
 front_of_zeros (suc n) (suc k) h = ap (λ x. 48 ∷ x) (front_of_zeros n k (omega arith))

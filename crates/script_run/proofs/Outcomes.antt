@@ -1,5 +1,5 @@
 -- A run, one piece more.
-use Rattle.std.proofs.Common.{◌≡◌, ◌≢◌, ℕ, List, [], ◌∷◌, ◌++◌, length, take, Option, Result, Ok, Err, IsErrAnd, sym, ◌∙◌, ap, subst, refl, arith, append_assoc, inl, inr}
+use Rattle.std.proofs.Common.{◌≡◌, ◌≢◌, ℕ, List, [], ◌∷◌, ◌++◌, length, take, Option, Result, Ok, Err, IsErr, IsErrAnd, true≢false, sym, ◌∙◌, ap, subst, refl, arith, append_assoc, inl, inr}
 use Rattle.std.proofs.lemmas.List.{append-nil}
 use Rattle.std.specs.Io.KnownBytes.{Appends, Consumes, IsAtEnd}
 use Rattle.vsm_model.specs.declared.limits.Settings.{Settings}
@@ -79,14 +79,14 @@ module _ (settings : Settings) where
     read_fault now left g given s h empty = (h.answers, unended given h.answers s h.took, empty_out first now g (output settings h.answers) empty h.out)
 
     -- a bound that is passed is answered by an error
-    pub line_past : {P : TooLong → Type 0} (now : Option (List ℕ)) (g : Gathered) (given rest : List ℕ) (s : Session) (r : Result ℕ TooLong) → IsErrAnd r P →
+    pub line_past : (now : Option (List ℕ)) (g : Gathered) (given rest : List ℕ) (s : Session) (r : Result ℕ TooLong) → IsErr r →
         Passes settings first now g (given ++ rest) → TakesLine settings first now g given rest s r
-    line_past now g given rest s (Ok n) is h = absurd is
+    line_past now g given rest s (Ok n) is h = absurd (true≢false (sym is))
     line_past now g given rest s (Err e) is h = h
 
-    pub piece_past : {P : TooLong → Type 0} (now : Option (List ℕ)) (g : Gathered) (given : List ℕ) (s : Session) (r : Result (Unit {0}) TooLong) → IsErrAnd r P →
+    pub piece_past : (now : Option (List ℕ)) (g : Gathered) (given : List ℕ) (s : Session) (r : Result (Unit {0}) TooLong) → IsErr r →
         Passes settings first now g given → Takes settings first now g given s r
-    piece_past now g given s (Ok u) is h = absurd is
+    piece_past now g given s (Ok u) is h = absurd (true≢false (sym is))
     piece_past now g given s (Err e) is h = h
 
     pub finished : (unread left now : Option (List ℕ)) (given : List ℕ) (r : Result RunTotals RunFault) → Consumes unread left given → IsAtEnd left →

@@ -144,6 +144,7 @@ fn finish<W: Write>(
 /// each read. After `Read` the output is that of the complete lines, after `TooLong` that of the lines before the byte
 /// that passes a bound, and after `Write` a front of one of these, or of all output where the reader has met its end;
 /// after `New` nothing was read or written.
+#[tactic(auto, using(crate::proofs::Outcomes::read_fault))]
 pub fn run<R: Read, W: Write>(
     alloc: Global,
     reader: &mut R,

@@ -1,4 +1,4 @@
-use Rattle.std.proofs.Common.{◌≡◌, ℕ, List, Option, ◌-◌, ◌/◌, ◌%◌, ◌<◌, ◌≤◌, ◌⊎◌, inl, inr, ◌∷◌, [], ◌++◌, subst, sym, ap, ◌∙◌, append_assoc, arith, true}
+use Rattle.std.proofs.Common.{◌≡◌, ◌-◌, ◌/◌, ◌%◌, ◌<◌, ◌≤◌, ◌⊎◌, inl, inr, ◌∷◌, [], ◌++◌, subst, sym, ap, ◌∙◌, append_assoc, arith, true}
 use Rattle.std.specs.Fmt.{digit_glyph}
 use Rattle.vsm_model.specs.Texts.{hexadecimal}
 use Rattle.script_run.specs.Writing.{Holds}

@@ -1,4 +1,4 @@
-use Rattle.std.proofs.Common.{◌≡◌, ◌/◌, ◌%◌, ◌∷◌, ◌++◌, [], true, subst, sym, ap, ◌∙◌, arith}
+use Rattle.std.proofs.Common.{◌≡◌, ◌∷◌, ◌++◌, [], true, subst, sym, ap, ◌∙◌, arith}
 use Rattle.std.proofs.lemmas.Fmt.{hex_byte}
 use Rattle.vsm_model.specs.Texts.{hexadecimal}
 use Rattle.script_run.specs.Writing.{Holds}

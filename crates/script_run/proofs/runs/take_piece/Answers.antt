@@ -29,7 +29,7 @@ pub returns-in_err-n : goal.returns-in_err-n
 returns-in_err-n g c = λ settings first given h.
     let before = c.loop-rest.invariant in
     piece_past settings first (g.W.Write.contents c.take_line.new.writer) c.take_line.new.gathered (given ++ c.args.piece.now) c.take_line.new.session
-    c.from_residual.result c.from_residual.ensures.1
+    c.from_residual.result c.from_residual.ensures.0
     (subst (λ x. Passes settings first (g.W.Write.contents c.take_line.new.writer) c.take_line.new.gathered x)
     (append_assoc given before.0 c.loop-rest.rest.now ∙ ap (λ x. given ++ x) (sym before.1))
     (c.in_err-n.ensures.takes settings first (given ++ before.0) (before.2 settings first given h)))

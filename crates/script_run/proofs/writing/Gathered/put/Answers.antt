@@ -1,5 +1,5 @@
-use Rattle.std.proofs.Common.{◌++◌, sym, subst, ◌∙◌}
-use Rattle.script_run.specs.Writing.{Holds, HoldsWhere}
+use Rattle.std.proofs.Common.{◌++◌, sym, subst}
+use Rattle.script_run.specs.Writing.{HoldsWhere}
 use Rattle.script_run.proofs.Gathering.{written_where, held_failed}
 use Rattle.script_run.proofs.writing.Gathered.put.Goals as goal
 
