@@ -16,4 +16,5 @@ pub mod WellFormed
 pub mod Texts
 pub mod Promises
 pub mod LowestAddress
+pub mod FirstCauses
 pub mod Examples

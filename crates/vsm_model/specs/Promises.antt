@@ -24,9 +24,9 @@ pub record ReturnCodeIsSet (s t : State) (code : ℕ) : Type 0 where
   pub register_15 : t.words s.current 15 ≡ code
   pub other_registers : (task r : ℕ) → (task ≢ s.current) ⊎ (r ≢ 15) → t.words task r ≡ s.words task r
 
--- From s to t, register 1 of the current task and the register that is named have the address of an area, register 15 is
--- 0, where it isn't the one that is named, and no other register changes.
--- Assembler Services Reference, STORAGE, "Output register information" and ADDR.
+-- From s to t, register 1 of the current task and the register that is named have the address of an area, register 15
+-- is 0, where it isn't the one that is named, and no other register changes. Assembler Services Reference, STORAGE,
+-- "Output register information" and ADDR.
 pub record AddressIsSet (s t : State) (named : Option ℕ) (address : ℕ) : Type 0 where
   pub register_1 : t.words s.current 1 ≡ address
   pub register_named : (r : ℕ) → named ≡ Some r → t.words s.current r ≡ address
@@ -66,7 +66,7 @@ pub record AreaIsTaken (low : Region) (s t : State) (subpool : Subpool) (address
 
 -- From s to t, an area of so many bytes at the address was granted for a length, from the subpool of this number, with
 -- the register that is named for its address, if one is.
-pub record IsGranted (low : Region) (s t : State) (length number : ℕ) (named : Option ℕ) (address given : ℕ) : Type 0 where
+pub record IsGranted (low : Region) (s t : State) (length number address given : ℕ) (named : Option ℕ) : Type 0 where
   -- the number is one of private storage, and the length isn't zero
   pub private : number ≤ 127
   pub some : 0 < length
@@ -88,7 +88,7 @@ ObtainGrantsFreeStorage =
     (settings : Settings) (names_full : Bool) (s t : State) (length number : ℕ) (register : Option ℕ)
     (conditional : Bool) (address given : ℕ) → IsWellFormed (low_region settings) s →
     step settings names_full s (Obtain length number register conditional) ≡ Accepted t (Obtained address given) →
-    IsGranted (low_region settings) s t length number register address given × (names_full ≡ false)
+    IsGranted (low_region settings) s t length number address given register × (names_full ≡ false)
 
 -- From s to t, the return code is in register 15, and nothing else changes.
 pub record ReturnCodeIsAll (s t : State) (code : ℕ) : Type 0 where
@@ -104,8 +104,8 @@ AnswerFourSetsRegister15Alone =
     ((address : ℕ) × (given : ℕ) × (reply ≡ Obtained address given))
     ⊎ ((conditional ≡ true) × (reply ≡ Returned 4) × ReturnCodeIsAll s t 4)
 
--- From s to t, the area of so many bytes at the address was given back to the subpool of this number.
--- Assembler Services Guide, "Virtual storage management", "Explicit requests for virtual storage" and "Subpool handling".
+-- From s to t, the area of so many bytes at the address was given back to the subpool of this number. Assembler
+-- Services Guide, "Virtual storage management", "Explicit requests for virtual storage" and "Subpool handling".
 pub record IsGivenBack (s t : State) (length address number : ℕ) : Type 0 where
   -- the number is one of private storage, the length isn't zero, and the area begins on a doubleword
   pub private : number ≤ 127

@@ -1,5 +1,6 @@
 //! Laws of the definitions: each is the contract of a function that does nothing.
-ghost use Rattle.vsm_model.specs.LowestAddress.{NoStorageIsNoRoom, ObtainTakesTheLowestAddress};
+ghost use Rattle.vsm_model.specs.FirstCauses.{RefusedForTheFirstCause};
+ghost use Rattle.vsm_model.specs.LowestAddress.{ObtainTakesTheLowestAddress};
 ghost use Rattle.vsm_model.specs.Names.{
   AreaIsNamed,
   NameStandsForItsWord,
@@ -46,10 +47,10 @@ pub fn well_formed()
 /// An accepted obtain grants an area that was free, of the rounded length, in the subpool that the task sees then: the
 /// one that it saw, or a new one of its own. Only the area is taken besides what was; a page is assigned only where the
 /// area needs it, and holds zero bytes then; register 1 and the one that is named have the address. Or it's conditional
-/// and answered 4. An accepted release takes back exactly the rounded area, which was taken and the subpool's: each page
-/// of the subpool that has nothing taken is unassigned then, with its bytes, and all other pages stay with theirs; or
-/// it's conditional and answered 4. All else is as it was: the current task, other subpools, what each task sees, other
-/// registers, and after an answer 4 all but register 15. COND=YES makes no difference but that answer.
+/// and answered 4. An accepted release takes back exactly the rounded area, which was taken and the subpool's: each
+/// page of the subpool that has nothing taken is unassigned then, with its bytes, and all other pages stay with theirs;
+/// or it's conditional and answered 4. All else is as it was: the current task, other subpools, what each task sees,
+/// other registers, and after an answer 4 all but register 15. COND=YES makes no difference but that answer.
 pub fn granted_and_given_back()
     ensures granted { ObtainGrantsFreeStorage }
     ensures four { AnswerFourSetsRegister15Alone }
@@ -58,11 +59,15 @@ pub fn granted_and_given_back()
 {}
 
 /// An obtain is given the lowest address where its area fits in the free storage of its subpool, and only where it fits
-/// nowhere the lowest run of enough unassigned pages, from its first byte; it's refused for want of storage only where
-/// neither is there.
+/// nowhere the lowest run of enough unassigned pages, from its first byte.
 pub fn lowest_address()
-    ensures lowest { ObtainTakesTheLowestAddress }
-    ensures wanting { NoStorageIsNoRoom }
+    ensures { ObtainTakesTheLowestAddress }
+{}
+
+/// A service is refused only for a cause whose condition holds, and only where none of the causes before it holds; for
+/// want of storage only where neither the free storage of the subpool nor the unassigned pages have room.
+pub fn refused_for_the_first_cause()
+    ensures { RefusedForTheFirstCause }
 {}
 
 /// A name stands for the word that it was given last, all other names stand for what they stood for, and names keep
@@ -77,8 +82,8 @@ pub fn names_stand()
     ensures stay { OtherwiseNamesStay }
 {}
 
-/// An accepted store stores into bytes that were there; what it stored is what is loaded at the address then, and nothing
-/// else is changed.
+/// An accepted store stores into bytes that were there; what it stored is what is loaded at the address then, and
+/// nothing else is changed.
 pub fn stored_is_loaded()
     ensures { StoredIsLoaded }
 {}
