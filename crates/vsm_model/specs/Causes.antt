@@ -1,31 +1,21 @@
 -- The causes for which a service is refused, in order, and their completion codes.
 -- Assembler Services Reference, STORAGE, "ABEND codes".
-use Rattle.std.specs.Prelude.{ℕ, ◌/◌, Bool, not, ◌&&◌, ◌||◌, if◌then◌else◌, nat_lt, ◌==◌, is_some}
+use Rattle.std.specs.Prelude.{ℕ, ◌/◌, Bool, true, not, ◌&&◌, ◌||◌, if◌then◌else◌, nat_lt, ◌==◌, is_some}
 use Rattle.vsm_model.specs.declared.Subpool.{Subpool}
 use Rattle.vsm_model.specs.declared.causes.Cause.{Cause}
-use Rattle.vsm_model.specs.declared.causes.Cause.TheVariants.{UnsupportedSubpool, SubpoolNotAllowed, ZeroLength}
-use Rattle.vsm_model.specs.declared.causes.Cause.TheVariants.{TooManyNames, NoStorage, Misaligned, NotInSubpool}
-use Rattle.vsm_model.specs.declared.causes.Cause.TheVariants.{OverlapsFree, NotAssigned}
+use Rattle.vsm_model.specs.declared.causes.Cause.TheVariants.{UnsupportedSubpool, SubpoolNotAllowed}
 use Rattle.vsm_model.specs.declared.causes.Code.{Code}
-use Rattle.vsm_model.specs.declared.causes.Code.TheVariants.{System, User}
+use Rattle.vsm_model.specs.declared.causes.Family.TheVariants.{S}
+use Rattle.vsm_model.specs.Codes.{suffix, code_of}
 use Rattle.vsm_model.specs.Regions.{Region, within}
 use Rattle.vsm_model.specs.State.{State}
 use Rattle.vsm_model.specs.Areas.{belongs}
 use Rattle.vsm_model.specs.Standing.{Outcome, Refused}
 use Rattle.vsm_model.specs.declared.replies.Reply.{Reply}
 
--- The completion codes of the macro STORAGE: B78, 878, 978 and A78 are 2936, 2168, 2424 and 2680 in decimal. A
--- reference to a page that isn't assigned is 0C4, which is 196.
+-- The completion codes of the macro STORAGE, which end in 78 whether it obtains storage or releases it.
 abbrev pub storage_code : Cause → Code
-storage_code UnsupportedSubpool = User 3007
-storage_code SubpoolNotAllowed = System 2936
-storage_code ZeroLength = User 3001
-storage_code TooManyNames = User 3013
-storage_code NoStorage = System 2168
-storage_code Misaligned = System 2424
-storage_code NotInSubpool = User 3003
-storage_code OverlapsFree = System 2680
-storage_code NotAssigned = System 196
+storage_code cause = code_of (suffix S true) cause
 
 -- the cause, where its condition holds, or else what comes after it in the order
 abbrev pub when : Bool → Cause → Outcome State Reply Cause → Outcome State Reply Cause

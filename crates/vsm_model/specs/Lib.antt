@@ -4,8 +4,9 @@ pub mod Regions
 pub mod State
 pub mod Areas
 pub mod Standing
-pub mod Causes
 pub mod Services
+pub mod Codes
+pub mod Causes
 pub mod Bytes
 pub mod Registers
 pub mod Storage

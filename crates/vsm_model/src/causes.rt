@@ -1,6 +1,7 @@
 //! Why a service is refused, and the completion codes that say so.
 ghost use Rattle.std.specs.Prelude.{◌≡◌, Some};
 ghost use Rattle.vsm_model.specs.Causes.{storage_code};
+ghost use Rattle.vsm_model.specs.Codes.{code_of, suffix};
 ghost use Rattle.vsm_model.specs.Registers.{answers_four};
 ghost use Rattle.vsm_model.specs.Texts.{code_text};
 
@@ -29,6 +30,18 @@ pub enum Cause {
     NotAssigned,
 }
 
+/// The forms of macros that end with the same completion codes (*Assembler Services Reference*, GETMAIN, FREEMAIN and
+/// STORAGE, "ABEND codes").
+#[derive(Clone, Copy, Debug, PartialEq, Eq)]
+pub enum Family {
+    /// The forms E, EC and EU of GETMAIN and FREEMAIN: 04 where they obtain storage, and 05.
+    E,
+    /// The form R of GETMAIN and FREEMAIN: 0A.
+    R,
+    /// STORAGE and all other forms: 78.
+    S,
+}
+
 /// A completion code: a system code of three hexadecimal digits (`Sxxx`), or a user code of four decimal ones
 /// (`Unnnn`).
 #[derive(Clone, Copy, Debug, PartialEq, Eq)]
@@ -53,21 +66,41 @@ impl Cause {
         }
     }
 
-    /// The completion code of the cause for the macro STORAGE (*Assembler Services Reference*, STORAGE, "ABEND codes").
+    /// The completion code of the cause for a form of this family, which obtains storage or doesn't (*Assembler
+    /// Services Reference*, GETMAIN, FREEMAIN and STORAGE, "ABEND codes").
+    pub fn code(self, family: Family, obtains: bool) -> Code
+        ensures { result ≡ code_of (suffix family obtains) self }
+    {
+        let suffix = match family {
+            Family::E => {
+                if obtains {
+                    0x04
+                } else {
+                    0x05
+                }
+            }
+            Family::R => 0x0a,
+            Family::S => 0x78,
+        };
+        match self {
+            Cause::SubpoolNotAllowed => Code::System(0xb00 + suffix),
+            Cause::NoStorage => Code::System(0x800 + suffix),
+            Cause::Misaligned => Code::System(0x900 + suffix),
+            Cause::OverlapsFree => Code::System(0xa00 + suffix),
+            Cause::NotAssigned => Code::System(0x0c4),
+            Cause::ZeroLength => Code::User(3001),
+            Cause::NotInSubpool => Code::User(3003),
+            Cause::UnsupportedSubpool => Code::User(3007),
+            Cause::TooManyNames => Code::User(3013),
+        }
+    }
+
+    /// The completion code of the cause for the macro STORAGE, which is the same where it obtains storage and where it
+    /// releases it (*Assembler Services Reference*, STORAGE, "ABEND codes").
     pub fn storage_code(self) -> Code
         ensures { result ≡ storage_code self }
     {
-        match self {
-            Cause::UnsupportedSubpool => Code::User(3007),
-            Cause::SubpoolNotAllowed => Code::System(0xb78),
-            Cause::ZeroLength => Code::User(3001),
-            Cause::TooManyNames => Code::User(3013),
-            Cause::NoStorage => Code::System(0x878),
-            Cause::Misaligned => Code::System(0x978),
-            Cause::NotInSubpool => Code::User(3003),
-            Cause::OverlapsFree => Code::System(0xa78),
-            Cause::NotAssigned => Code::System(0x0c4),
-        }
+        self.code(Family::S, true)
     }
 }
 

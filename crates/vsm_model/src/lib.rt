@@ -9,7 +9,7 @@ pub mod laws;
 mod limits;
 mod replies;
 
-pub use causes::{Cause, Code};
+pub use causes::{Cause, Code, Family};
 pub use limits::{Residence, Settings};
 pub use replies::Reply;
 
