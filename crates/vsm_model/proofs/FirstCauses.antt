@@ -1,5 +1,5 @@
 -- A service is refused for the first cause whose condition holds.
-use Rattle.std.proofs.Common.{◌≡◌, ◌≢◌, ◌⊎◌, ℕ, ◌/◌, ◌%◌, ◌<◌, ◌≤◌, Bool, true, false, not, ◌&&◌, ◌||◌, nat_lt, ◌==◌, if◌then◌else◌, Option, Some, None, is_some, List, length, refl, sym, ◌∙◌, ap, subst, inl, inr, true≢false}
+use Rattle.std.proofs.Common.{◌≡◌, ◌≢◌, ◌⊎◌, ℕ, ◌/◌, ◌%◌, ◌<◌, ◌≤◌, Bool, true, false, not, ◌&&◌, ◌||◌, nat_lt, ◌==◌, Option, Some, None, is_some, length, refl, sym, ◌∙◌, ap, subst, inl, inr, true≢false}
 use Rattle.std.proofs.lemmas.Bool.{cases_Bool, and_parts, and_cases, and_from, or_cases, or_left, or_right, or_parts, both_ways, not-true, not-false, not_from_false, false_from_ne_true, cond-true, cond-false, eqb-true, eqb-false, ltb-true, ltb-false}
 use Rattle.vsm_model.specs.declared.Subpool.{Subpool}
 use Rattle.vsm_model.specs.declared.causes.Cause.{Cause}
@@ -7,13 +7,13 @@ use Rattle.vsm_model.specs.declared.causes.Cause.TheVariants.{UnsupportedSubpool
 use Rattle.vsm_model.specs.declared.replies.Reply.TheVariants.{Returned, Stored}
 use Rattle.vsm_model.specs.Search.{all_pass}
 use Rattle.vsm_model.specs.Services.{Obtain, Release, Store}
-use Rattle.vsm_model.specs.Regions.{Region, among, within, low_region}
+use Rattle.vsm_model.specs.Regions.{Region, within, low_region}
 use Rattle.vsm_model.specs.State.{State}
-use Rattle.vsm_model.specs.Areas.{belongs, Place, Inside, Fresh, Nowhere, place}
+use Rattle.vsm_model.specs.Areas.{belongs, Place, Inside, Fresh, Nowhere}
 use Rattle.vsm_model.specs.Bytes.{are_there}
 use Rattle.vsm_model.specs.Standing.{Refused}
 use Rattle.vsm_model.specs.Causes.{when, number_cause, is_foreign, is_taken_in}
-use Rattle.vsm_model.specs.Storage.{doublewords, obtained, seen_or_own, with_own, area_obtained, release_from, area_released}
+use Rattle.vsm_model.specs.Storage.{doublewords, obtained, area_obtained, release_from, area_released}
 use Rattle.vsm_model.specs.FirstCauses.{IsFirstOfObtain, HasForeign, HasFree, IsFirstOfRelease, IsFirstOfStore, RefusedForTheFirstCause}
 use Rattle.vsm_model.proofs.Least.{all_pass_at}
 use Rattle.vsm_model.proofs.Kept.{all_pass_witness, same_some, among-in, in-among}
@@ -81,9 +81,13 @@ module _ (r : Region) (s : State) (p : Subpool) where
         | inr other ↦
             let parts = and_parts (is_some (s.pages (d / 512))) (not (belongs p (s.pages (d / 512)))) other in
             let (q, is) = some_from (s.pages (d / 512)) parts.0 in
-            inr (q, is, λ same.
-            both_ways (belongs p (s.pages (d / 512))) (not-true (belongs p (s.pages (d / 512))) parts.1)
-            (ap (belongs p) (is ∙ ap Some same) ∙ both_same p.number p.owner))
+            inr (
+              q,
+              is,
+              λ same.
+                  both_ways (belongs p (s.pages (d / 512))) (not-true (belongs p (s.pages (d / 512))) parts.1)
+                  (ap (belongs p) (is ∙ ap Some same) ∙ both_same p.number p.owner),
+            )
       ]
 
   foreign_from : (d : ℕ) → (within r (d / 512) ≡ false) ⊎ ((q : Subpool) × (s.pages (d / 512) ≡ Some q) × (q ≢ p)) →
@@ -122,8 +126,7 @@ module _ (r : Region) (s : State) (p : Subpool) where
 
   has_free : (first count : ℕ) → all_pass (λ k. not (is_foreign s r p k)) first count ≡ true → all_pass (is_taken_in s p) first count ≡ false → HasFree s first count
   has_free first count own e =
-      let (d, from, below, at) = all_pass_witness (is_taken_in s p) first count e in
-      (
+      let (d, from, below, at) = all_pass_witness (is_taken_in s p) first count e in (
         d,
         in-among first count d from below,
         free_is d (not-true (is_foreign s r p d) (all_pass_at (λ k. not (is_foreign s r p k)) first count d own from below)) at,

@@ -1,10 +1,10 @@
 -- An accepted obtain grants storage that was free.
 use Rattle.std.proofs.Common.{◌≡◌, ℕ, ◌*◌, ◌/◌, ◌%◌, ◌<◌, ◌≤◌, Bool, true, false, not, ◌&&◌, ◌||◌, nat_lt, ◌==◌, Option, Some, None, is_some, arith, refl, sym, ◌∙◌, ap, subst, true≢false, inl, inr}
-use Rattle.std.proofs.lemmas.Bool.{cases_Bool, and_parts, and_from, cond-true, cond-false, eqb-true, not-true, both_ways, false_from_ne_true, or_left, ltb-false, eqb-false}
+use Rattle.std.proofs.lemmas.Bool.{cases_Bool, and_parts, cond-true, cond-false, eqb-true, not-true, both_ways, false_from_ne_true, or_left, ltb-false, eqb-false}
 use Rattle.vsm_model.specs.declared.Subpool.{Subpool}
 use Rattle.vsm_model.specs.declared.causes.Cause.TheVariants.{ZeroLength, TooManyNames, NoStorage}
 use Rattle.vsm_model.specs.declared.replies.Reply.{Reply}
-use Rattle.vsm_model.specs.declared.replies.Reply.TheVariants.{Obtained, Returned, Stored}
+use Rattle.vsm_model.specs.declared.replies.Reply.TheVariants.{Obtained, Returned}
 use Rattle.vsm_model.specs.Search.{all_pass, IsLeastAmong}
 use Rattle.vsm_model.specs.Regions.{Region, among, within, low_region}
 use Rattle.vsm_model.specs.Registers.{with_reply}
@@ -123,16 +123,14 @@ module _ (low : Region) (s : State) (w : IsWellFormed low s) (its : Subpool) (co
       obtained s its count (or_fresh o f) ≡ Accepted u (Obtained address given) → Placed u address given
   granted u address given (Some d) f g h e =
       let at : 8 * d ≡ address = address_is _ u _ _ _ _ e in
-      let is = length_is _ u _ _ _ _ e in
-      (
+      let is = length_is _ u _ _ _ _ e in (
         omega (arith, at),
         sym is,
         subst (λ u. AreaIsTaken low s u its address given) (state_is _ u _ _ e) (inside d address given (sym at) (sym is) (and_parts _ _ g.0).1),
       )
   granted u address given None (Some page) g h e =
       let at : 4096 * page ≡ address = address_is _ u _ _ _ _ e in
-      let is = length_is _ u _ _ _ _ e in
-      (
+      let is = length_is _ u _ _ _ _ e in (
         omega (arith, at),
         sym is,
         subst (λ u. AreaIsTaken low s u its address given) (state_is _ u _ _ e) (fresh page address given (omega (arith, at)) (sym is) h.0),

@@ -110,10 +110,10 @@ module _ (low : Region) (s : State) (w : IsWellFormed low s) where
     sees_zero = λ t is.
         elim (cases_Bool ((t == s.current) && (0 == n))) [
           | inl own ↦ (
-              s.current,
-              cond-true _ _ _ own,
-              or_left (t == s.current) _ (and_parts (t == s.current) (0 == n) own).0,
-            )
+            s.current,
+            cond-true _ _ _ own,
+            or_left (t == s.current) _ (and_parts (t == s.current) (0 == n) own).0,
+          )
           | inr other ↦ let (owner, sees, above) = w.sees_zero t is in (owner, cond-false _ _ _ other ∙ sees, above)
         ];
     current_is_task = w.current_is_task;

@@ -1,17 +1,16 @@
 -- An accepted obtain takes the lowest address, and an area without a place has no room.
-use Rattle.std.proofs.Common.{◌≡◌, ℕ, ◌+◌, ◌*◌, ◌/◌, ◌%◌, ◌<◌, ◌≤◌, Bool, true, false, not, ◌&&◌, ◌||◌, nat_lt, ◌==◌, if◌then◌else◌, Option, Some, None, is_some, refl, sym, ◌∙◌, ap, subst, inl, inr, arith, true≢false}
-use Rattle.std.proofs.lemmas.Bool.{and_parts, and_from, both_ways, not-true, eq-eqb, cases_lt, both_ways, false_from_ne_true}
+use Rattle.std.proofs.Common.{◌≡◌, ℕ, ◌+◌, ◌*◌, ◌/◌, ◌%◌, ◌<◌, ◌≤◌, Bool, true, false, not, ◌&&◌, nat_lt, ◌==◌, if◌then◌else◌, Option, Some, None, is_some, refl, sym, ◌∙◌, ap, subst, inl, inr, arith, true≢false}
+use Rattle.std.proofs.lemmas.Bool.{and_parts, and_from, both_ways, not-true, eq-eqb, cases_lt, both_ways}
 use Rattle.vsm_model.specs.declared.Subpool.{Subpool}
 use Rattle.vsm_model.specs.declared.causes.Cause.{Cause}
-use Rattle.vsm_model.specs.declared.causes.Cause.TheVariants.{UnsupportedSubpool, SubpoolNotAllowed, ZeroLength, TooManyNames, NoStorage}
-use Rattle.vsm_model.specs.declared.replies.Reply.{Reply}
+use Rattle.vsm_model.specs.declared.causes.Cause.TheVariants.{ZeroLength, TooManyNames, NoStorage}
 use Rattle.vsm_model.specs.declared.replies.Reply.TheVariants.{Obtained, Returned}
 use Rattle.vsm_model.specs.Search.{all_pass, IsLeastAmong}
 use Rattle.vsm_model.specs.Regions.{Region, within, low_region}
 use Rattle.vsm_model.specs.State.{State}
 use Rattle.vsm_model.specs.Areas.{belongs, is_free, fits, is_open_run, least_fit, least_run, pages_for, place, or_fresh}
 use Rattle.vsm_model.specs.Standing.{Accepted, Refused}
-use Rattle.vsm_model.specs.Causes.{when, number_cause}
+use Rattle.vsm_model.specs.Causes.{number_cause}
 use Rattle.vsm_model.specs.Registers.{in_registers, answers_four, conditionally}
 use Rattle.vsm_model.specs.Storage.{doublewords, obtained, seen_or_own, with_own, area_obtained}
 use Rattle.vsm_model.specs.LowestAddress.{AreFree, AreUnassigned, IsLowest, IsLowestAddress, HasNoRoom, ObtainTakesTheLowestAddress}

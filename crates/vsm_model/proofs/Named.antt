@@ -1,11 +1,10 @@
 -- What an accepted statement does to the names.
-use Rattle.std.proofs.Common.{◌≡◌, ◌≢◌, ◌⊎◌, ℕ, Bool, true, false, if◌then◌else◌, Option, Some, None, is_some, List, [], ◌∷◌, ◌++◌, map, refl, sym, ◌∙◌, ap, subst, inl, inr}
+use Rattle.std.proofs.Common.{◌≡◌, ◌≢◌, ◌⊎◌, ℕ, Bool, true, false, if◌then◌else◌, Option, Some, None, is_some, List, [], ◌∷◌, ◌++◌, map, refl, sym, ◌∙◌, ap, inl, inr}
 use Rattle.vsm_model.specs.declared.causes.Cause.{Cause}
 use Rattle.vsm_model.specs.declared.replies.Reply.{Reply}
 use Rattle.vsm_model.specs.declared.replies.Reply.TheVariants.{Obtained, Returned, Stored}
-use Rattle.vsm_model.specs.State.{State}
 use Rattle.vsm_model.specs.Standing.{Outcome, Accepted, Refused}
-use Rattle.vsm_model.specs.Names.{NamedState, NamedService, word_of, same_name, with_name, is_one_too_many, names_after, named, NamesKeepTheirOrder, StatementIsItsService, AreaIsNamed, OtherwiseNamesStay}
+use Rattle.vsm_model.specs.Names.{NamedState, word_of, same_name, with_name, is_one_too_many, names_after, named, NamesKeepTheirOrder, StatementIsItsService, AreaIsNamed, OtherwiseNamesStay}
 use Rattle.vsm_model.specs.Step.{step}
 use Rattle.vsm_model.proofs.Answers.{Stepped}
 use Rattle.vsm_model.proofs.Rows.{name_stands, others_stand}
@@ -26,8 +25,7 @@ named_refused cause n r e = cc
 accepted_named : (names : Rows) (name : Option (List ℕ)) (o : Stepped) (n : NamedState) (r : Reply) → named names name o ≡ Accepted n r →
     (o ≡ Accepted n.storage r) × (n.names ≡ names_after names name r)
 accepted_named names name (Accepted s q) n r e =
-    let is = named_is (record { storage = s; names = names_after names name q }) n q r e in
-    (
+    let is = named_is (record { storage = s; names = names_after names name q }) n q r e in (
       (λ i. Accepted (ap (λ (m : NamedState). m.storage) is.0 i) (is.1 i)),
       sym (ap (λ (m : NamedState). m.names) is.0) ∙ ap (names_after names name) is.1,
     )
@@ -44,8 +42,7 @@ names_are names after name own address given e is = e ∙ ap (λ o. names_after 
 pub area_is_named : AreaIsNamed
 area_is_named settings m n x name address given e is =
     let after = (accepted_named m.names x.name (step settings (is_one_too_many m.names x.name) m.storage x.service) n (Obtained address given) e).1 in
-    let rows : n.names ≡ with_name m.names name address = names_are m.names n.names x.name name address given after is in
-    (
+    let rows : n.names ≡ with_name m.names name address = names_are m.names n.names x.name name address given after is in (
       ap (λ names. word_of names name) rows ∙ name_stands m.names name address,
       λ other apart. ap (λ names. word_of names other) rows ∙ others_stand m.names name other address apart,
     )

@@ -276,7 +276,7 @@ abbrev pub AnAddressIsStoredAsAFullword : Type 0
 AnAddressIsStoredAsAFullword =
     (answers_with 1024 (calls_with_a_register ++ poke (address 6 4095) (1 ∷ 2 ∷ []) ∷ Back 1 ∷ [])
     ≡ (got (address 6 0) 8, (1, 0)) ∷ (Replied Stored, (2, 0)) ∷ (RefusedFor NotAssigned, (2, 0)) ∷ (Moved, (1, 1))
-        ∷ [])
+    ∷ [])
     × (register_in (bench_with 1024 calls_with_a_register) 5 ≡ address 6 0)
     × (register_in (bench_with 1024 calls_with_a_register) 1 ≡ address 6 0)
     × (peeked_in (bench_with 1024 calls_with_a_register) (address 6 0) 4 ≡ Some (0 ∷ 0 ∷ 96 ∷ 0 ∷ []))
@@ -376,14 +376,14 @@ first_answers names_full = map (λ x. outcome_answer (step one_page names_full f
 abbrev pub CausesComeInOrder : Type 0
 CausesComeInOrder =
     (first_answers true (Obtain 0 131 None true ∷ Obtain 0 200 None true ∷ Obtain 0 1 None true
-        ∷ Obtain 8192 1 None true ∷ [])
+    ∷ Obtain 8192 1 None true ∷ [])
     ≡ RefusedFor UnsupportedSubpool ∷ RefusedFor SubpoolNotAllowed ∷ RefusedFor ZeroLength ∷ RefusedFor TooManyNames
-        ∷ [])
+    ∷ [])
     × (first_answers false (Obtain 8192 1 None false ∷ Obtain 8192 1 None true ∷ [])
-        ≡ RefusedFor NoStorage ∷ Replied (Returned 4) ∷ [])
+    ≡ RefusedFor NoStorage ∷ Replied (Returned 4) ∷ [])
     × (first_answers false
     (Release 0 4 132 false ∷ Release 0 4 200 false ∷ Release 0 4 1 false ∷ Release 8 4 1 false
-        ∷ Release 8 (address 6 0) 1 false ∷ Release 8 (address 6 0) 0 false ∷ [])
+    ∷ Release 8 (address 6 0) 1 false ∷ Release 8 (address 6 0) 0 false ∷ [])
     ≡ RefusedFor UnsupportedSubpool
     ∷ RefusedFor SubpoolNotAllowed
     ∷ RefusedFor ZeroLength
@@ -393,7 +393,7 @@ CausesComeInOrder =
     ∷ [])
     × (answers_with 1024
     (storage_obtain 8 1 ∷ storage_obtain 8 2 ∷ storage_release 8 (address 6 0) 1 ∷ storage_release 8192 (address 6 0) 1
-        ∷ [])
+    ∷ [])
     ≡ (got (address 6 0) 8, (1, 0))
     ∷ (got (address 7 0) 8, (2, 0))
     ∷ (Replied (Returned 0), (3, 0))
@@ -443,9 +443,9 @@ abbrev pub CompletionCodesAsTexts : Type 0
 CompletionCodesAsTexts =
     (map (λ cause. code_text (storage_code cause))
     (UnsupportedSubpool ∷ SubpoolNotAllowed ∷ ZeroLength ∷ TooManyNames ∷ NoStorage ∷ Misaligned ∷ NotInSubpool
-        ∷ OverlapsFree ∷ NotAssigned ∷ [])
+    ∷ OverlapsFree ∷ NotAssigned ∷ [])
     ≡ codes "U3007" ∷ codes "SB78" ∷ codes "U3001" ∷ codes "U3013" ∷ codes "S878" ∷ codes "S978" ∷ codes "U3003"
-        ∷ codes "SA78" ∷ codes "S0C4" ∷ [])
+    ∷ codes "SA78" ∷ codes "S0C4" ∷ [])
     × (code_texts S an_obtain (SubpoolNotAllowed ∷ NoStorage ∷ []) ≡ codes "SB78" ∷ codes "S878" ∷ [])
     × (code_texts S a_release (SubpoolNotAllowed ∷ Misaligned ∷ OverlapsFree ∷ [])
     ≡ codes "SB78" ∷ codes "S978" ∷ codes "SA78" ∷ [])
@@ -461,4 +461,4 @@ abbrev pub RepliesAsTexts : Type 0
 RepliesAsTexts =
     map reply_text (Obtained (address 6 0) 8 ∷ Obtained (address 15 4088) 61440 ∷ Returned 0 ∷ Returned 4 ∷ Stored ∷ [])
     ≡ codes "RC=0 A=00006000 L=00000008" ∷ codes "RC=0 A=0000FFF8 L=0000F000" ∷ codes "RC=0" ∷ codes "RC=4" ∷ codes "OK"
-        ∷ []
+    ∷ []

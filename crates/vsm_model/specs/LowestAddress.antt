@@ -48,4 +48,4 @@ ObtainTakesTheLowestAddress =
     (conditional : Bool) (address given : ℕ) →
     step settings names_full s (Obtain length number register conditional) ≡ Accepted t (Obtained address given) →
     IsLowestAddress (low_region settings) s (seen_or_own s.current number (s.sight s.current number))
-        (doublewords length) address
+    (doublewords length) address

@@ -2,7 +2,7 @@
 -- word on how an area is found. Assembler Services Guide, "Virtual storage management", "Explicit requests for virtual
 -- storage" and "Subpool handling"; Assembler Services Reference, STORAGE.
 use Rattle.std.specs.Prelude.{◌≡◌, ◌≢◌, ℕ, ◌+◌, ◌/◌, ◌%◌, ◌<◌, ◌≤◌, ◌⊎◌, Bool, ◌&&◌, ◌||◌, not, true, false, Option}
-use Rattle.std.specs.Prelude.{Some, None, is_some, if◌then◌else◌, List, length}
+use Rattle.std.specs.Prelude.{Some, None, is_some, List, length}
 use Rattle.vsm_model.specs.declared.Subpool.{Subpool}
 use Rattle.vsm_model.specs.declared.causes.Cause.{Cause}
 use Rattle.vsm_model.specs.declared.limits.Settings.{Settings}
@@ -162,10 +162,10 @@ ConditionalFormsDifferByFour =
     (settings : Settings) (names_full : Bool) (s : State) (length number : ℕ) →
     ((register : Option ℕ) →
     IsConditionalForm s (step settings names_full s (Obtain length number register false))
-        (step settings names_full s (Obtain length number register true)))
+    (step settings names_full s (Obtain length number register true)))
     × ((address : ℕ) →
     IsConditionalForm s (step settings names_full s (Release length address number false))
-        (step settings names_full s (Release length address number true)))
+    (step settings names_full s (Release length address number true)))
 
 -- A store changes the bytes alone, each of which was there before; what was stored is what is loaded there then.
 abbrev pub StoredIsLoaded : Type 0

@@ -77,7 +77,7 @@ abbrev pub obtained : State → Subpool → ℕ → Place → Outcome State Repl
 obtained s p count (Inside d) = Accepted (with_taken s d count) (Obtained (8 * d) (8 * count))
 obtained s p count (Fresh page) =
     Accepted (with_taken (with_pages s p page (pages_for count)) (512 * page) count)
-        (Obtained (4096 * page) (8 * count))
+    (Obtained (4096 * page) (8 * count))
 obtained s p count Nowhere = Refused NoStorage
 
 -- An area of a length in bytes from the subpool of this number, for a statement whose name is or isn't one too many

@@ -43,7 +43,7 @@ abbrev pub StaysWellFormed : Type 0
 StaysWellFormed =
     (settings : Settings) (m n : NamedState) (x : NamedService) (r : Reply) →
     IsWellFormedNamed (low_region settings) m → named_step settings m x ≡ Accepted n r
-        → IsWellFormedNamed (low_region settings) n
+    → IsWellFormedNamed (low_region settings) n
 
 -- So the state after any list of statements alone is well-formed.
 abbrev pub ReachedIsWellFormed : Type 0

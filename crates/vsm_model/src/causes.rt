@@ -72,13 +72,7 @@ impl Cause {
         ensures { result ≡ code_of (suffix family obtains) self }
     {
         let suffix = match family {
-            Family::E => {
-                if obtains {
-                    0x04
-                } else {
-                    0x05
-                }
-            }
+            Family::E => { if obtains { 0x04 } else { 0x05 } }
             Family::R => 0x0a,
             Family::S => 0x78,
         };
