@@ -243,7 +243,7 @@ module _ (low : Region) (s u t : State) (w : IsWellFormed low s) (length number 
   -- from the subpool of an owner, which is there
   granted_from : (owner : ℕ) → SubpoolIsThere s t number owner → u.words ≡ s.words → u.current ≡ s.current →
       (address % 8 ≡ 0) × (given ≡ 8 * doublewords length) × AreaIsTaken low s u (record { number = number; owner = owner }) address given →
-      IsGranted low s t length number register address given
+      IsGranted low s t length number address given register
   granted_from owner there words current h =
       let size : given ≡ 8 * doublewords length = h.1 in
       record {
@@ -265,7 +265,7 @@ module _ (low : Region) (s u t : State) (w : IsWellFormed low s) (length number 
   own_granted : (o : Option ℕ) → s.sight s.current number ≡ o →
       obtained (with_own s number o) (seen_or_own s.current number o) (doublewords length)
       (place (with_own s number o) low (seen_or_own s.current number o) (doublewords length) 1)
-      ≡ Accepted u (Obtained address given) → IsGranted low s t length number register address given
+      ≡ Accepted u (Obtained address given) → IsGranted low s t length number address given register
   own_granted None seen e =
       let same = placed_same (with_subpool s number s.current) u _ _ _ _ e in
       let after = reply_same u register address given t is in
@@ -291,7 +291,7 @@ area_reply s u p count r Nowhere e = absurd (refused_is_not NoStorage u r e)
 pub obtain_grants_free_storage : ObtainGrantsFreeStorage
 obtain_grants_free_storage settings names_full s t length number register conditional address given w e =
     granted_or_four s t register (Obtained address given)
-    (IsGranted (low_region settings) s t length number register address given × (names_full ≡ false)) conditional
+    (IsGranted (low_region settings) s t length number address given register × (names_full ≡ false)) conditional
     (area_obtained (low_region settings) s length number names_full) e
     (λ u e is.
     past (nat_lt 127 number) (number_cause number) _ u (Obtained address given) _ e (λ private e.

@@ -15,3 +15,4 @@ pub mod Stores
 pub mod Lowest
 pub mod Conditional
 pub mod Named
+pub mod FirstCauses

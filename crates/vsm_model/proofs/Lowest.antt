@@ -1,26 +1,26 @@
--- An accepted obtain takes the lowest address, and one that is refused for want of storage has no room.
-use Rattle.std.proofs.Common.{◌≡◌, ℕ, ◌+◌, ◌*◌, ◌/◌, ◌%◌, ◌<◌, ◌≤◌, Bool, true, false, not, ◌&&◌, ◌||◌, nat_lt, ◌==◌, if◌then◌else◌, Option, Some, None, is_some, refl, sym, ◌∙◌, ap, subst, inl, inr, arith, true≢false}
+-- An accepted obtain takes the lowest address, and an area without a place has no room.
+use Rattle.std.proofs.Common.{◌≡◌, ℕ, ◌+◌, ◌*◌, ◌/◌, ◌%◌, ◌<◌, ◌≤◌, Bool, true, false, not, ◌&&◌, nat_lt, ◌==◌, if◌then◌else◌, Option, Some, None, is_some, refl, sym, ◌∙◌, ap, subst, inl, inr, arith, true≢false}
 use Rattle.std.proofs.lemmas.Bool.{and_parts, and_from, both_ways, not-true, eq-eqb, cases_lt, both_ways}
 use Rattle.vsm_model.specs.declared.Subpool.{Subpool}
 use Rattle.vsm_model.specs.declared.causes.Cause.{Cause}
-use Rattle.vsm_model.specs.declared.causes.Cause.TheVariants.{UnsupportedSubpool, SubpoolNotAllowed, ZeroLength, TooManyNames, NoStorage}
+use Rattle.vsm_model.specs.declared.causes.Cause.TheVariants.{ZeroLength, TooManyNames, NoStorage}
 use Rattle.vsm_model.specs.declared.replies.Reply.TheVariants.{Obtained, Returned}
 use Rattle.vsm_model.specs.Search.{all_pass, IsLeastAmong}
 use Rattle.vsm_model.specs.Regions.{Region, within, low_region}
 use Rattle.vsm_model.specs.State.{State}
 use Rattle.vsm_model.specs.Areas.{belongs, is_free, fits, is_open_run, least_fit, least_run, pages_for, place, or_fresh}
 use Rattle.vsm_model.specs.Standing.{Accepted, Refused}
-use Rattle.vsm_model.specs.Causes.{when, number_cause}
+use Rattle.vsm_model.specs.Causes.{number_cause}
 use Rattle.vsm_model.specs.Registers.{in_registers, answers_four, conditionally}
 use Rattle.vsm_model.specs.Storage.{doublewords, obtained, seen_or_own, with_own, area_obtained}
-use Rattle.vsm_model.specs.LowestAddress.{AreFree, AreUnassigned, IsLowest, IsLowestAddress, ObtainTakesTheLowestAddress, NoStorageIsNoRoom}
+use Rattle.vsm_model.specs.LowestAddress.{AreFree, AreUnassigned, IsLowest, IsLowestAddress, HasNoRoom, ObtainTakesTheLowestAddress}
 use Rattle.vsm_model.proofs.Least.{all_pass_at, all_pass_from, least_among}
 use Rattle.vsm_model.proofs.Kept.{among-in}
 use Rattle.vsm_model.proofs.Answers.{Stepped, refused_is_not, past, granted_or_four}
 use Rattle.vsm_model.proofs.Words.{both_same}
 use Rattle.vsm_model.proofs.Grants.{belongs-is, address_is, not_zero, other_reply}
 
-none_from : (o : Option Subpool) → is_some o ≡ false → o ≡ None
+pub none_from : (o : Option Subpool) → is_some o ≡ false → o ≡ None
 none_from None e = refl
 none_from (Some p) e = absurd (true≢false e)
 
@@ -114,8 +114,7 @@ module _ (r : Region) (s : State) (p : Subpool) (count : ℕ) (some : 0 < count)
       )
   lowest v u address given None None g h e = absurd (refused_is_not NoStorage u _ e)
 
-  no_room : (v : State) (o f : Option ℕ) → IsLeastFit o → IsLeastRun f → obtained v p count (or_fresh o f) ≡ Refused NoStorage →
-      ((d : ℕ) → AreFree r s p count d → ⊥) × ((page : ℕ) → AreUnassigned r s (pages_for count) page → ⊥)
+  no_room : (v : State) (o f : Option ℕ) → IsLeastFit o → IsLeastRun f → obtained v p count (or_fresh o f) ≡ Refused NoStorage → HasNoRoom r s p count
   no_room v (Some d) f g h e = absurd (refused_is_not NoStorage _ _ (sym e))
   no_room v None (Some page) g h e = absurd (refused_is_not NoStorage _ _ (sym e))
   no_room v None None g h e = (none_free g, none_open (pages_for count) (omega (arith, some)) h)
@@ -133,10 +132,9 @@ own_lowest r s u number count some address given (Some owner) e =
     lowest r s p count some s u address given (least_fit s r p count 1) (least_run s r (pages_for count))
     (least_among (fits s r p count 1) (r.first * 512) (r.count * 512)) (least_among (is_open_run s r (pages_for count)) r.first r.count) e
 
-own_no_room : (r : Region) (s : State) (number count : ℕ) (some : 0 < count) (o : Option ℕ) →
+pub own_no_room : (r : Region) (s : State) (number count : ℕ) (some : 0 < count) (o : Option ℕ) →
     obtained (with_own s number o) (seen_or_own s.current number o) count (place (with_own s number o) r (seen_or_own s.current number o) count 1)
-    ≡ Refused NoStorage →
-    ((d : ℕ) → AreFree r s (seen_or_own s.current number o) count d → ⊥) × ((page : ℕ) → AreUnassigned r s (pages_for count) page → ⊥)
+    ≡ Refused NoStorage → HasNoRoom r s (seen_or_own s.current number o) count
 own_no_room r s number count some None e =
     let p : Subpool = record { number = number; owner = s.current } in
     no_room r s p count some (with_own s number None) (least_fit s r p count 1) (least_run s r (pages_for count))
@@ -146,7 +144,7 @@ own_no_room r s number count some (Some owner) e =
     no_room r s p count some s (least_fit s r p count 1) (least_run s r (pages_for count))
     (least_among (fits s r p count 1) (r.first * 512) (r.count * 512)) (least_among (is_open_run s r (pages_for count)) r.first r.count) e
 
-some_doublewords : (length : ℕ) → (length == 0) ≡ false → 0 < doublewords length
+pub some_doublewords : (length : ℕ) → (length == 0) ≡ false → 0 < doublewords length
 some_doublewords length e = let some = not_zero length e in omega (arith, some)
 
 pub obtain_takes_the_lowest_address : ObtainTakesTheLowestAddress
@@ -159,40 +157,14 @@ obtain_takes_the_lowest_address settings names_full s t length number register c
     own_lowest (low_region settings) s u number (doublewords length) (some_doublewords length some) address given (s.sight s.current number) e))))
     (λ _ four _. absurd (other_reply four))
 
-cause_is : (a b : Cause) → ◌≡◌ {A = Stepped} (Refused a) (Refused b) → a ≡ b
+pub cause_is : (a b : Cause) → ◌≡◌ {A = Stepped} (Refused a) (Refused b) → a ≡ b
 cause_is a b e = cc
 
 -- a refused service is refused before its form is looked at
-refused_before : (s : State) (register : Option ℕ) (conditional : Bool) (cause : Cause) (o : Stepped) →
+pub refused_before : (s : State) (register : Option ℕ) (conditional : Bool) (cause : Cause) (o : Stepped) →
     in_registers register (conditionally s conditional o) ≡ Refused cause → o ≡ Refused cause
 refused_before s register conditional cause (Accepted u r) e = absurd (refused_is_not cause _ r (sym e))
 refused_before s register conditional cause (Refused c) e = ap (λ c. Refused c) (cause_is c cause (refused (conditional && answers_four c) e)) where
   refused : (b : Bool) → in_registers register (if b then Accepted s (Returned 4) else Refused c) ≡ Refused cause → ◌≡◌ {A = Stepped} (Refused c) (Refused cause)
   refused true e = absurd (refused_is_not cause _ (Returned 4) (sym e))
   refused false e = e
-
--- a service that is refused for another cause is past this one
-past_other : (b : Bool) (cause other : Cause) (o : Stepped) (P : Type 0) → (cause ≡ other → ⊥) → when b cause o ≡ Refused other →
-    (b ≡ false → o ≡ Refused other → P) → P
-past_other true cause other o P apart e f = absurd (apart (cause_is cause other e))
-past_other false cause other o P apart e f = f refl e
-
-other_number : (number : ℕ) → number_cause number ≡ NoStorage → ⊥
-other_number number = tested ((number == 131) || (number == 132)) where
-  tested : (b : Bool) → (if b then UnsupportedSubpool else SubpoolNotAllowed) ≡ NoStorage → ⊥
-  tested true e = cc
-  tested false e = cc
-
-other_length : ◌≡◌ {A = Cause} ZeroLength NoStorage → ⊥
-other_length e = cc
-
-other_names : ◌≡◌ {A = Cause} TooManyNames NoStorage → ⊥
-other_names e = cc
-
-pub no_storage_is_no_room : NoStorageIsNoRoom
-no_storage_is_no_room settings names_full s length number register conditional e =
-    past_other (nat_lt 127 number) (number_cause number) NoStorage _ _ (other_number number)
-    (refused_before s register conditional NoStorage (area_obtained (low_region settings) s length number names_full) e) (λ _ e.
-    past_other (length == 0) ZeroLength NoStorage _ _ other_length e (λ some e.
-    past_other names_full TooManyNames NoStorage _ _ other_names e (λ _ e.
-    own_no_room (low_region settings) s number (doublewords length) (some_doublewords length some) (s.sight s.current number) e)))

@@ -74,7 +74,7 @@ a_store_goes_over_pages = (refl, refl, refl, refl, refl)
 
 pub completion_codes_as_texts : CompletionCodesAsTexts
 unfolding padded_integral digits char_count
-completion_codes_as_texts = (refl, refl, refl, refl, refl, refl)
+completion_codes_as_texts = (refl, refl, refl, refl, refl, refl, refl)
 
 pub replies_as_texts : RepliesAsTexts
 unfolding padded_integral digits char_count

@@ -7,8 +7,6 @@ use Rattle.vsm_model.specs.Services.{Service, Obtain, Release, Store}
 use Rattle.vsm_model.specs.State.{first_state}
 use Rattle.vsm_model.specs.Step.{step}
 use Rattle.vsm_model.specs.declared.causes.Cause.{Cause}
-use Rattle.vsm_model.specs.declared.causes.Family.{Family}
-use Rattle.vsm_model.specs.declared.causes.Family.TheVariants.{E, R, S}
 use Rattle.vsm_model.specs.declared.causes.Cause.TheVariants.{UnsupportedSubpool, SubpoolNotAllowed, ZeroLength}
 use Rattle.vsm_model.specs.declared.causes.Cause.TheVariants.{TooManyNames, NoStorage, Misaligned, NotInSubpool}
 use Rattle.vsm_model.specs.declared.causes.Cause.TheVariants.{OverlapsFree, NotAssigned}
@@ -18,7 +16,9 @@ use Rattle.vsm_model.specs.Bytes.{load, fullword}
 use Rattle.vsm_model.specs.Standing.{Call, Apply, Back, Forward, Answer, Replied, RefusedFor, Moved, TooFar, Bench}
 use Rattle.vsm_model.specs.Standing.{new_bench, plain_after_all, plain_answers, outcome_answer}
 use Rattle.vsm_model.specs.Names.{NamedState, first_named_state, word_of, NamedService, named_step}
-use Rattle.vsm_model.specs.Codes.{suffix, code_of}
+use Rattle.vsm_model.specs.declared.causes.Family.{Family}
+use Rattle.vsm_model.specs.declared.causes.Family.TheVariants.{E, R, S}
+use Rattle.vsm_model.specs.Codes.{completion_code}
 use Rattle.vsm_model.specs.Texts.{reply_text, code_text}
 
 -- the default settings, with a history of so many changes
@@ -426,22 +426,35 @@ AStoreGoesOverPages =
     × (peeked_in (bench_with 1024 and_the_second_released) (address 6 4094) 4 ≡ None)
     × (peeked_in (bench_with 1024 and_the_second_released) (address 6 4094) 2 ≡ Some (1 ∷ 2 ∷ []))
 
--- the texts of the completion codes of these causes for STORAGE
-abbrev pub code_texts : Family → Bool → List Cause → List (List ℕ)
-code_texts family obtains = map (λ cause. code_text (code_of (suffix family obtains) cause))
+-- the texts of the completion codes of these causes, for a service in a form of this family
+abbrev pub code_texts : Family → Service → List Cause → List (List ℕ)
+code_texts family x = map (λ cause. code_text (completion_code family x cause))
 
--- those of STORAGE, and of GETMAIN and FREEMAIN in an E and an R form where they are others
+abbrev pub an_obtain : Service
+an_obtain = Obtain 8 0 None false
+
+abbrev pub a_release : Service
+a_release = Release 8 0 0 false
+
+-- The codes of STORAGE; and those whose last two digits are others in other forms: of an E form that obtains, of one
+-- that releases, and of an R form.
 abbrev pub CompletionCodesAsTexts : Type 0
 CompletionCodesAsTexts =
-    (code_texts S true (UnsupportedSubpool ∷ SubpoolNotAllowed ∷ ZeroLength ∷ TooManyNames ∷ NoStorage ∷ [])
-    ≡ codes "U3007" ∷ codes "SB78" ∷ codes "U3001" ∷ codes "U3013" ∷ codes "S878" ∷ [])
-    × (code_texts S false (Misaligned ∷ NotInSubpool ∷ OverlapsFree ∷ NotAssigned ∷ [])
-    ≡ codes "S978" ∷ codes "U3003" ∷ codes "SA78" ∷ codes "S0C4" ∷ [])
-    × (code_texts E true (SubpoolNotAllowed ∷ NoStorage ∷ []) ≡ codes "SB04" ∷ codes "S804" ∷ [])
-    × (code_texts E false (SubpoolNotAllowed ∷ Misaligned ∷ OverlapsFree ∷ [])
+    (code_texts S an_obtain
+    (UnsupportedSubpool ∷ SubpoolNotAllowed ∷ ZeroLength ∷ TooManyNames ∷ NoStorage ∷ Misaligned ∷ NotInSubpool
+    ∷ OverlapsFree ∷ NotAssigned ∷ [])
+    ≡ codes "U3007" ∷ codes "SB78" ∷ codes "U3001" ∷ codes "U3013" ∷ codes "S878" ∷ codes "S978" ∷ codes "U3003"
+    ∷ codes "SA78" ∷ codes "S0C4" ∷ [])
+    × (code_texts S an_obtain (SubpoolNotAllowed ∷ NoStorage ∷ []) ≡ codes "SB78" ∷ codes "S878" ∷ [])
+    × (code_texts S a_release (SubpoolNotAllowed ∷ Misaligned ∷ OverlapsFree ∷ [])
+    ≡ codes "SB78" ∷ codes "S978" ∷ codes "SA78" ∷ [])
+    × (code_texts E an_obtain (SubpoolNotAllowed ∷ NoStorage ∷ ZeroLength ∷ [])
+    ≡ codes "SB04" ∷ codes "S804" ∷ codes "U3001" ∷ [])
+    × (code_texts E a_release (SubpoolNotAllowed ∷ Misaligned ∷ OverlapsFree ∷ [])
     ≡ codes "SB05" ∷ codes "S905" ∷ codes "SA05" ∷ [])
-    × (code_texts R true (SubpoolNotAllowed ∷ NoStorage ∷ []) ≡ codes "SB0A" ∷ codes "S80A" ∷ [])
-    × (code_texts R false (Misaligned ∷ OverlapsFree ∷ []) ≡ codes "S90A" ∷ codes "SA0A" ∷ [])
+    × (code_texts R an_obtain (SubpoolNotAllowed ∷ NoStorage ∷ []) ≡ codes "SB0A" ∷ codes "S80A" ∷ [])
+    × (code_texts R a_release (Misaligned ∷ OverlapsFree ∷ NotInSubpool ∷ [])
+    ≡ codes "S90A" ∷ codes "SA0A" ∷ codes "U3003" ∷ [])
 
 abbrev pub RepliesAsTexts : Type 0
 RepliesAsTexts =

@@ -4,10 +4,10 @@ pub mod Regions
 pub mod State
 pub mod Areas
 pub mod Standing
-pub mod Causes
 pub mod Services
 pub mod Meaning
 pub mod Codes
+pub mod Causes
 pub mod Bytes
 pub mod Registers
 pub mod Storage
@@ -18,4 +18,5 @@ pub mod WellFormed
 pub mod Texts
 pub mod Promises
 pub mod LowestAddress
+pub mod FirstCauses
 pub mod Examples

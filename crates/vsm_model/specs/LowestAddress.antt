@@ -1,15 +1,14 @@
--- Where the area of an accepted obtain is, and when there is none, by the storage before, with no search.
+-- Where the area of an accepted obtain is, and when there is no room for it, by the storage before, with no search.
 -- Assembler Services Guide, "Virtual storage management", "Explicit requests for virtual storage".
 use Rattle.std.specs.Prelude.{◌≡◌, ℕ, ◌+◌, ◌/◌, ◌%◌, ◌<◌, ◌≤◌, ◌⊎◌, Bool, true, false, Option, Some, None}
 use Rattle.vsm_model.specs.declared.Subpool.{Subpool}
-use Rattle.vsm_model.specs.declared.causes.Cause.TheVariants.{NoStorage}
 use Rattle.vsm_model.specs.declared.limits.Settings.{Settings}
 use Rattle.vsm_model.specs.declared.replies.Reply.TheVariants.{Obtained}
 use Rattle.vsm_model.specs.Services.{Obtain}
 use Rattle.vsm_model.specs.Regions.{Region, within, low_region}
 use Rattle.vsm_model.specs.State.{State}
 use Rattle.vsm_model.specs.Areas.{pages_for}
-use Rattle.vsm_model.specs.Standing.{Accepted, Refused}
+use Rattle.vsm_model.specs.Standing.{Accepted}
 use Rattle.vsm_model.specs.Storage.{doublewords, seen_or_own}
 use Rattle.vsm_model.specs.Step.{step}
 
@@ -36,6 +35,11 @@ IsLowestAddress r s p count address =
     ⊎ (((d : ℕ) → AreFree r s p count d → ⊥)
     × (address % 4096 ≡ 0) × IsLowest (AreUnassigned r s (pages_for count)) (address / 4096))
 
+-- Neither the free storage of the subpool nor the unassigned pages have room for so many doublewords.
+abbrev pub HasNoRoom : Region → State → Subpool → ℕ → Type 0
+HasNoRoom r s p count =
+    ((d : ℕ) → AreFree r s p count d → ⊥) × ((page : ℕ) → AreUnassigned r s (pages_for count) page → ⊥)
+
 -- An accepted obtain takes the lowest address for the rounded length, in the subpool that the task sees at the number
 -- or is to have there.
 abbrev pub ObtainTakesTheLowestAddress : Type 0
@@ -45,15 +49,3 @@ ObtainTakesTheLowestAddress =
     step settings names_full s (Obtain length number register conditional) ≡ Accepted t (Obtained address given) →
     IsLowestAddress (low_region settings) s (seen_or_own s.current number (s.sight s.current number))
     (doublewords length) address
-
--- An obtain is refused for want of storage only where neither the free storage of that subpool nor the unassigned pages
--- have room.
-abbrev pub NoStorageIsNoRoom : Type 0
-NoStorageIsNoRoom =
-    (settings : Settings) (names_full : Bool) (s : State) (length number : ℕ) (register : Option ℕ)
-    (conditional : Bool) →
-    step settings names_full s (Obtain length number register conditional) ≡ Refused NoStorage →
-    ((d : ℕ) →
-    AreFree (low_region settings) s (seen_or_own s.current number (s.sight s.current number)) (doublewords length) d →
-    ⊥)
-    × ((page : ℕ) → AreUnassigned (low_region settings) s (pages_for (doublewords length)) page → ⊥)

@@ -66,30 +66,29 @@ pub record AreaIsTaken (low : Region) (s t : State) (subpool : Subpool) (address
 
 -- From s to t, an area of so many bytes at the address was granted for a length, from the subpool of this number, with
 -- the register that is named for its address, if one is.
-pub record IsGranted (low : Region) (s t : State) (length number : ℕ) (named : Option ℕ) (address given : ℕ) : Type 0
-  where
-    -- the number is one of private storage, and the length isn't zero
-    pub private : number ≤ 127
-    pub some : 0 < length
-    -- the length is rounded up to the next multiple of 8, and the area begins on a doubleword
-    pub long_enough : length ≤ given
-    pub no_longer : given < length + 8
-    pub whole : given % 8 ≡ 0
-    pub on_doubleword : address % 8 ≡ 0
-    -- the area is in the subpool that the current task sees at the number then
-    pub owner : ℕ
-    pub subpool : SubpoolIsThere s t number owner
-    pub area : AreaIsTaken low s t (record { number = number; owner = owner }) address given
-    -- the current task is the one from before, and its registers have the address
-    pub current : t.current ≡ s.current
-    pub registers : AddressIsSet s t named address
+pub record IsGranted (low : Region) (s t : State) (length number address given : ℕ) (named : Option ℕ) : Type 0 where
+  -- the number is one of private storage, and the length isn't zero
+  pub private : number ≤ 127
+  pub some : 0 < length
+  -- the length is rounded up to the next multiple of 8, and the area begins on a doubleword
+  pub long_enough : length ≤ given
+  pub no_longer : given < length + 8
+  pub whole : given % 8 ≡ 0
+  pub on_doubleword : address % 8 ≡ 0
+  -- the area is in the subpool that the current task sees at the number then
+  pub owner : ℕ
+  pub subpool : SubpoolIsThere s t number owner
+  pub area : AreaIsTaken low s t (record { number = number; owner = owner }) address given
+  -- the current task is the one from before, and its registers have the address
+  pub current : t.current ≡ s.current
+  pub registers : AddressIsSet s t named address
 
 abbrev pub ObtainGrantsFreeStorage : Type 0
 ObtainGrantsFreeStorage =
     (settings : Settings) (names_full : Bool) (s t : State) (length number : ℕ) (register : Option ℕ)
     (conditional : Bool) (address given : ℕ) → IsWellFormed (low_region settings) s →
     step settings names_full s (Obtain length number register conditional) ≡ Accepted t (Obtained address given) →
-    IsGranted (low_region settings) s t length number register address given × (names_full ≡ false)
+    IsGranted (low_region settings) s t length number address given register × (names_full ≡ false)
 
 -- From s to t, the return code is in register 15, and nothing else changes.
 pub record ReturnCodeIsAll (s t : State) (code : ℕ) : Type 0 where

@@ -1,6 +1,6 @@
 //! Why a service is refused, and the completion codes that say so.
 ghost use Rattle.std.specs.Prelude.{◌≡◌, Some};
-ghost use Rattle.vsm_model.specs.Codes.{suffix, code_of};
+ghost use Rattle.vsm_model.specs.Codes.{code_of, suffix};
 ghost use Rattle.vsm_model.specs.Registers.{answers_four};
 ghost use Rattle.vsm_model.specs.Texts.{code_text};
 
@@ -29,21 +29,24 @@ pub enum Cause {
     NotAssigned,
 }
 
+/// The forms of macros that end with the same completion codes (*Assembler Services Reference*, GETMAIN, FREEMAIN and
+/// STORAGE, "ABEND codes").
+#[derive(Clone, Copy, Debug, PartialEq, Eq)]
+pub enum Family {
+    /// The forms E, EC and EU of GETMAIN and FREEMAIN: 04 where they obtain storage, and 05.
+    E,
+    /// The form R of GETMAIN and FREEMAIN: 0A.
+    R,
+    /// STORAGE and all other forms: 78.
+    S,
+}
+
 /// A completion code: a system code of three hexadecimal digits (`Sxxx`), or a user code of four decimal ones
 /// (`Unnnn`).
 #[derive(Clone, Copy, Debug, PartialEq, Eq)]
 pub enum Code {
     System(u16),
     User(u16),
-}
-
-/// Which completion codes a form of a macro has: those of E forms (GETMAIN and FREEMAIN E, EC and EU), those of R forms
-/// (R, RC, RU, VRC and VRU), or those of STORAGE.
-#[derive(Clone, Copy, Debug, PartialEq, Eq)]
-pub enum Family {
-    E,
-    R,
-    S,
 }
 
 impl Cause {
@@ -62,8 +65,8 @@ impl Cause {
         }
     }
 
-    /// The completion code of the cause in a form of this family, which obtains storage or doesn't (*Assembler Services
-    /// Reference*, GETMAIN, FREEMAIN and STORAGE, "ABEND codes").
+    /// The completion code of the cause for a form of this family, which obtains storage or doesn't (*Assembler
+    /// Services Reference*, GETMAIN, FREEMAIN and STORAGE, "ABEND codes").
     pub fn code(self, family: Family, obtains: bool) -> Code
         ensures { result ≡ code_of (suffix family obtains) self }
     {

@@ -130,7 +130,8 @@ pub fn a_store_goes_over_pages()
     ensures { AStoreGoesOverPages }
 {}
 
-/// The completion codes of all causes for STORAGE, as they are printed.
+/// The completion codes of all causes for STORAGE, as they are printed, and those of other forms that end in other
+/// digits.
 pub fn completion_codes_as_texts()
     ensures { CompletionCodesAsTexts }
 {}

@@ -1,5 +1,6 @@
 //! Laws of the definitions: each is the contract of a function that does nothing.
-ghost use Rattle.vsm_model.specs.LowestAddress.{NoStorageIsNoRoom, ObtainTakesTheLowestAddress};
+ghost use Rattle.vsm_model.specs.FirstCauses.{RefusedForTheFirstCause};
+ghost use Rattle.vsm_model.specs.LowestAddress.{ObtainTakesTheLowestAddress};
 ghost use Rattle.vsm_model.specs.Names.{
   AreaIsNamed,
   NameStandsForItsWord,
@@ -58,11 +59,15 @@ pub fn granted_and_given_back()
 {}
 
 /// An obtain is given the lowest address where its area fits in the free storage of its subpool, and only where it fits
-/// nowhere the lowest run of enough unassigned pages, from its first byte; it's refused for want of storage only where
-/// neither is there.
+/// nowhere the lowest run of enough unassigned pages, from its first byte.
 pub fn lowest_address()
-    ensures lowest { ObtainTakesTheLowestAddress }
-    ensures wanting { NoStorageIsNoRoom }
+    ensures { ObtainTakesTheLowestAddress }
+{}
+
+/// A service is refused only for a cause whose condition holds, and only where none of the causes before it holds; for
+/// want of storage only where neither the free storage of the subpool nor the unassigned pages have room.
+pub fn refused_for_the_first_cause()
+    ensures { RefusedForTheFirstCause }
 {}
 
 /// A name stands for the word that it was given last, all other names stand for what they stood for, and names keep
