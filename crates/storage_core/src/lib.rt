@@ -123,16 +123,15 @@ impl Storage {
         ensures state { IfOk result (λ s. state_of s ≡ state_of self.now) }
         ensures settings { IfOk result (λ s. settings_of s ≡ settings_of self.now) }
     {
-        let alloc = *self.bytes.allocator();
         Ok(Storage {
             settings: self.settings,
             current: self.current,
             registers: self.registers,
-            subpools: Vec::from_slice(alloc, &self.subpools)?,
-            sight: Vec::from_slice(alloc, &self.sight)?,
-            pages: Vec::from_slice(alloc, &self.pages)?,
-            taken: Vec::from_slice(alloc, &self.taken)?,
-            bytes: Vec::from_slice(alloc, &self.bytes)?,
+            subpools: self.subpools.clone()?,
+            sight: self.sight.clone()?,
+            pages: self.pages.clone()?,
+            taken: self.taken.clone()?,
+            bytes: self.bytes.clone()?,
         })
     }
 }
