@@ -9,7 +9,7 @@ use Rattle.macro_statements.specs.Requests.{Asked}
 use Rattle.macro_statements.specs.Statements.{statement_with}
 use Rattle.macro_statements.specs.declared.faults.FaultKind.{FaultKind}
 use Rattle.macro_statements.specs.declared.faults.FaultKind.TheVariants as kind
-use Rattle.macro_reader.specs.Scripts.{Answer, number_behind, EndsDropping, IsDropping, Part, skipped, whole, broken, IsPart, IsGroup, IsBreak, AllContinued, said_by, lines_of, answer_to, answers_behind, Reads, Gathers, Drops, Between, Mode, idle, dropping, gathering, idle_with, gathered_with, behind_break, moved, Kept, IsBehind}
+use Rattle.macro_reader.specs.Scripts.{Answer, number_behind, EndsDropping, IsDropping, Part, skipped, whole, broken, IsPart, IsGroup, IsBreak, AllContinued, said_by, lines_of, answer_to, answers_behind, Reads, Gathers, Drops, Between, Mode, awaiting, dropping, gathering, idle_with, gathered_with, behind_break, moved, Kept, IsBehind}
 
 pub each_push : {X : Type 0} (P : X → Type 0) (xs : List X) (x : X) → AllByRecursion P xs → P x → AllByRecursion P (xs ++ x ∷ [])
 each_push P [] x h k = (k, tt)
@@ -67,7 +67,7 @@ dropping_end line (x ∷ ds) d h k = (h.0, dropping_end x ds d h.1 k)
 
 -- a line where a statement is awaited
 idle_keeps : (s c : Bool) (lines : List Line) (answers : List Answer) (line : Line) (number : ℕ) → is_skipped line ≡ s → is_continued line ≡ c
-    → number ≡ number_behind (length lines) → Between idle lines answers
+    → number ≡ number_behind (length lines) → Between awaiting lines answers
     → Between (idle_with s c number line).0 (lines ++ line ∷ []) (answers ++ (idle_with s c number line).1)
 idle_keeps true c lines answers line number e k n h =
     (h.0 ++ skipped line ∷ [], parts_push answers h.0 (skipped line) _ [] (whole_reads lines answers h.0 h.1) e (ap (λ x. x ++ line ∷ []) h.1.split) refl)
@@ -178,7 +178,7 @@ module _ (lines : List Line) (answers : List Answer) (line : Line) (n : ℕ) (ca
 
   -- the statement is whole
   whole_keeps : (k : Joined) → with_line j (used line) ≡ Some k → is_continued line ≡ false
-      → Between idle (lines ++ line ∷ []) (answers ++ record { line = n; what = statement_with card k.text } ∷ [])
+      → Between awaiting (lines ++ line ∷ []) (answers ++ record { line = n; what = statement_with card k.text } ∷ [])
   whole_keeps k e c =
       let joins : with_lines (begun (used h.first)) (map used (h.before ++ line ∷ [])) ≡ Some k =
       rw map_push (joins_push (begun (used h.first)) j k (map used h.before) (used line) h.joins e) in (
@@ -200,7 +200,7 @@ module _ (lines : List Line) (answers : List Answer) (line : Line) (n : ℕ) (ca
 
 pub moved_keeps : (m : Mode) (lines : List Line) (answers : List Answer) (line : Line) (number : ℕ) → number ≡ number_behind (length lines)
     → Between m lines answers → Between (moved number m line).0 (lines ++ line ∷ []) (answers ++ (moved number m line).1)
-moved_keeps idle lines answers line number n h = idle_keeps (is_skipped line) (is_continued line) lines answers line number refl refl n h
+moved_keeps awaiting lines answers line number n h = idle_keeps (is_skipped line) (is_continued line) lines answers line number refl refl n h
 moved_keeps dropping lines answers line number n h = drop_keeps (is_continued line) lines answers line refl h
 moved_keeps (gathering k card j count) lines answers line number n h =
     gathered_keeps lines answers line k card j count h (with_line j (used line)) (is_continued line) (count == 8) refl refl refl

@@ -9,7 +9,7 @@ use Rattle.macro_reader.specs.Columns.{Line, used, is_continued, is_skipped}
 use Rattle.macro_reader.specs.Continuation.{Joined, begun, with_line, with_lines}
 use Rattle.macro_statements.specs.Statements.{statement_with}
 use Rattle.macro_statements.specs.declared.faults.FaultKind.TheVariants as kind
-use Rattle.macro_reader.specs.Scripts.{Answer, number_behind, EndsDropping, IsDropping, Part, skipped, whole, broken, IsPart, IsGroup, IsBreak, AllContinued, said_by, lines_of, answer_to, answers_behind, Reads, Between, Answers, Mode, idle, dropping, gathering, idle_with, gathered_with, behind_break, moved, Kept, IsBehind}
+use Rattle.macro_reader.specs.Scripts.{Answer, number_behind, EndsDropping, IsDropping, Part, skipped, whole, broken, IsPart, IsGroup, IsBreak, AllContinued, said_by, lines_of, answer_to, answers_behind, Reads, Between, Answers, Mode, awaiting, dropping, gathering, idle_with, gathered_with, behind_break, moved, Kept, IsBehind}
 use Rattle.macro_reader.proofs.Lines.{behind_push}
 
 abbrev mode_after : ℕ → Mode → List Line → Mode
@@ -74,15 +74,15 @@ gathers_on before n card j count (x ∷ xs) k c h few =
 
 gathers_whole : (before n : ℕ) (card : List ℕ) (j : Joined) (count : ℕ) (x : Line) (xs : List Line) (k : Joined) → IsGroup x xs
     → with_lines j (map used (x ∷ xs)) ≡ Some k → count + length (x ∷ xs) ≤ 9
-    → Feeds before (gathering n card j count) (x ∷ xs) idle (record { line = n; what = statement_with card k.text } ∷ [])
+    → Feeds before (gathering n card j count) (x ∷ xs) awaiting (record { line = n; what = statement_with card k.text } ∷ [])
 gathers_whole before n card j count x [] k c h few =
     let one = joins_one (with_line j (used x)) [] k h in
     let same : one.0 ≡ k = (let e = one.2 in cc) in
-    let step : moved (number_behind before) (gathering n card j count) x ≡ (idle, record { line = n; what = statement_with card k.text } ∷ []) =
+    let step : moved (number_behind before) (gathering n card j count) x ≡ (awaiting, record { line = n; what = statement_with card k.text } ∷ []) =
     ap (λ r. gathered_with r (is_continued x) (count == 8) n card count) one.1
     ∙ ap (λ b. gathered_with (Some one.0) b (count == 8) n card count) c
     ∙ ap (λ (m : Joined). gathered_with (Some m) false (count == 8) n card count) same in
-    feeds_one before _ _ x [] idle _ [] step (feeds_none (before + 1) idle)
+    feeds_one before _ _ x [] awaiting _ [] step (feeds_none (before + 1) awaiting)
 gathers_whole before n card j count x (y ∷ ys) k c h few =
     let one = joins_one (with_line j (used x)) (map used (y ∷ ys)) k h in
     let step : moved (number_behind before) (gathering n card j count) x ≡ (gathering n card one.0 (count + 1), []) =
@@ -91,9 +91,9 @@ gathers_whole before n card j count x (y ∷ ys) k c h few =
     ∙ ap (λ b. gathered_with (Some one.0) true b n card count) (below_8 count (omega arith)) in
     feeds_one before _ _ x (y ∷ ys) _ [] _ step (gathers_whole (before + 1) n card one.0 (count + 1) y ys k c.1 one.2 (omega arith))
 
-drops_on : (before : ℕ) (x : Line) (xs : List Line) → EndsDropping x xs → Feeds before dropping (x ∷ xs) idle []
-drops_on before x [] h = feeds_one before dropping idle x [] idle [] [] (ap (λ b. (behind_break b, [])) h) (feeds_none (before + 1) idle)
-drops_on before x (y ∷ ys) h = feeds_one before dropping idle x (y ∷ ys) dropping [] [] (ap (λ b. (behind_break b, [])) h.0) (drops_on (before + 1) y ys h.1)
+drops_on : (before : ℕ) (x : Line) (xs : List Line) → EndsDropping x xs → Feeds before dropping (x ∷ xs) awaiting []
+drops_on before x [] h = feeds_one before dropping awaiting x [] awaiting [] [] (ap (λ b. (behind_break b, [])) h) (feeds_none (before + 1) awaiting)
+drops_on before x (y ∷ ys) h = feeds_one before dropping awaiting x (y ∷ ys) dropping [] [] (ap (λ b. (behind_break b, [])) h.0) (drops_on (before + 1) y ys h.1)
 
 drops_still : (before : ℕ) (x : Line) (xs : List Line) → IsDropping x xs → Feeds before dropping (x ∷ xs) dropping []
 drops_still before x [] h = feeds_one before dropping dropping x [] dropping [] [] (ap (λ b. (behind_break b, [])) h) (feeds_none (before + 1) dropping)
@@ -111,7 +111,7 @@ break_moves (Some j) c n card count (inr e) =
 
 -- a first line that is continued
 starts : (before : ℕ) (line : Line) → is_skipped line ≡ false → is_continued line ≡ true
-    → moved (number_behind before) idle line ≡ (gathering (number_behind before) (used line) (begun (used line)) 0, [])
+    → moved (number_behind before) awaiting line ≡ (gathering (number_behind before) (used line) (begun (used line)) 0, [])
 starts before line e c =
     ap (λ s. idle_with s (is_continued line) (number_behind before) line) e ∙ ap (λ b. idle_with false b (number_behind before) line) c
 
@@ -122,8 +122,8 @@ breaks_on : (before n : ℕ) (card : List ℕ) (j : Joined) (count : ℕ) (at : 
 breaks_on before n card j count at new dropped b h =
     feeds_one before _ new at dropped (behind_break (is_continued at)) (fault_of n) [] (break_moves (with_line j (used at)) (is_continued at) n card count b) h
 
-ends_break : (before : ℕ) (at : Line) (dropped : List Line) → EndsDropping at dropped → Feeds before (behind_break (is_continued at)) dropped idle []
-ends_break before at [] h = rw h (feeds_none before idle)
+ends_break : (before : ℕ) (at : Line) (dropped : List Line) → EndsDropping at dropped → Feeds before (behind_break (is_continued at)) dropped awaiting []
+ends_break before at [] h = rw h (feeds_none before awaiting)
 ends_break before at (d ∷ ds) h = rw h.0 (drops_on before d ds h.1)
 
 still_break : (before : ℕ) (at : Line) (dropped : List Line) → IsDropping at dropped → Feeds before (behind_break (is_continued at)) dropped dropping []
@@ -134,60 +134,60 @@ still_break before at (d ∷ ds) h = rw h.0 (drops_still before d ds h.1)
 broken_feeds : (before : ℕ) (line : Line) (lines : List Line) (at : Line) (dropped : List Line) (new : Mode) → is_skipped line ≡ false → AllContinued (line ∷ lines)
     → (j : Joined) × (with_lines (begun (used line)) (map used lines) ≡ Some j) × IsBreak j lines at → length lines ≤ 8
     → ((b : ℕ) → Feeds b (behind_break (is_continued at)) dropped new [])
-    → Feeds before idle (line ∷ (lines ++ at ∷ dropped)) new (fault_of (number_behind before))
+    → Feeds before awaiting (line ∷ (lines ++ at ∷ dropped)) new (fault_of (number_behind before))
 broken_feeds before line lines at dropped new e c b few h =
-    feeds_one before idle new line (lines ++ at ∷ dropped) _ [] _ (starts before line e c.0)
+    feeds_one before awaiting new line (lines ++ at ∷ dropped) _ [] _ (starts before line e c.0)
     (feeds_append (before + 1) _ _ new lines (at ∷ dropped) [] _
     (gathers_on (before + 1) (number_behind before) (used line) (begun (used line)) 0 lines b.0 c.1 b.1 (omega arith))
     (breaks_on _ (number_behind before) (used line) b.0 (0 + length lines) at new dropped (rw zero-add b.2) (h _)))
 
-part_feeds : (before : ℕ) (p : Part) → IsPart p → Feeds before idle (lines_of p) idle (answer_to before p)
+part_feeds : (before : ℕ) (p : Part) → IsPart p → Feeds before awaiting (lines_of p) awaiting (answer_to before p)
 part_feeds before (skipped line) h =
-    feeds_one before idle idle line [] idle [] [] (ap (λ s. idle_with s (is_continued line) (number_behind before) line) h) (feeds_none (before + 1) idle)
+    feeds_one before awaiting awaiting line [] awaiting [] [] (ap (λ s. idle_with s (is_continued line) (number_behind before) line) h) (feeds_none (before + 1) awaiting)
 part_feeds before (whole line []) h =
-    feeds_one before idle idle line [] idle _ []
+    feeds_one before awaiting awaiting line [] awaiting _ []
     (ap (λ s. idle_with s (is_continued line) (number_behind before) line) h.0 ∙ ap (λ b. idle_with false b (number_behind before) line) h.1)
-    (feeds_none (before + 1) idle)
+    (feeds_none (before + 1) awaiting)
 part_feeds before (whole line (x ∷ xs)) h =
     let joined : with_lines (begun (used line)) (map used (x ∷ xs)) ≡ Some h.3 = h.4 in
     rw (ap {B = List Answer} (λ r. record { line = number_behind before; what = said_by (used line) r } ∷ []) joined)
-    (feeds_one before idle idle line (x ∷ xs) _ [] _ (starts before line h.0 h.1.0)
+    (feeds_one before awaiting awaiting line (x ∷ xs) _ [] _ (starts before line h.0 h.1.0)
     (gathers_whole (before + 1) (number_behind before) (used line) (begun (used line)) 0 x xs h.3 h.1.1 joined (omega (arith, h.2))))
 part_feeds before (broken line lines at dropped) h =
-    broken_feeds before line lines at dropped idle h.0 h.1 h.2 h.4 (λ b. ends_break b at dropped h.3)
+    broken_feeds before line lines at dropped awaiting h.0 h.1 h.2 h.4 (λ b. ends_break b at dropped h.3)
 
-parts_feed : (before : ℕ) (ps : List Part) → AllByRecursion IsPart ps → Feeds before idle (flat_map lines_of ps) idle (answers_behind before ps)
-parts_feed before [] h = feeds_none before idle
+parts_feed : (before : ℕ) (ps : List Part) → AllByRecursion IsPart ps → Feeds before awaiting (flat_map lines_of ps) awaiting (answers_behind before ps)
+parts_feed before [] h = feeds_none before awaiting
 parts_feed before (p ∷ ps) h =
-    feeds_append before idle idle idle (lines_of p) (flat_map lines_of ps) _ _ (part_feeds before p h.0) (parts_feed (before + length (lines_of p)) ps h.1)
+    feeds_append before awaiting awaiting awaiting (lines_of p) (flat_map lines_of ps) _ _ (part_feeds before p h.0) (parts_feed (before + length (lines_of p)) ps h.1)
 
 abbrev at_end : Mode → List Answer
-at_end idle = []
+at_end awaiting = []
 at_end dropping = []
 at_end (gathering n card j count) = fault_of n
 
-reads_feed : (lines : List Line) (answers : List Answer) (ps : List Part) → Reads lines answers ps → Feeds 0 idle lines idle answers
+reads_feed : (lines : List Line) (answers : List Answer) (ps : List Part) → Reads lines answers ps → Feeds 0 awaiting lines awaiting answers
 reads_feed lines answers ps h = rw (h.split, h.told) (parts_feed 0 ps h.each)
 
 -- what the answers of a script that has ended are
-pub settled : (lines : List Line) (answers : List Answer) → Answers lines answers → answers ≡ said_after 0 idle lines ++ at_end (mode_after 0 idle lines)
+pub settled : (lines : List Line) (answers : List Answer) → Answers lines answers → answers ≡ said_after 0 awaiting lines ++ at_end (mode_after 0 awaiting lines)
 settled lines answers (inl h) =
-    let f : Feeds 0 idle lines idle answers = reads_feed lines answers h.0 h.1 in
+    let f : Feeds 0 awaiting lines awaiting answers = reads_feed lines answers h.0 h.1 in
     rw (f.mode, f.told) (sym (append-nil answers))
 settled lines answers (inr (inl h)) =
     let n : ℕ = length (flat_map lines_of h.parts) in
-    let front : Feeds 0 idle (flat_map lines_of h.parts) idle h.whole_answers = reads_feed _ h.whole_answers h.parts h.reads in
-    let f : Feeds 0 idle lines dropping answers =
-    rw (h.split, h.told) (feeds_append 0 idle idle dropping (flat_map lines_of h.parts) (h.first ∷ (h.before ++ h.at ∷ h.dropped)) h.whole_answers (fault_of (number_behind n)) front
+    let front : Feeds 0 awaiting (flat_map lines_of h.parts) awaiting h.whole_answers = reads_feed _ h.whole_answers h.parts h.reads in
+    let f : Feeds 0 awaiting lines dropping answers =
+    rw (h.split, h.told) (feeds_append 0 awaiting awaiting dropping (flat_map lines_of h.parts) (h.first ∷ (h.before ++ h.at ∷ h.dropped)) h.whole_answers (fault_of (number_behind n)) front
     (rw (zero-add n) (broken_feeds n h.first h.before h.at h.dropped dropping h.begins h.continued h.breaks h.few (λ b. still_break b h.at h.dropped h.drops)))) in
     rw (f.mode, f.told) (sym (append-nil answers))
 settled lines answers (inr (inr h)) =
     let g = h.gathers in
     let n : ℕ = length (flat_map lines_of g.parts) in
-    let front : Feeds 0 idle (flat_map lines_of g.parts) idle h.whole_answers = reads_feed _ h.whole_answers g.parts g.reads in
-    let f : Feeds 0 idle lines (gathering (number_behind n) (used g.first) h.joined (0 + length g.before)) (h.whole_answers ++ []) =
-    rw g.split (feeds_append 0 idle idle _ (flat_map lines_of g.parts) (g.first ∷ g.before) h.whole_answers [] front
-    (rw (zero-add n) (feeds_one n idle _ g.first g.before _ [] [] (starts n g.first g.begins g.continued.0)
+    let front : Feeds 0 awaiting (flat_map lines_of g.parts) awaiting h.whole_answers = reads_feed _ h.whole_answers g.parts g.reads in
+    let f : Feeds 0 awaiting lines (gathering (number_behind n) (used g.first) h.joined (0 + length g.before)) (h.whole_answers ++ []) =
+    rw g.split (feeds_append 0 awaiting awaiting _ (flat_map lines_of g.parts) (g.first ∷ g.before) h.whole_answers [] front
+    (rw (zero-add n) (feeds_one n awaiting _ g.first g.before _ [] [] (starts n g.first g.begins g.continued.0)
     (gathers_on (n + 1) _ (used g.first) (begun (used g.first)) 0 g.before h.joined g.continued.1 g.joins (omega (arith, g.counted, g.few)))))) in
     rw (f.mode, f.told) (h.told ∙ rw append-nil (ap (λ x. h.whole_answers ++ fault_of x) g.numbered))
 
@@ -206,14 +206,14 @@ all_moved lines (l ∷ ls) answers s h =
 
 -- a script may end wherever the reader stands
 ended : (m : Mode) (lines : List Line) (answers : List Answer) → Between m lines answers → Answers lines (answers ++ at_end m)
-ended idle lines answers h = rw append-nil (inl h)
+ended awaiting lines answers h = rw append-nil (inl h)
 ended dropping lines answers h = rw append-nil (inr (inl h))
 ended (gathering n card j count) lines answers h =
     inr (inr (record { whole_answers = answers; number = n; card = card; joined = j; count = count; gathers = h; told = refl }))
 
 pub some_reading : (lines : List Line) → (answers : List Answer) × Answers lines answers
 some_reading lines =
-    let none : IsBehind [] [] (record { count = 0; mode = idle }) =
+    let none : IsBehind [] [] (record { count = 0; mode = awaiting }) =
     record { counted = refl; between = ([], record { each = tt; split = refl; told = refl }) } in
-    let all = all_moved [] lines [] (record { count = 0; mode = idle }) none in
+    let all = all_moved [] lines [] (record { count = 0; mode = awaiting }) none in
     (all.0 ++ at_end all.1.mode, ended all.1.mode lines all.0 all.2.between)

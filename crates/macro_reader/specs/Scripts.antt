@@ -150,13 +150,13 @@ Answers lines answers = ((parts : List Part) × Reads lines answers parts) ⊎ (
 -- open statement, of which it keeps the number and the columns of the first line, the field, and the count of the
 -- continuation lines.
 pub data Mode : Type 0 where
-  idle : Mode
+  awaiting : Mode
   dropping : Mode
   gathering : ℕ → List ℕ → Joined → ℕ → Mode
 
 -- The answers to the lines so far of a script, for a reader that stands so.
 abbrev pub Between : Mode → List Line → List Answer → Type 0
-Between idle lines answers = (parts : List Part) × Reads lines answers parts
+Between awaiting lines answers = (parts : List Part) × Reads lines answers parts
 Between dropping lines answers = Drops lines answers
 Between (gathering number card j count) lines answers = Gathers lines answers number card j count
 
@@ -190,14 +190,14 @@ IsValidFed (Err fault) = ⊤
 -- How a reader stands behind a line that it drops or breaks off at, by whether that line is continued.
 abbrev pub behind_break : Bool → Mode
 behind_break true = dropping
-behind_break false = idle
+behind_break false = awaiting
 
 -- How a line moves a reader that awaits a statement, by whether the line is skipped and whether it is continued.
 abbrev pub idle_with : Bool → Bool → ℕ → Line → Mode × List Answer
-idle_with true continued number line = (idle, [])
+idle_with true continued number line = (awaiting, [])
 idle_with false true number line = (gathering number (used line) (begun (used line)) 0, [])
 idle_with false false number line =
-    (idle, record { line = number; what = statement_with (used line) (begun (used line)).text } ∷ [])
+    (awaiting, record { line = number; what = statement_with (used line) (begun (used line)).text } ∷ [])
 
 -- How a line moves a reader that has an open statement, by the field with the line, whether the line is continued, and
 -- whether it is the ninth continuation line.
@@ -205,14 +205,14 @@ abbrev pub gathered_with : Option Joined → Bool → Bool → ℕ → List ℕ 
 gathered_with None continued ninth number card count =
     (behind_break continued, record { line = number; what = Err kind.Continuation } ∷ [])
 gathered_with (Some j) false ninth number card count =
-    (idle, record { line = number; what = statement_with card j.text } ∷ [])
+    (awaiting, record { line = number; what = statement_with card j.text } ∷ [])
 gathered_with (Some j) true true number card count =
     (dropping, record { line = number; what = Err kind.Continuation } ∷ [])
 gathered_with (Some j) true false number card count = (gathering number card j (count + 1), [])
 
 -- How a line with this number moves a reader, and what it answers.
 abbrev pub moved : ℕ → Mode → Line → Mode × List Answer
-moved number idle line = idle_with (is_skipped line) (is_continued line) number line
+moved number awaiting line = idle_with (is_skipped line) (is_continued line) number line
 moved number dropping line = (behind_break (is_continued line), [])
 moved number (gathering n card j count) line =
     gathered_with (with_line j (used line)) (is_continued line) (count == 8) n card count

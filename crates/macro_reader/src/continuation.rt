@@ -6,7 +6,7 @@ ghost use Rattle.macro_reader.specs.Continuation.{nesting_after, ends_with_comma
 ghost use Rattle.macro_reader.specs.Modes.{joined};
 
 use crate::columns::is_blank;
-use crate::modes::{FIELD_BYTES, Gathered};
+use crate::modes::{FIELD_BYTES, OpenField};
 use arrayvec::ArrayVec;
 use macro_statements::{from_operands, is_misplaced};
 use operand_texts::nesting::{Nesting, field_len};
@@ -49,7 +49,7 @@ fn part_of(card: &[u8]) -> &[u8]
     &card[15..]
 }
 
-impl Gathered {
+impl OpenField {
     /// Takes the field's part on a first line, columns 1 to 71 of it, in place of what was gathered.
     pub(crate) fn begin(&mut self, card: &[u8])
         requires { length card.now ≡ 71 }

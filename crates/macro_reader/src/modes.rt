@@ -11,7 +11,7 @@ pub const FIELD_BYTES: usize = 575;
 
 /// The operand field of an open statement.
 #[derive(Drop)]
-pub struct Gathered {
+pub struct OpenField {
     /// The field so far.
     pub text: ArrayVec<u8, FIELD_BYTES>,
     /// Where its next byte stands.
@@ -32,7 +32,7 @@ pub struct OpenStatement {
     pub number: u32,
     /// Columns 1 to 71 of its first line.
     pub first: [u8; 71],
-    pub gathered: Gathered,
+    pub gathered: OpenField,
 }
 
 impl OpenStatement {
@@ -41,7 +41,7 @@ impl OpenStatement {
         OpenStatement {
             number: 0,
             first: [b' '; 71],
-            gathered: Gathered {
+            gathered: OpenField {
                 text: ArrayVec::new(),
                 at: Nesting::outside(),
                 goes_on: false,
@@ -55,7 +55,7 @@ impl OpenStatement {
 #[derive(Clone, Copy)]
 pub enum Mode {
     /// It awaits a statement.
-    Idle,
+    Awaiting,
     /// It drops the lines behind a statement that is broken.
     Dropping,
     /// Its statement is open.

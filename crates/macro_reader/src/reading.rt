@@ -3,7 +3,7 @@
 ghost use Rattle.std.specs.Prelude.{◌≡◌, ◌≤◌, [], ◌∷◌, ◌++◌, List};
 ghost use Rattle.macro_reader.specs.Columns.{Line, is_continued};
 ghost use Rattle.macro_reader.specs.Scripts.{Answer, Answers, IsBehind, IsValidFed, told_by, told_at_end, moved};
-ghost use Rattle.macro_reader.specs.Scripts.{behind_break, idle};
+ghost use Rattle.macro_reader.specs.Scripts.{behind_break, awaiting};
 ghost use Rattle.macro_reader.specs.Modes.{mode_of, most_lines};
 ghost use Rattle.macro_statements.specs.Statements.{statement_with};
 ghost use Rattle.macro_reader.specs.declared.modes.OpenStatement.{OpenStatement};
@@ -65,14 +65,14 @@ fn said(number: u32, first: &[u8], text: &[u8]) -> Result<Fed, Fault>
 
 /// How a line moves a reader that awaits a statement.
 fn start(number: u32, statement: &mut OpenStatement, line: &[u8]) -> (Mode, Result<Fed, Fault>)
-    ensures mode { mode_of result.0 statement.new ≡ (moved number idle line.now).0 }
+    ensures mode { mode_of result.0 statement.new ≡ (moved number awaiting line.now).0 }
     ensures few { statement.new.gathered.lines ≤ most_lines result.0 }
-    ensures told { told_by result.1 ≡ (moved number idle line.now).1 }
+    ensures told { told_by result.1 ≡ (moved number awaiting line.now).1 }
     ensures valid { IsValidFed result.1 }
 {
     let first = used(line);
     if is_skipped(&first) {
-        return (Mode::Idle, Ok(Fed::More));
+        return (Mode::Awaiting, Ok(Fed::More));
     }
     statement.gathered.begin(&first);
     if is_continued(line) {
@@ -81,7 +81,7 @@ fn start(number: u32, statement: &mut OpenStatement, line: &[u8]) -> (Mode, Resu
         return (Mode::Gathering, Ok(Fed::More));
     }
     (
-        Mode::Idle,
+        Mode::Awaiting,
         said(number, &first, statement.gathered.text.as_slice()),
     )
 }
@@ -94,7 +94,7 @@ fn behind_break(line: &[u8]) -> Mode
     if is_continued(line) {
         Mode::Dropping
     } else {
-        Mode::Idle
+        Mode::Awaiting
     }
 }
 
@@ -119,7 +119,7 @@ fn go_on(statement: &mut OpenStatement, line: &[u8]) -> (Mode, Result<Fed, Fault
             &statement.first,
             statement.gathered.text.as_slice(),
         );
-        return (Mode::Idle, fed);
+        return (Mode::Awaiting, fed);
     }
     if statement.gathered.lines > 8 {
         return (Mode::Dropping, Err(broken));
@@ -141,7 +141,7 @@ fn move_on(
     ensures valid { IsValidFed result.1 }
 {
     match mode {
-        Mode::Idle => start(number, statement, line),
+        Mode::Awaiting => start(number, statement, line),
         Mode::Dropping => (behind_break(line), Ok(Fed::More)),
         Mode::Gathering => go_on(statement, line),
     }
@@ -154,7 +154,7 @@ impl Reader {
     {
         Reader {
             count: 0,
-            mode: Mode::Idle,
+            mode: Mode::Awaiting,
             statement: OpenStatement::none(),
         }
     }
@@ -186,10 +186,10 @@ impl Reader {
     pub fn finish(&mut self) -> Result<(), Fault>
         ensures answers { (lines : List Line) (answers : List Answer) → IsBehind lines answers self.old
             → Answers lines (answers ++ told_at_end result) }
-        ensures mode { self.new.mode ≡ idle }
+        ensures mode { self.new.mode ≡ awaiting }
         ensures count { self.new.count ≡ self.old.count }
     {
-        match mem::replace(&mut self.mode, Mode::Idle) {
+        match mem::replace(&mut self.mode, Mode::Awaiting) {
             Mode::Gathering => Err(Fault {
                 kind: FaultKind::Continuation,
                 line: self.statement.number,

@@ -46,7 +46,7 @@ impl Storage {
     }
 
     /// Where the byte at an address stands among the bytes of the region, with so many of them from there on.
-    fn place_of(&self, address: usize, count: usize) -> usize
+    fn index_of(&self, address: usize, count: usize) -> usize
         requires some { 0 < count }
         requires there { are_there (state_of self.now) address count ≡ true }
         ensures at { FIRST_ADDRESS + result ≡ address }
@@ -64,7 +64,7 @@ impl Storage {
         if bytes.is_empty() {
             return;
         }
-        let first = self.place_of(address, bytes.len());
+        let first = self.index_of(address, bytes.len());
         write_run(&mut self.bytes, first, bytes);
     }
 
@@ -81,7 +81,7 @@ impl Storage {
             return Err(Cause::NotAssigned);
         }
         if !out.is_empty() {
-            let first = self.place_of(address, out.len());
+            let first = self.index_of(address, out.len());
             out.copy_from_slice(&self.bytes[first..first + out.len()]);
         }
         Ok(())

@@ -1,10 +1,7 @@
 //! Why a service is refused, and the completion codes that say so.
-ghost use Rattle.std.specs.Prelude.{◌≡◌, Some};
+ghost use Rattle.std.specs.Prelude.{◌≡◌};
 ghost use Rattle.vsm_model.specs.Codes.{code_of, suffix};
 ghost use Rattle.vsm_model.specs.Registers.{answers_four};
-ghost use Rattle.vsm_model.specs.Texts.{code_text};
-
-use std::fmt;
 
 /// The cause for which a service is refused (*Assembler Services Reference*, STORAGE, "ABEND codes").
 #[derive(Clone, Copy, Debug, PartialEq, Eq)]
@@ -85,17 +82,6 @@ impl Cause {
             Cause::NotInSubpool => Code::User(3003),
             Cause::UnsupportedSubpool => Code::User(3007),
             Cause::TooManyNames => Code::User(3013),
-        }
-    }
-}
-
-impl fmt::Display for Code {
-    ghost output = { λ code. Some (code_text code) };
-
-    fn fmt<W: fmt::Write>(&self, f: &mut fmt::Formatter<W>) -> fmt::Result {
-        match *self {
-            Code::System(code) => write!(f, "S{code:03X}"),
-            Code::User(code) => write!(f, "U{code:04}"),
         }
     }
 }

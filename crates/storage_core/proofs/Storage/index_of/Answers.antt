@@ -1,7 +1,7 @@
 use Rattle.std.proofs.Common.{arith, refl}
 use Rattle.storage_core.specs.Meaning.{state_of}
 use Rattle.storage_core.proofs.Written.{run_from, run_within}
-use Rattle.storage_core.proofs.Storage.place_of.Goals as goal
+use Rattle.storage_core.proofs.Storage.index_of.Goals as goal
 
 pub returns-clause-at : goal.returns-clause-at
 returns-clause-at c =
