@@ -42,6 +42,18 @@ fn put_reply<W: Write>(gathered: &mut Gathered, writer: &mut W, reply: Reply)
             gathered.put(writer, b"RC=");
             put_decimal(gathered, writer, code);
         }
+        Reply::Cell(address) => {
+            gathered.put(writer, b"RC=0 A=");
+            put_hexadecimal(gathered, writer, 8, address);
+        }
+        Reply::Attached(task) => {
+            gathered.put(writer, b"RC=0 T=");
+            put_decimal(gathered, writer, u32::from(task));
+        }
+        Reply::Turn(task) => {
+            gathered.put(writer, b"T=");
+            put_decimal(gathered, writer, u32::from(task));
+        }
         Reply::Stored => gathered.put(writer, b"OK"),
     }
 }

@@ -3,7 +3,7 @@ use Rattle.std.proofs.Common.{◌≡◌, ℕ, true, if◌then◌else◌, Option,
 use Rattle.std.proofs.lemmas.Bool.{cond-true}
 use Rattle.vsm_model.specs.Search.{all_pass}
 use Rattle.vsm_model.specs.State.{State}
-use Rattle.vsm_model.specs.Storage.{with_subpool}
+use Rattle.vsm_model.specs.Subpools.{with_subpool}
 use Rattle.storage_core.specs.declared.plans.Action.{Action}
 use Rattle.storage_core.specs.declared.plans.Action.TheVariants.{Take, TakeFresh, GiveBack, Write, Nothing}
 use Rattle.storage_core.specs.declared.plans.Plan.{Plan}

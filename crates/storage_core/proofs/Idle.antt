@@ -4,15 +4,19 @@ use Rattle.std.proofs.lemmas.Bool.{cases_eq, cases_lt, and_left, and_right, cond
 use Rattle.std.proofs.lemmas.Bool.Decides.{nat_tests}
 use Rattle.std.proofs.lemmas.List.{get_or_past}
 use Rattle.vsm_model.specs.declared.Subpool.{Subpool}
-use Rattle.vsm_model.specs.Search.{all_pass}
 use Rattle.vsm_model.specs.State.{State}
-use Rattle.vsm_model.specs.Areas.{belongs}
-use Rattle.vsm_model.specs.Storage.{is_idle, without_idle_pages}
+use Rattle.vsm_model.specs.Search.{all_pass, holds}
+use Rattle.vsm_model.specs.Subpools.{same_subpool}
+use Rattle.vsm_model.specs.Releasing.{is_idle, without_idle_pages}
 use Rattle.vsm_model.proofs.Least.{all_pass_none, all_pass_more}
 use Rattle.storage_core.specs.Meaning.{assigned_at, is_taken_at, byte_at}
 use Rattle.storage_core.specs.Idle.{without_page_if_idle}
 use Rattle.storage_core.proofs.Views.{assigned_at-inside, is_taken_at-inside}
 use Rattle.storage_core.proofs.Runs.{same_assigned, at_page}
+
+-- the page is the subpool's
+abbrev pub belongs : Subpool → Option Subpool → Bool
+belongs p o = holds (same_subpool p) o
 
 module _ (taken : List Bool) (page : ℕ) where
   pub idle_misses : (k : ℕ) → k < 512 → slice_index_or taken (512 * page + k) false ≡ true → false ≡ is_idle (is_taken_at taken) (6 + page)

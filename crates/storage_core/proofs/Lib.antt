@@ -6,6 +6,8 @@ pub mod Sights
 pub mod Idle
 pub mod Outcomes
 pub mod Foreign
+pub mod Causes
+pub mod Released
 pub mod Fresh
 pub mod Written
 pub mod Carried

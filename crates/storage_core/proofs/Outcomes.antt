@@ -1,63 +1,53 @@
--- Plans against the outcomes of the plain machine.
-use Rattle.std.proofs.Common.{◌≡◌, ℕ, ◌≤◌, Bool, false, if◌then◌else◌, Option, Some, None, is_none, unwrap_or, Result, Ok, Err, IfOk, IfErr, sym, ◌∙◌, ap, subst, ◌≢◌}
-use Rattle.vsm_model.specs.declared.Subpool.{Subpool}
+-- Plans against what the plain machine answers.
+use Rattle.std.proofs.Common.{◌≡◌, ℕ, Bool, Option, Some, None, Result, Ok, Err, IfOk, IfErr, [], ◌∷◌, ◌++◌, sym, ◌∙◌, ap, subst}
 use Rattle.vsm_model.specs.declared.causes.Cause.{Cause}
+use Rattle.vsm_model.specs.declared.limits.Settings.{Settings}
 use Rattle.vsm_model.specs.declared.replies.Reply.{Reply}
+use Rattle.vsm_model.specs.declared.replies.Reply.TheVariants.{Obtained, Returned}
+use Rattle.vsm_model.specs.declared.services.Obtain.{Obtain}
+use Rattle.vsm_model.specs.declared.services.Release.{Release}
 use Rattle.vsm_model.specs.State.{State}
-use Rattle.vsm_model.specs.Regions.{Region}
-use Rattle.vsm_model.specs.Areas.{Place, place}
-use Rattle.vsm_model.specs.Storage.{with_subpool, obtained, area_obtained, doublewords}
+use Rattle.vsm_model.specs.Causes.{first_cause}
+use Rattle.vsm_model.specs.Services.{Service, obtain, release}
 use Rattle.vsm_model.specs.Standing.{Outcome, Accepted, Refused}
-use Rattle.vsm_model.proofs.Obtains.{obtain_in_seen}
+use Rattle.vsm_model.specs.Registers.{registers_set, named_register, length_register}
+use Rattle.vsm_model.specs.Step.{causes, effect, step}
 use Rattle.storage_core.specs.declared.plans.Plan.{Plan}
-use Rattle.storage_core.specs.Planned.{done, planned, acted, IsFound, IsAnswered}
+use Rattle.storage_core.specs.Planned.{done, planned, IsFound, IsAnswered, IsPlain, reply_registers}
 
-module _ (outcome : Outcome State Reply Cause) (s : State) (subpool : Subpool) (is_new : Bool) (n : ℕ) (at : Place) where
-  pub planned_is : outcome ≡ obtained (if is_new then with_subpool s subpool.number subpool.owner else s) subpool n at →
-      (r : Result Plan Cause) → IfOk r (λ plan. (t : State) → obtained t subpool n at ≡ Accepted (acted t subpool plan.action) plan.reply) →
-      IfOk r (λ plan. plan.subpool ≡ subpool) → IfOk r (λ plan. plan.is_new ≡ is_new) →
-      IfOk r (λ plan. outcome ≡ Accepted (done s plan) plan.reply)
-  planned_is e (Ok plan) h same made =
-      e ∙ h (if is_new then with_subpool s subpool.number subpool.owner else s)
-      ∙ λ i. Accepted (acted (if sym made i then with_subpool s (sym same i).number (sym same i).owner else s) (sym same i) plan.action) plan.reply
-  planned_is e (Err cause) h same made = h
+module _ (settings : Settings) (names_full : Bool) (s : State) where
+  obtain_registers : (o : Obtain) → IsPlain o → (plan : Plan) → (address : ℕ) × (length : ℕ) × (plan.reply ≡ Obtained address length) → plan.register ≡ o.register →
+      registers_set (obtain o) plan.reply ≡ reply_registers plan.register plan.reply
+  obtain_registers o plain plan (address, length, reply) register =
+      ap (registers_set (obtain o)) reply
+      ∙ (λ i. (15, 0) ∷ (1, address) ∷ length_register (plain.fixed i) length ++ named_register (sym register i) address)
+      ∙ sym (ap (reply_registers plan.register) reply)
 
-  pub refused_is : outcome ≡ obtained (if is_new then with_subpool s subpool.number subpool.owner else s) subpool n at →
-      (r : Result Plan Cause) → IfErr r (λ cause. (t : State) → obtained t subpool n at ≡ Refused cause) →
-      IfErr r (λ cause. outcome ≡ Refused cause)
-  refused_is e (Ok plan) h = h
-  refused_is e (Err cause) h = e ∙ h (if is_new then with_subpool s subpool.number subpool.owner else s)
+  pub found_obtain : (o : Obtain) → IsPlain o → (r : Result Plan Cause) →
+      IfOk r (λ plan. first_cause (causes settings names_full s (obtain o)) ≡ None) →
+      IfOk r (λ plan. effect settings s (obtain o) ≡ (done s plan, plan.reply)) →
+      IfOk r (λ plan. (address : ℕ) × (length : ℕ) × (plan.reply ≡ Obtained address length)) →
+      IfOk r (λ plan. plan.register ≡ o.register) →
+      IfErr r (λ cause. first_cause (causes settings names_full s (obtain o)) ≡ Some cause) →
+      IsFound settings names_full s (obtain o) r
+  found_obtain o plain (Ok plan) none does reply register err = (none, does, obtain_registers o plain plan reply register)
+  found_obtain o plain (Err cause) none does reply register err = err
 
-module _ (low : Region) (s : State) (length number : ℕ) (names_full : Bool) where
-  abbrev Is : ℕ → ℕ → Bool → Subpool → Type 0
-  Is n count is_new subpool = area_obtained low s length number names_full ≡ obtained (if is_new then with_subpool s subpool.number subpool.owner else s) subpool count (place s low subpool count 1)
+  pub found_release : (x : Release) (r : Result Plan Cause) →
+      IfOk r (λ plan. first_cause (causes settings names_full s (release x)) ≡ None) →
+      IfOk r (λ plan. effect settings s (release x) ≡ (done s plan, plan.reply)) →
+      IfOk r (λ plan. plan.reply ≡ Returned 0) →
+      IfErr r (λ cause. first_cause (causes settings names_full s (release x)) ≡ Some cause) →
+      IsFound settings names_full s (release x) r
+  found_release x (Ok plan) none does reply err =
+      (none, does, ap (registers_set (release x)) reply ∙ sym (ap (reply_registers plan.register) reply))
+  found_release x (Err cause) none does reply err = err
 
-  obtains_in : (n count : ℕ) (o : Option ℕ) → number ≤ 127 → length ≢ 0 → names_full ≡ false → n ≡ number → count ≡ doublewords length → o ≡ s.sight s.current n →
-      Is n count (is_none o) (record { number = n; owner = unwrap_or o s.current })
-  obtains_in n count (Some owner) small some room is n_is seen =
-      obtain_in_seen low s length number names_full (Some owner) small some room (ap (s.sight s.current) (sym is) ∙ sym seen)
-      ∙ λ i. obtained s (record { number = sym is i; owner = owner }) (sym n_is i) (place s low (record { number = sym is i; owner = owner }) (sym n_is i) 1)
-  obtains_in n count None small some room is n_is seen =
-      obtain_in_seen low s length number names_full None small some room (ap (s.sight s.current) (sym is) ∙ sym seen)
-      ∙ λ i. obtained (with_subpool s (sym is i) s.current) (record { number = sym is i; owner = s.current }) (sym n_is i) (place s low (record { number = sym is i; owner = s.current }) (sym n_is i) 1)
+  module _ (x : Service) where
+    pub answered_ok : (r : Result Plan Cause) → IsAnswered settings names_full s x r → IfOk r (λ plan. step settings names_full s x ≡ Accepted (planned s plan) plan.reply)
+    answered_ok (Ok plan) h = h
+    answered_ok (Err cause) h = tt
 
-  -- what an obtain is, by the subpool that is seen or made
-  pub obtains : (n count : ℕ) (o : Option ℕ) (owner : ℕ) (is_new : Bool) → number ≤ 127 → length ≢ 0 → names_full ≡ false → n ≡ number → count ≡ doublewords length → o ≡ s.sight s.current n →
-      owner ≡ unwrap_or o s.current → is_new ≡ is_none o → Is n count is_new (record { number = n; owner = owner })
-  obtains n count o owner is_new small some room is n_is seen its new =
-      subst (λ b. Is n count b (record { number = n; owner = owner })) (sym new)
-      (subst (λ x. Is n count (is_none o) (record { number = n; owner = x })) (sym its) (obtains_in n count o small some room is n_is seen))
-
--- what was found and what is answered, by the variant
-module _ (s : State) (outcome : Outcome State Reply Cause) where
-  pub found_is : (r : Result Plan Cause) → IfOk r (λ plan. outcome ≡ Accepted (done s plan) plan.reply) → IfErr r (λ cause. outcome ≡ Refused cause) → IsFound s outcome r
-  found_is (Ok plan) h g = h
-  found_is (Err cause) h g = g
-
-  pub answered_ok : (r : Result Plan Cause) → IsAnswered s outcome r → IfOk r (λ plan. outcome ≡ Accepted (planned s plan) plan.reply)
-  answered_ok (Ok plan) h = h
-  answered_ok (Err cause) h = tt
-
-  pub answered_err : (r : Result Plan Cause) → IsAnswered s outcome r → IfErr r (λ cause. outcome ≡ Refused cause)
-  answered_err (Ok plan) h = tt
-  answered_err (Err cause) h = h
+    pub answered_err : (r : Result Plan Cause) → IsAnswered settings names_full s x r → IfErr r (λ cause. step settings names_full s x ≡ Refused cause)
+    answered_err (Ok plan) h = tt
+    answered_err (Err cause) h = h

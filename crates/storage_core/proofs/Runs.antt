@@ -1,12 +1,18 @@
 -- Runs of elements, written.
-use Rattle.std.proofs.Common.{◌≡◌, ℕ, ◌+◌, ◌-◌, ◌<◌, Bool, true, false, ◌&&◌, ◌||◌, not, nat_le, nat_lt, if◌then◌else◌, arith, refl, sym, ◌∙◌, ap, subst, Option, Some, None, List, length, slice_index_or, slice_set, inl, inr, get_or-set_same, get_or-set_other, ◌≢◌}
-use Rattle.std.proofs.lemmas.Bool.{cond-false, cond-true, cases_eq, cases_lt, and_left}
+use Rattle.std.proofs.Common.{◌≡◌, ℕ, ◌+◌, ◌-◌, ◌<◌, ◌≤◌, Bool, true, false, ◌&&◌, ◌||◌, not, nat_le, nat_lt, if◌then◌else◌, arith, refl, sym, ◌∙◌, ap, subst, Option, Some, None, List, length, slice_index_or, slice_set, inl, inr, get_or-set_same, get_or-set_other, ◌≢◌}
+use Rattle.std.proofs.lemmas.Bool.{cond-false, cond-true, cases_eq, cases_lt, and_left, and_parts, and_from, leb-true, ltb-true, le-leb, lt-ltb}
 use Rattle.std.proofs.lemmas.Bool.Decides.{nat_tests}
 use Rattle.vsm_model.specs.declared.Subpool.{Subpool}
 use Rattle.vsm_model.specs.State.{State}
 use Rattle.vsm_model.specs.Regions.{among}
 use Rattle.storage_core.specs.Meaning.{assigned_at, is_taken_at}
 use Rattle.storage_core.proofs.Views.{assigned_at-inside, is_taken_at-inside}
+
+pub among-in : (a n k : ℕ) → among a n k ≡ true → (a ≤ k) × (k < a + n)
+among-in a n k e = let parts = and_parts (nat_le a k) (nat_lt k (a + n)) e in (leb-true a k parts.0, ltb-true k (a + n) parts.1)
+
+pub in-among : (a n k : ℕ) → a ≤ k → k < a + n → among a n k ≡ true
+in-among a n k low high = and_from (nat_le a k) (nat_lt k (a + n)) (le-leb a k low) (lt-ltb k (a + n) high)
 
 pub among-none : (a j : ℕ) → among a 0 j ≡ false
 among-none a j = grind (arith, nat_tests)

@@ -4,7 +4,7 @@ use Rattle.std.proofs.lemmas.Bool.{cond-false}
 use Rattle.std.proofs.lemmas.Bool.Decides.{nat_tests}
 use Rattle.vsm_model.specs.declared.Subpool.{Subpool}
 use Rattle.vsm_model.specs.State.{State}
-use Rattle.vsm_model.specs.Areas.{same_subpool}
+use Rattle.vsm_model.specs.Subpools.{same_subpool}
 use Rattle.storage_core.specs.declared.Sight.{Sight}
 use Rattle.storage_core.specs.Meaning.{has_subpool, seen_in}
 

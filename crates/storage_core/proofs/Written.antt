@@ -9,9 +9,8 @@ use Rattle.vsm_model.specs.State.{State}
 use Rattle.vsm_model.specs.Regions.{among}
 use Rattle.vsm_model.specs.Bytes.{are_there, byte_or_zero, bytes_from, load}
 use Rattle.vsm_model.proofs.Least.{all_pass_at}
-use Rattle.vsm_model.proofs.Kept.{among-in, in-among}
 use Rattle.storage_core.specs.Meaning.{assigned_at, byte_at}
-use Rattle.storage_core.proofs.Runs.{among-none, among-last, among-others}
+use Rattle.storage_core.proofs.Runs.{among-in, in-among, among-none, among-last, among-others}
 
 -- a run of bytes is written from the front on
 pub write_run_none : (ys bs : List ℕ) (a j : ℕ) → slice_index_or ys j 0 ≡ (if among a 0 j then slice_index_or bs (j - a) 0 else slice_index_or ys j 0)

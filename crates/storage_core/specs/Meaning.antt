@@ -6,7 +6,7 @@ use Rattle.vsm_model.specs.declared.Subpool.{Subpool}
 use Rattle.vsm_model.specs.declared.limits.Settings.{Settings}
 use Rattle.vsm_model.specs.Regions.{Region, low_region}
 use Rattle.vsm_model.specs.State.{State}
-use Rattle.vsm_model.specs.Areas.{same_subpool}
+use Rattle.vsm_model.specs.Subpools.{same_subpool}
 use Rattle.storage_core.specs.declared.TheConstants.{FIRST_PAGE, FIRST_DOUBLEWORD, FIRST_ADDRESS}
 use Rattle.storage_core.specs.declared.Sight.{Sight}
 use Rattle.storage_core.specs.declared.Storage.{Storage}
@@ -29,6 +29,10 @@ assigned_at pages page = if nat_lt page FIRST_PAGE then None else slice_index_or
 abbrev pub is_taken_at : List Bool → ℕ → Bool
 is_taken_at taken d = nat_le FIRST_DOUBLEWORD d && slice_index_or taken (d - FIRST_DOUBLEWORD) false
 
+-- There is task 1 alone: its parent is 0, which is no task.
+abbrev pub parent_in : ℕ → Option ℕ
+parent_in task = if task == 1 then Some 0 else None
+
 -- the words of the registers of the current task; any other one has zeros
 abbrev pub word_in : ℕ → List ℕ → ℕ → ℕ → ℕ
 word_in current registers task register = if task == current then slice_index_or registers register 0 else 0
@@ -43,19 +47,21 @@ abbrev pub state_of : Storage → State
 state_of s =
     record {
       current = s.current;
+      parents = parent_in;
       subpools = has_subpool s.subpools.items;
       sight = seen_in s.sight.items;
       pages = assigned_at s.pages.items;
       taken = is_taken_at s.taken.items;
       words = word_in s.current s.registers;
       bytes = byte_at s.pages.items s.bytes.items;
+      cell_pools = [];
     }
 
 -- the settings that it was made with
 abbrev pub settings_of : Storage → Settings
 settings_of s = s.settings
 
--- the region that these lay out
+-- the region below the line that these lay out
 abbrev pub region_of : Storage → Region
 region_of s = low_region (settings_of s)
 

@@ -19,7 +19,7 @@ pub use changes::Change;
 pub use plans::{Plan, with_room};
 use std::alloc::{AllocError, Global};
 pub use vsm_model::{
-    Cause, Code, Family, Obtain, Release, Reply, Residence, Service, Settings, Subpool,
+    Boundary, Cause, Code, Family, Lengths, Location, Obtain, Release, Reply, Residence, Service, Settings, Subpool,
 };
 
 /// The bytes of a page.
@@ -36,6 +36,9 @@ const FIRST_DOUBLEWORD: usize = PAGE_DOUBLEWORDS * FIRST_PAGE;
 
 /// The address of that page.
 const FIRST_ADDRESS: usize = PAGE_BYTES * FIRST_PAGE;
+
+/// The first doubleword of the region above the line, whose addresses begin at X'8000000'.
+const HIGH_DOUBLEWORD: usize = PAGE_DOUBLEWORDS * 32_768;
 
 /// The most bytes of one store.
 pub const STORE_MOST: usize = 256;

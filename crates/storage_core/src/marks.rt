@@ -2,9 +2,10 @@
 ghost use Rattle.std.specs.Prelude.{◌≡◌, ℕ, ◌+◌, ◌*◌, ◌/◌, ◌<◌, ◌≤◌, length, slice_index_or, if◌then◌else◌, OnOk};
 ghost use Rattle.std.specs.Prelude.{OnErr, None};
 ghost use Rattle.vsm_model.specs.Regions.{among};
-ghost use Rattle.vsm_model.specs.Areas.{belongs};
-ghost use Rattle.vsm_model.specs.Storage.{is_idle, with_subpool, with_taken, with_pages, without_taken};
-ghost use Rattle.vsm_model.specs.Storage.{without_idle_pages};
+ghost use Rattle.vsm_model.specs.Search.{holds};
+ghost use Rattle.vsm_model.specs.Subpools.{same_subpool, with_subpool};
+ghost use Rattle.vsm_model.specs.Obtaining.{with_taken, with_pages};
+ghost use Rattle.vsm_model.specs.Releasing.{is_idle, without_taken, without_idle_pages};
 ghost use Rattle.storage_core.specs.Meaning.{state_of, settings_of};
 ghost use Rattle.storage_core.specs.Idle.{without_page_if_idle};
 
@@ -76,7 +77,7 @@ impl Storage {
     /// Whether the page is assigned to the subpool.
     pub(crate) fn belongs(&self, subpool: Subpool, page: usize) -> bool
         requires { page < length self.now.pages.items }
-        ensures { result ≡ belongs subpool ((state_of self.now).pages (FIRST_PAGE + page)) }
+        ensures { result ≡ holds (same_subpool subpool) ((state_of self.now).pages (FIRST_PAGE + page)) }
     {
         match self.pages[page] {
             Some(assigned) => assigned == subpool,

@@ -1,9 +1,9 @@
 //! What a service will do, found by reading alone.
-ghost use Rattle.std.specs.Prelude.{◌≡◌, ◌<◌, ◌≤◌, IfOk, IfErr, OnOk, OnErr};
-ghost use Rattle.vsm_model.specs.Causes.{number_cause};
-ghost use Rattle.vsm_model.specs.Standing.{Outcome};
+ghost use Rattle.std.specs.Prelude.{◌≡◌, ◌<◌, ◌≤◌, Bool, Some, IfOk, IfErr, OnOk, OnErr};
+ghost use Rattle.vsm_model.specs.declared.limits.Settings.{Settings};
+ghost use Rattle.vsm_model.specs.Causes.{first_cause, number_causes};
 ghost use Rattle.vsm_model.specs.State.{State};
-ghost use Rattle.vsm_model.specs.Registers.{in_registers, conditionally};
+ghost use Rattle.vsm_model.specs.Services.{Service, is_conditional};
 ghost use Rattle.storage_core.specs.Planned.{reply_of, IsFound, IsAnswered, FitsStorage};
 ghost use Rattle.storage_core.specs.declared.Storage.{Storage};
 
@@ -69,7 +69,7 @@ impl Plan {
 fn check_number(number: u32) -> Result<u8, Cause>
     ensures ok { IfOk result (λ n. n ≡ number) }
     ensures allowed { OnOk result (number ≤ 127) }
-    ensures err { IfErr result (λ cause. cause ≡ number_cause number) }
+    ensures err { IfErr result (λ cause. first_cause (number_causes number) ≡ Some cause) }
     ensures refused { OnErr result (127 < number) }
 {
     match number {
@@ -81,15 +81,10 @@ fn check_number(number: u32) -> Result<u8, Cause>
 
 /// The answer of a service in its conditional form or not: a conditional one is accepted with return code 4 for some
 /// causes.
-fn answered(
-    found: Result<Plan, Cause>,
-    subpool: Subpool,
-    register: Option<u8>,
-    conditional: bool,
-) -> Result<Plan, Cause>
-    requires { IfOk found (λ plan. plan.register ≡ register) }
-    ensures is { (s : State) (outcome : Outcome State Reply Cause) → IsFound s outcome found →
-        IsAnswered s (in_registers register (conditionally s conditional outcome)) result }
+fn answered(found: Result<Plan, Cause>, subpool: Subpool, conditional: bool) -> Result<Plan, Cause>
+    ensures is { (settings : Settings) (names_full : Bool) (s : State) (x : Service) →
+        is_conditional x ≡ conditional → IsFound settings names_full s x found →
+        IsAnswered settings names_full s x result }
     ensures fits { (s : Storage) → IfOk found (λ plan. FitsStorage s plan) → IfOk result (λ plan. FitsStorage s plan) }
 {
     match found {

@@ -1,7 +1,8 @@
 //! The registers of the task.
 ghost use Rattle.std.specs.Prelude.{◌≡◌, ◌<◌, IfSome};
-ghost use Rattle.vsm_model.specs.Registers.{with_register, with_reply};
+ghost use Rattle.vsm_model.specs.Registers.{with_register, with_registers};
 ghost use Rattle.storage_core.specs.Meaning.{state_of, settings_of};
+ghost use Rattle.storage_core.specs.Planned.{reply_registers};
 
 use super::{Reply, Storage};
 
@@ -38,11 +39,11 @@ impl Storage {
     /// The reply of a service is in the registers from now on.
     pub(crate) fn set_reply(&mut self, register: Option<u8>, reply: Reply)
         requires { IfSome register (λ r. r < 16) }
-        ensures state { state_of self.new ≡ with_reply (state_of self.old) register reply }
+        ensures state { state_of self.new ≡ with_registers (state_of self.old) (reply_registers register reply) }
         ensures settings { settings_of self.new ≡ settings_of self.old }
     {
         match reply {
-            Reply::Obtained { address, .. } => {
+            Reply::Obtained { address, .. } | Reply::Cell(address) => {
                 self.set_register(15, 0);
                 self.set_register(1, address);
                 if let Some(named) = register {
@@ -50,7 +51,11 @@ impl Storage {
                 }
             }
             Reply::Returned(code) => self.set_register(15, code),
-            Reply::Stored => {}
+            Reply::Attached(task) => {
+                self.set_register(15, 0);
+                self.set_register(1, u32::from(task));
+            }
+            Reply::Turn(_) | Reply::Stored => {}
         }
     }
 }

@@ -3,8 +3,9 @@ use Rattle.std.proofs.Common.{◌≡◌, ℕ, Bool, true, false, ◌||◌, if◌
 use Rattle.vsm_model.specs.declared.limits.Settings.{Settings}
 use Rattle.vsm_model.specs.declared.causes.Cause.{Cause}
 use Rattle.vsm_model.specs.declared.replies.Reply.{Reply}
-use Rattle.vsm_model.specs.declared.replies.Reply.TheVariants.{Obtained, Returned, Stored}
+use Rattle.vsm_model.specs.declared.replies.Reply.TheVariants.{Obtained, Returned, Cell, Attached, Turn, Stored}
 use Rattle.vsm_model.specs.Codes.{completion_code}
+use Rattle.vsm_model.specs.Forms.{with_code}
 use Rattle.vsm_model.specs.Names.{NamedState, named, names_after, is_one_too_many, same_name, word_of}
 use Rattle.vsm_model.specs.Standing.{Accepted, Refused}
 use Rattle.vsm_model.specs.Services.{Service}
@@ -18,30 +19,45 @@ use Rattle.vsm_machine.specs.declared.plans.Planned.{Planned}
 use Rattle.vsm_machine.specs.declared.refusals.Refusal.{Refusal}
 use Rattle.vsm_machine.specs.declared.refusals.Refusal.TheVariants.{Abend}
 use Rattle.vsm_machine.specs.Changes.{stepped_by, CanStepBy, undefines_none}
-use Rattle.vsm_machine.specs.Machine.{Why, abended, with_code, served, service_asked, name_asked, family_asked, statement_step}
+use Rattle.vsm_machine.specs.Machine.{Why, abended, or_abend, served, service_asked, name_asked, family_asked, statement_step}
 use Rattle.vsm_machine.specs.Planned.{step_for, step_planned, IsAcceptedBy}
 use Rattle.vsm_machine.specs.Refusals.{refusal_for}
 
 -- without a name no step is taken
 pub no_step : (names : List (List ℕ × ℕ)) (reply : Reply) → None ≡ step_for names None reply
 no_step names (Obtained address length) = refl
+no_step names (Cell address) = refl
 no_step names (Returned code) = refl
+no_step names (Attached task) = refl
+no_step names (Turn task) = refl
 no_step names Stored = refl
 
 names_stepped : (names : List (List ℕ × ℕ)) (name : Option (List ℕ)) (reply : Reply) → stepped_by names (step_for names name reply) ≡ names_after names name reply
 names_stepped names None (Obtained address length) = refl
+names_stepped names None (Cell address) = refl
 names_stepped names None (Returned code) = refl
+names_stepped names None (Attached task) = refl
+names_stepped names None (Turn task) = refl
 names_stepped names None Stored = refl
 names_stepped names (Some name) (Obtained address length) = step_to_rows names name address
+names_stepped names (Some name) (Cell address) = step_to_rows names name address
 names_stepped names (Some name) (Returned code) = refl
+names_stepped names (Some name) (Attached task) = refl
+names_stepped names (Some name) (Turn task) = refl
 names_stepped names (Some name) Stored = refl
 
 can_step : (names : List (List ℕ × ℕ)) (name : Option (List ℕ)) (reply : Reply) → CanStepBy names (λ name. true) (step_for names name reply)
 can_step names None (Obtained address length) = tt
+can_step names None (Cell address) = tt
 can_step names None (Returned code) = tt
+can_step names None (Attached task) = tt
+can_step names None (Turn task) = tt
 can_step names None Stored = tt
 can_step names (Some name) (Obtained address length) = step_to_can names (λ name. true) name address refl
+can_step names (Some name) (Cell address) = step_to_can names (λ name. true) name address refl
 can_step names (Some name) (Returned code) = tt
+can_step names (Some name) (Attached task) = tt
+can_step names (Some name) (Turn task) = tt
 can_step names (Some name) Stored = tt
 
 to_undefines_none : (names : List (List ℕ × ℕ)) (name : List ℕ) (word : ℕ) → undefines_none (Some (step_to names name word)) ≡ true
@@ -53,10 +69,16 @@ to_undefines_none names name word =
 
 gives : (names : List (List ℕ × ℕ)) (name : Option (List ℕ)) (reply : Reply) → undefines_none (step_for names name reply) ≡ true
 gives names None (Obtained address length) = refl
+gives names None (Cell address) = refl
 gives names None (Returned code) = refl
+gives names None (Attached task) = refl
+gives names None (Turn task) = refl
 gives names None Stored = refl
 gives names (Some name) (Obtained address length) = to_undefines_none names name address
+gives names (Some name) (Cell address) = to_undefines_none names name address
 gives names (Some name) (Returned code) = refl
+gives names (Some name) (Attached task) = refl
+gives names (Some name) (Turn task) = refl
 gives names (Some name) Stored = refl
 
 module _
@@ -72,7 +94,7 @@ module _
       record {
         accepted =
             ap (served settings m x) (sym is)
-            ∙ ap (λ o. with_code (completion_code (family_asked x) service) (named m.names (name_asked x) o)) e
+            ∙ ap (λ o. or_abend (with_code (family_asked x) service (named m.names (name_asked x) o))) e
             ∙ (λ i. Accepted (record { storage = storage.planned m.storage p.plan; names = names i }) reply);
         can = subst (CanStepBy m.names (λ name. true)) (sym named_by) (can_step m.names (name_asked x) reply);
         gives = ap undefines_none named_by ∙ gives m.names (name_asked x) reply;
@@ -85,7 +107,7 @@ module _
   refused_by cause e refused told = (
     abended (completion_code (family_asked x) service cause),
     ap (served settings m x) (sym is)
-        ∙ ap (λ o. with_code (completion_code (family_asked x) service) (named m.names (name_asked x) o)) refused,
+        ∙ ap (λ o. or_abend (with_code (family_asked x) service (named m.names (name_asked x) o))) refused,
     told,
   )
 

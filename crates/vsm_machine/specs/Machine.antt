@@ -1,17 +1,20 @@
 -- What a written statement does to the plain machine: its values are looked up, and then it is a service.
-use Rattle.std.specs.Prelude.{ℕ, Option, Some, None, List, Result, Ok, Err}
+use Rattle.std.specs.Prelude.{ℕ, Bool, Option, Some, None, List, Result, Ok, Err}
 use Rattle.std.specs.Option.{option_map}
 use Rattle.vsm_model.specs.declared.limits.Settings.{Settings}
-use Rattle.vsm_model.specs.declared.causes.Cause.{Cause}
 use Rattle.vsm_model.specs.declared.causes.Code.{Code}
 use Rattle.vsm_model.specs.declared.causes.Code.TheVariants.{System}
 use Rattle.vsm_model.specs.declared.causes.Family.{Family}
 use Rattle.vsm_model.specs.declared.causes.Family.TheVariants.{S}
 use Rattle.vsm_model.specs.declared.replies.Reply.{Reply}
 use Rattle.vsm_model.specs.Bytes.{fullword, load}
-use Rattle.vsm_model.specs.Codes.{completion_code}
-use Rattle.vsm_model.specs.Names.{NamedState, named_step, word_of}
-use Rattle.vsm_model.specs.Services.{Service, Obtain, Release, Store}
+use Rattle.vsm_model.specs.declared.services.Boundary.TheVariants.{Doubleword}
+use Rattle.vsm_model.specs.declared.services.Lengths.TheVariants.{Fixed}
+use Rattle.vsm_model.specs.declared.services.Location.TheVariants.{Low}
+use Rattle.vsm_model.specs.Forms.{formed_step}
+use Rattle.vsm_model.specs.Names.{NamedState, word_of}
+use Rattle.vsm_model.specs.Services as services
+use Rattle.vsm_model.specs.Services.{Service}
 use Rattle.vsm_model.specs.Standing.{Outcome, Accepted, Refused}
 use Rattle.macro_statements.specs.Requests.{Written, number, named, register, Target, in_name, in_register, Stored}
 use Rattle.macro_statements.specs.Requests.{spelled, word, Act, obtain, release, poke}
@@ -52,16 +55,35 @@ with_three f (Some a) (Some b) (Some c) = Some (f a b c)
 with_three f _ _ _ = None
 
 abbrev pub with_bytes : Option ℕ → Option (List ℕ) → Option Service
-with_bytes (Some address) (Some bytes) = Some (Store address bytes)
+with_bytes (Some address) (Some bytes) = Some (services.store address bytes)
 with_bytes _ _ = None
+
+-- an area of a fixed length, on a doubleword below the line
+abbrev pub fixed_area : Option ℕ → Bool → ℕ → ℕ → Service
+fixed_area r conditional bytes subpool =
+    services.obtain
+    (record {
+      lengths = Fixed bytes;
+      number = subpool;
+      boundary = Doubleword;
+      location = Low;
+      register = r;
+      conditional = conditional;
+    })
+
+-- an area that is given back
+abbrev pub area_back : Bool → ℕ → ℕ → ℕ → Service
+area_back conditional bytes first subpool =
+    services.release
+    (record { length = bytes; address = first; number = subpool; conditional = conditional })
 
 -- The service that a statement asks for, with the words of its values; there is none where one of its names isn't
 -- defined.
 abbrev pub service_asked : NamedState → Act → Option Service
 service_asked m (obtain length subpool target form) =
-    with_two (λ l n. Obtain l n (register_in target) form.conditional) (looked_up m length) (looked_up m subpool)
+    with_two (fixed_area (register_in target) form.conditional) (looked_up m length) (looked_up m subpool)
 service_asked m (release length address subpool form) =
-    with_three (λ l a n. Release l a n form.conditional)
+    with_three (area_back form.conditional)
     (looked_up m length) (looked_up m address) (looked_up m subpool)
 service_asked m (poke address content) = with_bytes (looked_up m address) (bytes_in m content)
 
@@ -78,17 +100,18 @@ family_asked (obtain length subpool target form) = form.family
 family_asked (release length address subpool form) = form.family
 family_asked (poke address content) = S
 
--- a cause is answered by its completion code
-abbrev pub with_code : (Cause → Code) → Outcome NamedState Reply Cause → Outcome NamedState Reply Why
-with_code code (Accepted m reply) = Accepted m reply
-with_code code (Refused cause) = Refused (abended (code cause))
+-- a completion code is one of the reasons for which a statement is refused
+abbrev pub or_abend : Outcome NamedState Reply Code → Outcome NamedState Reply Why
+or_abend (Accepted m reply) = Accepted m reply
+or_abend (Refused code) = Refused (abended code)
 
 -- a statement whose names are all defined is its service
 abbrev pub served : Settings → NamedState → Act → Option Service → Outcome NamedState Reply Why
 served settings m x None = Refused unknown_name
 served settings m x (Some service) =
-    with_code (completion_code (family_asked x) service)
-    (named_step settings m (record { service = service; name = name_asked x }))
+    or_abend
+    (formed_step settings m
+    (record { family = family_asked x; asked = record { service = service; name = name_asked x } }))
 
 abbrev pub statement_step : Settings → NamedState → Act → Outcome NamedState Reply Why
 statement_step settings m x = served settings m x (service_asked m x)

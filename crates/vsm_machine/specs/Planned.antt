@@ -3,7 +3,7 @@ use Rattle.std.specs.Prelude.{◌≡◌, ℕ, true, Option, Some, None, List, Re
 use Rattle.std.specs.Option.{option_map}
 use Rattle.vsm_model.specs.declared.limits.Settings.{Settings}
 use Rattle.vsm_model.specs.declared.replies.Reply.{Reply}
-use Rattle.vsm_model.specs.declared.replies.Reply.TheVariants.{Obtained}
+use Rattle.vsm_model.specs.declared.replies.Reply.TheVariants.{Obtained, Cell}
 use Rattle.vsm_model.specs.Names.{NamedState}
 use Rattle.vsm_model.specs.Standing.{Accepted, Refused}
 use Rattle.macro_statements.specs.Requests.{Act}
@@ -18,9 +18,10 @@ use Rattle.vsm_machine.specs.Changes.{stepped_by, CanStepBy, step_of, undefines_
 use Rattle.vsm_machine.specs.Machine.{Why, statement_step}
 use Rattle.vsm_machine.specs.Refusals.{refusal_for}
 
--- The name that a statement names is given the address of the area that it obtains.
+-- The name that a statement names is given the address of the area that it obtains, or of the cell.
 abbrev pub step_for : List (List ℕ × ℕ) → Option (List ℕ) → Reply → Option NameStep
 step_for names (Some name) (Obtained address length) = Some (step_to names name address)
+step_for names (Some name) (Cell address) = Some (step_to names name address)
 step_for names _ _ = None
 
 -- the name that a step defines, if it defines one

@@ -38,13 +38,15 @@ fn is_one_too_many(names: &NameTable, name: Option<&Name>) -> bool
     }
 }
 
-/// The step of the name that gets the address, if there is one and an area was obtained.
+/// The step of the name that gets the address, if there is one and an area or a cell was obtained.
 fn name_change(names: &NameTable, name: Option<&Name>, reply: Reply) -> Option<NameChange>
     ensures { option_map step_in result ≡ step_for (rows_of names.now) (option_map (λ n. n.now.bytes) name.entry)
         reply }
 {
     match (name, reply) {
-        (Some(name), Reply::Obtained { address, .. }) => Some(names.change_to(*name, address)),
+        (Some(name), Reply::Obtained { address, .. } | Reply::Cell(address)) => {
+            Some(names.change_to(*name, address))
+        }
         _ => None,
     }
 }

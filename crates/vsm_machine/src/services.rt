@@ -2,7 +2,7 @@
 ghost use Rattle.std.specs.Prelude.{◌≡◌, IfSome};
 ghost use Rattle.std.specs.Option.{option_map};
 ghost use Rattle.vsm_model.specs.Meaning.{service_in};
-ghost use Rattle.storage_core.specs.Planned.{HasItsBounds};
+ghost use Rattle.storage_core.specs.Planned.{CanBePlanned};
 ghost use Rattle.macro_statements.specs.Requests.{act_in, target_in, IsValidAct};
 ghost use Rattle.vsm_machine.specs.Changes.{shown};
 ghost use Rattle.vsm_machine.specs.Machine.{service_asked, name_asked, family_asked, register_in};
@@ -11,7 +11,7 @@ use crate::machine::Machine;
 use crate::values::{bytes_of, look_up};
 use macro_statements::{Family, Statement};
 use operand_texts::{Name, Place};
-use storage_core::{Obtain, Release, Service};
+use storage_core::{Boundary, Lengths, Location, Obtain, Release, Service};
 
 /// The register that is set besides register 1, if the place is one.
 fn register_of(place: &Option<Place>) -> Option<u8>
@@ -32,7 +32,7 @@ pub(crate) fn service_of<'a>(
 ) -> Option<Service<'a>>
     requires { IsValidAct (act_in statement.now) }
     ensures is { option_map service_in result ≡ service_asked (shown machine.now) (act_in statement.now) }
-    ensures bounds { IfSome result (λ service. HasItsBounds (service_in service)) }
+    ensures bounds { IfSome result (λ service. CanBePlanned (service_in service)) }
 {
     match statement {
         Statement::Obtain {
@@ -41,8 +41,10 @@ pub(crate) fn service_of<'a>(
             place,
             form,
         } => Some(Service::Obtain(Obtain {
-            length: look_up(machine, length)?,
+            lengths: Lengths::Fixed(look_up(machine, length)?),
             number: look_up(machine, subpool)?,
+            boundary: Boundary::Doubleword,
+            location: Location::Low,
             register: register_of(place),
             conditional: form.conditional,
         })),

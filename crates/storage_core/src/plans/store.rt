@@ -1,6 +1,6 @@
 //! Plans of stores.
 ghost use Rattle.std.specs.Prelude.{◌≡◌, ◌≤◌, Bool, length, IfOk, IfErr};
-ghost use Rattle.vsm_model.specs.Services.{Store};
+ghost use Rattle.vsm_model.specs.Services.{store};
 ghost use Rattle.vsm_model.specs.Standing.{Accepted, Refused};
 ghost use Rattle.vsm_model.specs.Step.{step};
 ghost use Rattle.storage_core.specs.Meaning.{state_of, settings_of};
@@ -37,11 +37,11 @@ impl Storage {
     pub fn plan_store(&self, address: u32, bytes: &[u8]) -> Result<Plan, Cause>
         requires { length bytes.now ≤ 256 }
         ensures ok { (names_full : Bool) → IfOk result (λ plan.
-            step (settings_of self.now) names_full (state_of self.now) (Store address bytes.now)
+            step (settings_of self.now) names_full (state_of self.now) (store address bytes.now)
             ≡ Accepted (planned (state_of self.now) plan) (reply_of plan)) }
         ensures fits { IfOk result (λ plan. FitsStorage self.now plan) }
         ensures err { (names_full : Bool) → IfErr result (λ cause.
-            step (settings_of self.now) names_full (state_of self.now) (Store address bytes.now) ≡ Refused cause) }
+            step (settings_of self.now) names_full (state_of self.now) (store address bytes.now) ≡ Refused cause) }
     {
         let address = address as usize;
         if !self.are_there(address, bytes.len()) {

@@ -1,10 +1,10 @@
 use Rattle.std.proofs.Common.{◌≡◌, sym, subst, ap, ◌∙◌, None, rules}
 use Rattle.std.proofs.lemmas.Bool.{cond-false}
 use Rattle.vsm_model.specs.State.{State}
-use Rattle.vsm_model.specs.Storage.{with_subpool}
-use Rattle.vsm_model.specs.Registers.{with_reply}
+use Rattle.vsm_model.specs.Subpools.{with_subpool}
+use Rattle.vsm_model.specs.Registers.{with_registers}
 use Rattle.storage_core.specs.Meaning.{state_of}
-use Rattle.storage_core.specs.Planned.{acted}
+use Rattle.storage_core.specs.Planned.{acted, reply_registers}
 use Rattle.storage_core.proofs.Carried.{there_kept, made}
 use Rattle.storage_core.proofs.plans.Plan.reserve.Goals as goal
 use Rattle.storage_core.proofs.plans.Plan.reserve.Goals.{then-self+in_ok-add_subpool, else-self}
@@ -29,7 +29,7 @@ act-requires-clause-there c =
 pub returns-clause-state : goal.returns-clause-state
 returns-clause-state c =
     c.set_reply.ensures.state
-    ∙ ap (λ s. with_reply s c.args.self.register c.args.self.reply)
+    ∙ ap (λ s. with_registers s (reply_registers c.args.self.register c.args.self.reply))
     (c.act.ensures.state
     ∙ ap (λ s. acted s c.args.self.subpool c.args.self.action)
     (elim c.if-self.branch [

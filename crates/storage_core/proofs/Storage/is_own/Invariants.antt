@@ -1,9 +1,0 @@
-use Rattle.std.proofs.Common.{◌≡◌, true, not}
-use Rattle.vsm_model.specs.Search.{all_pass}
-use Rattle.vsm_model.specs.Causes.{is_foreign}
-use Rattle.vsm_model.specs.Regions.{low_region}
-use Rattle.storage_core.specs.Meaning.{state_of, settings_of}
-use Rattle.storage_core.proofs.Storage.is_own.Given as goal
-
-abbrev pub invariant-loop-k : goal.invariant-loop-k
-invariant-loop-k l = all_pass (λ k. not (is_foreign (state_of l.self) (low_region (settings_of l.self)) l.subpool k)) l.first l.k ≡ true
