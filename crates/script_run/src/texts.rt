@@ -42,9 +42,9 @@ fn put_reply<W: Write>(gathered: &mut Gathered, writer: &mut W, reply: Reply)
             gathered.put(writer, b"RC=");
             put_decimal(gathered, writer, code);
         }
-        Reply::Cell(address) => {
+        Reply::Cell(cell) => {
             gathered.put(writer, b"RC=0 A=");
-            put_hexadecimal(gathered, writer, 8, address);
+            put_hexadecimal(gathered, writer, 8, cell);
         }
         Reply::Attached(task) => {
             gathered.put(writer, b"RC=0 T=");
