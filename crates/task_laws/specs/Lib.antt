@@ -1,0 +1,4 @@
+pub mod Trees
+pub mod Ends
+pub mod Gifts
+pub mod WellFormedStays
