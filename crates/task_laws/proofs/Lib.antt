@@ -1,3 +1,4 @@
+pub mod Tables
 pub mod Subtrees
 pub mod Depth
 pub mod Ended
