@@ -1,9 +1,16 @@
 pub mod Tables
 pub mod Subtrees
+pub mod Below
 pub mod Depth
+pub mod Accepted
 pub mod Ended
 pub mod Ending
+pub mod EndedPools
+pub mod Turned
 pub mod Ends
+pub mod Gone
 pub mod Given
 pub mod Gifts
 pub mod Attached
+pub mod Refused
+pub mod Stays

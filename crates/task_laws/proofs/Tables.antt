@@ -212,9 +212,6 @@ module _ (keeps : CellPool → Bool) where
 
 -- Each cell pool is changed, and the names stay.
 module _ (change : CellPool → CellPool) where
-  changed : List ℕ × CellPool → List ℕ × CellPool
-  changed row = (row.0, change row.1)
-
   below_changed : (name : List ℕ) (rows : CellPools) → below_all by_name name (map (λ row. (row.0, change row.1)) rows) ≡ below_all by_name name rows
   below_changed name [] = refl
   below_changed name (row ∷ rows) = ap (λ b. is_lt (by_name name row.0) && b) (below_changed name rows)

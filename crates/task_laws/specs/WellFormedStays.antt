@@ -1,24 +1,34 @@
--- A service on tasks leaves a well-formed state well-formed.
-use Rattle.std.specs.Prelude.{◌≡◌, ℕ, ◌≤◌, true, None}
+-- An accepted service on tasks leaves a well-formed state well-formed.
+use Rattle.std.specs.Prelude.{◌≡◌, ℕ, ◌≤◌, Bool, true, None}
 use Rattle.vsm_model.specs.declared.limits.Settings.{Settings}
+use Rattle.vsm_model.specs.declared.replies.Reply.{Reply}
 use Rattle.vsm_model.specs.declared.services.Attach.{Attach}
 use Rattle.vsm_model.specs.State.{State, is_task}
+use Rattle.vsm_model.specs.Services.{detach, end_task, run}
+use Rattle.vsm_model.specs.Standing.{Accepted}
 use Rattle.vsm_model.specs.Causes.{first_cause}
 use Rattle.vsm_model.specs.Passing.{with_gift}
-use Rattle.vsm_model.specs.Tasks.{attach_causes, attached, detach_causes, detached, end_task_causes, ended}
-use Rattle.vsm_model.specs.WellFormed.{PagesAreSound, SightIsSound, TasksAreSound, IsWellFormed}
+use Rattle.vsm_model.specs.Tasks.{attach_causes, attached}
+use Rattle.vsm_model.specs.Step.{step}
+use Rattle.vsm_model.specs.WellFormed.{SightIsSound, TasksAreSound, IsWellFormed}
 
--- A DETACH leaves pages, sight and tasks of a well-formed state sound,
-abbrev pub DetachLeavesTheTreeSound : Type 0
-DetachLeavesTheTreeSound =
-    (settings : Settings) (s : State) (task : ℕ) → IsWellFormed settings s → first_cause (detach_causes s task) ≡ None →
-    PagesAreSound settings (detached s task).0 × SightIsSound (detached s task).0 × TasksAreSound (detached s task).0
+-- DETACH,
+abbrev pub DetachLeavesWellFormed : Type 0
+DetachLeavesWellFormed =
+    (settings : Settings) (names_full : Bool) (s t : State) (task : ℕ) (reply : Reply) → IsWellFormed settings s →
+    step settings names_full s (detach task) ≡ Accepted t reply → IsWellFormed settings t
 
--- and so does an ENDTASK.
-abbrev pub EndTaskLeavesTheTreeSound : Type 0
-EndTaskLeavesTheTreeSound =
-    (settings : Settings) (s : State) → IsWellFormed settings s → first_cause (end_task_causes s) ≡ None →
-    PagesAreSound settings (ended s).0 × SightIsSound (ended s).0 × TasksAreSound (ended s).0
+-- ENDTASK,
+abbrev pub EndTaskLeavesWellFormed : Type 0
+EndTaskLeavesWellFormed =
+    (settings : Settings) (names_full : Bool) (s t : State) (reply : Reply) → IsWellFormed settings s →
+    step settings names_full s end_task ≡ Accepted t reply → IsWellFormed settings t
+
+-- and RUN.
+abbrev pub RunLeavesWellFormed : Type 0
+RunLeavesWellFormed =
+    (settings : Settings) (names_full : Bool) (s t : State) (task : ℕ) (reply : Reply) → IsWellFormed settings s →
+    step settings names_full s (run task) ≡ Accepted t reply → IsWellFormed settings t
 
 -- An ATTACH leaves tasks sound: the new one has zero words, since it had none before.
 abbrev pub AttachLeavesTasksSound : Type 0
