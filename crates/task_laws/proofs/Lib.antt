@@ -14,3 +14,10 @@ pub mod Gifts
 pub mod Attached
 pub mod Refused
 pub mod Stays
+pub mod GivenStorage
+pub mod Numbers
+pub mod Grown
+pub mod SightRows
+pub mod Passed
+pub mod Began
+pub mod Attaches

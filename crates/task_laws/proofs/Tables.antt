@@ -18,6 +18,20 @@ some_is_not x e = cc
 same_some : {A : Type 0} (x y : A) → ◌≡◌ {A = Option A} (Some x) (Some y) → x ≡ y
 same_some x y e = cc
 
+-- What holds of each element of two lists, one after the other.
+module _ {X : Type 0} (P : X → Type 0) where
+  pub left_part : (xs ys : List X) → AllByRecursion P (xs ++ ys) → AllByRecursion P xs
+  left_part [] ys h = tt
+  left_part (x ∷ xs) ys h = (h.0, left_part xs ys h.1)
+
+  pub right_part : (xs ys : List X) → AllByRecursion P (xs ++ ys) → AllByRecursion P ys
+  right_part [] ys h = h
+  right_part (x ∷ xs) ys h = right_part xs ys h.1
+
+  joined : (xs ys : List X) → AllByRecursion P xs → AllByRecursion P ys → AllByRecursion P (xs ++ ys)
+  joined [] ys h g = g
+  joined (x ∷ xs) ys h g = (h.0, joined xs ys h.1 g)
+
 -- What holds of each two elements of a list, by recursion on the list.
 module _ {X : Type 0} (R : X → X → Type 0) where
   Pairs : List X → Type 0
@@ -36,18 +50,6 @@ module _ {X : Type 0} (R : X → X → Type 0) where
   unfolding Pairs
   all_pairs [] h = λ i j d less below. absurd (omega (arith, below))
   all_pairs (x ∷ xs) h = AllPairs-cons R x xs (All-from_recursion (R x) xs h.0) (all_pairs xs h.1)
-
-  left_part : (P : X → Type 0) (xs ys : List X) → AllByRecursion P (xs ++ ys) → AllByRecursion P xs
-  left_part P [] ys h = tt
-  left_part P (x ∷ xs) ys h = (h.0, left_part P xs ys h.1)
-
-  right_part : (P : X → Type 0) (xs ys : List X) → AllByRecursion P (xs ++ ys) → AllByRecursion P ys
-  right_part P [] ys h = h
-  right_part P (x ∷ xs) ys h = right_part P xs ys h.1
-
-  joined : (P : X → Type 0) (xs ys : List X) → AllByRecursion P xs → AllByRecursion P ys → AllByRecursion P (xs ++ ys)
-  joined P [] ys h g = g
-  joined P (x ∷ xs) ys h g = (h.0, joined P xs ys h.1 g)
 
   later_pairs : (xs ys : List X) → Pairs (xs ++ ys) → Pairs ys
   unfolding Pairs

@@ -1,16 +1,20 @@
 -- An accepted service on tasks leaves a well-formed state well-formed.
-use Rattle.std.specs.Prelude.{◌≡◌, ℕ, ◌≤◌, Bool, true, None}
+use Rattle.std.specs.Prelude.{◌≡◌, ℕ, ◌≤◌, Bool, true}
 use Rattle.vsm_model.specs.declared.limits.Settings.{Settings}
 use Rattle.vsm_model.specs.declared.replies.Reply.{Reply}
 use Rattle.vsm_model.specs.declared.services.Attach.{Attach}
 use Rattle.vsm_model.specs.State.{State, is_task}
-use Rattle.vsm_model.specs.Services.{detach, end_task, run}
+use Rattle.vsm_model.specs.Services.{attach, detach, end_task, run}
 use Rattle.vsm_model.specs.Standing.{Accepted}
-use Rattle.vsm_model.specs.Causes.{first_cause}
 use Rattle.vsm_model.specs.Passing.{with_gift}
-use Rattle.vsm_model.specs.Tasks.{attach_causes, attached}
 use Rattle.vsm_model.specs.Step.{step}
-use Rattle.vsm_model.specs.WellFormed.{SightIsSound, TasksAreSound, IsWellFormed}
+use Rattle.vsm_model.specs.WellFormed.{SightIsSound, IsWellFormed}
+
+-- ATTACH,
+abbrev pub AttachLeavesWellFormed : Type 0
+AttachLeavesWellFormed =
+    (settings : Settings) (names_full : Bool) (s t : State) (a : Attach) (reply : Reply) → IsWellFormed settings s →
+    step settings names_full s (attach a) ≡ Accepted t reply → IsWellFormed settings t
 
 -- DETACH,
 abbrev pub DetachLeavesWellFormed : Type 0
@@ -29,11 +33,6 @@ abbrev pub RunLeavesWellFormed : Type 0
 RunLeavesWellFormed =
     (settings : Settings) (names_full : Bool) (s t : State) (task : ℕ) (reply : Reply) → IsWellFormed settings s →
     step settings names_full s (run task) ≡ Accepted t reply → IsWellFormed settings t
-
--- An ATTACH leaves tasks sound: the new one has zero words, since it had none before.
-abbrev pub AttachLeavesTasksSound : Type 0
-AttachLeavesTasksSound =
-    (s : State) (a : Attach) → TasksAreSound s → first_cause (attach_causes s a) ≡ None → TasksAreSound (attached s a).0
 
 -- A gift from a task to a task leaves sight sound.
 abbrev pub AGiftLeavesSightSound : Type 0

@@ -4,7 +4,7 @@ ghost use Rattle.task_laws.specs.FirstCauses.{DetachIsRefusedForTheFirst, EndTas
 ghost use Rattle.task_laws.specs.Gifts.{AGiftLeavesNothing};
 ghost use Rattle.task_laws.specs.Trees.{NoneIsDeeper, SubtreeIsAllBelow, SubtreeIsWhole};
 ghost use Rattle.task_laws.specs.Turns.{RunTurnsToTheTask};
-ghost use Rattle.task_laws.specs.WellFormedStays.{AGiftLeavesSightSound, AttachLeavesTasksSound, DetachLeavesWellFormed, EndTaskLeavesWellFormed, RunLeavesWellFormed};
+ghost use Rattle.task_laws.specs.WellFormedStays.{AGiftLeavesSightSound, AttachLeavesWellFormed, DetachLeavesWellFormed, EndTaskLeavesWellFormed, RunLeavesWellFormed};
 
 /// An accepted DETACH ends the task and all tasks below it, and an accepted ENDTASK the current task, whose parent is current then. What
 /// the ended tasks owned is gone: subpools, their pages with doublewords and bytes, their cell pools, and who saw them sees none. All else
@@ -53,5 +53,5 @@ pub fn stays_well_formed()
     ensures detach { DetachLeavesWellFormed }
     ensures end_task { EndTaskLeavesWellFormed }
     ensures run { RunLeavesWellFormed }
-    ensures attach { AttachLeavesTasksSound }
+    ensures attach { AttachLeavesWellFormed }
 {}

@@ -1,4 +1,4 @@
-use Rattle.task_laws.proofs.Attached.{attach_leaves_tasks_sound}
+use Rattle.task_laws.proofs.Attaches.{attach_leaves_well_formed}
 use Rattle.task_laws.proofs.Stays.{detach_leaves_well_formed, end_task_leaves_well_formed, run_leaves_well_formed}
 use Rattle.task_laws.proofs.laws.stays_well_formed.Goals as goal
 
@@ -12,4 +12,4 @@ pub returns-clause-run : goal.returns-clause-run
 returns-clause-run c = run_leaves_well_formed
 
 pub returns-clause-attach : goal.returns-clause-attach
-returns-clause-attach c = attach_leaves_tasks_sound
+returns-clause-attach c = attach_leaves_well_formed
