@@ -1,5 +1,5 @@
 -- What an accepted service on tasks leaves, with the registers that its reply sets.
-use Rattle.std.proofs.Common.{◌≡◌, ℕ, Bool, Option, Some, None, [], ◌∷◌, refl}
+use Rattle.std.proofs.Common.{◌≡◌, ℕ, Bool, None, [], ◌∷◌, refl}
 use Rattle.std.specs.Prelude.{unwrap_or}
 use Rattle.vsm_model.specs.declared.limits.Settings.{Settings}
 use Rattle.vsm_model.specs.declared.replies.Reply.{Reply}

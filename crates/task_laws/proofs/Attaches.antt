@@ -1,5 +1,5 @@
 -- ATTACH leaves a well-formed state well-formed.
-use Rattle.std.proofs.Common.{◌≡◌, ◌≢◌, ℕ, ◌≤◌, ◌<◌, Bool, true, false, not, ◌&&◌, ◌||◌, ◌==◌, ◌++◌, if◌then◌else◌, Option, Some, None, List, [], ◌∷◌, is_some, refl, sym, ◌∙◌, ap, subst, arith, inl, inr, true≢false}
+use Rattle.std.proofs.Common.{◌≡◌, ◌≢◌, ℕ, ◌≤◌, true, false, not, ◌==◌, ◌++◌, Option, Some, None, List, [], ◌∷◌, is_some, refl, sym, ◌∙◌, ap, subst, arith, true≢false}
 use Rattle.std.specs.Prelude.{unwrap_or, is_none}
 use Rattle.std.specs.List.{AllByRecursion, list_any}
 use Rattle.std.proofs.lemmas.Bool.{or_left, or_right, eq-eqb, ne_eqb, not-true, false_from_ne_true}
@@ -8,7 +8,7 @@ use Rattle.vsm_model.specs.declared.limits.Settings.{Settings}
 use Rattle.vsm_model.specs.declared.services.Attach.{Attach}
 use Rattle.vsm_model.specs.Search.{is_in, IsLeastAmong}
 use Rattle.vsm_model.specs.State.{State, is_task}
-use Rattle.vsm_model.specs.Subpools.{with_subpool, with_sight, with_own}
+use Rattle.vsm_model.specs.Subpools.{with_own}
 use Rattle.vsm_model.specs.Causes.{Causes, first_cause}
 use Rattle.vsm_model.specs.Passing.{numbers_in, is_bad_list, is_anothers, with_gift, with_gifts, with_share, with_shares}
 use Rattle.vsm_model.specs.Tasks.{attach_causes, attached, free_number, with_task, with_zero}
@@ -19,11 +19,11 @@ use Rattle.vsm_model.proofs.Least.{least_among}
 use Rattle.vsm_model.proofs.Registered.{registers_leave_well_formed}
 use Rattle.task_laws.specs.WellFormedStays.{AttachLeavesWellFormed}
 use Rattle.task_laws.proofs.Tables.{left_part, right_part}
-use Rattle.task_laws.proofs.Numbers.{IsPrivate, AreApart, good_numbers, not_in_both, all_in, in_all, other_way}
+use Rattle.task_laws.proofs.Numbers.{IsPrivate, AreApart, good_numbers, not_in_both, in_all}
 use Rattle.task_laws.proofs.Grown.{StorageIsSound, pages_grown, cell_pools_grown}
 use Rattle.task_laws.proofs.Gifts.{a_gift_leaves_sight_sound}
 use Rattle.task_laws.proofs.GivenStorage.{pages_given, cell_pools_given}
-use Rattle.task_laws.proofs.SightRows.{RowsAreSound, rows_of, owner_at, own_parents, own_current, own_grows, own_of_others, share_alone, share_rows, share_other_sight}
+use Rattle.task_laws.proofs.SightRows.{rows_of, own_parents, own_current, own_grows, own_of_others, share_alone, share_rows, share_other_sight}
 use Rattle.task_laws.proofs.Passed.{gifts_current, gifts_parents, gifts_other_subpools, zero_current, zero_parents, zero_other_subpools}
 use Rattle.task_laws.proofs.Began.{there_still, new_is_there, owns_none, is_not_current, began_sound}
 use Rattle.task_laws.proofs.Attached.{attach_leaves_tasks_sound}

@@ -1,19 +1,18 @@
 -- A new task with its subpool 0 leaves pages, sight and cell pools sound.
-use Rattle.std.proofs.Common.{◌≡◌, ◌≢◌, ℕ, ◌≤◌, Bool, true, false, not, ◌&&◌, ◌||◌, ◌==◌, if◌then◌else◌, Option, Some, None, is_some, refl, sym, ◌∙◌, ap, subst, arith, inl, inr, true≢false}
-use Rattle.std.proofs.lemmas.Bool.{cond-true, cond-false, and_from, and_parts, and_left, and_right, or_left, or_right, eqb-true, eq-eqb, cases_Bool, both_ways}
+use Rattle.std.proofs.Common.{◌≡◌, ◌≢◌, ℕ, ◌≤◌, Bool, true, false, ◌&&◌, ◌==◌, Some, is_some, refl, sym, ◌∙◌, ap, subst, arith, inl, inr}
+use Rattle.std.proofs.lemmas.Bool.{cond-true, cond-false, and_from, and_left, or_left, or_right, eqb-true, eq-eqb, cases_Bool, both_ways}
 use Rattle.vsm_model.specs.declared.limits.Settings.{Settings}
 use Rattle.vsm_model.specs.Search.{holds}
 use Rattle.vsm_model.specs.State.{State, is_task}
-use Rattle.vsm_model.specs.Subpools.{sees_one, with_sight, with_subpool, with_own}
-use Rattle.vsm_model.specs.Passing.{with_share}
-use Rattle.vsm_model.specs.Ending.{climbs, is_in_subtree}
+use Rattle.vsm_model.specs.Subpools.{sees_one, with_sight, with_subpool}
+use Rattle.vsm_model.specs.Ending.{climbs}
 use Rattle.vsm_model.specs.Tasks.{with_task, with_zero}
-use Rattle.vsm_model.specs.WellFormed.{TasksAreSound, SightIsSound, IsWellFormed}
+use Rattle.vsm_model.specs.WellFormed.{SightIsSound, IsWellFormed}
 use Rattle.task_laws.proofs.Subtrees.{zero_is_none, enough}
 use Rattle.task_laws.proofs.Depth.{none_is_deeper}
 use Rattle.task_laws.proofs.Attached.{same_parents, climbs_still}
 use Rattle.task_laws.proofs.Grown.{StorageIsSound, pages_grown, cell_pools_grown}
-use Rattle.task_laws.proofs.SightRows.{RowsAreSound, rows_of, subpool_rows, sight_rows, owner_at, owner_seen}
+use Rattle.task_laws.proofs.SightRows.{RowsAreSound, subpool_rows, sight_rows, owner_seen}
 
 module _ (settings : Settings) (s : State) (w : IsWellFormed settings s) (new : ℕ) (low : 1 ≤ new) (high : new ≤ 64) (free : is_task s new ≡ false) where
   abbrev more : State

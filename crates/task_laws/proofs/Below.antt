@@ -1,6 +1,6 @@
 -- The subtree of a task has just the tasks below it.
 use Rattle.std.proofs.Common.{◌≡◌, ℕ, zero, suc, Bool, true, ◌==◌, Option, Some, None, is_some, refl, sym, ◌∙◌, ap, subst, inl, inr, true≢false}
-use Rattle.std.proofs.lemmas.Bool.{or_cases, or_left, or_right, eqb-true, eq-eqb}
+use Rattle.std.proofs.lemmas.Bool.{or_cases, or_right, eqb-true, eq-eqb}
 use Rattle.vsm_model.specs.Search.{holds}
 use Rattle.vsm_model.specs.State.{State, is_task}
 use Rattle.vsm_model.specs.Ending.{climbs}

@@ -1,5 +1,5 @@
 -- The end of tasks leaves cell pools sound.
-use Rattle.std.proofs.Common.{◌≡◌, ◌⊎◌, ℕ, ◌+◌, ◌*◌, ◌/◌, ◌≤◌, Bool, true, false, not, Some, None, List, map, ◌∙◌, ap, arith}
+use Rattle.std.proofs.Common.{◌≡◌, ◌⊎◌, ℕ, ◌+◌, ◌*◌, ◌/◌, ◌≤◌, Bool, true, false, not, None, List, map, ◌∙◌, ap, arith}
 use Rattle.std.proofs.lemmas.Bool.{cond-false, and_from, not-true}
 use Rattle.std.proofs.lemmas.List.Elements.{All-filter, filter_passes}
 use Rattle.vsm_model.specs.declared.Subpool.{Subpool}

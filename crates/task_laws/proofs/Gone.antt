@@ -1,5 +1,5 @@
 -- What is gone with tasks that have ended, and what stays.
-use Rattle.std.proofs.Common.{◌≡◌, ◌≢◌, ◌⊎◌, ℕ, ◌/◌, Bool, true, false, not, ◌&&◌, ◌||◌, ◌==◌, if◌then◌else◌, Option, Some, None, List, [], ◌∷◌, refl, sym, ◌∙◌, ap, subst, inl, inr}
+use Rattle.std.proofs.Common.{◌≡◌, ◌≢◌, ◌⊎◌, ℕ, ◌/◌, Bool, true, false, not, ◌&&◌, ◌||◌, ◌==◌, if◌then◌else◌, Option, Some, None, refl, sym, ◌∙◌, ap, subst, inl, inr}
 use Rattle.std.specs.Prelude.{unwrap_or}
 use Rattle.std.proofs.lemmas.Bool.{cond-true, cond-false, and_from, and_left, and_right, or_left, or_right, or_from, eq-eqb, ne_eqb, both_ways}
 use Rattle.vsm_model.specs.declared.Subpool.{Subpool}
@@ -7,11 +7,11 @@ use Rattle.vsm_model.specs.declared.replies.Reply.TheVariants.{Turn}
 use Rattle.vsm_model.specs.Search.{holds}
 use Rattle.vsm_model.specs.CellPools.{CellPool, are_ascending}
 use Rattle.vsm_model.specs.State.{State, is_task}
-use Rattle.vsm_model.specs.Registers.{with_register, with_registers}
+use Rattle.vsm_model.specs.Registers.{with_register}
 use Rattle.vsm_model.specs.Ending.{is_child, is_in_subtree, without_tasks}
 use Rattle.vsm_model.specs.Causes.{first_cause}
-use Rattle.vsm_model.specs.Tasks.{detached, end_task_causes, ended}
-use Rattle.vsm_model.specs.WellFormed.{TasksAreSound, IsWellFormed}
+use Rattle.vsm_model.specs.Tasks.{end_task_causes, ended}
+use Rattle.vsm_model.specs.WellFormed.{TasksAreSound}
 use Rattle.task_laws.specs.Ends.{HaveEnded, IsDetached, DetachEndsTheSubtree, HasEnded, EndTaskEndsTheCurrentTask}
 use Rattle.task_laws.proofs.Tables.{found_still, none_still, found_no_more}
 use Rattle.task_laws.proofs.Below.{subtree_is_whole}

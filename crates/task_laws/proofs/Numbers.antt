@@ -1,10 +1,9 @@
 -- Lists of subpool numbers that aren't bad.
-use Rattle.std.proofs.Common.{◌≡◌, ◌≢◌, ℕ, ◌≤◌, Bool, true, false, ◌||◌, ◌==◌, nat_lt, List, [], ◌∷◌, ◌++◌, refl, sym, ◌∙◌, ap, subst, arith, inl, inr, true≢false}
+use Rattle.std.proofs.Common.{◌≡◌, ℕ, ◌≤◌, Bool, true, false, ◌||◌, ◌==◌, nat_lt, List, [], ◌∷◌, ◌++◌, refl, sym, ◌∙◌, ap, subst, arith, inl, inr, true≢false}
 use Rattle.std.specs.List.{AllByRecursion}
-use Rattle.std.proofs.lemmas.Bool.{cases_Bool, both_ways, or_left, or_right, or_cases, or_parts, eqb-true, eq-eqb, ltb-false, false_from_ne_true, cases_eq}
+use Rattle.std.proofs.lemmas.Bool.{both_ways, or_left, or_right, or_cases, eqb-true, eq-eqb, ltb-false, false_from_ne_true, cases_eq}
 use Rattle.vsm_model.specs.Search.{is_in}
 use Rattle.vsm_model.specs.Passing.{is_bad_list}
-use Rattle.task_laws.proofs.Tables.{left_part, right_part}
 
 -- each number is from 1 to 127
 abbrev pub IsPrivate : ℕ → Type 0

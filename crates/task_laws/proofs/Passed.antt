@@ -7,12 +7,12 @@ use Rattle.vsm_model.specs.declared.Subpool.{Subpool}
 use Rattle.vsm_model.specs.Search.{is_in}
 use Rattle.vsm_model.specs.CellPools.{CellPool, cell_pool_in}
 use Rattle.vsm_model.specs.State.{State}
-use Rattle.vsm_model.specs.Subpools.{sees_one, same_subpool, with_subpool, with_own}
+use Rattle.vsm_model.specs.Subpools.{same_subpool, with_subpool, with_own}
 use Rattle.vsm_model.specs.Passing.{handed_on, with_gift, with_gifts, with_share, with_shares}
 use Rattle.vsm_model.specs.Tasks.{with_zero}
 use Rattle.task_laws.proofs.Tables.{found_changed}
 use Rattle.task_laws.proofs.Numbers.{AreApart, other_way}
-use Rattle.task_laws.proofs.SightRows.{owner_at, own_by, own_current, own_parents, own_other_sight, own_other_subpools, share_other_sight}
+use Rattle.task_laws.proofs.SightRows.{owner_at, own_by, own_current, own_parents, own_other_subpools, share_other_sight}
 
 and_true : (a b : Bool) → b ≡ true → (a && b) ≡ a
 and_true true b e = e

@@ -1,9 +1,9 @@
 -- A subpool more, and a share, leave sight sound.
-use Rattle.std.proofs.Common.{◌≡◌, ◌≢◌, ℕ, ◌≤◌, Bool, true, false, not, ◌&&◌, ◌||◌, ◌==◌, if◌then◌else◌, Option, Some, None, is_some, refl, sym, ◌∙◌, ap, subst, arith, inl, inr, true≢false}
+use Rattle.std.proofs.Common.{◌≡◌, ◌≢◌, ℕ, ◌≤◌, Bool, true, false, ◌&&◌, ◌||◌, ◌==◌, if◌then◌else◌, Option, Some, None, is_some, refl, sym, ◌∙◌, ap, subst, arith, inl, inr, true≢false}
 use Rattle.std.specs.Prelude.{unwrap_or}
 use Rattle.std.proofs.lemmas.Bool.{cond-true, cond-false, cond_both, and_from, and_parts, and_left, and_right, or_cases, or_left, or_right, or_from, eqb-true, eq-eqb, ne_eqb, cases_Bool, both_ways}
 use Rattle.vsm_model.specs.State.{State, is_task}
-use Rattle.vsm_model.specs.Subpools.{sees_one, with_sight, with_subpool, seen_or_own, with_own}
+use Rattle.vsm_model.specs.Subpools.{sees_one, with_sight, with_subpool, with_own}
 use Rattle.vsm_model.specs.Passing.{with_share}
 use Rattle.vsm_model.specs.WellFormed.{SightIsSound}
 

@@ -1,15 +1,14 @@
 -- An accepted service on tasks leaves a well-formed state well-formed.
-use Rattle.std.proofs.Common.{◌≡◌, ℕ, true, not, Some, None, [], ◌∷◌, subst, arith, sym}
-use Rattle.std.specs.Prelude.{unwrap_or}
+use Rattle.std.proofs.Common.{not, [], ◌∷◌, subst, arith, sym}
 use Rattle.std.proofs.lemmas.Bool.{not-false}
 use Rattle.vsm_model.specs.declared.causes.Cause.TheVariants.{NoTask}
-use Rattle.vsm_model.specs.State.{State, is_task}
+use Rattle.vsm_model.specs.State.{is_task}
 use Rattle.vsm_model.specs.Tasks.{detached}
 use Rattle.vsm_model.specs.WellFormed.{IsWellFormed}
 use Rattle.vsm_model.proofs.Chosen.{past}
 use Rattle.vsm_model.proofs.Registered.{registers_leave_well_formed}
 use Rattle.task_laws.specs.WellFormedStays.{DetachLeavesWellFormed, EndTaskLeavesWellFormed, RunLeavesWellFormed}
-use Rattle.task_laws.specs.Turns.{HasItsTurn, RunTurnsToTheTask}
+use Rattle.task_laws.specs.Turns.{RunTurnsToTheTask}
 use Rattle.task_laws.proofs.Accepted.{run_accepted, detach_accepted, end_task_accepted}
 use Rattle.task_laws.proofs.Ends.{detached_is_well_formed, ended_is_well_formed}
 use Rattle.task_laws.proofs.Turned.{turned_is_well_formed}
