@@ -56,7 +56,7 @@ module _ (s : State) (register word : ℕ) where
     otherwise false old never h = h
 
   extent_registered : (pool : CellPool) (x : CellExtent) → IsInSubpool s pool x → IsInSubpool (with_register s register word) pool x
-  extent_registered pool x w = record { on_doubleword = w.on_doubleword; is_taken = w.is_taken; in_pages = w.in_pages }
+  extent_registered pool x w = record { has_cells = w.has_cells; on_doubleword = w.on_doubleword; is_taken = w.is_taken; in_pages = w.in_pages }
 
   pub cell_pools_registered : CellPoolsAreSound s → CellPoolsAreSound (with_register s register word)
   cell_pools_registered w = record {

@@ -1,0 +1,11 @@
+use Rattle.task_laws.proofs.Refused.{detach_is_refused_for_the_first, end_task_is_refused_for_the_first, run_is_refused_for_the_first}
+use Rattle.task_laws.proofs.laws.refused_for_the_first_cause.Goals as goal
+
+pub returns-clause-detach : goal.returns-clause-detach
+returns-clause-detach c = detach_is_refused_for_the_first
+
+pub returns-clause-end_task : goal.returns-clause-end_task
+returns-clause-end_task c = end_task_is_refused_for_the_first
+
+pub returns-clause-run : goal.returns-clause-run
+returns-clause-run c = run_is_refused_for_the_first

@@ -1,0 +1,6 @@
+pub mod Trees
+pub mod Turns
+pub mod Ends
+pub mod Gifts
+pub mod FirstCauses
+pub mod WellFormedStays
