@@ -32,9 +32,7 @@ fn keep(kept: &mut ArrayVec<u8, 80>, bytes: &[u8])
     ensures { (line : List ℕ) → kept.old.items ≡ take 80 line → kept.new.items ≡ take 80 (line ++ bytes.now) }
 {
     let count = bytes.len().min(80 - kept.len());
-    let Ok(()) = kept.try_extend_from_slice(&bytes[..count]) else {
-        unreachable!()
-    };
+    kept.try_extend_from_slice(&bytes[..count]).unwrap();
 }
 
 /// A line without a carriage return at its end.

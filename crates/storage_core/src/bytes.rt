@@ -1,11 +1,12 @@
 //! Bytes of assigned pages, read and written.
 ghost use Rattle.std.specs.Prelude.{◌≡◌, ℕ, ◌+◌, ◌-◌, ◌<◌, ◌≤◌, ◌^◌, length, slice_index_or, if◌then◌else◌, true};
-ghost use Rattle.std.specs.Prelude.{is_some, None, Some, OnOk, OnErr, IfErr};
+ghost use Rattle.std.specs.Prelude.{is_some, None, Some, OnOk, OnErr, IfOk, IfErr};
 ghost use Rattle.vsm_model.specs.Regions.{among};
 ghost use Rattle.vsm_model.specs.Bytes.{are_there, with_bytes, load};
 ghost use Rattle.storage_core.specs.Meaning.{state_of, settings_of};
 
 use super::{Cause, FIRST_ADDRESS, FIRST_PAGE, PAGE_BYTES, Storage};
+use std::alloc::AllocError;
 
 /// Writes bytes into a run of elements.
 fn write_run(items: &mut [u8], first: usize, bytes: &[u8])
@@ -21,6 +22,18 @@ fn write_run(items: &mut [u8], first: usize, bytes: &[u8])
 }
 
 impl Storage {
+    /// The bytes of all pages, copied page by page. `AllocError` where the memory for them isn't there.
+    pub(super) fn copy_of_bytes(&self) -> Result<Vec<u8>, AllocError>
+        ensures { IfOk result (λ copy. copy.items ≡ self.now.bytes.items) }
+    {
+        let mut copy = Vec::with_capacity(*self.bytes.allocator(), self.bytes.len())?;
+        for page in 0..self.pages.len() {
+            let first = PAGE_BYTES * page;
+            copy.extend_from_slice(&self.bytes[first..first + PAGE_BYTES])?;
+        }
+        Ok(copy)
+    }
+
     /// Whether the address lies in an assigned page.
     fn has_byte(&self, address: usize) -> bool
         ensures { result ≡ is_some ((state_of self.now).bytes address) }

@@ -134,7 +134,7 @@ impl Storage {
             sight: self.sight.clone()?,
             pages: self.pages.clone()?,
             taken: self.taken.clone()?,
-            bytes: self.bytes.clone()?,
+            bytes: self.copy_of_bytes()?,
         })
     }
 }

@@ -26,15 +26,15 @@ fn fault_status(fault: RunFault) -> u8
     }
 }
 
-/// Tells a fault, and gives its exit status.
-fn tell_fault<E: Write>(errors: &mut E, fault: RunFault) -> u8
+/// Reports a fault, and gives its exit status.
+fn report_fault<E: Write>(errors: &mut E, fault: RunFault) -> u8
     ensures { result ≡ fault_status fault }
 {
     let _ = writeln!(errors, "vsm: {fault}");
     fault_status(fault)
 }
 
-/// Runs a script, tells a fault, and gives the exit status.
+/// Runs a script, reports a fault, and gives the exit status.
 fn run_script<I: Read, O: Write, E: Write>(
     alloc: Global,
     settings: Settings,
@@ -47,7 +47,7 @@ fn run_script<I: Read, O: Write, E: Write>(
 {
     match run(alloc, input, output, settings) {
         Ok(totals) => { if totals.refused == 0 { 0 } else { 4 } }
-        Err(fault) => tell_fault(errors, fault),
+        Err(fault) => report_fault(errors, fault),
     }
 }
 
@@ -63,7 +63,7 @@ fn run_opened<S: Read + Drop, O: Write, E: Write>(
 {
     match opened {
         Ok(mut script) => run_script(alloc, settings, &mut script, output, errors),
-        Err(_) => tell_fault(errors, RunFault::Read),
+        Err(_) => report_fault(errors, RunFault::Read),
     }
 }
 
@@ -76,7 +76,7 @@ fn answer<O: Write, E: Write>(error: &Error, output: &mut O, errors: &mut E) -> 
             let _ = write!(output, "{error}");
             0
         }
-        ErrorKind::OutOfMemory => tell_fault(errors, RunFault::New(NewFault::NoMemory)),
+        ErrorKind::OutOfMemory => report_fault(errors, RunFault::New(NewFault::NoMemory)),
         _ => {
             let _ = write!(errors, "{error}");
             16
@@ -111,7 +111,7 @@ pub fn command<R: ScriptFiles + AllocGlobal, I: Read, O: Write, E: Write>(
         Err(error) => return answer(&error, output, errors),
     };
     let Some(settings) = settings_asked(&matches) else {
-        return tell_fault(errors, RunFault::New(NewFault::Setting));
+        return report_fault(errors, RunFault::New(NewFault::Setting));
     };
     match file_asked(&matches) {
         None => run_script(rt.alloc(), settings, input, output, errors),

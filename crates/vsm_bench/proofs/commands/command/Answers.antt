@@ -23,10 +23,10 @@ pub returns-in_default-clause-runs : goal.returns-in_default-clause-runs
 returns-in_default-clause-runs g c = λ few.
     let read = c.in-Ok.ensures in
     let rows = rows_of (found_of c.in-Ok.matches) in
-    runs_obey (g.R.ScriptFiles.opened c.args.rt.now) g.R.Script.Read.remaining g.I.Read.remaining g.O.Write.contents c.args.input.now c.args.input.now c.args.output.now c.args.output.now c.tell_fault.result read.0
+    runs_obey (g.R.ScriptFiles.opened c.args.rt.now) g.R.Script.Read.remaining g.I.Read.remaining g.O.Write.contents c.args.input.now c.args.input.now c.args.output.now c.args.output.now c.report_fault.result read.0
     (map string_bytes c.args.words.now) rows read.2.1
-    (subst (λ s. Obeys (g.R.ScriptFiles.opened c.args.rt.now) g.R.Script.Read.remaining g.I.Read.remaining g.O.Write.contents c.args.input.now c.args.input.now c.args.output.now c.args.output.now c.tell_fault.result s (file_asked rows))
-    c.in_default.ensures (refl, refl, c.tell_fault.ensures))
+    (subst (λ s. Obeys (g.R.ScriptFiles.opened c.args.rt.now) g.R.Script.Read.remaining g.I.Read.remaining g.O.Write.contents c.args.input.now c.args.input.now c.args.output.now c.args.output.now c.report_fault.result s (file_asked rows))
+    c.in_default.ensures (refl, refl, c.report_fault.ensures))
     (map_few string_bytes c.args.words.now few)
 
 pub returns-in-None-clause-runs : goal.returns-in-None-clause-runs
