@@ -217,7 +217,7 @@ module _ (settings : Settings) (s : State) (w : IsWellFormed settings s) where
     }
 
   -- an area goes to its place
-  pub area_kept : (p : Subpool) → s.subpools p.number p.owner ≡ true → (count boundary : ℕ) (goes : Place) → Goes settings s p count boundary goes → IsWellFormed settings (with_area s p count goes)
+  pub area_kept : (p : Subpool) → s.subpools p.number p.owner ≡ true → (count boundary : ℕ) (goes : Place) → Goes (IsOf settings) s p count boundary goes → IsWellFormed settings (with_area s p count goes)
   area_kept p there count boundary (Inside d) (r, its, fit) =
       taken_kept r p d count (and_parts ((d % boundary) == 0) (all_pass (λ k. within r (k / 512) && is_free s p k) d count) fit).1
   area_kept p there count boundary (Fresh page) (r, its, run) = fresh_kept r its p there page count run

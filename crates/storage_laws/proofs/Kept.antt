@@ -21,7 +21,7 @@ use Rattle.vsm_model.proofs.Chosen.{accepted_has_its_effect, accepted_state, no_
 use Rattle.vsm_model.proofs.Registered.{AreWords, registers_leave_well_formed, register_leaves_well_formed}
 use Rattle.storage_laws.specs.Kept.{IsRegister, ObtainLeavesWellFormed, ReleaseLeavesWellFormed, WholeReleaseLeavesWellFormed, StoreLeavesWellFormed}
 use Rattle.storage_laws.proofs.Cases.{among_in}
-use Rattle.storage_laws.proofs.Places.{Goes, regions_are, place_goes, place_in_words}
+use Rattle.storage_laws.proofs.Places.{IsOf, Goes, regions_are, place_goes, place_in_words}
 use Rattle.storage_laws.proofs.Changes.{own_kept, own_is_there, area_kept, released_kept, emptied_kept, stored_kept}
 use Rattle.storage_laws.proofs.Allowed.{obtain_allowed, obtain_leaves, release_allowed, store_allowed}
 
@@ -46,11 +46,11 @@ area_words o address given is small short = (
 )
 
 -- a place of the state is one of that in which the subpool is there
-goes_on : (settings : Settings) (s : State) (n count boundary : ℕ) (goes : Place) → Goes settings s (seen_or_own s n) count boundary goes →
-    Goes settings (with_own s n) (seen_or_own s n) count boundary goes
+goes_on : (settings : Settings) (s : State) (n count boundary : ℕ) (goes : Place) → Goes (IsOf settings) s (seen_or_own s n) count boundary goes →
+    Goes (IsOf settings) (with_own s n) (seen_or_own s n) count boundary goes
 goes_on settings s n count boundary goes h = either (sees_one s n) goes h where
-  either : (b : Bool) (goes : Place) → Goes settings s (seen_or_own s n) count boundary goes →
-      Goes settings (if b then s else with_subpool s n s.current) (seen_or_own s n) count boundary goes
+  either : (b : Bool) (goes : Place) → Goes (IsOf settings) s (seen_or_own s n) count boundary goes →
+      Goes (IsOf settings) (if b then s else with_subpool s n s.current) (seen_or_own s n) count boundary goes
   either true goes h = h
   either false (Inside d) h = h
   either false (Fresh page) h = h
@@ -63,7 +63,7 @@ obtain_leaves_well_formed settings names_full s t o reply valid is w e =
           let may = obtain_allowed settings names_full s o done.0 in
           let goes : Place = place_for settings s o may.count in
           let its = seen_or_own s o.number in
-          let goes_in = place_goes settings s its may.count (spacing o.boundary) (regions_for settings (side settings o.location)) (regions_are settings (side settings o.location)) in
+          let goes_in = place_goes (IsOf settings) s its may.count (spacing o.boundary) (regions_for settings (side settings o.location)) (regions_are settings (side settings o.location)) in
           let some : 0 < may.count = (let least = may.least in let min = may.some in omega (arith, least, min)) in
           let words = place_in_words settings s its may.count (spacing o.boundary) goes valid some goes_in may.has_place in
           subst (IsWellFormed settings) (sym (obtain_leaves settings s t o reply may.count may.found done.1).1)
@@ -74,7 +74,7 @@ obtain_leaves_well_formed settings names_full s t o reply valid is w e =
     ]
 
 -- where none of a list passes, each doesn't
-none_of : {X : Type 0} (f : X → Bool) (xs : List X) (k : ℕ) (d : X) → list_any f xs ≡ false → k < length xs → f (slice_index_or xs k d) ≡ false
+pub none_of : {X : Type 0} (f : X → Bool) (xs : List X) (k : ℕ) (d : X) → list_any f xs ≡ false → k < length xs → f (slice_index_or xs k d) ≡ false
 none_of f [] k d e below = absurd (omega (arith, below))
 none_of f (x ∷ xs) zero d e below = (or_parts (f x) (list_any f xs) e).0
 none_of f (x ∷ xs) (suc k) d e below = none_of f xs k d (or_parts (f x) (list_any f xs) e).1 (omega (arith, below))

@@ -1,5 +1,5 @@
 -- A place lies in a region, and its addresses and lengths are words.
-use Rattle.std.proofs.Common.{◌≡◌, ℕ, ◌+◌, ◌-◌, ◌*◌, ◌/◌, ◌%◌, ◌<◌, ◌≤◌, ◌^◌, true, false, ◌&&◌, ◌||◌, nat_le, ◌==◌, Option, Some, None, List, [], ◌∷◌, sym, arith, inl, inr, true≢false}
+use Rattle.std.proofs.Common.{◌≡◌, ℕ, ◌+◌, ◌-◌, ◌*◌, ◌/◌, ◌%◌, ◌<◌, ◌≤◌, ◌^◌, true, false, ◌&&◌, ◌||◌, nat_le, ◌==◌, Option, Some, None, List, [], ◌∷◌, sym, arith, inl, inr, true≢false, refl}
 use Rattle.std.proofs.lemmas.Bool.{and_parts, or_cases, or_left, or_right, leb-true}
 use Rattle.vsm_model.specs.declared.Subpool.{Subpool}
 use Rattle.vsm_model.specs.declared.limits.Residence.{Residence}
@@ -10,31 +10,37 @@ use Rattle.vsm_model.specs.Regions.{Region, within, in_a_region, low_region, hig
 use Rattle.vsm_model.specs.State.{State}
 use Rattle.vsm_model.specs.Areas.{Place, Inside, Fresh, Nowhere, is_free, fits, is_open_run, least_fit, least_run, or_fresh, or_place, place, place_in, is_nowhere, address_of}
 use Rattle.vsm_model.proofs.Least.{all_pass_at, least_among}
+use Rattle.storage_laws.specs.Granted.{IsOnSide}
 use Rattle.storage_laws.proofs.Cases.{among_in}
 
 -- each page of the region is one of either region
 abbrev pub IsOf : Settings → Region → Type 0
 IsOf settings r = (k : ℕ) → within r k ≡ true → in_a_region settings k ≡ true
 
-abbrev pub AreOf : Settings → List Region → Type 0
-AreOf settings [] = Unit {0}
-AreOf settings (r ∷ rs) = IsOf settings r × AreOf settings rs
+-- each of these regions has the property
+abbrev pub AllOf : (Region → Type 0) → List Region → Type 0
+AllOf P [] = Unit {0}
+AllOf P (r ∷ rs) = P r × AllOf P rs
 
-pub regions_are : (settings : Settings) (side : Residence) → AreOf settings (regions_for settings side)
+pub regions_are : (settings : Settings) (side : Residence) → AllOf (IsOf settings) (regions_for settings side)
 regions_are settings Below = (λ k e. or_right (within (high_region settings) k) _ (or_left (within (low_region settings) k) _ e), tt)
 regions_are settings Above = (
   λ k e. or_left (within (high_region settings) k) _ e,
   (λ k e. or_right (within (high_region settings) k) _ (or_left (within (low_region settings) k) _ e), tt),
 )
 
-module _ (settings : Settings) (s : State) (p : Subpool) (count boundary : ℕ) where
-  -- An area that goes there is free in a region, or its pages are unassigned in one.
+pub regions_on_side : (settings : Settings) (residence : Residence) → AllOf (IsOnSide settings residence) (regions_for settings residence)
+regions_on_side settings Below = (inl refl, tt)
+regions_on_side settings Above = (inr (refl, refl), (inl refl, tt))
+
+module _ (P : Region → Type 0) (s : State) (p : Subpool) (count boundary : ℕ) where
+  -- An area that goes there is free in a region with the property, or its pages are unassigned in one.
   abbrev pub Goes : Place → Type 0
-  Goes (Inside d) = (r : Region) × IsOf settings r × (fits s r p count boundary d ≡ true)
-  Goes (Fresh page) = (r : Region) × IsOf settings r × (is_open_run s r (pages_for count) page ≡ true)
+  Goes (Inside d) = (r : Region) × P r × (fits s r p count boundary d ≡ true)
+  Goes (Fresh page) = (r : Region) × P r × (is_open_run s r (pages_for count) page ≡ true)
   Goes Nowhere = Unit {0}
 
-  goes_in : (r : Region) → IsOf settings r → (o f : Option ℕ) → IsLeastAmong (fits s r p count boundary) (r.first * 512) (r.count * 512) o →
+  goes_in : (r : Region) → P r → (o f : Option ℕ) → IsLeastAmong (fits s r p count boundary) (r.first * 512) (r.count * 512) o →
       IsLeastAmong (is_open_run s r (pages_for count)) r.first r.count f → Goes (or_fresh o f)
   goes_in r its (Some d) f g h = (r, its, g.0)
   goes_in r its None (Some page) g h = (r, its, h.0)
@@ -45,7 +51,7 @@ module _ (settings : Settings) (s : State) (p : Subpool) (count boundary : ℕ) 
   either_goes (Fresh page) y g h = g
   either_goes Nowhere y g h = h
 
-  pub place_goes : (regions : List Region) → AreOf settings regions → Goes (place s regions p count boundary)
+  pub place_goes : (regions : List Region) → AllOf P regions → Goes (place s regions p count boundary)
   place_goes [] its = tt
   place_goes (r ∷ rs) its =
       either_goes (place_in s p count boundary r) (place s rs p count boundary)
@@ -74,7 +80,7 @@ page_is_low settings k valid e =
 
 -- The address and the length of an area that has a place are words.
 pub place_in_words : (settings : Settings) (s : State) (p : Subpool) (count boundary : ℕ) (goes : Place) → settings_valid settings ≡ true → 0 < count →
-    Goes settings s p count boundary goes → is_nowhere goes ≡ false → (address_of goes < 2 ^ 32) × (8 * count < 2 ^ 32)
+    Goes (IsOf settings) s p count boundary goes → is_nowhere goes ≡ false → (address_of goes < 2 ^ 32) × (8 * count < 2 ^ 32)
 place_in_words settings s p count boundary (Inside d) valid some (r, its, fit) there =
     let free = (and_parts ((d % boundary) == 0) (all_pass (λ k. within r (k / 512) && is_free s p k) d count) fit).1 in
     let at : (k : ℕ) → d ≤ k → k < d + count → k / 512 < 1048575 =

@@ -1,13 +1,14 @@
 -- A table of cell pools of which some are left out.
-use Rattle.std.proofs.Common.{◌≡◌, ℕ, suc, ◌≤◌, Bool, true, false, if◌then◌else◌, List, [], ◌∷◌, ◌++◌, length, filter, flat_map, arith}
+use Rattle.std.proofs.Common.{◌≡◌, ℕ, suc, ◌≤◌, Ordering, Less, Equal, Greater, Bool, true, false, if◌then◌else◌, Option, Some, None, List, [], ◌∷◌, ◌++◌, length, filter, flat_map, refl, sym, ◌∙◌, ap, arith, true≢false}
 use Rattle.std.specs.Prelude.{All, AllPairs}
-use Rattle.std.specs.Ordering.{nat_cmp, is_lt}
+use Rattle.std.specs.Ordering.{nat_cmp, is_lt, is_eq}
+use Rattle.std.specs.FinMap.{slice_cmp-IsAntisymmetric, nat_cmp-IsAntisymmetric}
 use Rattle.std.specs.Cmp.Lexicographic.{slice_cmp}
 use Rattle.std.specs.FinMap.Entries.{below_all}
 use Rattle.std.proofs.lemmas.Bool.{and_parts, and_from}
 use Rattle.std.proofs.lemmas.List.Elements.{All-head, All-tail, All-cons, All-append, All-nil, All-filter, filter_passes}
 use Rattle.std.proofs.lemmas.List.Kept.{AllPairs-cons}
-use Rattle.vsm_model.specs.CellPools.{CellPool, CellPools, are_ascending}
+use Rattle.vsm_model.specs.CellPools.{CellPool, CellPools, cell_pool_in, are_ascending}
 
 module _ {X : Type 0} (R : X → X → Type 0) where
   pairs_head : (x : X) (xs : List X) → AllPairs R (x ∷ xs) → All (R x) xs
@@ -89,3 +90,46 @@ module _ (passes : List ℕ × CellPool → Bool) where
         | true ↦ omega (arith, rest)
         | false ↦ omega (arith, rest)
       ]
+
+-- the cell pool, where it passes
+abbrev pub kept_of : (CellPool → Bool) → Option CellPool → Option CellPool
+kept_of f None = None
+kept_of f (Some pool) = if f pool then Some pool else None
+
+less : (o : Ordering) → is_lt o ≡ true → o ≡ Less
+less Less e = refl
+less Equal e = absurd (true≢false (sym e))
+less Greater e = absurd (true≢false (sym e))
+
+-- a name below the names of a list isn't found in it
+below_none : (name : List ℕ) (table : CellPools) → below_all (slice_cmp nat_cmp) name table ≡ true → cell_pool_in table name ≡ None
+below_none name [] below = refl
+below_none name (row ∷ table) below =
+    let parts = and_parts (is_lt (slice_cmp nat_cmp name row.0)) (below_all (slice_cmp nat_cmp) name table) below in
+    ap (λ o. if is_eq o then Some row.1 else cell_pool_in table name) (less _ parts.0) ∙ below_none name table parts.1
+
+-- what a name has in a part of a table
+pub found_in_part : (f : CellPool → Bool) (table : CellPools) (name : List ℕ) → are_ascending table ≡ true →
+    cell_pool_in (filter (λ row. f row.1) table) name ≡ kept_of f (cell_pool_in table name)
+found_in_part f [] name up = refl
+found_in_part f (row ∷ table) name up =
+    let parts = and_parts (below_all (slice_cmp nat_cmp) row.0 table) (are_ascending table) up in
+    let rest = found_in_part f table name parts.1 in
+    elim (slice_cmp nat_cmp name row.0) as (λ o. slice_cmp nat_cmp name row.0 ≡ o → cell_pool_in (filter (λ row. f row.1) (row ∷ table)) name ≡ kept_of f (if is_eq o then Some row.1 else cell_pool_in table name)) [
+      | Less ↦ λ e. other Less e refl ∙ rest
+      | Greater ↦ λ e. other Greater e refl ∙ rest
+      | Equal ↦ λ e. elim (f row.1) as (λ b. cell_pool_in (if b then row ∷ filter (λ row. f row.1) table else filter (λ row. f row.1) table) name ≡ (if b then Some row.1 else None)) [
+        | true ↦ ap (λ o. if is_eq o then Some row.1 else cell_pool_in (filter (λ row. f row.1) table) name) e
+        | false ↦
+            let same : name ≡ row.0 = slice_cmp-IsAntisymmetric nat_cmp-IsAntisymmetric name row.0 e in
+            rest ∙ ap (kept_of f) (ap (cell_pool_in table) same ∙ below_none row.0 table parts.0)
+      ]
+    ] refl where
+      -- where the name isn't that of the row, the row is of no matter
+      other : (o : Ordering) → slice_cmp nat_cmp name row.0 ≡ o → is_eq o ≡ false →
+          cell_pool_in (filter (λ row. f row.1) (row ∷ table)) name ≡ cell_pool_in (filter (λ row. f row.1) table) name
+      other o e apart =
+          elim (f row.1) as (λ b. cell_pool_in (if b then row ∷ filter (λ row. f row.1) table else filter (λ row. f row.1) table) name ≡ cell_pool_in (filter (λ row. f row.1) table) name) [
+            | true ↦ ap (λ b. if b then Some row.1 else cell_pool_in (filter (λ row. f row.1) table) name) (ap is_eq e ∙ apart)
+            | false ↦ refl
+          ]
