@@ -1,0 +1,14 @@
+pub mod Cases
+pub mod Tables
+pub mod Places
+pub mod Changes
+pub mod Allowed
+pub mod Kept
+pub mod Registers
+pub mod Lowest
+pub mod Grants
+pub mod Longest
+pub mod Returns
+pub mod Wholes
+pub mod Forms
+pub mod FirstCauses
