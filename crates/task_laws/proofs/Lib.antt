@@ -21,3 +21,6 @@ pub mod SightRows
 pub mod Passed
 pub mod Began
 pub mod Attaches
+pub mod IsShared
+pub mod IsGiven
+pub mod IsAttached

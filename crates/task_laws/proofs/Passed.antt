@@ -27,7 +27,7 @@ abbrev pub gift_pools : (ℕ → Bool) → ℕ → ℕ → ℕ → Bool
 gift_pools pools old new owner = (owner == new) || (not (owner == old) && pools owner)
 
 -- and after a share.
-abbrev own_row : (ℕ → Option ℕ) → ℕ → ℕ → Option ℕ
+abbrev pub own_row : (ℕ → Option ℕ) → ℕ → ℕ → Option ℕ
 own_row row current task = if is_some (row current) then row task else if task == current then Some current else row task
 
 abbrev pub share_row : (ℕ → Option ℕ) → ℕ → ℕ → ℕ → Option ℕ

@@ -1,6 +1,7 @@
 //! Laws of the services on tasks: each is the contract of a function that does nothing.
+ghost use Rattle.task_laws.specs.Attached.{AttachMakesATask};
 ghost use Rattle.task_laws.specs.Ends.{DetachEndsTheSubtree, EndTaskEndsTheCurrentTask, TheEndedLeaveNothing, TheOthersKeepTheirPages};
-ghost use Rattle.task_laws.specs.FirstCauses.{DetachIsRefusedForTheFirst, EndTaskIsRefusedForTheFirst, RunIsRefusedForTheFirst};
+ghost use Rattle.task_laws.specs.FirstCauses.{AttachIsRefusedForTheFirst, DetachIsRefusedForTheFirst, EndTaskIsRefusedForTheFirst, RunIsRefusedForTheFirst};
 ghost use Rattle.task_laws.specs.Gifts.{AGiftLeavesNothing};
 ghost use Rattle.task_laws.specs.Trees.{NoneIsDeeper, SubtreeIsAllBelow, SubtreeIsWhole};
 ghost use Rattle.task_laws.specs.Turns.{RunTurnsToTheTask};
@@ -16,6 +17,15 @@ pub fn ended()
     ensures end_task { EndTaskEndsTheCurrentTask }
     ensures nothing { TheEndedLeaveNothing }
     ensures others { TheOthersKeepTheirPages }
+{}
+
+/// An accepted ATTACH makes a task below the current one, of the least number from 1 to 64 that is free, with zero registers, and touches no
+/// other task. A subpool that is given goes to it with pages, doublewords, bytes and cell pools: the giver sees none then and would be
+/// made a new one, and whoever shared it sees it as the new owner's. A subpool that is shared stays its owner's, and is made for the current
+/// task where it saw none. Subpool 0 is shared, or the new task's own. All else stays (*Assembler Services Guide*, "Virtual storage
+/// management", "Subpool handling"; *Assembler Services Reference*, ATTACH).
+pub fn attached()
+    ensures { AttachMakesATask }
 {}
 
 /// An accepted RUN changes the current task alone.
@@ -43,6 +53,7 @@ pub fn depth()
 /// A service on tasks is refused only for a cause whose condition holds, and only where none of the causes before it holds
 /// (*Assembler Services Reference*, ATTACH and DETACH).
 pub fn refused_for_the_first_cause()
+    ensures attach { AttachIsRefusedForTheFirst }
     ensures detach { DetachIsRefusedForTheFirst }
     ensures end_task { EndTaskIsRefusedForTheFirst }
     ensures run { RunIsRefusedForTheFirst }
