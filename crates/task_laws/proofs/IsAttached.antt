@@ -1,9 +1,8 @@
 -- What an ATTACH leaves.
-use Rattle.std.proofs.Common.{◌≡◌, ◌≢◌, ◌⊎◌, ℕ, ◌<◌, ◌≤◌, Bool, true, false, not, ◌&&◌, ◌||◌, ◌==◌, ◌++◌, if◌then◌else◌, Option, Some, None, List, [], ◌∷◌, is_some, refl, sym, ◌∙◌, ap, subst, arith, inl, inr, true≢false}
-use Rattle.std.specs.Prelude.{unwrap_or, is_none}
+use Rattle.std.proofs.Common.{◌≡◌, ◌≢◌, ◌⊎◌, ℕ, true, false, not, ◌&&◌, ◌||◌, ◌==◌, ◌++◌, if◌then◌else◌, Option, Some, List, [], ◌∷◌, refl, sym, ◌∙◌, ap, subst, arith, inl, inr, true≢false}
+use Rattle.std.specs.Prelude.{unwrap_or}
 use Rattle.std.specs.Option.{option_map}
-use Rattle.std.specs.List.{list_any}
-use Rattle.std.proofs.lemmas.Bool.{cond-true, cond-false, and_from, and_left, and_right, or_left, or_cases, or_parts, eqb-true, eq-eqb, ne_eqb, both_ways, not-false, false_from_ne_true}
+use Rattle.std.proofs.lemmas.Bool.{cond-true, cond-false, and_from, and_left, and_right, or_left, eqb-true, eq-eqb, ne_eqb, both_ways, not-false, false_from_ne_true}
 use Rattle.vsm_model.specs.declared.Subpool.{Subpool}
 use Rattle.vsm_model.specs.declared.limits.Settings.{Settings}
 use Rattle.vsm_model.specs.declared.services.Attach.{Attach}
@@ -13,10 +12,9 @@ use Rattle.vsm_model.specs.State.{State, is_task}
 use Rattle.vsm_model.specs.Subpools.{with_subpool}
 use Rattle.vsm_model.specs.Registers.{with_registers}
 use Rattle.vsm_model.specs.Passing.{numbers_in, is_anothers, with_gifts, with_shares}
-use Rattle.vsm_model.specs.Tasks.{attached, free_number, with_task, with_zero}
+use Rattle.vsm_model.specs.Tasks.{free_number, with_task, with_zero}
 use Rattle.vsm_model.specs.WellFormed.{IsWellFormed}
 use Rattle.task_laws.specs.Attached.{IsGiven, IsShared, HasItsOwn, IsAttached, AttachMakesATask}
-use Rattle.task_laws.proofs.Tables.{left_part, right_part}
 use Rattle.task_laws.proofs.Numbers.{IsPrivate, in_left, in_right, in_all, not_in_both, apart_left, apart_right, none_any, read, are_numbers}
 use Rattle.task_laws.proofs.Passed
 use Rattle.task_laws.proofs.Began.{owns_none}

@@ -1,5 +1,5 @@
 -- What a gift leaves of its number.
-use Rattle.std.proofs.Common.{◌≡◌, ◌≢◌, ℕ, Bool, true, false, not, ◌&&◌, ◌||◌, ◌==◌, if◌then◌else◌, Option, Some, None, List, refl, sym, ◌∙◌, ap, subst, inl, inr}
+use Rattle.std.proofs.Common.{◌≡◌, ◌≢◌, ℕ, Bool, true, false, not, ◌&&◌, ◌||◌, ◌==◌, if◌then◌else◌, Option, Some, None, List, refl, sym, ◌∙◌, ap, inl, inr}
 use Rattle.std.specs.Prelude.{unwrap_or}
 use Rattle.std.specs.Option.{option_map}
 use Rattle.std.proofs.lemmas.Bool.{cond-true, cond-false, and_from, and_parts, and_left, or_left, or_from, eqb-true, eq-eqb, ne_eqb, cases_Bool, both_ways}
@@ -8,7 +8,7 @@ use Rattle.vsm_model.specs.Search.{is_in}
 use Rattle.vsm_model.specs.CellPools.{CellPool, cell_pool_in}
 use Rattle.vsm_model.specs.State.{State}
 use Rattle.task_laws.specs.Attached.{IsGiven}
-use Rattle.task_laws.proofs.GivenStorage.{mapped}
+use Rattle.task_laws.proofs.Options.{mapped}
 use Rattle.task_laws.proofs.Passed.{gift_row, gift_pools, row_at, pools_at, handed_over}
 
 -- What becomes of the whole state by gifts of these numbers to the new task, which has no page before.

@@ -1,10 +1,11 @@
 -- What a share leaves of its number.
-use Rattle.std.proofs.Common.{◌≡◌, ◌≢◌, ℕ, Bool, true, false, ◌||◌, ◌==◌, if◌then◌else◌, Some, None, is_some, refl, sym, ◌∙◌, ap, subst}
+use Rattle.std.proofs.Common.{◌≡◌, ◌≢◌, ℕ, Bool, true, ◌||◌, ◌==◌, if◌then◌else◌, Some, is_some, refl, sym, ◌∙◌, ap, subst}
 use Rattle.std.proofs.lemmas.Bool.{cond-true, cond-false, cond_both, or_left, eq-eqb, ne_eqb}
 use Rattle.vsm_model.specs.State.{State}
 use Rattle.vsm_model.specs.WellFormed.{SightIsSound}
 use Rattle.task_laws.specs.Attached.{IsShared}
-use Rattle.task_laws.proofs.SightRows.{seen_some, seen_none, owner_at, owner_seen, owner_own}
+use Rattle.task_laws.proofs.Options.{some_there, none_there}
+use Rattle.task_laws.proofs.SightRows.{owner_at, owner_seen, owner_own}
 use Rattle.task_laws.proofs.Passed.{own_row, share_row, share_pools, row_at, pools_at}
 
 module _ (s t : State) (new number : ℕ) (sight : (task : ℕ) → t.sight task number ≡ share_row (row_at s number) s.current new task) (pools : (owner : ℕ) → t.subpools number owner ≡ share_pools (row_at s number) (pools_at s number) s.current owner) (w : SightIsSound s) (apart : new ≢ s.current) where
@@ -19,10 +20,10 @@ module _ (s t : State) (new number : ℕ) (sight : (task : ℕ) → t.sight task
       pools its
       ∙ cond_both (is_some (s.sight s.current number)) (s.subpools number its) (row its) (λ b. b ≡ true)
       (λ sees.
-          let (owner, at) = seen_some (s.sight s.current number) sees in
+          let (owner, at) = some_there (s.sight s.current number) sees in
           subst (λ o. s.subpools number o ≡ true) (sym (owner_seen s number owner at)) (w.seen_is_there s.current number owner at))
       (λ none. or_left (its == s.current) (s.subpools number its)
-      (eq-eqb its s.current (owner_own s number (seen_none (s.sight s.current number) none))))
+      (eq-eqb its s.current (owner_own s number (none_there (s.sight s.current number) none))))
 
   -- whoever isn't the new task
   others : (task : ℕ) → task ≢ new → t.sight task number ≡ own_row (row_at s number) s.current task
@@ -32,10 +33,10 @@ module _ (s t : State) (new number : ℕ) (sight : (task : ℕ) → t.sight task
   seen_still =
       others s.current (λ is. apart (sym is))
       ∙ cond_both (is_some (s.sight s.current number)) (s.sight s.current number) (if s.current == s.current then Some s.current else s.sight s.current number) (λ o. o ≡ Some its)
-      (λ sees. let (owner, at) = seen_some (s.sight s.current number) sees in at ∙ ap Some (sym (owner_seen s number owner at)))
+      (λ sees. let (owner, at) = some_there (s.sight s.current number) sees in at ∙ ap Some (sym (owner_seen s number owner at)))
       (λ none.
           cond-true (s.current == s.current) (Some s.current) (s.sight s.current number) (eq-eqb s.current s.current refl)
-          ∙ ap Some (sym (owner_own s number (seen_none (s.sight s.current number) none))))
+          ∙ ap Some (sym (owner_own s number (none_there (s.sight s.current number) none))))
 
   other_sight : (task : ℕ) → task ≢ s.current → task ≢ new → t.sight task number ≡ s.sight task number
   other_sight task not_current not_new =
@@ -50,7 +51,7 @@ module _ (s t : State) (new number : ℕ) (sight : (task : ℕ) → t.sight task
       ∙ cond_both (is_some (s.sight s.current number)) (s.subpools number owner) (row owner) (λ b. b ≡ s.subpools number owner)
       (λ _. refl)
       (λ none. ap (λ b. b || s.subpools number owner)
-      (ne_eqb owner s.current (λ is. other (is ∙ sym (owner_own s number (seen_none (s.sight s.current number) none))))))
+      (ne_eqb owner s.current (λ is. other (is ∙ sym (owner_own s number (none_there (s.sight s.current number) none))))))
 
   pub is_shared : IsShared s t new number
   is_shared = record {

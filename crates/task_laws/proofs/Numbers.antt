@@ -7,12 +7,7 @@ use Rattle.vsm_model.specs.Search.{is_in}
 use Rattle.vsm_model.specs.Passing.{is_bad_list}
 use Rattle.task_laws.specs.Attached.{AreNumbers}
 use Rattle.task_laws.specs.FirstCauses.{HasBadNumber}
-
-none_is : (n : ℕ) → ◌≡◌ {A = Option ℕ} None (Some n) → ⊥
-none_is n e = cc
-
-same_number : (m n : ℕ) → ◌≡◌ {A = Option ℕ} (Some m) (Some n) → m ≡ n
-same_number m n e = cc
+use Rattle.task_laws.proofs.Options.{none_some, same_some}
 
 -- each number is from 1 to 127
 abbrev pub IsPrivate : ℕ → Type 0
@@ -95,15 +90,15 @@ other_way a b e = false_from_ne_true (b == a) (λ is. both_ways (a == b) e (eq-e
 
 -- A number at a place is in the list, and where no number stands behind again it's at no other place.
 pub at_is_in : (xs : List ℕ) (i n : ℕ) → slice_get xs i ≡ Some n → is_in xs n ≡ true
-at_is_in [] i n e = absurd (none_is n e)
-at_is_in (x ∷ xs) zero n e = or_left (x == n) (is_in xs n) (eq-eqb x n (same_number x n e))
+at_is_in [] i n e = absurd (none_some n e)
+at_is_in (x ∷ xs) zero n e = or_left (x == n) (is_in xs n) (eq-eqb x n (same_some x n e))
 at_is_in (x ∷ xs) (suc i) n e = or_right (x == n) (is_in xs n) (at_is_in xs i n e)
 
 once : (xs : List ℕ) → AreApart xs → (i j n : ℕ) → i < j → slice_get xs i ≡ Some n → slice_get xs j ≢ Some n
-once [] h i j n less e f = none_is n e
+once [] h i j n less e f = none_some n e
 once (x ∷ xs) h i zero n less e f = absurd (omega (arith, less))
 once (x ∷ xs) h zero (suc j) n less e f =
-    both_ways (is_in xs x) h.0 (ap (is_in xs) (same_number x n e) ∙ at_is_in xs j n f)
+    both_ways (is_in xs x) h.0 (ap (is_in xs) (same_some x n e) ∙ at_is_in xs j n f)
 once (x ∷ xs) h (suc i) (suc j) n less e f = once xs h.1 i j n (omega (arith, less)) e f
 
 pub are_numbers : (xs : List ℕ) → is_bad_list xs ≡ false → AreNumbers xs

@@ -1,5 +1,5 @@
 -- A service on tasks is refused for the first cause whose condition holds.
-use Rattle.std.proofs.Common.{◌≡◌, ◌≢◌, ℕ, zero, suc, ◌+◌, ◌<◌, ◌≤◌, nat_le, nat_lt, Bool, true, false, not, ◌&&◌, ◌==◌, if◌then◌else◌, ◌++◌, Option, Some, None, is_some, List, [], ◌∷◌, refl, sym, ◌∙◌, ap, subst, arith, inl, inr, true≢false}
+use Rattle.std.proofs.Common.{◌≡◌, ℕ, zero, suc, ◌+◌, ◌<◌, ◌≤◌, nat_le, nat_lt, Bool, true, false, not, ◌&&◌, ◌==◌, if◌then◌else◌, ◌++◌, Option, Some, None, is_some, List, [], ◌∷◌, refl, sym, ◌∙◌, ap, subst, arith, inl, inr, true≢false}
 use Rattle.std.specs.Prelude.{unwrap_or, is_none}
 use Rattle.std.specs.Option.{option_and_then}
 use Rattle.std.specs.List.{list_any}
@@ -21,7 +21,7 @@ use Rattle.vsm_model.proofs.Chosen.{refused_for_the_first}
 use Rattle.vsm_model.proofs.Least.{least_among}
 use Rattle.task_laws.specs.FirstCauses.{IsNotAssigned, AreNamed, AreNamedWell, IsFirstOfAttach, AttachIsRefusedForTheFirst, IsFirstOfDetach, DetachIsRefusedForTheFirst, IsFirstOfEndTask, EndTaskIsRefusedForTheFirst, IsFirstOfRun, RunIsRefusedForTheFirst}
 use Rattle.task_laws.proofs.Numbers.{none_any, read, are_numbers, bad_number}
-use Rattle.task_laws.proofs.Below.{held}
+use Rattle.task_laws.proofs.Options.{held, none_there}
 use Rattle.task_laws.proofs.Ends.{no_child}
 
 cause_is : (c cause : Cause) → ◌≡◌ {A = Option Cause} (Some c) (Some cause) → c ≡ cause
@@ -39,10 +39,6 @@ at_cause false first cause rows P e here rest = rest refl e
 -- Behind the last one there is none.
 pub past_all : (cause : Cause) (P : Type 0) → first_cause [] ≡ Some cause → P
 past_all cause P e = absurd (no_cause_is cause e)
-
-pub none_there : {A : Type 0} (o : Option A) → is_some o ≡ false → o ≡ None
-none_there None e = refl
-none_there (Some x) e = absurd (true≢false e)
 
 in_run : (a n k : ℕ) → a ≤ k → k < a + n → among a n k ≡ true
 in_run a n k low high = and_from (nat_le a k) (nat_lt k (a + n)) (le-leb a k low) (lt-ltb k (a + n) high)

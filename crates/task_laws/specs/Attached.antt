@@ -1,6 +1,6 @@
 -- What ATTACH leaves: a new task, with the subpools that it's given and those that it shares.
--- Assembler Services Guide, "Virtual storage management", "Subpool handling"; Assembler Services Reference, ATTACH: GSPV, GSPL, SHSPV,
--- SHSPL and SZERO.
+-- Assembler Services Guide, "Virtual storage management", "Subpool handling"; Assembler Services Reference, ATTACH:
+-- GSPV, GSPL, SHSPV, SHSPL and SZERO.
 use Rattle.std.specs.Prelude.{◌≡◌, ◌≢◌, ◌⊎◌, ℕ, ◌<◌, ◌≤◌, Bool, true, false, Some, None, List, ◌++◌, slice_get}
 use Rattle.vsm_model.specs.declared.Subpool.{Subpool}
 use Rattle.vsm_model.specs.declared.limits.Settings.{Settings}
@@ -17,7 +17,8 @@ use Rattle.vsm_model.specs.Passing.{numbers_in}
 use Rattle.vsm_model.specs.Step.{step}
 use Rattle.vsm_model.specs.WellFormed.{IsWellFormed}
 
--- From s to t, the current task gave the subpool of the number to the task: the one that it owned, or a new one where it saw none.
+-- From s to t, the current task gave the subpool of the number to the task: the one that it owned, or a new one where
+-- it saw none.
 pub record IsGiven (s t : State) (task number : ℕ) : Type 0 where
   -- it saw no other task's
   pub was_its_own : (owner : ℕ) → s.sight s.current number ≡ Some owner → owner ≡ s.current
@@ -26,8 +27,8 @@ pub record IsGiven (s t : State) (task number : ℕ) : Type 0 where
   pub seen : t.sight task number ≡ Some task
   pub not_owned : t.subpools number s.current ≡ false
   pub not_seen : t.sight s.current number ≡ None
-  -- who shared it with the giver sees it as the new owner's; what else was seen of the number is seen still, and subpools of other
-  -- owners stay
+  -- who shared it with the giver sees it as the new owner's; what else was seen of the number is seen still, and
+  -- subpools of other owners stay
   pub sharers :
       (other : ℕ) → other ≢ s.current → s.sight other number ≡ Some s.current → t.sight other number ≡ Some task
   pub other_sight :
@@ -51,7 +52,8 @@ pub record IsGiven (s t : State) (task number : ℕ) : Type 0 where
   -- when the giver asks for storage of the number again, it gets a new subpool of its own
   pub asked_again : seen_or_own t number ≡ record { number = number; owner = s.current }
 
--- From s to t, the current task shares the subpool of the number with the task: the one that it saw, or a new one of its own.
+-- From s to t, the current task shares the subpool of the number with the task: the one that it saw, or a new one of
+-- its own.
 pub record IsShared (s t : State) (task number : ℕ) : Type 0 where
   pub owner : ℕ
   pub one_that_it_saw : (o : ℕ) → s.sight s.current number ≡ Some o → owner ≡ o
@@ -63,7 +65,8 @@ pub record IsShared (s t : State) (task number : ℕ) : Type 0 where
   pub other_sight : (other : ℕ) → other ≢ s.current → other ≢ task → t.sight other number ≡ s.sight other number
   pub other_owners : (o : ℕ) → o ≢ owner → t.subpools number o ≡ s.subpools number o
 
--- From s to t, the task has a new subpool of its own of the number, without storage, and all else of the number is as it was.
+-- From s to t, the task has a new subpool of its own of the number, without storage, and all else of the number is as
+-- it was.
 pub record HasItsOwn (s t : State) (task number : ℕ) : Type 0 where
   pub owned : t.subpools number task ≡ true
   pub seen : t.sight task number ≡ Some task
@@ -99,7 +102,8 @@ pub record IsAttached (s t : State) (a : Attach) (task : ℕ) : Type 0 where
   pub shared : List ℕ
   pub are_shared : numbers_in s a.shared ≡ Some shared
   pub are_numbers : AreNumbers (given ++ shared)
-  -- what becomes of the subpools of each number: it is given or shared; subpool 0 is shared or the task's own; others are untouched
+  -- what becomes of the subpools of each number: it is given or shared; subpool 0 is shared or the task's own; others
+  -- are untouched
   pub each_given : (number : ℕ) → is_in given number ≡ true → IsGiven s t task number
   pub each_shared : (number : ℕ) → is_in shared number ≡ true → IsShared s t task number
   pub zero_shared : a.shares_zero ≡ true → IsShared s t task 0

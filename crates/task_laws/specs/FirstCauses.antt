@@ -2,7 +2,8 @@
 -- Assembler Services Reference, ATTACH and DETACH.
 use Rattle.std.specs.Prelude.{◌≡◌, ◌≢◌, ◌⊎◌, ℕ, suc, ◌<◌, ◌≤◌, Bool, true, Some, None, List, ◌++◌, slice_get}
 use Rattle.vsm_model.specs.declared.causes.Cause.{Cause}
-use Rattle.vsm_model.specs.declared.causes.Cause.TheVariants.{NotAssigned, BadList, NotOwner, TooManyTasks, NoTask, NotParent, HasSubtask}
+use Rattle.vsm_model.specs.declared.causes.Cause.TheVariants.{NotAssigned, BadList, NotOwner, TooManyTasks, NoTask}
+use Rattle.vsm_model.specs.declared.causes.Cause.TheVariants.{NotParent, HasSubtask}
 use Rattle.vsm_model.specs.declared.limits.Settings.{Settings}
 use Rattle.vsm_model.specs.declared.services.Attach.{Attach}
 use Rattle.vsm_model.specs.declared.services.Passed.{Passed}
@@ -23,7 +24,8 @@ IsNotAssigned s Nothing = ⊥
 IsNotAssigned s (Number number) = ⊥
 IsNotAssigned s (Listed address) =
     (s.bytes address ≡ None)
-    ⊎ ((count : ℕ) × (a : ℕ) × (s.bytes address ≡ Some count) × (among (suc address) count a ≡ true) × (s.bytes a ≡ None))
+    ⊎ ((count : ℕ) × (a : ℕ) × (s.bytes address ≡ Some count) × (among (suc address) count a ≡ true)
+    × (s.bytes a ≡ None))
 
 -- A number is 0 or above 127, or stands twice.
 abbrev pub HasBadNumber : List ℕ → Type 0
@@ -41,15 +43,17 @@ pub record AreNamedWell (s : State) (a : Attach) (given shared : List ℕ) : Typ
   pub named : AreNamed s a given shared
   pub are_numbers : AreNumbers (given ++ shared)
 
--- Why an ATTACH is refused: a list isn't all there; or they are, and the numbers are bad; or they are good, and the current task sees
--- another's subpool at one that it gives; or at none of them, and each number from 1 to 64 has a task.
+-- Why an ATTACH is refused: a list isn't all there; or they are, and the numbers are bad; or they are good, and the
+-- current task sees another's subpool at one that it gives; or at none of them, and each number from 1 to 64 has a
+-- task.
 abbrev pub IsFirstOfAttach : State → Attach → Cause → Type 0
 IsFirstOfAttach s a NotAssigned = IsNotAssigned s a.given ⊎ IsNotAssigned s a.shared
 IsFirstOfAttach s a BadList =
     (given : List ℕ) × (shared : List ℕ) × AreNamed s a given shared × HasBadNumber (given ++ shared)
 IsFirstOfAttach s a NotOwner =
     (given : List ℕ) × (shared : List ℕ) × AreNamedWell s a given shared
-    × ((number : ℕ) × (owner : ℕ) × (is_in given number ≡ true) × (s.sight s.current number ≡ Some owner) × (owner ≢ s.current))
+    × ((number : ℕ) × (owner : ℕ) × (is_in given number ≡ true) × (s.sight s.current number ≡ Some owner)
+    × (owner ≢ s.current))
 IsFirstOfAttach s a TooManyTasks =
     (given : List ℕ) × (shared : List ℕ) × AreNamedWell s a given shared
     × ((number owner : ℕ) → is_in given number ≡ true → s.sight s.current number ≡ Some owner → owner ≡ s.current)
