@@ -142,13 +142,13 @@ module _ (settings : Settings) (s : State) (w : IsWellFormed settings s) (a : At
       let alone = apart_left given shared (good settings s w a can).1 in
       is_given s t new given passed n is (owns n is)
       (λ task.
-          Passed.shares_other_sight shared passed_on new task n (not_shared n is)
-          ∙ Passed.gifts_sight given began new n task alone is
-          ∙ (λ i. Passed.gift_row (λ u. Passed.zero_other_sight (with_task s new) new a.shares_zero u n other i) (began_current i) new task))
+      Passed.shares_other_sight shared passed_on new task n (not_shared n is)
+      ∙ Passed.gifts_sight given began new n task alone is
+      ∙ (λ i. Passed.gift_row (λ u. Passed.zero_other_sight (with_task s new) new a.shares_zero u n other i) (began_current i) new task))
       (λ owner.
-          Passed.shares_other_subpools shared passed_on new n owner (not_shared n is)
-          ∙ Passed.gifts_subpools given began new n owner alone is
-          ∙ (λ i. Passed.gift_pools (λ u. Passed.zero_other_subpools (with_task s new) new a.shares_zero n u other i) (began_current i) new owner))
+      Passed.shares_other_subpools shared passed_on new n owner (not_shared n is)
+      ∙ Passed.gifts_subpools given began new n owner alone is
+      ∙ (λ i. Passed.gift_pools (λ u. Passed.zero_other_subpools (with_task s new) new a.shares_zero n u other i) (began_current i) new owner))
 
   -- the row of a number that isn't given
   kept_sight : (n task : ℕ) → (n == 0) ≡ false → is_in given n ≡ false → passed_on.sight task n ≡ s.sight task n
@@ -165,11 +165,11 @@ module _ (settings : Settings) (s : State) (w : IsWellFormed settings s) (a : At
       let alone = apart_right given shared (good settings s w a can).1 in
       is_shared s t new n
       (λ task.
-          Passed.shares_sight shared passed_on new n task alone is
-          ∙ (λ i. Passed.share_row (λ u. kept_sight n u other (not_given n is) i) (passed_current i) new task))
+      Passed.shares_sight shared passed_on new n task alone is
+      ∙ (λ i. Passed.share_row (λ u. kept_sight n u other (not_given n is) i) (passed_current i) new task))
       (λ owner.
-          Passed.shares_subpools shared passed_on new n owner alone is
-          ∙ (λ i. Passed.share_pools (λ u. kept_sight n u other (not_given n is) i) (λ u. kept_subpools n u other (not_given n is) i) (passed_current i) owner))
+      Passed.shares_subpools shared passed_on new n owner alone is
+      ∙ (λ i. Passed.share_pools (λ u. kept_sight n u other (not_given n is) i) (λ u. kept_subpools n u other (not_given n is) i) (passed_current i) owner))
       w.sight apart
 
   zero_sight : (task : ℕ) → t.sight task 0 ≡ began.sight task 0

@@ -20,8 +20,8 @@ module _ (s t : State) (new number : ℕ) (sight : (task : ℕ) → t.sight task
       pools its
       ∙ cond_both (is_some (s.sight s.current number)) (s.subpools number its) (row its) (λ b. b ≡ true)
       (λ sees.
-          let (owner, at) = some_there (s.sight s.current number) sees in
-          subst (λ o. s.subpools number o ≡ true) (sym (owner_seen s number owner at)) (w.seen_is_there s.current number owner at))
+      let (owner, at) = some_there (s.sight s.current number) sees in
+      subst (λ o. s.subpools number o ≡ true) (sym (owner_seen s number owner at)) (w.seen_is_there s.current number owner at))
       (λ none. or_left (its == s.current) (s.subpools number its)
       (eq-eqb its s.current (owner_own s number (none_there (s.sight s.current number) none))))
 
@@ -35,8 +35,8 @@ module _ (s t : State) (new number : ℕ) (sight : (task : ℕ) → t.sight task
       ∙ cond_both (is_some (s.sight s.current number)) (s.sight s.current number) (if s.current == s.current then Some s.current else s.sight s.current number) (λ o. o ≡ Some its)
       (λ sees. let (owner, at) = some_there (s.sight s.current number) sees in at ∙ ap Some (sym (owner_seen s number owner at)))
       (λ none.
-          cond-true (s.current == s.current) (Some s.current) (s.sight s.current number) (eq-eqb s.current s.current refl)
-          ∙ ap Some (sym (owner_own s number (none_there (s.sight s.current number) none))))
+      cond-true (s.current == s.current) (Some s.current) (s.sight s.current number) (eq-eqb s.current s.current refl)
+      ∙ ap Some (sym (owner_own s number (none_there (s.sight s.current number) none))))
 
   other_sight : (task : ℕ) → task ≢ s.current → task ≢ new → t.sight task number ≡ s.sight task number
   other_sight task not_current not_new =

@@ -84,8 +84,8 @@ end_task_is_refused_for_the_first settings names_full s cause w e =
     at_cause (has_subtask s s.current) HasSubtask cause ((s.current == 1, NotParent) ∷ []) (IsFirstOfEndTask s cause)
     (refused_for_the_first settings names_full s end_task cause e)
     (λ has is. subst (IsFirstOfEndTask s) is
-        (let (task, _, child) = failing (λ t. not (is_child s s.current t)) 1 64 (not-true (all_pass (λ t. not (is_child s s.current t)) 1 64) has) in
-        (task, parent_from s s.current task (not-false (is_child s s.current task) child))))
+    (let (task, _, child) = failing (λ t. not (is_child s s.current t)) 1 64 (not-true (all_pass (λ t. not (is_child s s.current t)) 1 64) has) in
+    (task, parent_from s s.current task (not-false (is_child s s.current task) child))))
     (λ alone e. at_cause (s.current == 1) NotParent cause [] (IsFirstOfEndTask s cause) e
     (λ first is. subst (IsFirstOfEndTask s) is (
       λ task at. no_child s w alone task s.current at (eq-eqb s.current s.current refl),
@@ -143,14 +143,14 @@ attach_is_refused_for_the_first settings names_full s a cause e =
     let well : AreNamedWell s a (unwrap_or given []) (unwrap_or shared []) = record { named = named; are_numbers = are_numbers both fine } in
     at_cause (list_any (is_anothers s) (unwrap_or given [])) NotOwner cause last (F cause) e
     (λ others is.
-        let (number, at, anothers) = some_any (is_anothers s) (unwrap_or given []) others in
-        let (owner, seen, other) = held (λ o. not (o == s.current)) (s.sight s.current number) anothers in
-        subst F is (
-          unwrap_or given [],
-          unwrap_or shared [],
-          well,
-          (number, owner, at, seen, λ same. both_ways (owner == s.current) (not-true (owner == s.current) other) (eq-eqb owner s.current same)),
-        )) (λ own e.
+    let (number, at, anothers) = some_any (is_anothers s) (unwrap_or given []) others in
+    let (owner, seen, other) = held (λ o. not (o == s.current)) (s.sight s.current number) anothers in
+    subst F is (
+      unwrap_or given [],
+      unwrap_or shared [],
+      well,
+      (number, owner, at, seen, λ same. both_ways (owner == s.current) (not-true (owner == s.current) other) (eq-eqb owner s.current same)),
+    )) (λ own e.
     at_cause (is_none (free_number s)) TooManyTasks cause [] (F cause) e
     (λ full is. subst F is (
       unwrap_or given [],

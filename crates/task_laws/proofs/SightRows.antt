@@ -100,8 +100,8 @@ pub own_is_there : (s : State) (number : ℕ) → RowsAreSound s → (with_own s
 own_is_there s number w =
     own_by s number (λ (u : State). u.subpools number (owner_at s number) ≡ true)
     (λ sees.
-        let (owner, at) = some_there (s.sight s.current number) sees in
-        subst (λ o. s.subpools number o ≡ true) (sym (owner_seen s number owner at)) (w.seen_is_there s.current number owner at))
+    let (owner, at) = some_there (s.sight s.current number) sees in
+    subst (λ o. s.subpools number o ≡ true) (sym (owner_seen s number owner at)) (w.seen_is_there s.current number owner at))
     (λ none. or_left ((number == number) && (owner_at s number == s.current)) (s.subpools number (owner_at s number))
     (and_from (number == number) (owner_at s number == s.current) (eq-eqb number number refl)
     (eq-eqb (owner_at s number) s.current (owner_own s number (none_there (s.sight s.current number) none)))))
