@@ -1,8 +1,8 @@
 -- ATTACH leaves a well-formed state well-formed.
-use Rattle.std.proofs.Common.{◌≡◌, ◌≢◌, ℕ, ◌≤◌, true, false, not, ◌==◌, ◌++◌, Option, Some, None, List, [], ◌∷◌, is_some, refl, sym, ◌∙◌, ap, subst, arith, true≢false}
+use Rattle.std.proofs.Common.{◌≡◌, ◌≢◌, ℕ, ◌<◌, ◌≤◌, true, false, not, ◌==◌, ◌++◌, Option, Some, None, List, [], ◌∷◌, is_some, refl, sym, ◌∙◌, ap, subst, arith, true≢false}
 use Rattle.std.specs.Prelude.{unwrap_or, is_none}
 use Rattle.std.specs.List.{AllByRecursion, list_any}
-use Rattle.std.proofs.lemmas.Bool.{or_left, or_right, eq-eqb, ne_eqb, not-true, false_from_ne_true}
+use Rattle.std.proofs.lemmas.Bool.{or_left, or_right, eq-eqb, ne_eqb, not-true, not-false, false_from_ne_true}
 use Rattle.vsm_model.specs.declared.causes.Cause.TheVariants.{NotAssigned, BadList, NotOwner, TooManyTasks}
 use Rattle.vsm_model.specs.declared.limits.Settings.{Settings}
 use Rattle.vsm_model.specs.declared.services.Attach.{Attach}
@@ -110,7 +110,7 @@ attach_passes s a none =
     let five = past (is_none (free_number s)) TooManyTasks [] four.1 in
     record { given_is_read = one.0; shared_is_read = two.0; good = three.0; owns = four.0; room = five.0 }
 
--- the number of the new task
+-- the number of the new task, and that each less one has a task
 number_of : (s : State) (o : Option ℕ) → IsLeastAmong (λ t. not (is_task s t)) 1 64 o → is_none o ≡ false →
     (1 ≤ unwrap_or o 0) × (unwrap_or o 0 ≤ 64) × (is_task s (unwrap_or o 0) ≡ false)
 number_of s None h some = absurd (true≢false some)
@@ -119,6 +119,14 @@ number_of s (Some new) h some = let below = h.2 in (h.1, omega (arith, below), n
 pub new_number : (s : State) (a : Attach) → CanAttach s a →
     (1 ≤ unwrap_or (free_number s) 0) × (unwrap_or (free_number s) 0 ≤ 64) × (is_task s (unwrap_or (free_number s) 0) ≡ false)
 new_number s a can = number_of s (free_number s) (least_among (λ t. not (is_task s t)) 1 64) can.room
+
+least_of : (s : State) (o : Option ℕ) → IsLeastAmong (λ t. not (is_task s t)) 1 64 o → is_none o ≡ false →
+    (n : ℕ) → 1 ≤ n → n < unwrap_or o 0 → is_task s n ≡ true
+least_of s None h some n low below = absurd (true≢false some)
+least_of s (Some new) h some n low below = not-false (is_task s n) (h.3 n low below)
+
+pub least_number : (s : State) (a : Attach) → CanAttach s a → (n : ℕ) → 1 ≤ n → n < unwrap_or (free_number s) 0 → is_task s n ≡ true
+least_number s a can = least_of s (free_number s) (least_among (λ t. not (is_task s t)) 1 64) can.room
 
 module _ (settings : Settings) (s : State) (w : IsWellFormed settings s) (a : Attach) (can : CanAttach s a) where
   abbrev new : ℕ
@@ -136,13 +144,13 @@ module _ (settings : Settings) (s : State) (w : IsWellFormed settings s) (a : At
   abbrev passed_on : State
   passed_on = with_gifts began new given
 
-  good : AllByRecursion IsPrivate (given ++ shared) × AreApart (given ++ shared)
+  pub good : AllByRecursion IsPrivate (given ++ shared) × AreApart (given ++ shared)
   good = good_numbers (given ++ shared) can.good
 
-  fresh : (1 ≤ new) × (new ≤ 64) × (is_task s new ≡ false)
+  pub fresh : (1 ≤ new) × (new ≤ 64) × (is_task s new ≡ false)
   fresh = new_number s a can
 
-  new_is_other : new ≢ s.current
+  pub new_is_other : new ≢ s.current
   new_is_other = is_not_current settings s w new fresh.0 fresh.1 fresh.2
 
   began_tasks : (task : ℕ) → is_task (with_task s new) task ≡ true → is_task began task ≡ true

@@ -9,7 +9,7 @@ use Rattle.vsm_model.specs.Ending.{climbs}
 use Rattle.vsm_model.specs.Tasks.{with_task, with_zero}
 use Rattle.vsm_model.specs.WellFormed.{SightIsSound, IsWellFormed}
 use Rattle.task_laws.proofs.Subtrees.{zero_is_none, enough}
-use Rattle.task_laws.proofs.Depth.{none_is_deeper}
+use Rattle.task_laws.proofs.Depth.{climbs_63}
 use Rattle.task_laws.proofs.Attached.{same_parents, climbs_still}
 use Rattle.task_laws.proofs.Grown.{StorageIsSound, pages_grown, cell_pools_grown}
 use Rattle.task_laws.proofs.SightRows.{RowsAreSound, subpool_rows, sight_rows, owner_seen}
@@ -75,8 +75,8 @@ module _ (settings : Settings) (s : State) (w : IsWellFormed settings s) (new : 
   zero_above =
       let above = (w.sight.sees_zero s.current w.tasks.current_is_task).2 in
       let short = enough s.parents w.tasks.root (zero_is_none s w.tasks) zero owner_low 63 64 s.current
-          (none_is_deeper s w.tasks 64 s.current (w.tasks.below_root s.current w.tasks.current_is_task)) above in
-      or_right (new == zero) _
+      (climbs_63 s w.tasks 64 s.current (w.tasks.below_root s.current w.tasks.current_is_task)) above in
+      or_right (new == zero) (holds (climbs more.parents 63 zero) (more.parents new))
       (subst (λ o. holds (climbs more.parents 63 zero) o ≡ true) (sym (cond-true (new == new) (Some s.current) (s.parents new) (eq-eqb new new refl)))
       (climbs_still s w.tasks new low high free 63 zero s.current short))
     where

@@ -1,16 +1,12 @@
 -- The subtree of a task has just the tasks below it.
-use Rattle.std.proofs.Common.{◌≡◌, ℕ, zero, suc, Bool, true, ◌==◌, Option, Some, None, is_some, refl, sym, ◌∙◌, ap, subst, inl, inr, true≢false}
+use Rattle.std.proofs.Common.{◌≡◌, ℕ, zero, suc, true, ◌==◌, is_some, sym, ◌∙◌, ap, subst, inl, inr}
 use Rattle.std.proofs.lemmas.Bool.{or_cases, or_right, eqb-true, eq-eqb}
 use Rattle.vsm_model.specs.Search.{holds}
 use Rattle.vsm_model.specs.State.{State, is_task}
 use Rattle.vsm_model.specs.Ending.{climbs}
 use Rattle.task_laws.specs.Trees.{IsStepsBelow, IsInSubtree, SubtreeIsWhole}
+use Rattle.task_laws.proofs.Options.{held}
 use Rattle.task_laws.proofs.Subtrees.{subtree_is_all_below}
-
--- a test of an optional value that holds is one of a value
-pub held : {A : Type 0} (f : A → Bool) (o : Option A) → holds f o ≡ true → (x : A) × (o ≡ Some x) × (f x ≡ true)
-held f None e = absurd (true≢false (sym e))
-held f (Some x) e = (x, refl, e)
 
 steps_of : (s : State) (n top task : ℕ) → climbs s.parents n top task ≡ true → IsInSubtree s top task
 steps_of s zero top task e = (zero, eqb-true task top e)

@@ -1,5 +1,5 @@
 -- A gift leaves pages and cell pools sound.
-use Rattle.std.proofs.Common.{◌≡◌, ◌⊎◌, ℕ, ◌+◌, ◌*◌, ◌/◌, ◌≤◌, true, false, not, ◌&&◌, ◌||◌, ◌==◌, Option, Some, None, is_some, List, map, AllPairs, refl, sym, ◌∙◌, ap, subst, arith, inl, inr}
+use Rattle.std.proofs.Common.{◌≡◌, ◌⊎◌, ℕ, ◌+◌, ◌*◌, ◌/◌, ◌≤◌, true, false, not, ◌&&◌, ◌||◌, ◌==◌, List, map, AllPairs, refl, sym, ◌∙◌, ap, subst, arith, inl, inr}
 use Rattle.std.specs.Option.{option_map}
 use Rattle.std.proofs.lemmas.Bool.{cond-true, cond-false, and_from, and_cases, or_left, or_right, eq-eqb, cases_Bool, both_ways}
 use Rattle.std.proofs.lemmas.List.{length-map}
@@ -12,22 +12,8 @@ use Rattle.vsm_model.specs.State.{State}
 use Rattle.vsm_model.specs.Subpools.{same_subpool}
 use Rattle.vsm_model.specs.Passing.{handed_on, with_gift}
 use Rattle.vsm_model.specs.WellFormed.{PagesAreSound, IsInSubpool, PoolIsSound, CellPoolsAreSound}
+use Rattle.task_laws.proofs.Options.{mapped, some_mapped}
 use Rattle.task_laws.proofs.Tables.{ascending_changed}
-
-none_some : {A : Type 0} (x : A) → ◌≡◌ {A = Option A} None (Some x) → ⊥
-none_some x e = cc
-
-same_some : {A : Type 0} (x y : A) → ◌≡◌ {A = Option A} (Some x) (Some y) → x ≡ y
-same_some x y e = cc
-
--- a value that comes of a change was there before it
-pub mapped : {A B : Type 0} (f : A → B) (o : Option A) (x : B) → option_map f o ≡ Some x → (y : A) × (o ≡ Some y) × (f y ≡ x)
-mapped f None x e = absurd (none_some x e)
-mapped f (Some y) x e = (y, refl, same_some (f y) x e)
-
-some_mapped : {A B : Type 0} (f : A → B) (o : Option A) → is_some (option_map f o) ≡ is_some o
-some_mapped f None = refl
-some_mapped f (Some x) = refl
 
 module _ (s : State) (old new number : ℕ) where
   abbrev after : State

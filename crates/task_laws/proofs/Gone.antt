@@ -66,27 +66,28 @@ module _ (s : State) (these : ℕ → Bool) where
     no_new_cell_pool = λ name none. none_still stays s.cell_pools name none;
   }
 
--- neither the current task nor a register is part of it
-registered : (s t : State) (these : ℕ → Bool) (register word : ℕ) → HaveEnded s t these → HaveEnded s (with_register t register word) these
-registered s t these register word h = record {
-  no_task = h.no_task; other_tasks = h.other_tasks;
-  no_subpool = h.no_subpool; other_subpools = h.other_subpools;
-  no_sight = h.no_sight; no_sight_of_theirs = h.no_sight_of_theirs; other_sight = h.other_sight; no_new_sight = h.no_new_sight;
-  no_page = h.no_page; other_pages = h.other_pages; no_new_page = h.no_new_page;
-  no_doubleword = h.no_doubleword; other_doublewords = h.other_doublewords;
-  no_byte = h.no_byte; other_bytes = h.other_bytes;
-  no_cell_pool = h.no_cell_pool; other_cell_pools = h.other_cell_pools; no_new_cell_pool = h.no_new_cell_pool;
-}
-
-from_turned : (s t : State) (these : ℕ → Bool) (task : ℕ) → HaveEnded (turned s task) t these → HaveEnded s t these
-from_turned s t these task h = record {
-  no_task = h.no_task; other_tasks = h.other_tasks;
-  no_subpool = h.no_subpool; other_subpools = h.other_subpools;
-  no_sight = h.no_sight; no_sight_of_theirs = h.no_sight_of_theirs; other_sight = h.other_sight; no_new_sight = h.no_new_sight;
-  no_page = h.no_page; other_pages = h.other_pages; no_new_page = h.no_new_page;
-  no_doubleword = h.no_doubleword; other_doublewords = h.other_doublewords;
-  no_byte = h.no_byte; other_bytes = h.other_bytes;
-  no_cell_pool = h.no_cell_pool; other_cell_pools = h.other_cell_pools; no_new_cell_pool = h.no_new_cell_pool;
+-- which task is current, and which words there are, is no part of it
+elsewhere : (s t : State) (these : ℕ → Bool) (current : ℕ) (words : ℕ → ℕ → ℕ) → HaveEnded (turned s current) t these →
+    HaveEnded s (record t { words = words }) these
+elsewhere s t these current words h = record {
+  no_task = h.no_task;
+  other_tasks = h.other_tasks;
+  no_subpool = h.no_subpool;
+  other_subpools = h.other_subpools;
+  no_sight = h.no_sight;
+  no_sight_of_theirs = h.no_sight_of_theirs;
+  other_sight = h.other_sight;
+  no_new_sight = h.no_new_sight;
+  no_page = h.no_page;
+  other_pages = h.other_pages;
+  no_new_page = h.no_new_page;
+  no_doubleword = h.no_doubleword;
+  other_doublewords = h.other_doublewords;
+  no_byte = h.no_byte;
+  other_bytes = h.other_bytes;
+  no_cell_pool = h.no_cell_pool;
+  other_cell_pools = h.other_cell_pools;
+  no_new_cell_pool = h.no_new_cell_pool;
 }
 
 -- another register than register 15 of the task
@@ -103,7 +104,7 @@ module _ (s : State) (w : TasksAreSound s) (up : are_ascending s.cell_pools ≡ 
     was_subtask = parent_is s w task there child;
     these = ending;
     are_all_below = λ other. subtree_is_whole s w task other there;
-    have_ended = registered s (without_tasks s ending) ending 15 0 (have_ended s ending up);
+    have_ended = elsewhere s (without_tasks s ending) ending s.current (with_register (without_tasks s ending) 15 0).words (have_ended s ending up);
     current_stays = not_now s w task there child;
     current = refl;
     no_words = λ other register ends.
@@ -132,7 +133,7 @@ module _ (s : State) (w : TasksAreSound s) (up : are_ascending s.cell_pools ≡ 
       record {
         no_subtask = λ task at. no_child s w alone.0 task s.current at (eq-eqb s.current s.current refl);
         not_first = λ is. both_ways (s.current == 1) alone.1 (eq-eqb s.current 1 is);
-        have_ended = from_turned s (ended s).0 (λ t. t == s.current) parent (have_ended (turned s parent) (λ t. t == s.current) up);
+        have_ended = elsewhere s (ended s).0 (λ t. t == s.current) parent (ended s).0.words (have_ended (turned s parent) (λ t. t == s.current) up);
         turn = (parent_of_ended s w none).0;
         no_words = λ register. cond-true (s.current == s.current) 0 (s.words s.current register) (eq-eqb s.current s.current refl);
         other_registers = λ task register other. cond-false (task == s.current) 0 (s.words task register) (ne_eqb task s.current other);

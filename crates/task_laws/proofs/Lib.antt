@@ -1,3 +1,4 @@
+pub mod Options
 pub mod Tables
 pub mod Subtrees
 pub mod Below
@@ -21,3 +22,6 @@ pub mod SightRows
 pub mod Passed
 pub mod Began
 pub mod Attaches
+pub mod IsShared
+pub mod IsGiven
+pub mod IsAttached

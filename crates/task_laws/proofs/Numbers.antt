@@ -1,9 +1,13 @@
 -- Lists of subpool numbers that aren't bad.
-use Rattle.std.proofs.Common.{◌≡◌, ℕ, ◌≤◌, Bool, true, false, ◌||◌, ◌==◌, nat_lt, List, [], ◌∷◌, ◌++◌, refl, sym, ◌∙◌, ap, subst, arith, inl, inr, true≢false}
-use Rattle.std.specs.List.{AllByRecursion}
-use Rattle.std.proofs.lemmas.Bool.{both_ways, or_left, or_right, or_cases, eqb-true, eq-eqb, ltb-false, false_from_ne_true, cases_eq}
+use Rattle.std.proofs.Common.{◌≡◌, ◌≢◌, ◌⊎◌, ℕ, zero, suc, ◌<◌, ◌≤◌, Bool, true, false, ◌||◌, ◌==◌, nat_lt, Option, Some, None, List, [], ◌∷◌, ◌++◌, slice_get, refl, sym, ◌∙◌, ap, subst, arith, inl, inr, true≢false}
+use Rattle.std.specs.Prelude.{unwrap_or, is_none}
+use Rattle.std.specs.List.{AllByRecursion, list_any}
+use Rattle.std.proofs.lemmas.Bool.{both_ways, or_left, or_right, or_cases, or_parts, eqb-true, eq-eqb, ltb-true, ltb-false, false_from_ne_true, cases_eq}
 use Rattle.vsm_model.specs.Search.{is_in}
 use Rattle.vsm_model.specs.Passing.{is_bad_list}
+use Rattle.task_laws.specs.Attached.{AreNumbers}
+use Rattle.task_laws.specs.FirstCauses.{HasBadNumber}
+use Rattle.task_laws.proofs.Options.{none_some, same_some}
 
 -- each number is from 1 to 127
 abbrev pub IsPrivate : ℕ → Type 0
@@ -83,3 +87,70 @@ in_all P (x ∷ xs) h n e =
 
 pub other_way : (a b : ℕ) → (a == b) ≡ false → (b == a) ≡ false
 other_way a b e = false_from_ne_true (b == a) (λ is. both_ways (a == b) e (eq-eqb a b (sym (eqb-true b a is))))
+
+-- A number at a place is in the list, and where no number stands behind again it's at no other place.
+pub at_is_in : (xs : List ℕ) (i n : ℕ) → slice_get xs i ≡ Some n → is_in xs n ≡ true
+at_is_in [] i n e = absurd (none_some n e)
+at_is_in (x ∷ xs) zero n e = or_left (x == n) (is_in xs n) (eq-eqb x n (same_some x n e))
+at_is_in (x ∷ xs) (suc i) n e = or_right (x == n) (is_in xs n) (at_is_in xs i n e)
+
+once : (xs : List ℕ) → AreApart xs → (i j n : ℕ) → i < j → slice_get xs i ≡ Some n → slice_get xs j ≢ Some n
+once [] h i j n less e f = none_some n e
+once (x ∷ xs) h i zero n less e f = absurd (omega (arith, less))
+once (x ∷ xs) h zero (suc j) n less e f =
+    both_ways (is_in xs x) h.0 (ap (is_in xs) (same_some x n e) ∙ at_is_in xs j n f)
+once (x ∷ xs) h (suc i) (suc j) n less e f = once xs h.1 i j n (omega (arith, less)) e f
+
+pub are_numbers : (xs : List ℕ) → is_bad_list xs ≡ false → AreNumbers xs
+are_numbers xs e =
+    let good = good_numbers xs e in
+    record { private = λ n is. in_all IsPrivate xs good.0 n is; once = once xs good.1 }
+
+-- Why a list is bad.
+one_of_four : (a b c d : Bool) → (a || b || c || d) ≡ true → ((a ≡ true) ⊎ (b ≡ true)) ⊎ ((c ≡ true) ⊎ (d ≡ true))
+one_of_four true b c d e = inl (inl refl)
+one_of_four false true c d e = inl (inr refl)
+one_of_four false false true d e = inr (inl refl)
+one_of_four false false false d e = inr (inr e)
+
+place_of : (xs : List ℕ) (n : ℕ) → is_in xs n ≡ true → (j : ℕ) × (slice_get xs j ≡ Some n)
+place_of [] n e = absurd (true≢false (sym e))
+place_of (x ∷ xs) n e =
+    elim (or_cases (x == n) (is_in xs n) e) [
+      | inl is ↦ (zero, ap Some (eqb-true x n is))
+      | inr later ↦ let (j, at) = place_of xs n later in (suc j, at)
+    ]
+
+further : (x : ℕ) (xs : List ℕ) → HasBadNumber xs → HasBadNumber (x ∷ xs)
+further x xs (inl (n, is, why)) = inl (n, or_right (x == n) (is_in xs n) is, why)
+further x xs (inr (i, j, n, less, at, again)) = inr (suc i, suc j, n, omega (arith, less), at, again)
+
+pub bad_number : (xs : List ℕ) → is_bad_list xs ≡ true → HasBadNumber xs
+bad_number [] e = absurd (true≢false (sym e))
+bad_number (x ∷ xs) e =
+    let first : is_in (x ∷ xs) x ≡ true = or_left (x == x) (is_in xs x) (eq-eqb x x refl) in
+    elim (one_of_four (x == 0) (nat_lt 127 x) (is_in xs x) (is_bad_list xs) e) [
+      | inl outside ↦ elim outside [
+        | inl is ↦ inl (x, first, inl (eqb-true x 0 is))
+        | inr is ↦ inl (x, first, inr (ltb-true 127 x is))
+      ]
+      | inr within ↦ elim within [
+        | inl again ↦ let (j, at) = place_of xs x again in inr (zero, suc j, x, omega arith, refl, at)
+        | inr later ↦ further x xs (bad_number xs later)
+      ]
+    ]
+
+-- a test that no number of the list passes
+pub none_any : (f : ℕ → Bool) (xs : List ℕ) (n : ℕ) → list_any f xs ≡ false → is_in xs n ≡ true → f n ≡ false
+none_any f [] n e is_in_it = absurd (true≢false (sym is_in_it))
+none_any f (x ∷ xs) n e is_in_it =
+    let parts = or_parts (f x) (list_any f xs) e in
+    elim (or_cases (x == n) (is_in xs n) is_in_it) [
+      | inl is ↦ sym (ap f (eqb-true x n is)) ∙ parts.0
+      | inr later ↦ none_any f xs n parts.1 later
+    ]
+
+-- a list that can be read
+pub read : (o : Option (List ℕ)) → is_none o ≡ false → o ≡ Some (unwrap_or o [])
+read None e = absurd (true≢false e)
+read (Some xs) e = refl

@@ -27,7 +27,7 @@ abbrev pub gift_pools : (ℕ → Bool) → ℕ → ℕ → ℕ → Bool
 gift_pools pools old new owner = (owner == new) || (not (owner == old) && pools owner)
 
 -- and after a share.
-abbrev own_row : (ℕ → Option ℕ) → ℕ → ℕ → Option ℕ
+abbrev pub own_row : (ℕ → Option ℕ) → ℕ → ℕ → Option ℕ
 own_row row current task = if is_some (row current) then row task else if task == current then Some current else row task
 
 abbrev pub share_row : (ℕ → Option ℕ) → ℕ → ℕ → ℕ → Option ℕ
@@ -115,16 +115,16 @@ share_sight_at s new n task =
     (own_by s n (λ (u : State). u.sight task n ≡ own_row (row_at s n) s.current task)
     (λ sees. sym (cond-true (is_some (s.sight s.current n)) (s.sight task n) (if task == s.current then Some s.current else s.sight task n) sees))
     (λ none.
-        ap (λ b. if b then Some s.current else s.sight task n) (and_true (task == s.current) (n == n) (eq-eqb n n refl))
-        ∙ sym (cond-false (is_some (s.sight s.current n)) (s.sight task n) (if task == s.current then Some s.current else s.sight task n) none)))
+    ap (λ b. if b then Some s.current else s.sight task n) (and_true (task == s.current) (n == n) (eq-eqb n n refl))
+    ∙ sym (cond-false (is_some (s.sight s.current n)) (s.sight task n) (if task == s.current then Some s.current else s.sight task n) none)))
 
 pub share_subpools_at : (s : State) (new n owner : ℕ) → (with_share s new n).subpools n owner ≡ share_pools (row_at s n) (pools_at s n) s.current owner
 share_subpools_at s new n owner =
     own_by s n (λ (u : State). u.subpools n owner ≡ share_pools (row_at s n) (pools_at s n) s.current owner)
     (λ sees. sym (cond-true (is_some (s.sight s.current n)) (s.subpools n owner) ((owner == s.current) || s.subpools n owner) sees))
     (λ none.
-        ap (λ b. (b && (owner == s.current)) || s.subpools n owner) (eq-eqb n n refl)
-        ∙ sym (cond-false (is_some (s.sight s.current n)) (s.subpools n owner) ((owner == s.current) || s.subpools n owner) none))
+    ap (λ b. (b && (owner == s.current)) || s.subpools n owner) (eq-eqb n n refl)
+    ∙ sym (cond-false (is_some (s.sight s.current n)) (s.subpools n owner) ((owner == s.current) || s.subpools n owner) none))
 
 pub shares_other_sight : (xs : List ℕ) (s : State) (task t n : ℕ) → is_in xs n ≡ false → (with_shares s task xs).sight t n ≡ s.sight t n
 shares_other_sight [] s task t n none = refl

@@ -1,27 +1,17 @@
 -- A subpool more, and a share, leave sight sound.
-use Rattle.std.proofs.Common.{◌≡◌, ◌≢◌, ℕ, ◌≤◌, Bool, true, false, ◌&&◌, ◌||◌, ◌==◌, if◌then◌else◌, Option, Some, None, is_some, refl, sym, ◌∙◌, ap, subst, arith, inl, inr, true≢false}
+use Rattle.std.proofs.Common.{◌≡◌, ◌≢◌, ℕ, ◌≤◌, Bool, true, false, ◌&&◌, ◌||◌, ◌==◌, if◌then◌else◌, Option, Some, None, is_some, refl, sym, ◌∙◌, ap, subst, arith, inl, inr}
 use Rattle.std.specs.Prelude.{unwrap_or}
 use Rattle.std.proofs.lemmas.Bool.{cond-true, cond-false, cond_both, and_from, and_parts, and_left, and_right, or_cases, or_left, or_right, or_from, eqb-true, eq-eqb, ne_eqb, cases_Bool, both_ways}
 use Rattle.vsm_model.specs.State.{State, is_task}
 use Rattle.vsm_model.specs.Subpools.{sees_one, with_sight, with_subpool, with_own}
 use Rattle.vsm_model.specs.Passing.{with_share}
 use Rattle.vsm_model.specs.WellFormed.{SightIsSound}
-
-pub same_some : {A : Type 0} (x y : A) → ◌≡◌ {A = Option A} (Some x) (Some y) → x ≡ y
-same_some x y e = cc
+use Rattle.task_laws.proofs.Options.{same_some, some_there, none_there}
 
 -- what holds of the value that a test picks
 pub chosen : {A : Type 0} (b : Bool) (x y z : A) (P : Type 0) → (if b then x else y) ≡ z → (b ≡ true → x ≡ z → P) → (b ≡ false → y ≡ z → P) → P
 chosen true x y z P e f g = f refl e
 chosen false x y z P e f g = g refl e
-
-pub seen_some : (o : Option ℕ) → is_some o ≡ true → (x : ℕ) × (o ≡ Some x)
-seen_some None e = absurd (true≢false (sym e))
-seen_some (Some x) e = (x, refl)
-
-pub seen_none : (o : Option ℕ) → is_some o ≡ false → o ≡ None
-seen_none None e = refl
-seen_none (Some x) e = absurd (true≢false e)
 
 -- Sight but for subpool 0, which a new task doesn't see at once.
 pub record RowsAreSound (s : State) : Type 0 where
@@ -110,11 +100,11 @@ pub own_is_there : (s : State) (number : ℕ) → RowsAreSound s → (with_own s
 own_is_there s number w =
     own_by s number (λ (u : State). u.subpools number (owner_at s number) ≡ true)
     (λ sees.
-        let (owner, at) = seen_some (s.sight s.current number) sees in
-        subst (λ o. s.subpools number o ≡ true) (sym (owner_seen s number owner at)) (w.seen_is_there s.current number owner at))
+    let (owner, at) = some_there (s.sight s.current number) sees in
+    subst (λ o. s.subpools number o ≡ true) (sym (owner_seen s number owner at)) (w.seen_is_there s.current number owner at))
     (λ none. or_left ((number == number) && (owner_at s number == s.current)) (s.subpools number (owner_at s number))
     (and_from (number == number) (owner_at s number == s.current) (eq-eqb number number refl)
-    (eq-eqb (owner_at s number) s.current (owner_own s number (seen_none (s.sight s.current number) none)))))
+    (eq-eqb (owner_at s number) s.current (owner_own s number (none_there (s.sight s.current number) none)))))
 
 -- of another task's subpools there is none more
 pub own_of_others : (s : State) (number n task : ℕ) → task ≢ s.current → s.subpools n task ≡ false → (with_own s number).subpools n task ≡ false

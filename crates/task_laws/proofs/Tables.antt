@@ -1,5 +1,5 @@
 -- Tables of cell pools of which some are left, and tables whose cell pools are changed in place.
-use Rattle.std.proofs.Common.{◌≡◌, ℕ, suc, zero, ◌≤◌, Bool, true, false, ◌&&◌, if◌then◌else◌, Option, Some, None, List, [], ◌∷◌, ◌++◌, length, map, flat_map, filter, AllPairs, Ordering, Less, Equal, Greater, is_lt, is_eq, refl, sym, ◌∙◌, ap, arith, inl, inr, true≢false}
+use Rattle.std.proofs.Common.{◌≡◌, ℕ, suc, zero, ◌≤◌, Bool, true, false, ◌&&◌, if◌then◌else◌, Some, None, List, [], ◌∷◌, ◌++◌, length, map, flat_map, filter, AllPairs, Ordering, Less, Equal, Greater, is_lt, is_eq, refl, sym, ◌∙◌, ap, arith, inl, inr, true≢false}
 use Rattle.std.specs.Ordering.{nat_cmp, eq_by_cmp}
 use Rattle.std.specs.Option.{option_map}
 use Rattle.std.specs.List.{AllByRecursion}
@@ -10,12 +10,7 @@ use Rattle.std.proofs.lemmas.Bool.{and_parts, and_from, cond-true, cond-false, c
 use Rattle.std.proofs.lemmas.List.Elements.{All-from_recursion, recursion_from_All}
 use Rattle.std.proofs.lemmas.List.Kept.{AllPairs-cons}
 use Rattle.vsm_model.specs.CellPools.{CellPool, CellPools, cell_pool_in, are_ascending}
-
-some_is_not : {A : Type 0} (x : A) → ◌≡◌ {A = Option A} (Some x) None → ⊥
-some_is_not x e = cc
-
-same_some : {A : Type 0} (x y : A) → ◌≡◌ {A = Option A} (Some x) (Some y) → x ≡ y
-same_some x y e = cc
+use Rattle.task_laws.proofs.Options.{some_none, same_some}
 
 -- What holds of each element of two lists, one after the other.
 module _ {X : Type 0} (P : X → Type 0) where
@@ -162,7 +157,7 @@ module _ (keeps : CellPool → Bool) where
   -- A cell pool that passes is found as before,
   pub found_still : (table : CellPools) (name : List ℕ) (pool : CellPool) → cell_pool_in table name ≡ Some pool → keeps pool ≡ true → cell_pool_in (filter (λ row. keeps row.1) table) name ≡ Some pool
   unfolding left
-  found_still [] name pool e stays = absurd (some_is_not pool (sym e))
+  found_still [] name pool e stays = absurd (some_none pool (sym e))
   found_still (row ∷ rows) name pool e stays =
       elim (cases_Bool (eq_by_cmp by_name name row.0)) [
         | inl is ↦
@@ -182,7 +177,7 @@ module _ (keeps : CellPool → Bool) where
   none_still [] name e = refl
   none_still (row ∷ rows) name e =
       elim (cases_Bool (eq_by_cmp by_name name row.0)) [
-        | inl is ↦ absurd (some_is_not row.1 (sym (found_first row rows name is) ∙ e))
+        | inl is ↦ absurd (some_none row.1 (sym (found_first row rows name is) ∙ e))
         | inr other ↦
             let rest = none_still rows name (sym (found_later row rows name other) ∙ e) in
             elim (cases_Bool (keeps row.1)) [

@@ -1,6 +1,6 @@
 -- What the end of tasks leaves: DETACH, and the bench's own ENDTASK.
--- Assembler Services Guide, "Virtual storage management", "Subpool handling": when a task ends, the subpools that it owns are released,
--- and those that it shares stay. Assembler Services Reference, DETACH.
+-- Assembler Services Guide, "Virtual storage management", "Subpool handling": when a task ends, the subpools that it
+-- owns are released, and those that it shares stay. Assembler Services Reference, DETACH.
 use Rattle.std.specs.Prelude.{◌≡◌, ◌≢◌, ◌⊎◌, ◌↔◌, ℕ, ◌/◌, Bool, true, false, ◌==◌, Some, None, List}
 use Rattle.vsm_model.specs.declared.Subpool.{Subpool}
 use Rattle.vsm_model.specs.declared.limits.Settings.{Settings}
@@ -30,8 +30,8 @@ TheOthersKeepTheirPages =
     (s : State) (these : ℕ → Bool) (k : ℕ) (p : Subpool) → s.pages k ≡ Some p → these p.owner ≡ false →
     (without_tasks s these).pages k ≡ Some p
 
--- From s to t, these tasks have ended, and of subpools and storage just what they owned is gone: what they only shared stays, with its
--- bytes. (Of the current task and of registers nothing is said.)
+-- From s to t, these tasks have ended, and of subpools and storage just what they owned is gone: what they only shared
+-- stays, with its bytes. (Of the current task and of registers nothing is said.)
 pub record HaveEnded (s t : State) (these : ℕ → Bool) : Type 0 where
   -- they are no tasks, and all others have their parents
   pub no_task : (task : ℕ) → these task ≡ true → t.parents task ≡ None
@@ -39,7 +39,8 @@ pub record HaveEnded (s t : State) (these : ℕ → Bool) : Type 0 where
   -- their subpools are gone, and all others stay
   pub no_subpool : (number owner : ℕ) → these owner ≡ true → t.subpools number owner ≡ false
   pub other_subpools : (number owner : ℕ) → these owner ≡ false → t.subpools number owner ≡ s.subpools number owner
-  -- they see nothing, and whoever saw a subpool of theirs sees none; the others see what they saw, and nothing new is seen
+  -- they see nothing, and whoever saw a subpool of theirs sees none; the others see what they saw, and nothing new is
+  -- seen
   pub no_sight : (task number : ℕ) → these task ≡ true → t.sight task number ≡ None
   pub no_sight_of_theirs :
       (task number owner : ℕ) → s.sight task number ≡ Some owner → these owner ≡ true → t.sight task number ≡ None

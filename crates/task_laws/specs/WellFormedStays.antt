@@ -1,14 +1,13 @@
 -- An accepted service on tasks leaves a well-formed state well-formed.
-use Rattle.std.specs.Prelude.{◌≡◌, ℕ, ◌≤◌, Bool, true}
+use Rattle.std.specs.Prelude.{◌≡◌, ℕ, Bool}
 use Rattle.vsm_model.specs.declared.limits.Settings.{Settings}
 use Rattle.vsm_model.specs.declared.replies.Reply.{Reply}
 use Rattle.vsm_model.specs.declared.services.Attach.{Attach}
-use Rattle.vsm_model.specs.State.{State, is_task}
+use Rattle.vsm_model.specs.State.{State}
 use Rattle.vsm_model.specs.Services.{attach, detach, end_task, run}
 use Rattle.vsm_model.specs.Standing.{Accepted}
-use Rattle.vsm_model.specs.Passing.{with_gift}
 use Rattle.vsm_model.specs.Step.{step}
-use Rattle.vsm_model.specs.WellFormed.{SightIsSound, IsWellFormed}
+use Rattle.vsm_model.specs.WellFormed.{IsWellFormed}
 
 -- ATTACH,
 abbrev pub AttachLeavesWellFormed : Type 0
@@ -33,9 +32,3 @@ abbrev pub RunLeavesWellFormed : Type 0
 RunLeavesWellFormed =
     (settings : Settings) (names_full : Bool) (s t : State) (task : ℕ) (reply : Reply) → IsWellFormed settings s →
     step settings names_full s (run task) ≡ Accepted t reply → IsWellFormed settings t
-
--- A gift from a task to a task leaves sight sound.
-abbrev pub AGiftLeavesSightSound : Type 0
-AGiftLeavesSightSound =
-    (s : State) (old new number : ℕ) → is_task s old ≡ true → is_task s new ≡ true → 1 ≤ number → number ≤ 127 →
-    SightIsSound s → SightIsSound (with_gift s old new number)

@@ -1,5 +1,8 @@
-use Rattle.task_laws.proofs.Refused.{detach_is_refused_for_the_first, end_task_is_refused_for_the_first, run_is_refused_for_the_first}
+use Rattle.task_laws.proofs.Refused.{attach_is_refused_for_the_first, detach_is_refused_for_the_first, end_task_is_refused_for_the_first, run_is_refused_for_the_first}
 use Rattle.task_laws.proofs.laws.refused_for_the_first_cause.Goals as goal
+
+pub returns-clause-attach : goal.returns-clause-attach
+returns-clause-attach c = attach_is_refused_for_the_first
 
 pub returns-clause-detach : goal.returns-clause-detach
 returns-clause-detach c = detach_is_refused_for_the_first
