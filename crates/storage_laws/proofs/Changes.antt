@@ -99,7 +99,7 @@ module _ (settings : Settings) (s : State) (w : IsWellFormed settings s) where
       few = w.cell_pools.few;
       each = λ k d below. pool_still s (with_subpool s n s.current) _
           (λ there. or_right _ _ there)
-          (λ x i. record { on_doubleword = i.on_doubleword; is_taken = i.is_taken; in_pages = i.in_pages })
+          (λ x i. record { has_cells = i.has_cells; on_doubleword = i.on_doubleword; is_taken = i.is_taken; in_pages = i.in_pages })
           (w.cell_pools.each k d below);
       apart = w.cell_pools.apart;
     };
@@ -144,7 +144,7 @@ module _ (settings : Settings) (s : State) (w : IsWellFormed settings s) where
       ascending = w.cell_pools.ascending;
       few = w.cell_pools.few;
       each = λ k e below. pool_still s (with_taken s d count) _ (λ there. there)
-          (λ x i. record { on_doubleword = i.on_doubleword; is_taken = λ j own. or_right (among d count j) (s.taken j) (i.is_taken j own); in_pages = i.in_pages })
+          (λ x i. record { has_cells = i.has_cells; on_doubleword = i.on_doubleword; is_taken = λ j own. or_right (among d count j) (s.taken j) (i.is_taken j own); in_pages = i.in_pages })
           (w.cell_pools.each k e below);
       apart = w.cell_pools.apart;
     };
@@ -207,6 +207,8 @@ module _ (settings : Settings) (s : State) (w : IsWellFormed settings s) where
         few = w.cell_pools.few;
         each = λ k e below. pool_still s after _ (λ there. there)
             (λ x i. record {
+              has_cells = i.has_cells;
+              has_cells = i.has_cells;
               on_doubleword = i.on_doubleword;
               is_taken = λ j own. or_right (among (512 * page) count j) (s.taken j) (i.is_taken j own);
               in_pages = λ j own. cond-false (among page (pages_for count) (j / 512)) (Some p) (s.pages (j / 512)) (not_new (j / 512) _ (i.in_pages j own)) ∙ i.in_pages j own;
@@ -278,6 +280,8 @@ module _ (settings : Settings) (s : State) (w : IsWellFormed settings s) where
         IsInSubpool s pool x → IsInSubpool (without_area s p d count) pool x
     unfolding left
     extent_stays pool x apart i = record {
+      has_cells = i.has_cells;
+      has_cells = i.has_cells;
       on_doubleword = i.on_doubleword;
       is_taken = λ j own. and_from (not (among d count j)) (s.taken j) (ap not (apart j own)) (i.is_taken j own);
       in_pages = λ j own.
@@ -343,6 +347,8 @@ module _ (settings : Settings) (s : State) (w : IsWellFormed settings s) where
     other_stays row was other =
         pool_still s emptied row.1 (λ there. there)
         (λ x i. record {
+          has_cells = i.has_cells;
+          has_cells = i.has_cells;
           on_doubleword = i.on_doubleword;
           is_taken = λ j own. and_from (not (holds (same_subpool p) (s.pages (j / 512)))) (s.taken j) (ap (λ o. not (holds (same_subpool p) o)) (i.in_pages j own) ∙ other) (i.is_taken j own);
           in_pages = λ j own.
@@ -406,7 +412,7 @@ module _ (settings : Settings) (s : State) (w : IsWellFormed settings s) where
         ascending = w.cell_pools.ascending;
         few = w.cell_pools.few;
         each = λ k d below. pool_still s (with_bytes s address bytes) _ (λ there. there)
-            (λ x i. record { on_doubleword = i.on_doubleword; is_taken = i.is_taken; in_pages = i.in_pages })
+            (λ x i. record { has_cells = i.has_cells; on_doubleword = i.on_doubleword; is_taken = i.is_taken; in_pages = i.in_pages })
             (w.cell_pools.each k d below);
         apart = w.cell_pools.apart;
       };
