@@ -208,7 +208,6 @@ module _ (settings : Settings) (s : State) (w : IsWellFormed settings s) where
         each = λ k e below. pool_still s after _ (λ there. there)
             (λ x i. record {
               has_cells = i.has_cells;
-              has_cells = i.has_cells;
               on_doubleword = i.on_doubleword;
               is_taken = λ j own. or_right (among (512 * page) count j) (s.taken j) (i.is_taken j own);
               in_pages = λ j own. cond-false (among page (pages_for count) (j / 512)) (Some p) (s.pages (j / 512)) (not_new (j / 512) _ (i.in_pages j own)) ∙ i.in_pages j own;
@@ -281,7 +280,6 @@ module _ (settings : Settings) (s : State) (w : IsWellFormed settings s) where
     unfolding left
     extent_stays pool x apart i = record {
       has_cells = i.has_cells;
-      has_cells = i.has_cells;
       on_doubleword = i.on_doubleword;
       is_taken = λ j own. and_from (not (among d count j)) (s.taken j) (ap not (apart j own)) (i.is_taken j own);
       in_pages = λ j own.
@@ -347,7 +345,6 @@ module _ (settings : Settings) (s : State) (w : IsWellFormed settings s) where
     other_stays row was other =
         pool_still s emptied row.1 (λ there. there)
         (λ x i. record {
-          has_cells = i.has_cells;
           has_cells = i.has_cells;
           on_doubleword = i.on_doubleword;
           is_taken = λ j own. and_from (not (holds (same_subpool p) (s.pages (j / 512)))) (s.taken j) (ap (λ o. not (holds (same_subpool p) o)) (i.in_pages j own) ∙ other) (i.is_taken j own);
