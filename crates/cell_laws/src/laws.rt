@@ -1,0 +1,1 @@
+//! Each law is the contract of a function that does nothing.
