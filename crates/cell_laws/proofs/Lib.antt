@@ -2,3 +2,5 @@ pub mod Lists
 pub mod Tables
 pub mod CellLists
 pub mod Spans
+pub mod Placed
+pub mod Words
