@@ -4,3 +4,11 @@ pub mod CellLists
 pub mod Spans
 pub mod Placed
 pub mod Words
+pub mod Pools
+pub mod Answered
+pub mod Getting
+pub mod Building
+pub mod Emptied
+pub mod Deleting
+pub mod Named
+pub mod Promised

@@ -66,7 +66,7 @@ module _ (s : State) (p : Subpool) (count : ℕ) where
   either Q Nowhere b f g e = g e
 
   -- an area that has a place lies in one of the regions
-  place_from : (Good : Region → Type 0) (rs : List Region) → All Good rs → is_nowhere (place s rs p count 1) ≡ false →
+  pub place_from : (Good : Region → Type 0) (rs : List Region) → All Good rs → is_nowhere (place s rs p count 1) ≡ false →
       (r : Region) × Good r × IsOpenIn s p count r (place s rs p count 1)
   place_from Good [] good e = absurd (true≢false e)
   place_from Good (r ∷ rs) good e =
@@ -162,11 +162,17 @@ module _ (s : State) (in_page : (d : ℕ) → s.taken d ≡ true → is_some (s.
   area_taken Nowhere h = absurd h
 
 -- Pages, doublewords and bytes alone change.
+pub area_table : (s : State) (p : Subpool) (count : ℕ) (goes : Place) → (with_area s p count goes).cell_pools ≡ s.cell_pools
+area_table s p count (Inside d) = refl
+area_table s p count (Fresh page) = refl
+area_table s p count Nowhere = refl
+
 pub area_alone : (s : State) (p : Subpool) (count : ℕ) (goes : Place) →
     with_area s p count goes ≡ record s {
       pages = (with_area s p count goes).pages;
       taken = (with_area s p count goes).taken;
       bytes = (with_area s p count goes).bytes;
+      cell_pools = (with_area s p count goes).cell_pools;
     }
 area_alone s p count (Inside d) = refl
 area_alone s p count (Fresh page) = refl

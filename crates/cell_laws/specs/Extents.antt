@@ -1,14 +1,18 @@
 -- What becomes of storage when an extent of a cell pool is taken.
 -- Assembler Services Guide, "Virtual storage management", "Using the CPOOL macro".
-use Rattle.std.specs.Prelude.{◌≡◌, ℕ, ◌/◌, ◌%◌, ◌≤◌, ◌||◌, true, false, Some, None, is_some, All}
+use Rattle.std.specs.Prelude.{◌≡◌, ℕ, Bool, ◌/◌, ◌%◌, ◌≤◌, ◌||◌, true, false, Some, None, is_some, All}
 use Rattle.vsm_model.specs.declared.Subpool.{Subpool}
 use Rattle.vsm_model.specs.Regions.{Region, among, within}
-use Rattle.vsm_model.specs.CellPools.{CellExtent}
+use Rattle.vsm_model.specs.CellPools.{CellPool, extent_doublewords, CellExtent}
 use Rattle.vsm_model.specs.State.{State}
 
 -- each extent of each cell pool has a cell
 abbrev pub ExtentsHaveCells : State → Type 0
 ExtentsHaveCells s = All (λ row. All (λ x. 1 ≤ x.cells) row.1.extents) s.cell_pools
+
+-- a doubleword lies in an extent of a cell pool
+abbrev pub lies_in : CellPool → ℕ → CellExtent → Bool
+lies_in pool d x = among (x.address / 8) (extent_doublewords pool x.cells) d
 
 -- From s to t, so many doublewords from the address on, which were free, are taken in pages of the subpool.
 pub record AreaIsTaken (region : Region) (s t : State) (subpool : Subpool) (address count : ℕ) : Type 0 where

@@ -1,1 +1,4 @@
 pub mod Extents
+pub mod Kept
+pub mod Registers
+pub mod Promises

@@ -1,1 +1,20 @@
-//! Each law is the contract of a function that does nothing.
+//! Laws of cell pools: each is the contract of a function that does nothing.
+ghost use Rattle.cell_laws.specs.Kept.{BuildLeavesWellFormed, DeleteLeavesWellFormed, FreeLeavesWellFormed, GetLeavesWellFormed};
+ghost use Rattle.cell_laws.specs.Promises.{FreeMakesACellFree, GetHandsOutACell};
+
+/// A BUILD, a GET, a FREE and a DELETE that are accepted leave a well-formed state well-formed. Each extent has a cell, before and
+/// after.
+pub fn cell_pools_stay_well_formed()
+    ensures build { BuildLeavesWellFormed }
+    ensures get { GetLeavesWellFormed }
+    ensures free { FreeLeavesWellFormed }
+    ensures delete { DeleteLeavesWellFormed }
+{}
+
+/// A GET hands out the first free cell, or, where none is free, the first cell of a further extent of the secondary number of cells, in
+/// storage that was free; the conditional form is answered 4 there. A FREE makes just this cell free, and the next to be handed out.
+/// Other cell pools, the tasks, the subpools and who sees them stay, and of the registers those change that the macro sets.
+pub fn cells_are_handed_out()
+    ensures get { GetHandsOutACell }
+    ensures free { FreeMakesACellFree }
+{}
