@@ -146,7 +146,7 @@ module _ (settings : Settings) (s : State) (w : IsWellFormed settings s) (n : �
       ]
 
 -- a place that is open still is
-open_still : (s t : State) (p : Subpool) (count : ℕ) (r : Region) (goes : Place) → t.pages ≡ s.pages → t.taken ≡ s.taken →
+pub open_still : (s t : State) (p : Subpool) (count : ℕ) (r : Region) (goes : Place) → t.pages ≡ s.pages → t.taken ≡ s.taken →
     IsOpenIn s p count r goes → IsOpenIn t p count r goes
 open_still s t p count r (Inside d) same still h =
     ap (λ (f : (ℕ → Option Subpool) × (ℕ → Bool)). all_pass (λ k. within r (k / 512) && is_free (record s { pages = f.0; taken = f.1 }) p k) d count) (λ i. (same i, still i)) ∙ h

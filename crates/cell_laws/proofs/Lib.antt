@@ -12,3 +12,4 @@ pub mod Emptied
 pub mod Deleting
 pub mod Named
 pub mod Promised
+pub mod BuiltAndDeleted

@@ -7,7 +7,7 @@ use Rattle.cell_laws.specs.Registers.{ReturnCodeIsSet, AddressIsSet, ReturnCodeI
 use Rattle.cell_laws.proofs.Pools.{StorageAlone}
 
 -- two numbers aren't both those of a test
-not_both : (a b m n : ℕ) → (a ≢ b) ⊎ (m ≢ n) → ((a == b) && (m == n)) ≡ false
+pub not_both : (a b m n : ℕ) → (a ≢ b) ⊎ (m ≢ n) → ((a == b) && (m == n)) ≡ false
 not_both a b m n (inl other) = and_left (a == b) (m == n) (ne_eqb a b other)
 not_both a b m n (inr other) = and_right (a == b) (m == n) (ne_eqb m n other)
 

@@ -1,6 +1,6 @@
 //! Laws of cell pools: each is the contract of a function that does nothing.
 ghost use Rattle.cell_laws.specs.Kept.{BuildLeavesWellFormed, DeleteLeavesWellFormed, FreeLeavesWellFormed, GetLeavesWellFormed};
-ghost use Rattle.cell_laws.specs.Promises.{FreeMakesACellFree, GetHandsOutACell};
+ghost use Rattle.cell_laws.specs.Promises.{BuildMakesACellPool, DeleteGivesItsExtentsBack, FreeMakesACellFree, GetHandsOutACell};
 
 /// A BUILD, a GET, a FREE and a DELETE that are accepted leave a well-formed state well-formed. Each extent has a cell, before and
 /// after.
@@ -17,4 +17,13 @@ pub fn cell_pools_stay_well_formed()
 pub fn cells_are_handed_out()
     ensures get { GetHandsOutACell }
     ensures free { FreeMakesACellFree }
+{}
+
+/// A BUILD makes a cell pool of a new name with one extent, in storage that was free, of the subpool that the task sees at the number
+/// or of a new one; all its cells are free, in ascending order. A DELETE takes the cell pool away and gives exactly its extents back,
+/// with cells in use: each page of the subpool that has nothing taken is unassigned then, with its bytes. Other cell pools, the tasks
+/// and all other storage stay, and register 15 alone is set.
+pub fn cell_pools_come_and_go()
+    ensures build { BuildMakesACellPool }
+    ensures delete { DeleteGivesItsExtentsBack }
 {}
