@@ -13,3 +13,6 @@ pub mod Deleting
 pub mod Named
 pub mod Promised
 pub mod BuiltAndDeleted
+pub mod Apart
+pub mod Stays
+pub mod Again

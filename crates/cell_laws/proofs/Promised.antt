@@ -4,6 +4,7 @@ use Rattle.std.specs.Prelude.{All, Contains, unwrap_or}
 use Rattle.std.proofs.lemmas.Bool.{and_parts, or_parts, not-true, not-false, eqb-true}
 use Rattle.std.proofs.lemmas.List.Elements.{All-contains_itself}
 use Rattle.vsm_model.specs.declared.Subpool.{Subpool}
+use Rattle.vsm_model.specs.declared.causes.Cause.{Cause}
 use Rattle.vsm_model.specs.declared.causes.Cause.TheVariants.{NoCellPool, NotInUse, TooManyNames, NoStorage}
 use Rattle.vsm_model.specs.declared.limits.Settings.{Settings}
 use Rattle.vsm_model.specs.declared.replies.Reply.{Reply}
@@ -15,18 +16,18 @@ use Rattle.vsm_model.specs.CellPools.{CellPool, CellExtent, cell_pool_in, with_c
 use Rattle.vsm_model.specs.State.{State}
 use Rattle.vsm_model.specs.Subpools.{sees}
 use Rattle.vsm_model.specs.Areas.{Place, is_nowhere, address_of}
-use Rattle.vsm_model.specs.Services.{get, free}
-use Rattle.vsm_model.specs.Standing.{Accepted}
+use Rattle.vsm_model.specs.Services.{Service, get, free, is_conditional}
+use Rattle.vsm_model.specs.Standing.{Accepted, Refused}
 use Rattle.vsm_model.specs.Registers.{registers_set, with_register, with_registers, named_register}
 use Rattle.vsm_model.specs.Cells.{with_pool, pool_of, sees_pool, has_no_cell, extent_place, extent_at, with_extent_area, handed_out, got, get_causes, is_in_use, free_causes, freed}
-use Rattle.vsm_model.specs.Causes.{first_cause}
-use Rattle.vsm_model.specs.Step.{replied}
+use Rattle.vsm_model.specs.Causes.{first_cause, answers_four}
+use Rattle.vsm_model.specs.Step.{replied, answered}
 use Rattle.vsm_model.specs.WellFormed.{IsWellFormed}
-use Rattle.vsm_model.proofs.Chosen.{past, no_cause, accepted_has_its_effect}
+use Rattle.vsm_model.proofs.Chosen.{Stepped, past, no_cause, accepted_has_its_effect}
 use Rattle.vsm_model.proofs.Registered.{words_alone}
 use Rattle.cell_laws.specs.Extents.{AreaIsTaken}
 use Rattle.cell_laws.specs.Registers.{AddressIsSet}
-use Rattle.cell_laws.specs.Promises.{IsSeen, IsFreed, FreeMakesACellFree, IsFirstFree, IsFirstOfFurther, IsHandedOut, GetHandsOutACell}
+use Rattle.cell_laws.specs.Promises.{HasNoFreeCell, IsSeen, IsFreed, FreeMakesACellFree, IsFirstFree, IsFirstOfFurther, IsHandedOut, GetHandsOutACell}
 use Rattle.cell_laws.proofs.Tables.{put_found, put_others}
 use Rattle.cell_laws.proofs.CellLists.{cell_bounds}
 use Rattle.cell_laws.proofs.Placed.{IsOpenIn, place_from, area_taken, area_alone, area_table}
@@ -199,6 +200,40 @@ module _ (settings : Settings) (s : State) (w : IsWellFormed settings s) (name :
         | false ↦ λ some room. free_out some
       ] refl room
 
+refused_is_not : (c : Cause) (t : State) (r : Reply) → ◌≡◌ {A = Stepped} (Refused c) (Accepted t r) → ⊥
+refused_is_not c t r e = cc
+
+some_cause : (c : Cause) → ◌≡◌ {A = Option Cause} (Some c) None → ⊥
+some_cause c e = cc
+
+same_cause : (c d : Cause) → ◌≡◌ {A = Option Cause} (Some c) (Some d) → c ≡ d
+same_cause c d e = cc
+
+-- one that is accepted has no cause, or one that is answered 4
+pub answered_four : (settings : Settings) (s : State) (x : Service) (o : Option Cause) (t : State) (r : Reply) → answered settings s x o ≡ Accepted t r →
+    (o ≡ None) ⊎ ((c : Cause) × (o ≡ Some c) × (answers_four c ≡ true))
+answered_four settings s x None t r e = inl refl
+answered_four settings s x (Some c) t r e = inr (c, refl, four (is_conditional x) (answers_four c) e) where
+  four : (conditional b : Bool) → (if conditional && b then replied x (s, Returned 4) else Refused c) ≡ Accepted t r → b ≡ true
+  four true true e = refl
+  four true false e = absurd (refused_is_not c t r e)
+  four false b e = absurd (refused_is_not c t r e)
+
+-- of the causes of GET want of storage alone is answered 4
+want_of_storage : (a b c : Bool) (k : Cause) → first_cause ((a, NoCellPool) ∷ (b, TooManyNames) ∷ (c, NoStorage) ∷ []) ≡ Some k → answers_four k ≡ true →
+    (a ≡ false) × (b ≡ false) × (c ≡ true)
+want_of_storage true b c k e four = absurd (true≢false (sym four ∙ sym (ap answers_four (same_cause NoCellPool k e))))
+want_of_storage false true c k e four = absurd (true≢false (sym four ∙ sym (ap answers_four (same_cause TooManyNames k e))))
+want_of_storage false false true k e four = (refl, refl, refl)
+want_of_storage false false false k e four = absurd (some_cause k (sym e))
+
+pub has_no_free_cell : (settings : Settings) (names_full : Bool) (s : State) (name : List ℕ) (g : Get) (k : Cause) →
+    first_cause (get_causes settings names_full s name g) ≡ Some k → answers_four k ≡ true → HasNoFreeCell s name
+has_no_free_cell settings names_full s name g k e four =
+    let place_or_form = g.conditional || is_nowhere (extent_place settings s (pool_of s name) (pool_of s name).secondary) in
+    let want = want_of_storage (not (sees_pool s name)) names_full (has_no_cell (pool_of s name) && place_or_form) k e four in
+    (pool_of s name, seen_pool s name (not-false (sees_pool s name) want.0), empty_list (pool_of s name).free (and_parts (has_no_cell (pool_of s name)) place_or_form want.2).0)
+
 names_room : (settings : Settings) (names_full : Bool) (s : State) (name : List ℕ) (g : Get) →
     first_cause (get_causes settings names_full s name g) ≡ None → names_full ≡ false
 names_room settings names_full s name g none =
@@ -207,15 +242,19 @@ names_room settings names_full s name g none =
 
 pub get_hands_out_a_cell : GetHandsOutACell
 get_hands_out_a_cell settings names_full s t name g reply w e =
-    elim (accepted_has_its_effect settings names_full s t (get name g) reply e) [
-      | inl done ↦
-          let may = get_may settings names_full s name g done.0 in
+    elim (answered_four settings s (get name g) (first_cause (get_causes settings names_full s name g)) t reply e) [
+      | inl none ↦
+          let done : replied (get name g) (got settings s name) ≡ Accepted t reply = sym (ap (answered settings s (get name g)) none) ∙ e in
+          let may = get_may settings names_full s name g none in
           let (cell, is, handed) = either_out settings s w name g may.0 may.1 in
           inl (
             cell,
-            sym (reply_is (get name g) (got settings s name) t reply done.1) ∙ is,
-            subst (λ t. IsHandedOut settings s t name g cell) (state_is (get name g) (got settings s name) t reply done.1) handed,
-            names_room settings names_full s name g done.0,
+            sym (reply_is (get name g) (got settings s name) t reply done) ∙ is,
+            subst (λ t. IsHandedOut settings s t name g cell) (state_is (get name g) (got settings s name) t reply done) handed,
+            names_room settings names_full s name g none,
           )
-      | inr four ↦ inr (four.0, four.1, code_is_all s t 4 four.2)
+      | inr one ↦ elim (accepted_has_its_effect settings names_full s t (get name g) reply e) [
+        | inl done ↦ absurd (some_cause one.0 (sym one.1 ∙ done.0))
+        | inr four ↦ inr (four.0, four.1, has_no_free_cell settings names_full s name g one.0 one.1 one.2, code_is_all s t 4 four.2)
+      ]
     ]

@@ -30,7 +30,7 @@ less Equal e = absurd (true≢false (sym e))
 less Greater e = absurd (true≢false (sym e))
 
 -- a name below the names of a list isn't found in it
-below_none : (name first : List ℕ) (table : CellPools) → order name first ≡ Less → below_all order first table ≡ true → cell_pool_in table name ≡ None
+pub below_none : (name first : List ℕ) (table : CellPools) → order name first ≡ Less → below_all order first table ≡ true → cell_pool_in table name ≡ None
 below_none name first [] e below = refl
 below_none name first (row ∷ table) e below =
     let parts = and_parts (is_lt (order first row.0)) (below_all order first table) below in

@@ -2,3 +2,4 @@ pub mod Extents
 pub mod Kept
 pub mod Registers
 pub mod Promises
+pub mod InUse

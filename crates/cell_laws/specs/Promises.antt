@@ -76,13 +76,17 @@ pub record IsHandedOut (settings : Settings) (s t : State) (name : List ℕ) (g 
   pub others : OthersStay s t name
   pub registers : AddressIsSet s t g.register cell
 
+-- the current task sees the subpool of the cell pool, which has no free cell
+abbrev pub HasNoFreeCell : State → List ℕ → Type 0
+HasNoFreeCell s name = (pool : CellPool) × IsSeen s name pool × (pool.free ≡ [])
+
 -- The conditional form hands out no cell of a further extent, and is answered 4 where none is free.
 abbrev pub GetHandsOutACell : Type 0
 GetHandsOutACell =
     (settings : Settings) (names_full : Bool) (s t : State) (name : List ℕ) (g : Get) (reply : Reply) → IsWellFormed settings s →
     step settings names_full s (get name g) ≡ Accepted t reply →
     ((cell : ℕ) × (reply ≡ Cell cell) × IsHandedOut settings s t name g cell × (names_full ≡ false))
-    ⊎ ((g.conditional ≡ true) × (reply ≡ Returned 4) × ReturnCodeIsAll s t 4)
+    ⊎ ((g.conditional ≡ true) × (reply ≡ Returned 4) × HasNoFreeCell s name × ReturnCodeIsAll s t 4)
 
 -- From s to t, the current task sees this owner's subpool at the number: the one that it saw, and where it saw none a new one of its
 -- own. All other subpools are as they were, and so is what each task sees at each other number.

@@ -1,4 +1,5 @@
 //! Laws of cell pools: each is the contract of a function that does nothing.
+ghost use Rattle.cell_laws.specs.InUse.{CellsOfAPoolLieApart, CellsOfTwoPoolsLieApart, HandedOutWasNotInUse, LastFreedIsFirst, StaysInUse};
 ghost use Rattle.cell_laws.specs.Kept.{BuildLeavesWellFormed, DeleteLeavesWellFormed, FreeLeavesWellFormed, GetLeavesWellFormed};
 ghost use Rattle.cell_laws.specs.Promises.{BuildMakesACellPool, DeleteGivesItsExtentsBack, FreeMakesACellFree, GetHandsOutACell};
 
@@ -26,4 +27,15 @@ pub fn cells_are_handed_out()
 pub fn cell_pools_come_and_go()
     ensures build { BuildMakesACellPool }
     ensures delete { DeleteGivesItsExtentsBack }
+{}
+
+/// No cell is handed out twice: one that a GET hands out was in use in no cell pool, and from then on it's in use, whatever is asked,
+/// until a FREE gives it back or its cell pool is gone. Cells lie apart, those of one cell pool and those of two. The cell that was
+/// given back last is handed out first.
+pub fn no_cell_is_handed_out_twice()
+    ensures handed_out { HandedOutWasNotInUse }
+    ensures stays { StaysInUse }
+    ensures apart { CellsOfAPoolLieApart }
+    ensures apart_from_others { CellsOfTwoPoolsLieApart }
+    ensures last_first { LastFreedIsFirst }
 {}
