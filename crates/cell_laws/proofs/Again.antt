@@ -1,14 +1,11 @@
 -- The cell that was given back last is handed out first.
-use Rattle.std.proofs.Common.{◌≡◌, ◌≢◌, ◌⊎◌, ℕ, suc, Bool, true, false, not, ◌&&◌, ◌||◌, ◌==◌, if◌then◌else◌, Option, Some, None, List, [], ◌∷◌, length, drop, slice_get, refl, sym, ◌∙◌, ap, subst, arith, inl, inr}
+use Rattle.std.proofs.Common.{◌≡◌, ℕ, suc, false, List, [], ◌∷◌, length, sym, ◌∙◌, ap, arith, inl, inr}
 use Rattle.std.specs.Prelude.{unwrap_or}
 use Rattle.std.proofs.lemmas.Bool.{ne_eqb, cond-false}
-use Rattle.vsm_model.specs.declared.replies.Reply.{Reply}
 use Rattle.vsm_model.specs.declared.replies.Reply.TheVariants.{Cell}
-use Rattle.vsm_model.specs.declared.services.Get.{Get}
-use Rattle.vsm_model.specs.declared.limits.Settings.{Settings}
 use Rattle.vsm_model.specs.CellPools.{CellPool, cell_pool_in, with_extent}
 use Rattle.vsm_model.specs.State.{State}
-use Rattle.vsm_model.specs.Services.{get, free}
+use Rattle.vsm_model.specs.Services.{get}
 use Rattle.vsm_model.specs.Standing.{Accepted}
 use Rattle.vsm_model.specs.Causes.{first_cause}
 use Rattle.vsm_model.specs.Registers.{registers_set}

@@ -1,5 +1,5 @@
 -- What an accepted service on cell pools leaves, from its effect.
-use Rattle.std.proofs.Common.{◌≡◌, ◌≢◌, ℕ, ◌<◌, ◌^◌, Bool, true, false, not, ◌==◌, Option, Some, None, List, [], ◌∷◌, refl, sym, ◌∙◌, ap, subst, arith}
+use Rattle.std.proofs.Common.{◌≡◌, ◌≢◌, ℕ, ◌<◌, ◌^◌, false, ◌==◌, Option, Some, None, List, [], ◌∷◌, refl, sym, subst}
 use Rattle.std.specs.Prelude.{All}
 use Rattle.std.proofs.lemmas.Bool.{or_parts, eqb-false}
 use Rattle.std.proofs.lemmas.List.Elements.{All-cons, All-nil}
@@ -12,7 +12,7 @@ use Rattle.vsm_model.specs.Standing.{Accepted}
 use Rattle.vsm_model.specs.Registers.{with_registers, registers_set, named_register}
 use Rattle.vsm_model.specs.Step.{replied}
 use Rattle.vsm_model.specs.WellFormed.{IsWellFormed}
-use Rattle.vsm_model.proofs.Chosen.{Stepped, accepted_state, accepted_reply}
+use Rattle.vsm_model.proofs.Chosen.{accepted_state, accepted_reply}
 use Rattle.vsm_model.proofs.Registered.{AreWords, registers_leave_well_formed, words_alone}
 use Rattle.cell_laws.specs.Extents.{ExtentsHaveCells}
 

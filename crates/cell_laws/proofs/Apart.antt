@@ -1,30 +1,26 @@
 -- Cells lie apart, and one that is handed out wasn't in use.
-use Rattle.std.proofs.Common.{◌≡◌, ◌≢◌, ◌⊎◌, ℕ, zero, suc, ◌+◌, ◌*◌, ◌/◌, ◌<◌, ◌≤◌, Ordering, Less, Equal, Greater, if◌then◌else◌, Bool, true, false, not, ◌&&◌, ◌||◌, ◌==◌, Option, Some, None, List, [], ◌∷◌, ◌++◌, flat_map, map, refl, sym, ◌∙◌, ap, subst, arith, inl, inr, true≢false}
+use Rattle.std.proofs.Common.{◌≡◌, ◌≢◌, ◌⊎◌, ℕ, ◌+◌, ◌*◌, ◌/◌, ◌≤◌, Ordering, Less, Equal, Greater, if◌then◌else◌, Bool, true, false, not, ◌==◌, Option, Some, None, List, [], ◌∷◌, ◌++◌, flat_map, map, refl, sym, ◌∙◌, ap, subst, arith, inl, inr, true≢false}
 use Rattle.std.specs.Prelude.{All, AllPairs}
 use Rattle.std.specs.Ordering.{eq_by_cmp}
 use Rattle.std.specs.Cmp.{tied_itself}
 use Rattle.std.specs.Cmp.Lexicographic.{nat_list_cmp_total}
 use Rattle.std.proofs.lemmas.Bool.{or_left, eq-eqb, and_parts, and_from, both_ways, not-true, false_from_ne_true, cases_order}
-use Rattle.std.proofs.lemmas.List.Elements.{All-head, All-tail, All-cons, All-append, All-push, All-weaker, All-nil}
+use Rattle.std.proofs.lemmas.List.Elements.{All-head, All-tail}
 use Rattle.vsm_model.specs.declared.limits.Settings.{Settings}
 use Rattle.vsm_model.specs.declared.replies.Reply.{Reply}
 use Rattle.vsm_model.specs.declared.replies.Reply.TheVariants.{Cell, Returned}
 use Rattle.vsm_model.specs.Search.{is_in}
-use Rattle.vsm_model.specs.Regions.{among}
-use Rattle.vsm_model.specs.CellPools.{CellPool, CellPools, CellExtent, cell_pool_in, without_cell_pool, extent_cells, cells_of, cells_from, extent_doublewords, with_extent}
+use Rattle.vsm_model.specs.CellPools.{CellPool, CellPools, CellExtent, cell_pool_in, extent_cells, cells_of, cells_from, extent_doublewords, with_extent}
 use Rattle.vsm_model.specs.State.{State}
-use Rattle.vsm_model.specs.Cells.{is_in_use}
-use Rattle.vsm_model.specs.WellFormed.{IsWellFormed, PoolIsSound, CellPoolsAreSound, IsInSubpool, all_extents}
-use Rattle.cell_laws.specs.Extents.{AreaIsTaken}
+use Rattle.vsm_model.specs.WellFormed.{IsWellFormed, PoolIsSound, IsInSubpool, all_extents}
 use Rattle.cell_laws.specs.Promises.{IsFirstFree, IsFirstOfFurther, IsHandedOut}
 use Rattle.cell_laws.specs.InUse.{IsInUse, LieApart, CellsOfAPoolLieApart, CellsOfTwoPoolsLieApart, HandedOutWasNotInUse}
-use Rattle.cell_laws.proofs.Lists.{pairs_head, pairs_tail, Across}
+use Rattle.cell_laws.proofs.Lists.{pairs_head, pairs_tail}
 use Rattle.cell_laws.proofs.Tables.{row_of, order, same_name, same_pool, without_others}
-use Rattle.cell_laws.proofs.CellLists.{in_left, in_right, in_either, all_at, cell_of, cell_at, cell_within, cell_bounds, cells_distinct, times_more}
-use Rattle.cell_laws.proofs.Spans.{Apart, turned, span, spans, others, spans_all, all_unmapped, parts_of, among-in, in-among, EachIsSound}
+use Rattle.cell_laws.proofs.CellLists.{in_right, in_either, all_at, cell_of, cell_at, cell_within, cell_bounds, cells_distinct, times_more}
+use Rattle.cell_laws.proofs.Spans.{Apart, turned, span, others, spans_all, all_unmapped, parts_of, in-among}
 use Rattle.cell_laws.proofs.Pools.{sound_of}
 use Rattle.cell_laws.proofs.Getting.{cells_grown}
-use Rattle.cell_laws.proofs.Answered.{none_of}
 use Rattle.cell_laws.proofs.Promised.{get_hands_out_a_cell}
 
 -- cells of extents that lie apart

@@ -1,11 +1,10 @@
 -- BUILD leaves a well-formed state well-formed.
-use Rattle.std.proofs.Common.{◌≡◌, ◌≢◌, ◌⊎◌, ℕ, suc, ◌+◌, ◌*◌, ◌/◌, ◌<◌, ◌≤◌, Bool, true, false, not, ◌&&◌, ◌||◌, nat_le, nat_lt, ◌==◌, if◌then◌else◌, Option, Some, None, is_some, List, [], ◌∷◌, ◌++◌, length, refl, sym, ◌∙◌, ap, subst, arith, inl, inr, true≢false}
+use Rattle.std.proofs.Common.{◌≡◌, ◌≢◌, ℕ, ◌/◌, ◌<◌, ◌≤◌, Bool, true, false, not, ◌&&◌, ◌||◌, nat_le, nat_lt, ◌==◌, if◌then◌else◌, Option, Some, None, is_some, List, [], ◌∷◌, ◌++◌, length, refl, sym, ◌∙◌, ap, subst, arith, inl, inr, true≢false}
 use Rattle.std.specs.Prelude.{All, AllPairs, Contains, unwrap_or}
-use Rattle.std.proofs.lemmas.Bool.{cases_Bool, and_parts, and_from, or_cases, or_left, or_right, not-true, not-false, eqb-true, eq-eqb, both_ways, cond-true, cond-false, leb-false, ltb-false}
+use Rattle.std.proofs.lemmas.Bool.{cases_Bool, and_parts, and_from, or_cases, or_left, or_right, not-false, eqb-true, eq-eqb, both_ways, cond-true, cond-false, leb-false, ltb-false}
 use Rattle.std.proofs.lemmas.List.{append-nil}
 use Rattle.std.proofs.lemmas.List.Elements.{All-nil, All-weaker, All-contains_itself}
 use Rattle.vsm_model.specs.declared.Subpool.{Subpool}
-use Rattle.vsm_model.specs.declared.causes.Cause.{Cause}
 use Rattle.vsm_model.specs.declared.causes.Cause.TheVariants.{UnsupportedSubpool, SubpoolNotAllowed, BadCells, CellPoolExists, TooManyCellPools, NoStorage}
 use Rattle.vsm_model.specs.declared.limits.Settings.{Settings}
 use Rattle.vsm_model.specs.declared.services.Build.{Build}
@@ -17,17 +16,16 @@ use Rattle.vsm_model.specs.Subpools.{sees_one, seen_or_own, with_own, with_subpo
 use Rattle.vsm_model.specs.Areas.{Place, Inside, Fresh, Nowhere, is_free, is_nowhere, address_of}
 use Rattle.vsm_model.specs.Services.{build}
 use Rattle.vsm_model.specs.Causes.{Causes, first_cause, number_causes}
-use Rattle.vsm_model.specs.Registers.{registers_set}
-use Rattle.vsm_model.specs.Cells.{with_pool, extent_place, extent_at, with_extent_area, new_pool, are_cells, secondary_count, build_causes, built}
-use Rattle.vsm_model.specs.WellFormed.{IsWellFormed, PagesAreSound, SightIsSound, TasksAreSound, CellPoolsAreSound, PoolIsSound, IsInSubpool}
+use Rattle.vsm_model.specs.Cells.{extent_place, extent_at, with_extent_area, new_pool, are_cells, secondary_count, build_causes, built}
+use Rattle.vsm_model.specs.WellFormed.{IsWellFormed, SightIsSound, PoolIsSound, IsInSubpool}
 use Rattle.vsm_model.proofs.Chosen.{past, no_cause}
-use Rattle.vsm_model.proofs.Registered.{AreWords, pool_still}
+use Rattle.vsm_model.proofs.Registered.{pool_still}
 use Rattle.cell_laws.specs.Extents.{AreaIsTaken, ExtentsHaveCells}
 use Rattle.cell_laws.specs.Kept.{BuildLeavesWellFormed}
 use Rattle.cell_laws.proofs.Lists.{pairs_nil}
 use Rattle.cell_laws.proofs.CellLists.{all_in, cell_bounds, cells_distinct}
 use Rattle.cell_laws.proofs.Placed.{IsOpenIn, place_from, in_regions, area_taken, area_alone, area_table, picked, same_some, none_or_some}
-use Rattle.cell_laws.proofs.Pools.{added_kept, extended_cells, StorageAlone}
+use Rattle.cell_laws.proofs.Pools.{added_kept, extended_cells}
 use Rattle.cell_laws.proofs.Answered.{left_well_formed}
 
 -- Subpools and sight alone change where a task gets a subpool of its own.

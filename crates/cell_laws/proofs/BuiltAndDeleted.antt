@@ -1,23 +1,22 @@
 -- What BUILD and DELETE leave.
-use Rattle.std.proofs.Common.{◌≡◌, ◌≢◌, ◌⊎◌, ℕ, ◌+◌, ◌*◌, ◌/◌, ◌<◌, ◌≤◌, Bool, true, false, not, ◌&&◌, ◌||◌, ◌==◌, if◌then◌else◌, Option, Some, None, is_some, List, [], ◌∷◌, refl, sym, ◌∙◌, ap, subst, arith, inl, inr, true≢false}
+use Rattle.std.proofs.Common.{◌≡◌, ℕ, ◌/◌, Bool, true, false, not, ◌&&◌, ◌||◌, ◌==◌, if◌then◌else◌, Option, Some, None, is_some, List, [], refl, sym, ◌∙◌, ap, subst, inl, inr}
 use Rattle.std.specs.Prelude.{Contains, unwrap_or}
 use Rattle.std.specs.List.{list_any}
-use Rattle.std.proofs.lemmas.Bool.{and_from, and_parts, and_left, and_right, not-false, eq-eqb, eqb-true, ne_eqb, cond-true, cond-false, or_left, false_from_ne_true}
+use Rattle.std.proofs.lemmas.Bool.{and_from, and_parts, and_left, and_right, not-false, eq-eqb, cond-true, cond-false, or_left, false_from_ne_true}
 use Rattle.std.proofs.lemmas.List.Elements.{All-contains_itself}
 use Rattle.vsm_model.specs.declared.Subpool.{Subpool}
 use Rattle.vsm_model.specs.declared.causes.Cause.TheVariants.{NoCellPool}
 use Rattle.vsm_model.specs.declared.limits.Settings.{Settings}
-use Rattle.vsm_model.specs.declared.replies.Reply.{Reply}
 use Rattle.vsm_model.specs.declared.services.Build.{Build}
 use Rattle.vsm_model.specs.Search.{holds}
 use Rattle.vsm_model.specs.Regions.{Region, regions_for}
-use Rattle.vsm_model.specs.CellPools.{CellPool, CellExtent, cell_pool_in, without_cell_pool, extent_doublewords, with_extent}
+use Rattle.vsm_model.specs.CellPools.{CellPool, cell_pool_in, without_cell_pool, extent_doublewords, with_extent}
 use Rattle.vsm_model.specs.State.{State}
 use Rattle.vsm_model.specs.Subpools.{same_subpool, sees_one, seen_or_own, with_own, with_subpool}
-use Rattle.vsm_model.specs.Areas.{Place, is_nowhere, address_of}
+use Rattle.vsm_model.specs.Areas.{Place, address_of}
 use Rattle.vsm_model.specs.Services.{build, delete}
 use Rattle.vsm_model.specs.Releasing.{is_idle}
-use Rattle.vsm_model.specs.Registers.{with_register, with_registers}
+use Rattle.vsm_model.specs.Registers.{with_register}
 use Rattle.vsm_model.specs.Cells.{with_pool, pool_of, sees_pool, extent_place, extent_at, with_extent_area, new_pool, built, deleted}
 use Rattle.vsm_model.specs.WellFormed.{IsWellFormed}
 use Rattle.vsm_model.proofs.Chosen.{past, no_cause}
@@ -27,7 +26,7 @@ use Rattle.cell_laws.proofs.Tables.{put_found, put_others, without_found, withou
 use Rattle.cell_laws.proofs.Placed.{place_from, area_taken, area_alone, area_table, picked, same_some, none_some, none_or_some, owned_by}
 use Rattle.cell_laws.proofs.Pools.{pool_is}
 use Rattle.cell_laws.proofs.Emptied.{idle_from, busy_at}
-use Rattle.cell_laws.proofs.Deleting.{of_pool, left_over, left_is, used}
+use Rattle.cell_laws.proofs.Deleting.{left_over, left_is, used}
 use Rattle.cell_laws.proofs.Building.{own_alone, own_kept, open_still, MayBuild, may_build}
 use Rattle.cell_laws.proofs.Answered.{state_is, reply_is}
 use Rattle.cell_laws.proofs.Named.{code_is_set, code_from, not_both}

@@ -1,13 +1,12 @@
 -- The cells of an extent, and those of all extents of a cell pool.
-use Rattle.std.proofs.Common.{◌≡◌, ◌≢◌, ◌⊎◌, ℕ, zero, suc, ◌+◌, ◌*◌, ◌/◌, ◌%◌, ◌<◌, ◌≤◌, Bool, true, false, ◌&&◌, ◌||◌, nat_le, ◌==◌, List, [], ◌∷◌, ◌++◌, flat_map, length, drop, refl, sym, ◌∙◌, ap, subst, arith, inl, inr, true≢false}
+use Rattle.std.proofs.Common.{◌≡◌, ◌≢◌, ◌⊎◌, ℕ, zero, suc, ◌+◌, ◌*◌, ◌%◌, ◌<◌, ◌≤◌, true, ◌&&◌, nat_le, ◌==◌, List, [], ◌∷◌, ◌++◌, flat_map, drop, refl, sym, ◌∙◌, subst, arith, inl, inr, true≢false}
 use Rattle.std.specs.Prelude.{All, AllPairs}
 use Rattle.std.proofs.lemmas.Bool.{and_parts, or_cases, or_left, or_right, eqb-true, eq-eqb, leb-true}
 use Rattle.std.proofs.lemmas.List.Elements.{All-head, All-tail, All-cons, All-weaker, All-nil}
 use Rattle.std.proofs.lemmas.List.Kept.{AllPairs-cons}
 use Rattle.std.proofs.lemmas.List.Folds.{list_any-append}
 use Rattle.vsm_model.specs.Search.{is_in}
-use Rattle.vsm_model.specs.Regions.{doublewords}
-use Rattle.vsm_model.specs.CellPools.{cells_from, extent_cells, cells_of, extent_doublewords, CellPool, CellExtent}
+use Rattle.vsm_model.specs.CellPools.{cells_from, extent_cells, extent_doublewords, CellPool, CellExtent}
 use Rattle.vsm_model.specs.Cells.{are_cells}
 use Rattle.cell_laws.proofs.Lists.{pairs_nil, pairs_tail}
 

@@ -1,6 +1,6 @@
 -- DELETE leaves a well-formed state well-formed.
-use Rattle.std.proofs.Common.{◌≡◌, ◌≢◌, ◌⊎◌, ℕ, ◌+◌, ◌*◌, ◌/◌, ◌%◌, ◌<◌, ◌≤◌, Bool, true, false, not, ◌&&◌, ◌||◌, ◌==◌, Option, Some, None, List, [], ◌∷◌, refl, sym, ◌∙◌, ap, subst, arith, inl, inr, true≢false}
-use Rattle.std.specs.Prelude.{All, AllPairs}
+use Rattle.std.proofs.Common.{◌≡◌, ◌⊎◌, ℕ, ◌+◌, ◌*◌, ◌/◌, ◌%◌, ◌≤◌, Bool, true, false, not, Some, List, [], ◌∷◌, refl, sym, ap, subst, arith, inl, inr, true≢false}
+use Rattle.std.specs.Prelude.{All}
 use Rattle.std.specs.List.{list_any}
 use Rattle.std.proofs.lemmas.Bool.{or_cases, not-false, false_from_ne_true}
 use Rattle.std.proofs.lemmas.List.Elements.{All-head, All-tail}
@@ -12,15 +12,14 @@ use Rattle.vsm_model.specs.CellPools.{CellPool, CellPools, CellExtent, cell_pool
 use Rattle.vsm_model.specs.State.{State}
 use Rattle.vsm_model.specs.Services.{delete}
 use Rattle.vsm_model.specs.Cells.{pool_of, sees_pool, without_extents, deleted}
-use Rattle.vsm_model.specs.WellFormed.{IsWellFormed, PagesAreSound, PoolIsSound, CellPoolsAreSound, IsInSubpool, all_extents}
+use Rattle.vsm_model.specs.WellFormed.{IsWellFormed, PoolIsSound, IsInSubpool, all_extents}
 use Rattle.vsm_model.proofs.Chosen.{past, no_cause}
-use Rattle.vsm_model.proofs.Registered.{pool_still}
 use Rattle.cell_laws.specs.Extents.{lies_in, ExtentsHaveCells}
 use Rattle.cell_laws.specs.Kept.{DeleteLeavesWellFormed}
-use Rattle.cell_laws.proofs.Lists.{Across, across_turned}
+use Rattle.cell_laws.proofs.Lists.{across_turned}
 use Rattle.cell_laws.proofs.Tables.{row_of}
 use Rattle.cell_laws.proofs.Spans.{Apart, turned, span, spans, others, spans_all, all_unmapped, parts_of, removed_sound, EachIsSound, among-in}
-use Rattle.cell_laws.proofs.Pools.{sight_stays, tasks_stay, sound_of, pool_is, rest_of, StorageAlone}
+use Rattle.cell_laws.proofs.Pools.{sight_stays, tasks_stay, sound_of, pool_is, rest_of}
 use Rattle.cell_laws.proofs.Emptied.{emptied, extents_given_back, pages_left, extent_left}
 use Rattle.cell_laws.proofs.Answered.{left_well_formed}
 

@@ -1,9 +1,7 @@
 -- What is left when doublewords of a subpool are given back.
-use Rattle.std.proofs.Common.{◌≡◌, ◌≢◌, ◌⊎◌, ℕ, zero, suc, ◌+◌, ◌*◌, ◌/◌, ◌%◌, ◌<◌, ◌≤◌, Bool, true, false, not, ◌&&◌, ◌||◌, ◌==◌, if◌then◌else◌, Option, Some, None, is_some, List, [], ◌∷◌, refl, sym, ◌∙◌, ap, subst, arith, inl, inr, true≢false}
-use Rattle.std.specs.Prelude.{All, AllPairs}
+use Rattle.std.proofs.Common.{◌≡◌, ℕ, zero, suc, ◌+◌, ◌*◌, ◌/◌, ◌<◌, ◌≤◌, Bool, true, false, not, ◌&&◌, ◌||◌, ◌==◌, if◌then◌else◌, Option, Some, None, is_some, List, [], ◌∷◌, refl, sym, ◌∙◌, ap, subst, arith, inl, inr, true≢false}
 use Rattle.std.specs.List.{list_any}
-use Rattle.std.proofs.lemmas.Bool.{cases_Bool, and_parts, and_from, and_cases, and_right, or_cases, cond-true, cond-false, not-true, not-false, both_ways, false_from_ne_true, eq-eqb}
-use Rattle.std.proofs.lemmas.List.Elements.{All-head, All-tail}
+use Rattle.std.proofs.lemmas.Bool.{cases_Bool, and_parts, and_from, and_cases, and_right, cond-true, cond-false, not-true, not-false, both_ways, false_from_ne_true, eq-eqb}
 use Rattle.vsm_model.specs.declared.Subpool.{Subpool}
 use Rattle.vsm_model.specs.declared.limits.Settings.{Settings}
 use Rattle.vsm_model.specs.Search.{all_pass, holds}
@@ -11,12 +9,12 @@ use Rattle.vsm_model.specs.Regions.{among}
 use Rattle.vsm_model.specs.CellPools.{CellPool, CellExtent, extent_doublewords}
 use Rattle.vsm_model.specs.State.{State}
 use Rattle.vsm_model.specs.Subpools.{same_subpool}
-use Rattle.vsm_model.specs.Releasing.{is_idle, without_area}
+use Rattle.vsm_model.specs.Releasing.{is_idle}
 use Rattle.vsm_model.specs.Cells.{without_extents}
 use Rattle.vsm_model.specs.WellFormed.{PagesAreSound, IsInSubpool}
 use Rattle.vsm_model.proofs.Least.{all_pass_at, all_pass_from}
 use Rattle.cell_laws.specs.Extents.{lies_in}
-use Rattle.cell_laws.proofs.Placed.{none_some, same_some, some_from, none_or_some, picked, owned_by}
+use Rattle.cell_laws.proofs.Placed.{none_some, some_from, none_or_some, picked, owned_by}
 
 -- a run that doesn't pass has a number that doesn't
 witness : (f : ℕ → Bool) (a n : ℕ) → all_pass f a n ≡ false → (k : ℕ) × (a ≤ k) × (k < a + n) × (f k ≡ false)

@@ -1,7 +1,7 @@
 -- GET and FREE leave a well-formed state well-formed.
-use Rattle.std.proofs.Common.{◌≡◌, ◌≢◌, ◌⊎◌, ℕ, zero, suc, ◌+◌, ◌<◌, ◌≤◌, ◌^◌, Bool, true, false, not, ◌&&◌, ◌||◌, ◌==◌, if◌then◌else◌, Option, Some, None, List, [], ◌∷◌, ◌++◌, length, drop, slice_get, refl, sym, ◌∙◌, ap, subst, arith, inl, inr, true≢false}
+use Rattle.std.proofs.Common.{◌≡◌, ◌≢◌, ℕ, zero, suc, ◌+◌, ◌<◌, ◌≤◌, ◌^◌, Bool, true, false, not, ◌&&◌, ◌||◌, ◌==◌, if◌then◌else◌, Some, None, List, [], ◌∷◌, ◌++◌, length, drop, slice_get, refl, sym, ◌∙◌, ap, subst, arith, inl, inr, true≢false}
 use Rattle.std.specs.Prelude.{All, AllPairs, Contains, unwrap_or}
-use Rattle.std.proofs.lemmas.Bool.{and_parts, and_cases, or_parts, not-true, not-false, eqb-true, ne_eqb}
+use Rattle.std.proofs.lemmas.Bool.{and_parts, or_parts, not-true, not-false, eqb-true, ne_eqb}
 use Rattle.std.proofs.lemmas.List.{append-nil}
 use Rattle.std.proofs.lemmas.List.Concat.{flat_map-append}
 use Rattle.std.proofs.lemmas.List.Elements.{All-head, All-cons, All-append, All-weaker, All-contains_itself}
@@ -10,30 +10,27 @@ use Rattle.vsm_model.specs.declared.causes.Cause.{Cause}
 use Rattle.vsm_model.specs.declared.causes.Cause.TheVariants.{NoCellPool, NotInUse, TooManyNames, NoStorage}
 use Rattle.vsm_model.specs.declared.limits.Settings.{Settings}
 use Rattle.vsm_model.specs.declared.replies.Reply.{Reply}
-use Rattle.vsm_model.specs.declared.replies.Reply.TheVariants.{Cell, Returned}
+use Rattle.vsm_model.specs.declared.replies.Reply.TheVariants.{Cell}
 use Rattle.vsm_model.specs.declared.services.Get.{Get}
 use Rattle.vsm_model.specs.Search.{is_in}
-use Rattle.vsm_model.specs.Regions.{Region, regions_for, settings_valid}
-use Rattle.vsm_model.specs.CellPools.{CellPool, CellExtent, cell_pool_in, with_cell_pool, cells_from, extent_cells, cells_of, extent_doublewords, with_extent}
+use Rattle.vsm_model.specs.Regions.{regions_for, settings_valid}
+use Rattle.vsm_model.specs.CellPools.{CellPool, CellExtent, cell_pool_in, cells_from, extent_cells, cells_of, extent_doublewords, with_extent}
 use Rattle.vsm_model.specs.State.{State}
 use Rattle.vsm_model.specs.Areas.{Place, is_nowhere, address_of}
 use Rattle.vsm_model.specs.Services.{get, free}
-use Rattle.vsm_model.specs.Standing.{Accepted}
-use Rattle.vsm_model.specs.Registers.{registers_set, with_register}
-use Rattle.vsm_model.specs.Obtaining.{with_area}
-use Rattle.vsm_model.specs.Cells.{with_pool, pool_of, sees_pool, has_no_cell, extent_place, extent_at, with_extent_area, handed_out, got, get_causes, is_in_use, free_causes, freed}
+use Rattle.vsm_model.specs.Registers.{registers_set}
+use Rattle.vsm_model.specs.Cells.{pool_of, sees_pool, has_no_cell, extent_place, extent_at, with_extent_area, handed_out, got, get_causes, is_in_use, freed}
 use Rattle.vsm_model.specs.Causes.{first_cause}
-use Rattle.vsm_model.specs.Step.{replied}
-use Rattle.vsm_model.specs.WellFormed.{IsWellFormed, PagesAreSound, PoolIsSound}
+use Rattle.vsm_model.specs.WellFormed.{IsWellFormed, PoolIsSound}
 use Rattle.vsm_model.proofs.Chosen.{past, no_cause, accepted_has_its_effect}
 use Rattle.vsm_model.proofs.Registered.{AreWords, register_leaves_well_formed}
 use Rattle.cell_laws.specs.Extents.{AreaIsTaken, ExtentsHaveCells}
-use Rattle.cell_laws.specs.Kept.{NamesARegister, GetLeavesWellFormed, FreeLeavesWellFormed}
-use Rattle.cell_laws.proofs.CellLists.{in_left, in_right, all_in, all_at, all_drop, pairs_drop, cell_bounds, cells_distinct}
-use Rattle.cell_laws.proofs.Placed.{IsOpenIn, place_from, in_regions, area_taken, area_alone, area_table}
+use Rattle.cell_laws.specs.Kept.{GetLeavesWellFormed, FreeLeavesWellFormed}
+use Rattle.cell_laws.proofs.CellLists.{in_left, in_right, all_in, all_drop, pairs_drop, cell_bounds, cells_distinct}
+use Rattle.cell_laws.proofs.Placed.{place_from, in_regions, area_taken, area_alone, area_table}
 use Rattle.cell_laws.proofs.Words.{cell_is_word}
-use Rattle.cell_laws.proofs.Pools.{sound_of, cells_of_each, pool_is, freed_kept, freed_cells, further, grown, extended, extended_pages, extended_sound, extended_kept, extended_cells}
-use Rattle.cell_laws.proofs.Answered.{left_well_formed, named_words, none_of, cells_registered}
+use Rattle.cell_laws.proofs.Pools.{sound_of, cells_of_each, pool_is, freed_kept, freed_cells, grown, extended, extended_pages, extended_sound, extended_kept, extended_cells}
+use Rattle.cell_laws.proofs.Answered.{left_well_formed, named_words, none_of}
 
 -- the first of a list that isn't empty
 pub first_of : (P : ℕ → Type 0) (xs : List ℕ) → (length xs == 0) ≡ false → All P xs → P (unwrap_or (slice_get xs 0) 0)

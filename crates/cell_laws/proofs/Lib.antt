@@ -16,3 +16,6 @@ pub mod BuiltAndDeleted
 pub mod Apart
 pub mod Stays
 pub mod Again
+pub mod Refused
+pub mod Order
+pub mod Positive

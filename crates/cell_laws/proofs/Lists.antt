@@ -1,5 +1,5 @@
 -- What holds of each two elements of a list, in parts of the list.
-use Rattle.std.proofs.Common.{◌≡◌, ℕ, suc, ◌<◌, List, [], ◌∷◌, ◌++◌, length, arith, Bool, true, false, refl, sym, ◌∙◌, ap, subst, inl, inr}
+use Rattle.std.proofs.Common.{suc, List, [], ◌∷◌, ◌++◌, arith}
 use Rattle.std.specs.Prelude.{All, AllPairs}
 use Rattle.std.proofs.lemmas.List.Elements.{All-head, All-tail, All-cons, All-append, All-weaker, All-nil}
 use Rattle.std.proofs.lemmas.List.Kept.{AllPairs-cons}

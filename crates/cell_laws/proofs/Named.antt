@@ -1,10 +1,9 @@
 -- The registers that a service on a cell pool sets, register by register.
-use Rattle.std.proofs.Common.{◌≡◌, ◌≢◌, ◌⊎◌, ℕ, Bool, true, false, ◌&&◌, ◌==◌, if◌then◌else◌, Option, Some, None, List, [], ◌∷◌, refl, sym, ◌∙◌, ap, subst, inl, inr, arith}
+use Rattle.std.proofs.Common.{◌≡◌, ◌≢◌, ◌⊎◌, ℕ, Bool, true, false, ◌&&◌, ◌==◌, if◌then◌else◌, Option, Some, None, ◌∷◌, refl, sym, ◌∙◌, ap, subst, inl, inr, arith}
 use Rattle.std.proofs.lemmas.Bool.{cond-true, cond-false, and_from, and_left, and_right, eq-eqb, ne_eqb}
 use Rattle.vsm_model.specs.State.{State}
 use Rattle.vsm_model.specs.Registers.{with_register, with_registers, named_register}
 use Rattle.cell_laws.specs.Registers.{ReturnCodeIsSet, AddressIsSet, ReturnCodeIsAll}
-use Rattle.cell_laws.proofs.Pools.{StorageAlone}
 
 -- two numbers aren't both those of a test
 pub not_both : (a b m n : ℕ) → (a ≢ b) ⊎ (m ≢ n) → ((a == b) && (m == n)) ≡ false

@@ -1,17 +1,16 @@
 -- A cell pool that takes the place of another of its name leaves a well-formed state well-formed, with an extent more too.
-use Rattle.std.proofs.Common.{◌≡◌, ◌≢◌, ◌⊎◌, ℕ, zero, suc, ◌+◌, ◌*◌, ◌/◌, ◌<◌, ◌≤◌, ◌^◌, Ordering, Less, Equal, Greater, Bool, true, false, not, ◌==◌, if◌then◌else◌, Option, Some, None, is_some, List, [], ◌∷◌, ◌++◌, map, length, drop, slice_get, refl, sym, ◌∙◌, ap, subst, arith, inl, inr, true≢false}
+use Rattle.std.proofs.Common.{◌≡◌, ◌≢◌, ℕ, ◌<◌, ◌≤◌, Less, Equal, Greater, Bool, true, not, Option, Some, None, List, [], ◌∷◌, ◌++◌, map, length, refl, sym, ◌∙◌, ap, subst, true≢false}
 use Rattle.std.specs.Prelude.{All, AllPairs, unwrap_or}
 use Rattle.std.specs.Ordering.{nat_cmp, eq_by_cmp}
 use Rattle.std.specs.Cmp.Lexicographic.{slice_cmp}
 use Rattle.std.specs.FinMap.Entries.{by_order}
 use Rattle.std.proofs.lemmas.Bool.{both_ways}
 use Rattle.std.proofs.lemmas.List.{map_push}
-use Rattle.std.proofs.lemmas.List.Elements.{All-head, All-tail, All-cons, All-append, All-push, All-weaker, All-nil, All-map, All-filter}
-use Rattle.vsm_model.specs.declared.Subpool.{Subpool}
+use Rattle.std.proofs.lemmas.List.Elements.{All-head, All-tail, All-cons, All-push, All-weaker, All-nil, All-map, All-filter}
 use Rattle.vsm_model.specs.declared.limits.Settings.{Settings}
 use Rattle.vsm_model.specs.Search.{is_in, holds}
-use Rattle.vsm_model.specs.Regions.{Region, among, within, in_a_region}
-use Rattle.vsm_model.specs.CellPools.{CellPool, CellPools, CellExtent, cell_pool_in, with_cell_pool, without_cell_pool, extent_doublewords, extent_cells, cells_of, with_extent}
+use Rattle.vsm_model.specs.Regions.{Region, within, in_a_region}
+use Rattle.vsm_model.specs.CellPools.{CellPool, CellPools, CellExtent, cell_pool_in, with_cell_pool, extent_doublewords, cells_of, with_extent}
 use Rattle.vsm_model.specs.State.{State}
 use Rattle.vsm_model.specs.Cells.{with_pool, pool_of, no_pool, sees_pool}
 use Rattle.vsm_model.specs.Subpools.{sees}
@@ -20,9 +19,9 @@ use Rattle.vsm_model.proofs.Registered.{pool_still}
 use Rattle.cell_laws.specs.Extents.{AreaIsTaken, ExtentsHaveCells}
 use Rattle.cell_laws.proofs.Lists.{all_but_one, Across, pairs_append, pairs_nil}
 use Rattle.std.proofs.lemmas.List.Kept.{AllPairs-cons}
-use Rattle.cell_laws.proofs.Tables.{Row, row_of, order}
-use Rattle.cell_laws.proofs.CellLists.{in_left, in_right, all_in, all_at, cell_bounds, cells_distinct, some_doublewords}
-use Rattle.cell_laws.proofs.Spans.{Apart, turned, span, spans, others, all_spans, all_unmapped, parts_of, put_sound, added_sound, EachIsSound, apart_areas}
+use Rattle.cell_laws.proofs.Tables.{row_of, order}
+use Rattle.cell_laws.proofs.CellLists.{cell_bounds, some_doublewords}
+use Rattle.cell_laws.proofs.Spans.{Apart, turned, span, spans, others, all_spans, parts_of, put_sound, added_sound, EachIsSound, apart_areas}
 use Rattle.cell_laws.proofs.Placed.{pages_taken, extent_stays, extent_taken}
 
 -- Pages, doublewords, bytes and cell pools alone differ.

@@ -1,6 +1,6 @@
 -- What GET and FREE leave.
-use Rattle.std.proofs.Common.{◌≡◌, ◌≢◌, ◌⊎◌, ℕ, zero, suc, ◌+◌, ◌<◌, ◌≤◌, Bool, true, false, not, ◌&&◌, ◌||◌, ◌==◌, if◌then◌else◌, Option, Some, None, List, [], ◌∷◌, ◌++◌, length, drop, slice_get, refl, sym, ◌∙◌, ap, subst, arith, inl, inr, true≢false}
-use Rattle.std.specs.Prelude.{All, Contains, unwrap_or}
+use Rattle.std.proofs.Common.{◌≡◌, ◌⊎◌, ℕ, zero, suc, ◌+◌, ◌≤◌, Bool, true, false, not, ◌&&◌, ◌||◌, ◌==◌, if◌then◌else◌, Option, Some, None, List, [], ◌∷◌, ◌++◌, length, drop, slice_get, refl, sym, ◌∙◌, ap, subst, arith, inl, inr, true≢false}
+use Rattle.std.specs.Prelude.{Contains, unwrap_or}
 use Rattle.std.proofs.lemmas.Bool.{and_parts, or_parts, not-true, not-false, eqb-true}
 use Rattle.std.proofs.lemmas.List.Elements.{All-contains_itself}
 use Rattle.vsm_model.specs.declared.Subpool.{Subpool}
@@ -10,8 +10,8 @@ use Rattle.vsm_model.specs.declared.limits.Settings.{Settings}
 use Rattle.vsm_model.specs.declared.replies.Reply.{Reply}
 use Rattle.vsm_model.specs.declared.replies.Reply.TheVariants.{Cell, Returned}
 use Rattle.vsm_model.specs.declared.services.Get.{Get}
-use Rattle.vsm_model.specs.Search.{is_in, holds}
-use Rattle.vsm_model.specs.Regions.{Region, regions_for}
+use Rattle.vsm_model.specs.Search.{is_in}
+use Rattle.vsm_model.specs.Regions.{regions_for}
 use Rattle.vsm_model.specs.CellPools.{CellPool, CellExtent, cell_pool_in, with_cell_pool, cells_from, extent_cells, cells_of, extent_doublewords, with_extent}
 use Rattle.vsm_model.specs.State.{State}
 use Rattle.vsm_model.specs.Subpools.{sees}
@@ -27,10 +27,10 @@ use Rattle.vsm_model.proofs.Chosen.{Stepped, past, no_cause, accepted_has_its_ef
 use Rattle.vsm_model.proofs.Registered.{words_alone}
 use Rattle.cell_laws.specs.Extents.{AreaIsTaken}
 use Rattle.cell_laws.specs.Registers.{AddressIsSet}
-use Rattle.cell_laws.specs.Promises.{HasNoFreeCell, IsSeen, IsFreed, FreeMakesACellFree, IsFirstFree, IsFirstOfFurther, IsHandedOut, GetHandsOutACell}
+use Rattle.cell_laws.specs.Promises.{HasNoFreeCell, IsSeen, IsFreed, FreeMakesACellFree, IsHandedOut, GetHandsOutACell}
 use Rattle.cell_laws.proofs.Tables.{put_found, put_others}
 use Rattle.cell_laws.proofs.CellLists.{cell_bounds}
-use Rattle.cell_laws.proofs.Placed.{IsOpenIn, place_from, area_taken, area_alone, area_table}
+use Rattle.cell_laws.proofs.Placed.{place_from, area_taken, area_alone, area_table}
 use Rattle.cell_laws.proofs.Pools.{sound_of, pool_is, held}
 use Rattle.cell_laws.proofs.Answered.{state_is, reply_is}
 use Rattle.cell_laws.proofs.Named.{code_is_set, code_is_all, address_in, code_from, address_from}

@@ -1,14 +1,14 @@
 -- The extents of all cell pools lie apart.
-use Rattle.std.proofs.Common.{◌≡◌, ◌≢◌, ◌⊎◌, ℕ, suc, ◌+◌, ◌*◌, ◌/◌, ◌%◌, ◌<◌, ◌≤◌, Bool, true, false, not, ◌&&◌, nat_le, nat_lt, Option, Some, None, List, [], ◌∷◌, ◌++◌, flat_map, map, length, filter, refl, sym, ◌∙◌, ap, subst, arith, inl, inr, true≢false}
+use Rattle.std.proofs.Common.{◌≡◌, ◌⊎◌, ℕ, suc, ◌+◌, ◌*◌, ◌/◌, ◌%◌, ◌<◌, ◌≤◌, true, nat_le, nat_lt, Some, None, List, [], ◌∷◌, ◌++◌, map, length, refl, sym, ◌∙◌, ap, subst, arith, inl, inr}
 use Rattle.std.specs.Prelude.{All, AllPairs}
 use Rattle.std.proofs.lemmas.Bool.{and_parts, and_from, leb-true, ltb-true, leb-false, le-leb, lt-ltb, cases_Bool}
-use Rattle.std.proofs.lemmas.List.Elements.{All-head, All-tail, All-cons, All-append, All-weaker, All-nil, All-map, All-filter}
+use Rattle.std.proofs.lemmas.List.Elements.{All-head, All-tail, All-cons, All-append, All-nil, All-map}
 use Rattle.std.proofs.lemmas.List.Concat.{flat_map-append}
 use Rattle.vsm_model.specs.Regions.{among}
 use Rattle.vsm_model.specs.CellPools.{CellPool, CellPools, CellExtent, cell_pool_in, with_cell_pool, without_cell_pool, are_ascending, extent_doublewords}
 use Rattle.vsm_model.specs.State.{State}
-use Rattle.vsm_model.specs.WellFormed.{IsInSubpool, PoolIsSound, CellPoolsAreSound, all_extents}
-use Rattle.cell_laws.proofs.Lists.{all_left, all_right, all_but_one, all_with_one, Across, middle_out, middle_in}
+use Rattle.vsm_model.specs.WellFormed.{PoolIsSound, CellPoolsAreSound, all_extents}
+use Rattle.cell_laws.proofs.Lists.{all_left, all_right, all_with_one, Across, middle_out, middle_in}
 use Rattle.cell_laws.proofs.Tables.{Row, row_of, Gap, gap_of, put_ascends, without_ascends}
 
 abbrev pub Apart : ℕ × ℕ → ℕ × ℕ → Type 0

@@ -1,35 +1,32 @@
 -- A cell that is in busy stays in busy until it's given back or its cell pool is gone.
-use Rattle.std.proofs.Common.{◌≡◌, ◌≢◌, ◌⊎◌, ℕ, zero, suc, ◌/◌, ◌<◌, ◌≤◌, Ordering, Less, Equal, Greater, Bool, true, false, not, ◌&&◌, ◌||◌, ◌==◌, if◌then◌else◌, Option, Some, None, is_some, List, [], ◌∷◌, ◌++◌, map, filter, refl, sym, ◌∙◌, ap, subst, arith, inl, inr, true≢false}
-use Rattle.std.specs.Prelude.{All, unwrap_or}
+use Rattle.std.proofs.Common.{◌≡◌, ◌≢◌, ◌⊎◌, ℕ, ◌/◌, Ordering, Less, Equal, Greater, Bool, true, false, not, ◌||◌, ◌==◌, if◌then◌else◌, Option, Some, None, List, [], ◌∷◌, ◌++◌, map, filter, refl, sym, ◌∙◌, ap, subst, arith, inl, inr, true≢false}
+use Rattle.std.specs.Prelude.{unwrap_or}
 use Rattle.std.specs.Option.{option_map}
 use Rattle.std.specs.Ordering.{eq_by_cmp, is_lt, is_eq}
 use Rattle.std.specs.FinMap.{is_sorted}
 use Rattle.std.specs.FinMap.Entries.{below_all}
-use Rattle.std.proofs.lemmas.Bool.{cases_Bool, and_parts, and_from, or_parts, or_right, both_ways, not-true, false_from_ne_true, eqb-true, ne_eqb}
-use Rattle.vsm_model.specs.declared.Subpool.{Subpool}
+use Rattle.std.proofs.lemmas.Bool.{cases_Bool, and_parts, and_from, or_parts, or_right, both_ways, not-true, false_from_ne_true, eqb-true}
 use Rattle.vsm_model.specs.declared.limits.Settings.{Settings}
 use Rattle.vsm_model.specs.declared.replies.Reply.{Reply}
 use Rattle.vsm_model.specs.declared.services.Attach.{Attach}
 use Rattle.vsm_model.specs.declared.services.Get.{Get}
 use Rattle.vsm_model.specs.Search.{is_in}
-use Rattle.vsm_model.specs.Regions.{among}
-use Rattle.vsm_model.specs.CellPools.{CellPool, CellPools, CellExtent, cell_pool_in, with_cell_pool, cells_from, extent_cells, cells_of, extent_doublewords, with_extent}
+use Rattle.vsm_model.specs.CellPools.{CellPool, CellPools, CellExtent, cell_pool_in, extent_cells, cells_of, extent_doublewords, with_extent}
 use Rattle.vsm_model.specs.State.{State}
 use Rattle.vsm_model.specs.Ending.{is_in_subtree}
-use Rattle.vsm_model.specs.Subpools.{same_subpool, seen_or_own, with_own, with_subpool}
-use Rattle.vsm_model.specs.Areas.{spacing, address_of}
+use Rattle.vsm_model.specs.Subpools.{same_subpool, seen_or_own, with_own}
 use Rattle.vsm_model.specs.Services.{Service, obtain, release, whole, attach, detach, end_task, run, store, build, get, free, delete}
 use Rattle.vsm_model.specs.Standing.{Accepted}
-use Rattle.vsm_model.specs.Registers.{registers_set, with_register}
-use Rattle.vsm_model.specs.Obtaining.{obtained, longest, place_for}
+use Rattle.vsm_model.specs.Registers.{registers_set}
+use Rattle.vsm_model.specs.Obtaining.{longest, place_for}
 use Rattle.vsm_model.specs.Passing.{handed_on, with_gift, with_gifts, with_share, with_shares, numbers_in}
 use Rattle.vsm_model.specs.Tasks.{free_number, with_task, with_zero, attached}
 use Rattle.vsm_model.specs.Cells.{is_in_use}
 use Rattle.vsm_model.specs.Step.{step, effect}
-use Rattle.vsm_model.specs.WellFormed.{IsWellFormed, PoolIsSound}
+use Rattle.vsm_model.specs.WellFormed.{IsWellFormed}
 use Rattle.vsm_model.proofs.Chosen.{accepted_has_its_effect}
 use Rattle.vsm_model.proofs.Registered.{words_alone}
-use Rattle.cell_laws.specs.Promises.{IsFreed, IsHandedOut, IsFirstFree, IsFirstOfFurther, IsBuilt, IsDeleted, OthersStay}
+use Rattle.cell_laws.specs.Promises.{IsFreed, IsHandedOut, IsFirstFree, IsFirstOfFurther, OthersStay}
 use Rattle.cell_laws.specs.InUse.{IsInUse, StaysInUse}
 use Rattle.cell_laws.proofs.Tables.{order, same_name, same_pool, below_none}
 use Rattle.cell_laws.proofs.CellLists.{in_left, cell_within, cell_bounds}
@@ -138,14 +135,14 @@ module _ (name : List ℕ) (cell : ℕ) where
   gifts_use [] s task busy = busy
   gifts_use (number ∷ numbers) s task busy = gifts_use numbers (with_gift s s.current task number) task (gift_use s s.current task number busy)
 
-  own_table : (s : State) (number : ℕ) → (with_own s number).cell_pools ≡ s.cell_pools
+  pub own_table : (s : State) (number : ℕ) → (with_own s number).cell_pools ≡ s.cell_pools
   own_table s number = ap (λ (u : State). u.cell_pools) (own_alone s number)
 
-  shares_table : (numbers : List ℕ) (s : State) (task : ℕ) → (with_shares s task numbers).cell_pools ≡ s.cell_pools
+  pub shares_table : (numbers : List ℕ) (s : State) (task : ℕ) → (with_shares s task numbers).cell_pools ≡ s.cell_pools
   shares_table [] s task = refl
   shares_table (number ∷ numbers) s task = shares_table numbers (with_share s task number) task ∙ own_table s number
 
-  zero_table : (s : State) (task : ℕ) (shares : Bool) → (with_zero s task shares).cell_pools ≡ s.cell_pools
+  pub zero_table : (s : State) (task : ℕ) (shares : Bool) → (with_zero s task shares).cell_pools ≡ s.cell_pools
   zero_table s task true = own_table s 0
   zero_table s task false = refl
 

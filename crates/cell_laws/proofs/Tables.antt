@@ -1,10 +1,10 @@
 -- The table of cell pools, split at a name.
-use Rattle.std.proofs.Common.{◌≡◌, ◌≢◌, ℕ, ◌+◌, ◌≤◌, Ordering, Less, Equal, Greater, Bool, true, false, not, cond, T, Option, Some, None, is_some, List, [], ◌∷◌, ◌++◌, length, filter, refl, sym, ◌∙◌, ap, subst, arith, inl, inr, true≢false}
-use Rattle.std.specs.Ordering.{nat_cmp, eq_by_cmp, is_lt, is_eq, ordering_reverse}
-use Rattle.std.specs.Cmp.{IsTotalOrder, tied_itself}
+use Rattle.std.proofs.Common.{◌≡◌, ◌≢◌, ℕ, Ordering, Less, Equal, Greater, Bool, true, false, not, cond, T, Option, Some, None, List, [], ◌∷◌, ◌++◌, refl, sym, ◌∙◌, ap, subst, true≢false}
+use Rattle.std.specs.Ordering.{nat_cmp, eq_by_cmp, is_lt, is_eq}
+use Rattle.std.specs.Cmp.{tied_itself}
 use Rattle.std.specs.Cmp.Lexicographic.{slice_cmp, nat_list_cmp_total}
-use Rattle.std.specs.FinMap.{find, put, is_sorted, slice_cmp-IsAntisymmetric, nat_cmp-IsAntisymmetric}
-use Rattle.std.specs.FinMap.Entries.{by_order, below_all, find-put, find-where_key, is_sorted-put, is_sorted-where_key, length-put}
+use Rattle.std.specs.FinMap.{is_sorted, slice_cmp-IsAntisymmetric, nat_cmp-IsAntisymmetric}
+use Rattle.std.specs.FinMap.Entries.{by_order, below_all, find-put, find-where_key, is_sorted-put, is_sorted-where_key}
 use Rattle.std.proofs.lemmas.Bool.{cond-true, cond-false, and_parts}
 use Rattle.vsm_model.specs.CellPools.{CellPool, CellPools, cell_pool_in, with_cell_pool, without_cell_pool, are_ascending}
 

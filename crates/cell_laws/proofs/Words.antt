@@ -1,10 +1,10 @@
 -- The address of a cell is a word.
-use Rattle.std.proofs.Common.{◌≡◌, ◌⊎◌, ℕ, ◌+◌, ◌*◌, ◌/◌, ◌%◌, ◌^◌, ◌<◌, ◌≤◌, Bool, true, false, ◌&&◌, ◌||◌, nat_le, ◌==◌, [], ◌∷◌, refl, sym, ◌∙◌, ap, arith, inl, inr, true≢false}
+use Rattle.std.proofs.Common.{◌≡◌, ℕ, ◌/◌, ◌%◌, ◌^◌, ◌<◌, ◌≤◌, true, false, ◌&&◌, ◌||◌, nat_le, ◌==◌, sym, arith, inl, inr, true≢false}
 use Rattle.std.proofs.lemmas.Bool.{and_parts, or_cases, leb-true}
 use Rattle.vsm_model.specs.declared.limits.Settings.{Settings}
 use Rattle.vsm_model.specs.Search.{is_in}
 use Rattle.vsm_model.specs.Regions.{within, among, low_region, high_region, in_a_region, settings_valid, size_valid}
-use Rattle.vsm_model.specs.CellPools.{CellPool, CellExtent, cells_of, extent_cells, extent_doublewords}
+use Rattle.vsm_model.specs.CellPools.{CellPool, cells_of, extent_doublewords}
 use Rattle.vsm_model.specs.State.{State}
 use Rattle.vsm_model.specs.WellFormed.{PagesAreSound, IsInSubpool, PoolIsSound}
 use Rattle.cell_laws.proofs.Spans.{among-in, in-among}

@@ -1,6 +1,6 @@
 -- Cells that are in use: they lie apart, and none is handed out twice.
 -- Assembler Services Reference, CPOOL; Assembler Services Guide, "Virtual storage management", "Using the CPOOL macro".
-use Rattle.std.specs.Prelude.{◌≡◌, ◌≢◌, ◌⊎◌, ℕ, ◌+◌, ◌≤◌, Bool, true, Option, Some, None, List}
+use Rattle.std.specs.Prelude.{◌≡◌, ◌≢◌, ◌⊎◌, ℕ, ◌+◌, ◌≤◌, Bool, true, Some, None, List}
 use Rattle.vsm_model.specs.declared.limits.Settings.{Settings}
 use Rattle.vsm_model.specs.declared.replies.Reply.{Reply}
 use Rattle.vsm_model.specs.declared.replies.Reply.TheVariants.{Cell}
@@ -26,20 +26,23 @@ LieApart cell size other other_size = (cell + size ≤ other) ⊎ (other + other
 abbrev pub CellsOfAPoolLieApart : Type 0
 CellsOfAPoolLieApart =
     (settings : Settings) (s : State) (name : List ℕ) (pool : CellPool) (cell other : ℕ) → IsWellFormed settings s →
-    cell_pool_in s.cell_pools name ≡ Some pool → is_in (cells_of pool) cell ≡ true → is_in (cells_of pool) other ≡ true → cell ≢ other →
+    cell_pool_in s.cell_pools name ≡ Some pool → is_in (cells_of pool) cell ≡ true →
+    is_in (cells_of pool) other ≡ true → cell ≢ other →
     LieApart cell pool.size other pool.size
 
 -- and so do the cells of two cell pools.
 abbrev pub CellsOfTwoPoolsLieApart : Type 0
 CellsOfTwoPoolsLieApart =
-    (settings : Settings) (s : State) (name name_2 : List ℕ) (pool pool_2 : CellPool) (cell other : ℕ) → IsWellFormed settings s →
+    (settings : Settings) (s : State) (name name_2 : List ℕ) (pool pool_2 : CellPool) (cell other : ℕ) →
+    IsWellFormed settings s →
     name ≢ name_2 → cell_pool_in s.cell_pools name ≡ Some pool → cell_pool_in s.cell_pools name_2 ≡ Some pool_2 →
     is_in (cells_of pool) cell ≡ true → is_in (cells_of pool_2) other ≡ true → LieApart cell pool.size other pool_2.size
 
 -- A cell that is handed out was in use in no cell pool, and is in use then.
 abbrev pub HandedOutWasNotInUse : Type 0
 HandedOutWasNotInUse =
-    (settings : Settings) (names_full : Bool) (s t : State) (name : List ℕ) (g : Get) (cell : ℕ) → IsWellFormed settings s →
+    (settings : Settings) (names_full : Bool) (s t : State) (name : List ℕ) (g : Get) (cell : ℕ) →
+    IsWellFormed settings s →
     step settings names_full s (get name g) ≡ Accepted t (Cell cell) →
     ((other : List ℕ) → IsInUse s.cell_pools other cell → ⊥) × IsInUse t.cell_pools name cell
 
@@ -53,7 +56,8 @@ StaysInUse =
 -- The cell that was given back last is handed out first, and then the cell pool is as it was before.
 abbrev pub LastFreedIsFirst : Type 0
 LastFreedIsFirst =
-    (settings : Settings) (names_full names_full_2 : Bool) (s t u : State) (name : List ℕ) (cell : ℕ) (g : Get) (reply reply_2 : Reply) →
+    (settings : Settings) (names_full names_full_2 : Bool) (s t u : State) (name : List ℕ) (cell : ℕ) (g : Get)
+    (reply reply_2 : Reply) →
     step settings names_full s (free name cell) ≡ Accepted t reply →
     step settings names_full_2 t (get name g) ≡ Accepted u reply_2 →
     (reply_2 ≡ Cell cell) × (cell_pool_in u.cell_pools name ≡ cell_pool_in s.cell_pools name)

@@ -6,7 +6,7 @@ use Rattle.vsm_model.specs.declared.services.Build.{Build}
 use Rattle.vsm_model.specs.declared.services.Get.{Get}
 use Rattle.vsm_model.specs.Regions.{settings_valid}
 use Rattle.vsm_model.specs.State.{State}
-use Rattle.vsm_model.specs.Services.{build, get, free, delete}
+use Rattle.vsm_model.specs.Services.{Service, build, get, free, delete}
 use Rattle.vsm_model.specs.Standing.{Accepted}
 use Rattle.vsm_model.specs.Step.{step}
 use Rattle.vsm_model.specs.WellFormed.{IsWellFormed}
@@ -16,9 +16,22 @@ use Rattle.cell_laws.specs.Extents.{ExtentsHaveCells}
 abbrev pub NamesARegister : Get → Type 0
 NamesARegister g = (r : ℕ) → g.register ≡ Some r → r < 16
 
+-- the same of any service
+abbrev pub HasItsRegister : Service → Type 0
+HasItsRegister (get name g) = NamesARegister g
+HasItsRegister _ = Unit {0}
+
+-- Each extent keeps a cell, whatever is asked.
+abbrev pub ExtentsKeepTheirCells : Type 0
+ExtentsKeepTheirCells =
+    (settings : Settings) (names_full : Bool) (s t : State) (x : Service) (reply : Reply) →
+    settings_valid settings ≡ true → HasItsRegister x → IsWellFormed settings s → ExtentsHaveCells s →
+    step settings names_full s x ≡ Accepted t reply → ExtentsHaveCells t
+
 abbrev pub BuildLeavesWellFormed : Type 0
 BuildLeavesWellFormed =
-    (settings : Settings) (names_full : Bool) (s t : State) (name : List ℕ) (header : Option (List ℕ)) (b : Build) (reply : Reply) →
+    (settings : Settings) (names_full : Bool) (s t : State) (name : List ℕ) (header : Option (List ℕ)) (b : Build)
+    (reply : Reply) →
     IsWellFormed settings s → ExtentsHaveCells s →
     step settings names_full s (build name header b) ≡ Accepted t reply → IsWellFormed settings t × ExtentsHaveCells t
 

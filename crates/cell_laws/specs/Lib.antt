@@ -3,3 +3,4 @@ pub mod Kept
 pub mod Registers
 pub mod Promises
 pub mod InUse
+pub mod FirstCauses
