@@ -1,0 +1,6 @@
+pub mod Extents
+pub mod Kept
+pub mod Registers
+pub mod Promises
+pub mod InUse
+pub mod FirstCauses
