@@ -25,3 +25,4 @@ pub mod Attaches
 pub mod IsShared
 pub mod IsGiven
 pub mod IsAttached
+pub mod AskedAgain

@@ -7,11 +7,12 @@ use Rattle.vsm_model.specs.declared.limits.Settings.{Settings}
 use Rattle.vsm_model.specs.declared.replies.Reply.{Reply}
 use Rattle.vsm_model.specs.declared.replies.Reply.TheVariants as replies
 use Rattle.vsm_model.specs.declared.services.Attach.{Attach}
+use Rattle.vsm_model.specs.declared.services.Obtain.{Obtain}
 use Rattle.vsm_model.specs.Search.{is_in}
 use Rattle.vsm_model.specs.CellPools.{CellPool, cell_pool_in}
 use Rattle.vsm_model.specs.State.{State, is_task}
 use Rattle.vsm_model.specs.Subpools.{seen_or_own}
-use Rattle.vsm_model.specs.Services.{attach}
+use Rattle.vsm_model.specs.Services.{attach, obtain}
 use Rattle.vsm_model.specs.Standing.{Accepted}
 use Rattle.vsm_model.specs.Passing.{numbers_in}
 use Rattle.vsm_model.specs.Step.{step}
@@ -49,7 +50,7 @@ pub record IsGiven (s t : State) (task number : ℕ) : Type 0 where
       (name : List ℕ) (pool : CellPool) → cell_pool_in s.cell_pools name ≡ Some pool →
       pool.subpool ≡ record { number = number; owner = s.current } →
       cell_pool_in t.cell_pools name ≡ Some (record pool { subpool = record { number = number; owner = task } })
-  -- when the giver asks for storage of the number again, it gets a new subpool of its own
+  -- storage of the number that the giver asks for then is a subpool's of its own again
   pub asked_again : seen_or_own t number ≡ record { number = number; owner = s.current }
 
 -- From s to t, the current task shares the subpool of the number with the task: the one that it saw, or a new one of
@@ -134,3 +135,21 @@ AttachMakesATask =
     (settings : Settings) (names_full : Bool) (s t : State) (a : Attach) (reply : Reply) → IsWellFormed settings s →
     step settings names_full s (attach a) ≡ Accepted t reply →
     (task : ℕ) × IsAttached s t a task × (reply ≡ replies.Attached task)
+
+-- From t to u, a giver that obtained storage of the number again has a new subpool of its own, of which each page is
+-- that was assigned; the task keeps what it was given.
+pub record HasANewOne (t u : State) (giver task number : ℕ) : Type 0 where
+  pub owned : u.subpools number giver ≡ true
+  pub seen : u.sight giver number ≡ Some giver
+  pub pages :
+      (k : ℕ) (p : Subpool) → t.pages k ≡ None → u.pages k ≡ Some p → p ≡ record { number = number; owner = giver }
+  pub kept : u.subpools number task ≡ true
+  pub seen_still : u.sight task number ≡ Some task
+
+-- After a gift, an accepted obtain of the number makes the giver a new subpool.
+abbrev pub AGiverIsMadeANewOne : Type 0
+AGiverIsMadeANewOne =
+    (settings : Settings) (names_full : Bool) (s t u : State) (task : ℕ) (o : Obtain) (address given : ℕ) →
+    IsGiven s t task o.number → t.current ≡ s.current →
+    step settings names_full t (obtain o) ≡ Accepted u (replies.Obtained address given) →
+    HasANewOne t u s.current task o.number

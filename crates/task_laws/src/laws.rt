@@ -1,5 +1,5 @@
 //! Laws of the services on tasks: each is the contract of a function that does nothing.
-ghost use Rattle.task_laws.specs.Attached.{AttachMakesATask};
+ghost use Rattle.task_laws.specs.Attached.{AGiverIsMadeANewOne, AttachMakesATask};
 ghost use Rattle.task_laws.specs.Ends.{
   DetachEndsTheSubtree,
   EndTaskEndsTheCurrentTask,
@@ -32,11 +32,13 @@ pub fn attached()
     ensures { AttachMakesATask }
 {}
 
-/// After a gift nothing of the subpool is left to its old owner: its pages are the new owner's; and sight stays sound
+/// After a gift nothing of the subpool is left to its old owner: its pages are the new owner's; and sight stays sound.
+/// A giver that obtains storage of the number again is made a new subpool, and the new task keeps what it was given
 /// (*Assembler Services Guide*, "Virtual storage management", "Subpool handling").
 pub fn given()
     ensures nothing { AGiftLeavesNothing }
     ensures sound { AGiftLeavesSightSound }
+    ensures again { AGiverIsMadeANewOne }
 {}
 
 /// An accepted DETACH ends the task and all tasks below it, and an accepted ENDTASK the current task, whose parent is
