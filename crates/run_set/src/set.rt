@@ -19,7 +19,11 @@ pub struct RunSet {
     pub(crate) chain: Chain,
 }
 
-#[tactic(auto, unfolding(crate::specs::RunSet::runs, crate::specs::RunSet::owned, crate::specs::RunSet::IsRunSet, crate::specs::RunSet::set_of))]
+#[tactic(auto, unfolding(
+// what stands in the elements
+crate::specs::RunSet::runs, crate::specs::RunSet::owned, crate::specs::RunSet::IsRunSet,
+// what a head is
+crate::specs::RunSet::set_of))]
 impl RunSet {
     ghost use Rattle.run_set.specs.RunSet.{runs, holds, owned, set_of, IsRunSet};
 

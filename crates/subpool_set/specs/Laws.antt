@@ -1,0 +1,42 @@
+-- Laws of sets of subpools.
+use Rattle.std.specs.Prelude.{◌≡◌, ℕ, List, [], Some, None}
+use Rattle.vsm_elements.specs.Store.{Store}
+use Rattle.vsm_elements.specs.Ownership.{Owns, Leaves, Apart}
+use Rattle.descriptor_queue.specs.Extents.{extents, IsExtents}
+use Rattle.descriptor_queue.specs.Extents
+use Rattle.free_queue.specs.FreeQueue.{areas, IsFreeQueue}
+use Rattle.free_queue.specs.FreeQueue
+use Rattle.subpool_set.specs.declared.set.SubpoolSet.{SubpoolSet}
+use Rattle.row_table.specs.Rows.{either_of}
+use Rattle.subpool_set.specs.Pools.{Pool, Sight, Pools, no_queues, sight_of_pool, sight_without, pools_with, pool_alone}
+use Rattle.subpool_set.specs.SubpoolSet.{sight, pool, owned, number_of, owner_of, IsSubpoolSet, IsPool}
+
+-- the queues of a new subpool are empty, in whatever elements
+abbrev pub NewQueuesAreEmpty : Type 0
+NewQueuesAreEmpty = (s : Store) →
+    IsExtents s no_queues.extents × (extents s no_queues.extents ≡ [])
+    × (Extents.owned s no_queues.extents ≡ [])
+    × IsFreeQueue s no_queues.free × (areas s no_queues.free ≡ []) × (FreeQueue.owned s no_queues.free ≡ [])
+
+-- a set that stands in elements owns them, and what is seen is there, seen by its owner
+abbrev pub SetsStand : Type 0
+SetsStand = (s : Store) (q : SubpoolSet) → IsSubpoolSet s q
+    → Owns s (owned s q) × ((t n o : ℕ) → sight s q t n ≡ Some o → sight s q o n ≡ Some o)
+
+-- a subpool that is there has one id, by which its number and owner are told, and its owner sees it
+abbrev pub PoolsAreNamed : Type 0
+PoolsAreNamed = (s : Store) (q : SubpoolSet) (n o : ℕ) (p : Pool) → IsSubpoolSet s q → pool s q n o ≡ Some p
+    → IsPool s q p.id × (number_of s p.id ≡ n) × (owner_of s p.id ≡ o) × (sight s q o n ≡ Some o)
+
+-- a set that stands apart from what a call owns, as one on a queue, is as it was: so is each head in it
+abbrev pub SetsStay : Type 0
+SetsStay = (s t : Store) (had has : List ℕ) (q : SubpoolSet) → Leaves s t had has → IsSubpoolSet s q
+    → Apart had (owned s q)
+    → IsSubpoolSet t q × ((task n : ℕ) → sight t q task n ≡ sight s q task n)
+    × ((n o : ℕ) → pool t q n o ≡ pool s q n o) × (owned t q ≡ owned s q)
+
+-- what was taken out, put back beside what was left, is what was there
+abbrev pub PutBack : Type 0
+PutBack = (f : Sight) (p : Pools) (number owner : ℕ)
+    → ((t n : ℕ) → either_of (sight_of_pool f number owner t n) (sight_without f number owner t n) ≡ f t n)
+    × ((n o : ℕ) → either_of (pool_alone p number owner n o) (pools_with p number owner None n o) ≡ p n o)
