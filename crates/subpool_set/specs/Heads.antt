@@ -2,24 +2,10 @@
 use Rattle.std.specs.Prelude.{◌≡◌, ℕ, ◌==◌, true, if◌then◌else◌, List, [], ◌∷◌, ◌++◌}
 use Rattle.vsm_elements.specs.Store.{Store}
 use Rattle.vsm_elements.specs.Ownership.{Apart}
-use Rattle.descriptor_queue.specs.Extents.{IsExtents}
-use Rattle.descriptor_queue.specs.Extents
-use Rattle.free_queue.specs.FreeQueue.{IsFreeQueue}
-use Rattle.free_queue.specs.FreeQueue
 use Rattle.row_table.specs.declared.row.Row.{Row}
 use Rattle.row_table.specs.Rows.{word}
-use Rattle.subpool_set.specs.declared.queues.Queues.{Queues}
+use Rattle.subpool_set.specs.QueueElements.{ids_of, StandApart}
 use Rattle.subpool_set.specs.Kept.{queues_of}
-
--- the ids of both queues
-abbrev pub ids_of : Store → Queues → List ℕ
-ids_of s q = Extents.owned s q.extents ++ FreeQueue.owned s q.free
-
--- both queues stand, in different elements
-pub record StandApart (s : Store) (q : Queues) : Type 0 where
-  pub extents : IsExtents s q.extents
-  pub free : IsFreeQueue s q.free
-  pub apart : Apart (Extents.owned s q.extents) (FreeQueue.owned s q.free)
 
 -- the ids of the queues of a row: those of its subpool, if the row is its owner's
 abbrev pub ids_in : Store → Row → List ℕ

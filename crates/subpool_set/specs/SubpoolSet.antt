@@ -12,8 +12,8 @@ use Rattle.subpool_set.specs.declared.set.SubpoolSet.{SubpoolSet}
 use Rattle.subpool_set.specs.declared.parked.ParkedPool.{ParkedPool}
 use Rattle.subpool_set.specs.Pools.{Sight, Pools}
 use Rattle.subpool_set.specs.Kept.{sight_in, pools_in, IsKept}
-use Rattle.subpool_set.specs.Heads.{ids_in_all, AllStand}
-use Rattle.vsm_elements.specs.Ownership.{Apart}
+use Rattle.subpool_set.specs.Heads.{ids_in_all}
+use Rattle.subpool_set.specs.QueueElements.{AreApart}
 
 -- the owner of the subpool that a task sees at a number
 unfoldable pub sight : Store → SubpoolSet → Sight
@@ -47,8 +47,8 @@ unfoldable pub queue_ids : Store → SubpoolSet → List ℕ
 queue_ids s q = ids_in_all s (rows s q.rows)
 
 -- The queues of all subpools stand, each in elements of its own, and apart from the set's.
-unfoldable pub QueuesStand : Store → SubpoolSet → Type 0
-QueuesStand s q = AllStand s (rows s q.rows) × Apart (owned s q) (queue_ids s q)
+abbrev pub QueuesStand : Store → SubpoolSet → Type 0
+QueuesStand s q = AreApart s (pool s q) (owned s q)
 
 -- A parked pool is a small set of its own.
 

@@ -5,7 +5,8 @@ ghost use Rattle.subpool_set.specs.SubpoolSet.{parked_sight, parked_pool, parked
 ghost use Rattle.subpool_set.specs.SubpoolSet.{ParkedQueuesStand};
 ghost use Rattle.row_table.specs.Rows.{word};
 ghost use Rattle.subpool_set.specs.Kept.{queues_of};
-ghost use Rattle.subpool_set.specs.Heads.{ids_in, StandApart};
+ghost use Rattle.subpool_set.specs.Heads.{ids_in};
+ghost use Rattle.subpool_set.specs.QueueElements.{StandApart};
 
 use crate::set::SubpoolSet;
 use descriptor_queue::Extents;
