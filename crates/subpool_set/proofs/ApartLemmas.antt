@@ -1,15 +1,21 @@
 -- The queues of subpools, where a call on rows leaves them alone.
-use Rattle.std.proofs.Common.{◌≡◌, ℕ, Bool, true, false, ◌==◌, ◌&&◌, List, [], ◌++◌, Option, Some, None, IsSome, ◌⊎◌, inl, inr, refl, sym, ap, ◌∙◌, subst}
+use Rattle.std.proofs.Common.{◌≡◌, ℕ, Bool, true, false, ◌==◌, List, [], ◌++◌, Option, Some, None, IsSome, ◌⊎◌, inl, inr, refl, sym, ap, ◌∙◌, subst}
 use Rattle.std.specs.Prelude.{if◌then◌else◌}
 use Rattle.vsm_elements.specs.Store.{Store, at, among}
 use Rattle.vsm_elements.specs.Ownership.{Leaves, Apart}
 use Rattle.vsm_elements.proofs.ChainFrame.{stays, false_if}
 use Rattle.row_table.specs.Rows.{same_key, either_of}
 use Rattle.row_table.proofs.RowLemmas.{either, not_both, if_true, if_false, none_some, same_parts, same_by, eqb_same, eqb_refl}
+use Rattle.descriptor_queue.specs.declared.extents.Extents.{Extents}
+use Rattle.descriptor_queue.specs.Extents.{IsExtents, extents_of}
+use Rattle.descriptor_queue.specs.Extents
+use Rattle.free_queue.specs.declared.queue.FreeQueue.{FreeQueue}
+use Rattle.free_queue.specs.FreeQueue.{IsFreeQueue, queue_of}
+use Rattle.free_queue.specs.FreeQueue
 use Rattle.subpool_set.specs.declared.queues.Queues.{Queues}
 use Rattle.subpool_set.specs.Pools.{Pool, Pools, no_queues, pools_with, pools_given, pool_alone}
 use Rattle.subpool_set.specs.QueueElements.{ids_of, StandApart, AreApart}
-use Rattle.subpool_set.proofs.HeadLemmas.{both_live, both_stay, in_left, in_right}
+use Rattle.subpool_set.proofs.HeadLemmas.{both_live, both_stay, in_left, in_right, in_either}
 
 -- a subpool whose queues are those of another, which was there
 pub record Came (f : Pools) (n o : ℕ) (p : Pool) : Type 0 where
@@ -165,3 +171,88 @@ left_apart s xs ys f left out number owner rest alone both = (
   beside : (b : Bool) (x y : Option Pool) (p : Pool) → y ≡ (if b then None else x) → y ≡ Some p → either_of (if b then x else None) y ≡ Some p
   beside true x y p h e = absurd (none_some y p h e)
   beside false x y p h e = e
+
+-- the two parts in the other order
+pub turn_apart : (s : Store) (f : Pools) (xs ys : List ℕ) → AreApart s f (xs ++ ys) → AreApart s f (ys ++ xs)
+turn_apart s f xs ys was = part_apart s f f (xs ++ ys) (ys ++ xs) (λ n o p e. e) (λ i z. elim (in_either i ys xs z) [ inl m ↦ in_right i xs ys m | inr m ↦ in_left i xs ys m ]) was
+
+-- new queues are empty
+pub empty_queues : (t : Store) (e : Extents) (f : FreeQueue) → e ≡ extents_of 0 0 → f ≡ queue_of 0 0 → IsExtents t e → Extents.owned t e ≡ [] → IsFreeQueue t f → FreeQueue.owned t f ≡ []
+    → StandApart t no_queues × (ids_of t no_queues ≡ [])
+empty_queues t e f p q extents bare free bare' =
+    let P : Extents → Type 0 = λ z. IsExtents t z × (Extents.owned t z ≡ []) in
+    let Q : FreeQueue → Type 0 = λ z. IsFreeQueue t z × (FreeQueue.owned t z ≡ []) in
+    let x : IsExtents t (extents_of 0 0) × (Extents.owned t (extents_of 0 0) ≡ []) = subst P p (extents, bare) in
+    let y : IsFreeQueue t (queue_of 0 0) × (FreeQueue.owned t (queue_of 0 0) ≡ []) = subst Q q (free, bare') in
+    (record { extents = x.0; free = y.0; apart = λ i m. absurd (not_both (among i (Extents.owned t (extents_of 0 0))) m (ap (among i) x.1)) },
+      ap (λ (z : List ℕ). z ++ FreeQueue.owned t (queue_of 0 0)) x.1 ∙ y.1)
+
+-- a call that leaves all queues alone
+pub frame_apart : (s t : Store) (had has xs ys : List ℕ) → Leaves s t had has → (f g : Pools) → ((n o : ℕ) → g n o ≡ f n o) → ys ≡ xs → AreApart s f xs
+    → ((n o : ℕ) (p : Pool) → f n o ≡ Some p → Apart had (ids_of s p.queues)) → AreApart t g ys × ((n o : ℕ) (p : Pool) → f n o ≡ Some p → ids_of t p.queues ≡ ids_of s p.queues)
+frame_apart s t had has xs ys call f g same e was apart = (
+  record {
+    stand = λ n o p k. (both n o p (sym (same n o) ∙ k)).0;
+    apart = λ n o m r p x k h d i z. ap (among i) (both m r x (sym (same m r) ∙ h)).1 ∙ was.apart n o m r p x (sym (same n o) ∙ k) (sym (same m r) ∙ h) d i (ap (among i) (sym (both n o p (sym (same n o) ∙ k)).1) ∙ z);
+    beside = λ n o p k i z. ap (among i) (both n o p (sym (same n o) ∙ k)).1 ∙ was.beside n o p (sym (same n o) ∙ k) i (ap (among i) (sym e) ∙ z);
+  },
+  λ n o p k. (both n o p k).1,
+) where
+  both : (n o : ℕ) (p : Pool) → f n o ≡ Some p → StandApart t p.queues × (ids_of t p.queues ≡ ids_of s p.queues)
+  both n o p k = both_stay s t had has p.queues call (was.stand n o p k) (apart n o p k)
+
+-- a call on the queues of one subpool
+module _ (s t : Store) (f g : Pools) (others : List ℕ) (n o : ℕ) (p : Pool) (queues : Queues) (was : AreApart s f others) (live : (i : ℕ) → among i others ≡ true → IsSome (at s i)) (there : f n o ≡ Some p)
+    (call : Leaves s t (ids_of s p.queues) (ids_of t queues)) (stand : StandApart t queues) (same : (m r : ℕ) → g m r ≡ f m r) where
+  abbrev h : Pools
+  h = pools_with g n o (Some (record { id = p.id; queues = queues }))
+
+  -- the subpool itself, or another
+  data Which (m r : ℕ) (x : Pool) : Type 0 where
+    this : same_key n o m r ≡ true → queues ≡ x.queues → Which m r x
+    another : same_key n o m r ≡ false → f m r ≡ Some x → Which m r x
+
+  which : (m r : ℕ) (x : Pool) → h m r ≡ Some x → Which m r x
+  which m r x e = go (same_key o n r m) refl where
+    go : (b : Bool) → same_key o n r m ≡ b → Which m r x
+    go true k =
+        let w : (o ≡ r) × (n ≡ m) = same_parts o n r m k in
+        this (same_by n o m r w.1 w.0) (ap (λ (z : Pool). z.queues) (some_pool (record { id = p.id; queues = queues }) x (sym (if_true (same_key o n r m) (Some (record { id = p.id; queues = queues })) (g m r) k) ∙ e)))
+    go false k = another (elim (either (same_key n o m r)) [
+        | inl q ↦ (let w : (n ≡ m) × (o ≡ r) = same_parts n o m r q in absurd (not_both (same_key o n r m) (same_by o n r m w.1 w.0) k))
+        | inr q ↦ q
+      ]) (sym (same m r) ∙ sym (if_false (same_key o n r m) (Some (record { id = p.id; queues = queues })) (g m r) k) ∙ e)
+
+  stay' : (m r : ℕ) (x : Pool) → same_key n o m r ≡ false → f m r ≡ Some x → StandApart t x.queues × (ids_of t x.queues ≡ ids_of s x.queues)
+  stay' m r x d e = both_stay s t (ids_of s p.queues) (ids_of t queues) x.queues call (was.stand m r x e) (was.apart n o m r p x there e d)
+
+  -- the new elements are none of another's
+  parted : (m r : ℕ) (x : Pool) → same_key n o m r ≡ false → f m r ≡ Some x → (i : ℕ) → among i (ids_of t queues) ≡ true → among i (ids_of t x.queues) ≡ true → ⊥
+  parted m r x d e i z k =
+      let was_in : among i (ids_of s x.queues) ≡ true = ap (among i) (sym (stay' m r x d e).1) ∙ k in
+      not_both (among i (ids_of t queues)) z (stays s t (ids_of s p.queues) (ids_of t queues) call i (both_live s x.queues (was.stand m r x e) i was_in)
+        (false_if (among i (ids_of s p.queues)) (λ w. not_both (among i (ids_of s x.queues)) was_in (was.apart n o m r p x there e d i w)))).0
+
+  stand_with : (m r : ℕ) (x : Pool) → Which m r x → StandApart t x.queues
+  stand_with m r x (this k e) = let P : Queues → Type 0 = λ z. StandApart t z in subst P e stand
+  stand_with m r x (another d e) = (stay' m r x d e).0
+
+  apart_with : (m r a b : ℕ) (x y : Pool) → same_key m r a b ≡ false → Which m r x → Which a b y → Apart (ids_of t x.queues) (ids_of t y.queues)
+  apart_with m r a b x y d (this k e) (this q w) i z =
+      let u : (n ≡ m) × (o ≡ r) = same_parts n o m r k in
+      let v : (n ≡ a) × (o ≡ b) = same_parts n o a b q in
+      absurd (not_both (same_key m r a b) (same_by m r a b (sym u.0 ∙ v.0) (sym u.1 ∙ v.1)) d)
+  apart_with m r a b x y d (this k e) (another q w) i z = false_if (among i (ids_of t y.queues)) (λ v. parted a b y q w i (ap (λ (j : Queues). among i (ids_of t j)) e ∙ z) v)
+  apart_with m r a b x y d (another k e) (this q w) i z = ap (λ (j : Queues). among i (ids_of t j)) (sym w) ∙ false_if (among i (ids_of t queues)) (λ v. parted m r x k e i v z)
+  apart_with m r a b x y d (another k e) (another q w) i z = ap (among i) (stay' a b y q w).1 ∙ was.apart m r a b x y e w d i (ap (among i) (sym (stay' m r x k e).1) ∙ z)
+
+  beside_with : (m r : ℕ) (x : Pool) → Which m r x → Apart others (ids_of t x.queues)
+  beside_with m r x (this k e) i z = ap (λ (j : Queues). among i (ids_of t j)) (sym e) ∙ (stays s t (ids_of s p.queues) (ids_of t queues) call i (live i z) (was.beside n o p there i z)).0
+  beside_with m r x (another d e) i z = ap (among i) (stay' m r x d e).1 ∙ was.beside m r x e i z
+
+  pub call_apart : (xs : List ℕ) → xs ≡ others → AreApart t h xs
+  call_apart xs e = record {
+    stand = λ m r x k. stand_with m r x (which m r x k);
+    apart = λ m r a b x y k w d. apart_with m r a b x y d (which m r x k) (which a b y w);
+    beside = λ m r x k i z. beside_with m r x (which m r x k) i (ap (among i) (sym e) ∙ z);
+  }

@@ -1,6 +1,6 @@
 -- Queues by their subpools, and queues by the rows that have their heads.
-use Rattle.std.proofs.Common.{◌≡◌, ℕ, Bool, true, false, ◌==◌, List, [], ◌∷◌, ◌++◌, Option, Some, None, ◌⊎◌, inl, inr, refl, sym, ap, ◌∙◌, subst}
-use Rattle.std.specs.Prelude.{if◌then◌else◌, map}
+use Rattle.std.proofs.Common.{◌≡◌, ℕ, Bool, true, false, ◌==◌, List, [], ◌∷◌, Some, None, inl, inr, refl, sym, ap, ◌∙◌}
+use Rattle.std.specs.Prelude.{map}
 use Rattle.vsm_elements.specs.Store.{Store, among}
 use Rattle.vsm_elements.specs.Ownership.{Apart}
 use Rattle.vsm_elements.specs.Chain.{Link, links}
@@ -9,11 +9,11 @@ use Rattle.row_table.specs.declared.row.Row.{Row}
 use Rattle.row_table.specs.declared.table.RowTable.{RowTable}
 use Rattle.row_table.specs.Rows.{word, same_key, is_under, row_in, Single}
 use Rattle.row_table.specs.RowTable.{row, rows, row_of, IsTable}
-use Rattle.row_table.proofs.RowLemmas.{either, not_both, if_true, if_false, none_some, same_parts, same_by, eqb_same, eqb_refl, same_self, row_here, row_later, under_own}
+use Rattle.row_table.proofs.RowLemmas.{either, not_both, if_true, if_false, none_some, same_parts, eqb_same, eqb_refl, same_self, row_here, row_later, under_own}
 use Rattle.subpool_set.specs.Pools.{Pool}
-use Rattle.subpool_set.specs.Kept.{Rows, owner_in, queues_of, pool_in, pools_in}
+use Rattle.subpool_set.specs.Kept.{Rows, queues_of, pool_in, pools_in}
 use Rattle.subpool_set.specs.Heads.{ids_in, ids_in_all, AllStand}
-use Rattle.subpool_set.specs.QueueElements.{ids_of, StandApart, AreApart}
+use Rattle.subpool_set.specs.QueueElements.{ids_of, AreApart}
 use Rattle.subpool_set.proofs.KeptLemmas.{pool_at, PoolRow, pool_row, pool_own}
 use Rattle.subpool_set.proofs.HeadLemmas.{in_left, in_right, in_either}
 

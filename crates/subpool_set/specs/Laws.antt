@@ -1,6 +1,6 @@
 -- Laws of sets of subpools.
-use Rattle.std.specs.Prelude.{◌≡◌, ℕ, List, [], Some, None}
-use Rattle.vsm_elements.specs.Store.{Store}
+use Rattle.std.specs.Prelude.{◌≡◌, ℕ, true, List, [], Some, None}
+use Rattle.vsm_elements.specs.Store.{Store, among}
 use Rattle.vsm_elements.specs.Ownership.{Owns, Leaves, Apart}
 use Rattle.descriptor_queue.specs.Extents.{extents, IsExtents}
 use Rattle.descriptor_queue.specs.Extents
@@ -10,6 +10,9 @@ use Rattle.subpool_set.specs.declared.set.SubpoolSet.{SubpoolSet}
 use Rattle.row_table.specs.Rows.{either_of}
 use Rattle.subpool_set.specs.Pools.{Pool, Sight, Pools, no_queues, sight_of_pool, sight_without, pools_with, pool_alone}
 use Rattle.subpool_set.specs.SubpoolSet.{sight, pool, owned, number_of, owner_of, IsSubpoolSet, IsPool}
+use Rattle.subpool_set.specs.SubpoolSet.{queue_ids, QueuesStand}
+use Rattle.subpool_set.specs.QueueElements.{ids_of, StandApart, AreApart}
+use Rattle.subpool_set.specs.declared.queues.Queues.{Queues}
 
 -- the queues of a new subpool are empty, in whatever elements
 abbrev pub NewQueuesAreEmpty : Type 0
@@ -34,6 +37,27 @@ SetsStay = (s t : Store) (had has : List ℕ) (q : SubpoolSet) → Leaves s t ha
     → Apart had (owned s q)
     → IsSubpoolSet t q × ((task n : ℕ) → sight t q task n ≡ sight s q task n)
     × ((n o : ℕ) → pool t q n o ≡ pool s q n o) × (owned t q ≡ owned s q)
+
+-- where a call leaves alone what the set and its queues own, the queues stand, and their ids are the same
+abbrev pub QueuesStay : Type 0
+QueuesStay = (s t : Store) (had has : List ℕ) (q : SubpoolSet) → Leaves s t had has → IsSubpoolSet s q → QueuesStand s q
+    → Apart had (owned s q) → Apart had (queue_ids s q)
+    → QueuesStand t q × ((n o : ℕ) (p : Pool) → pool s q n o ≡ Some p → ids_of t p.queues ≡ ids_of s p.queues)
+
+-- a call on the queues of one subpool leaves all others: with its new heads the queues stand
+abbrev pub QueueCallsKeep : Type 0
+QueueCallsKeep = (s t : Store) (q : SubpoolSet) (n o : ℕ) (p : Pool) (queues : Queues)
+    → IsSubpoolSet s q → QueuesStand s q → pool s q n o ≡ Some p
+    → Leaves s t (ids_of s p.queues) (ids_of t queues) → StandApart t queues
+    → AreApart t (pools_with (pool t q) n o (Some (record { id = p.id; queues = queues }))) (owned t q)
+
+-- an id is among the queues' just where a subpool's queues have it
+abbrev pub QueueIdsAre : Type 0
+QueueIdsAre = (s : Store) (q : SubpoolSet) (i : ℕ) → IsSubpoolSet s q
+    → (among i (queue_ids s q) ≡ true
+        → (n : ℕ) × (o : ℕ) × (p : Pool) × ((pool s q n o ≡ Some p) × (among i (ids_of s p.queues) ≡ true)))
+    × ((n o : ℕ) (p : Pool) → pool s q n o ≡ Some p → among i (ids_of s p.queues) ≡ true
+        → among i (queue_ids s q) ≡ true)
 
 -- what was taken out, put back beside what was left, is what was there
 abbrev pub PutBack : Type 0

@@ -6,7 +6,7 @@ ghost use Rattle.subpool_set.specs.SubpoolSet.{ParkedQueuesStand};
 ghost use Rattle.row_table.specs.Rows.{word};
 ghost use Rattle.subpool_set.specs.Kept.{queues_of};
 ghost use Rattle.subpool_set.specs.Heads.{ids_in};
-ghost use Rattle.subpool_set.specs.QueueElements.{StandApart};
+ghost use Rattle.subpool_set.specs.QueueElements.{StandApart, AreApartTogether};
 
 use crate::set::SubpoolSet;
 use descriptor_queue::Extents;
@@ -38,6 +38,10 @@ impl ParkedPool {
         ensures owned { Leaves elements.old elements.new
             (parked_owned elements.old other ++ parked_owned elements.old self)
             (parked_owned elements.new result) }
+        ensures queues { AreApartTogether elements.old
+            (parked_pool elements.old other) (parked_pool elements.old self)
+            (parked_owned elements.old other) (parked_owned elements.old self)
+            → ParkedQueuesStand elements.new result }
         ensures spares { elements.new.spare ≡ elements.old.spare }
     {
         let ParkedPool { mut set } = self;

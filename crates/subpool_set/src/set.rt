@@ -6,6 +6,7 @@ ghost use Rattle.row_table.specs.Rows.{either_of};
 ghost use Rattle.subpool_set.specs.Pools.{no_queues, sight_with, pools_with, sight_given, pools_given, sight_of_pool};
 ghost use Rattle.subpool_set.specs.Pools.{sight_without, pool_alone, sees, sharers, in_order};
 ghost use Rattle.subpool_set.specs.Kept.{AreWords};
+ghost use Rattle.subpool_set.specs.QueueElements.{AreApart, AreApartTogether};
 
 use crate::parked::ParkedPool;
 use crate::queues::Queues;
@@ -54,6 +55,7 @@ crate::specs::SubpoolSet::owned, crate::specs::SubpoolSet::IsSubpoolSet))]
 impl SubpoolSet {
     ghost use Rattle.subpool_set.specs.SubpoolSet.{sight, pool, owned, number_of, owner_of, IsSubpoolSet, IsPool};
     ghost use Rattle.subpool_set.specs.SubpoolSet.{parked_sight, parked_pool, parked_owned, IsParked};
+    ghost use Rattle.subpool_set.specs.SubpoolSet.{QueuesStand, ParkedQueuesStand};
 
     /// The set without subpools. It has no element.
     pub fn new() -> SubpoolSet
@@ -126,6 +128,10 @@ impl SubpoolSet {
             (Some (record { id = id; queues = queues })) n o }
         ensures owned { Leaves elements.old elements.new
             (owned elements.old self.now) (owned elements.new self.now) }
+        ensures queues { AreApart elements.old
+            (pools_with (pool elements.old self.now) (number_of elements.old id) (owner_of elements.old id)
+            (Some (record { id = id; queues = queues }))) (owned elements.old self.now)
+            → QueuesStand elements.new self.now }
         ensures spares { elements.new.spare ≡ elements.old.spare }
     {
         let owner = self.owner(elements, id);
@@ -151,6 +157,7 @@ impl SubpoolSet {
             (Some (record { id = result; queues = no_queues })) n o }
         ensures owned { Leaves elements.old elements.new
             (owned elements.old self.old) (owned elements.new self.new) }
+        ensures queues { QueuesStand elements.old self.old → QueuesStand elements.new self.new }
         ensures spares { elements.new.spare + 1 ≡ elements.old.spare }
     {
         let queues = Queues {
@@ -177,6 +184,7 @@ impl SubpoolSet {
         ensures pools { (n o : ℕ) → pool elements.new self.new n o ≡ pool elements.old self.old n o }
         ensures owned { Leaves elements.old elements.new
             (owned elements.old self.old) (owned elements.new self.new) }
+        ensures queues { QueuesStand elements.old self.old → QueuesStand elements.new self.new }
         ensures spares { elements.new.spare + 1 ≡ elements.old.spare }
     {
         let owner = self.owner(elements, id);
@@ -200,6 +208,7 @@ impl SubpoolSet {
         ensures pools { (n o : ℕ) → pool elements.new self.new n o ≡ pool elements.old self.old n o }
         ensures owned { Leaves elements.old elements.new
             (owned elements.old self.old) (owned elements.new self.new) }
+        ensures queues { QueuesStand elements.old self.old → QueuesStand elements.new self.new }
         ensures spares { elements.new.spare ≡ elements.old.spare + 1 }
     {
         self.rows
@@ -219,6 +228,7 @@ impl SubpoolSet {
             ≡ pools_given (pool elements.old self.old) (number_of elements.old id) (owner_of elements.old id) to n o }
         ensures owned { Leaves elements.old elements.new
             (owned elements.old self.old) (owned elements.new self.new) }
+        ensures queues { QueuesStand elements.old self.old → QueuesStand elements.new self.new }
         ensures spares { elements.new.spare ≡ elements.old.spare }
     {
         let giver = self.owner(elements, id);
@@ -247,6 +257,11 @@ impl SubpoolSet {
         ensures apart { Apart (owned elements.new self.new) (parked_owned elements.new result) }
         ensures owned { Leaves elements.old elements.new (owned elements.old self.old)
             (owned elements.new self.new ++ parked_owned elements.new result) }
+        ensures queues { QueuesStand elements.old self.old → QueuesStand elements.new self.new }
+        ensures queues_out { QueuesStand elements.old self.old → ParkedQueuesStand elements.new result }
+        ensures queues_apart { QueuesStand elements.old self.old → AreApartTogether elements.new
+            (parked_pool elements.new result) (pool elements.new self.new)
+            (parked_owned elements.new result) (owned elements.new self.new) }
         ensures spares { elements.new.spare ≡ elements.old.spare }
     {
         let owner = self.owner(elements, id);
@@ -271,6 +286,10 @@ impl SubpoolSet {
             ≡ either_of (parked_pool elements.old parked n o) (pool elements.old self.old n o) }
         ensures owned { Leaves elements.old elements.new
             (parked_owned elements.old parked ++ owned elements.old self.old) (owned elements.new self.new) }
+        ensures queues { AreApartTogether elements.old
+            (parked_pool elements.old parked) (pool elements.old self.old)
+            (parked_owned elements.old parked) (owned elements.old self.old)
+            → QueuesStand elements.new self.new }
         ensures spares { elements.new.spare ≡ elements.old.spare }
     {
         let ParkedPool { set } = parked;
