@@ -183,9 +183,10 @@ empty_queues t e f p q extents bare free bare' =
     let P : Extents → Type 0 = λ z. IsExtents t z × (Extents.owned t z ≡ []) in
     let Q : FreeQueue → Type 0 = λ z. IsFreeQueue t z × (FreeQueue.owned t z ≡ []) in
     let x : IsExtents t (extents_of 0 0) × (Extents.owned t (extents_of 0 0) ≡ []) = subst P p (extents, bare) in
-    let y : IsFreeQueue t (queue_of 0 0) × (FreeQueue.owned t (queue_of 0 0) ≡ []) = subst Q q (free, bare') in
-    (record { extents = x.0; free = y.0; apart = λ i m. absurd (not_both (among i (Extents.owned t (extents_of 0 0))) m (ap (among i) x.1)) },
-      ap (λ (z : List ℕ). z ++ FreeQueue.owned t (queue_of 0 0)) x.1 ∙ y.1)
+    let y : IsFreeQueue t (queue_of 0 0) × (FreeQueue.owned t (queue_of 0 0) ≡ []) = subst Q q (free, bare') in (
+      record { extents = x.0; free = y.0; apart = λ i m. absurd (not_both (among i (Extents.owned t (extents_of 0 0))) m (ap (among i) x.1)) },
+      ap (λ (z : List ℕ). z ++ FreeQueue.owned t (queue_of 0 0)) x.1 ∙ y.1,
+    )
 
 -- a call that leaves all queues alone
 pub frame_apart : (s t : Store) (had has xs ys : List ℕ) → Leaves s t had has → (f g : Pools) → ((n o : ℕ) → g n o ≡ f n o) → ys ≡ xs → AreApart s f xs
@@ -219,9 +220,9 @@ module _ (s t : Store) (f g : Pools) (others : List ℕ) (n o : ℕ) (p : Pool) 
         let w : (o ≡ r) × (n ≡ m) = same_parts o n r m k in
         this (same_by n o m r w.1 w.0) (ap (λ (z : Pool). z.queues) (some_pool (record { id = p.id; queues = queues }) x (sym (if_true (same_key o n r m) (Some (record { id = p.id; queues = queues })) (g m r) k) ∙ e)))
     go false k = another (elim (either (same_key n o m r)) [
-        | inl q ↦ (let w : (n ≡ m) × (o ≡ r) = same_parts n o m r q in absurd (not_both (same_key o n r m) (same_by o n r m w.1 w.0) k))
-        | inr q ↦ q
-      ]) (sym (same m r) ∙ sym (if_false (same_key o n r m) (Some (record { id = p.id; queues = queues })) (g m r) k) ∙ e)
+      | inl q ↦ (let w : (n ≡ m) × (o ≡ r) = same_parts n o m r q in absurd (not_both (same_key o n r m) (same_by o n r m w.1 w.0) k))
+      | inr q ↦ q
+    ]) (sym (same m r) ∙ sym (if_false (same_key o n r m) (Some (record { id = p.id; queues = queues })) (g m r) k) ∙ e)
 
   stay' : (m r : ℕ) (x : Pool) → same_key n o m r ≡ false → f m r ≡ Some x → StandApart t x.queues × (ids_of t x.queues ≡ ids_of s x.queues)
   stay' m r x d e = both_stay s t (ids_of s p.queues) (ids_of t queues) x.queues call (was.stand m r x e) (was.apart n o m r p x there e d)
@@ -231,7 +232,7 @@ module _ (s t : Store) (f g : Pools) (others : List ℕ) (n o : ℕ) (p : Pool) 
   parted m r x d e i z k =
       let was_in : among i (ids_of s x.queues) ≡ true = ap (among i) (sym (stay' m r x d e).1) ∙ k in
       not_both (among i (ids_of t queues)) z (stays s t (ids_of s p.queues) (ids_of t queues) call i (both_live s x.queues (was.stand m r x e) i was_in)
-        (false_if (among i (ids_of s p.queues)) (λ w. not_both (among i (ids_of s x.queues)) was_in (was.apart n o m r p x there e d i w)))).0
+      (false_if (among i (ids_of s p.queues)) (λ w. not_both (among i (ids_of s x.queues)) was_in (was.apart n o m r p x there e d i w)))).0
 
   stand_with : (m r : ℕ) (x : Pool) → Which m r x → StandApart t x.queues
   stand_with m r x (this k e) = let P : Queues → Type 0 = λ z. StandApart t z in subst P e stand

@@ -63,6 +63,7 @@ impl SubpoolSet {
         ensures blind { (s : Store) (t n : ℕ) → sight s result t n ≡ None }
         ensures empty { (s : Store) (n o : ℕ) → pool s result n o ≡ None }
         ensures owned { (s : Store) → owned s result ≡ [] }
+        ensures queues { (s : Store) → QueuesStand s result }
     {
         SubpoolSet {
             rows: RowTable::new(),
@@ -254,7 +255,7 @@ impl SubpoolSet {
             ≡ sight_of_pool (sight elements.old self.old) (number_of elements.old id) (owner_of elements.old id) t n }
         ensures pools_out { (n o : ℕ) → parked_pool elements.new result n o
             ≡ pool_alone (pool elements.old self.old) (number_of elements.old id) (owner_of elements.old id) n o }
-        ensures apart { Apart (owned elements.new self.new) (parked_owned elements.new result) }
+        ensures apart { Apart (parked_owned elements.new result) (owned elements.new self.new) }
         ensures owned { Leaves elements.old elements.new (owned elements.old self.old)
             (owned elements.new self.new ++ parked_owned elements.new result) }
         ensures queues { QueuesStand elements.old self.old → QueuesStand elements.new self.new }

@@ -11,7 +11,14 @@ use row_table::RowTable;
 use vsm_elements::Elements;
 
 // The task's row of this number names `to`, if it named the giver.
-pub(crate) fn rename_row(rows: &RowTable, elements: &mut Elements, task: u32, number: u8, giver: u8, to: u8)
+pub(crate) fn rename_row(
+    rows: &RowTable,
+    elements: &mut Elements,
+    task: u32,
+    number: u8,
+    giver: u8,
+    to: u8,
+)
     requires { IsTable elements.old rows.now }
     ensures table { IsTable elements.new rows.now }
     ensures rows { (a b : ℕ) → row elements.new rows.now a b
