@@ -1,7 +1,6 @@
 //! A tree of six tasks: registers, a subtree that is parked and restored, and tasks that end.
 
-ghost use Rattle.task_tree.specs.TaskTree.{IsTaskTree, current};
-ghost use Rattle.std.specs.Prelude.{◌≡◌, ◌≤◌};
+ghost use Rattle.task_tree.specs.TaskTree.{IsTaskTree};
 
 use super::*;
 use laws::{put_back, root_is_above, trees_stand, trees_stay};
