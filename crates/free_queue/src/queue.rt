@@ -30,6 +30,7 @@ impl FreeQueue {
         ensures queue { (s : Store) → IsFreeQueue s result }
         ensures empty { (s : Store) → areas s result ≡ [] }
         ensures owned { (s : Store) → owned s result ≡ [] }
+        ensures head { result ≡ queue_of 0 0 }
     {
         FreeQueue { set: RunSet::new() }
     }

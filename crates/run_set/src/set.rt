@@ -19,7 +19,11 @@ pub struct RunSet {
     pub(crate) chain: Chain,
 }
 
-#[tactic(auto, unfolding(crate::specs::RunSet::runs, crate::specs::RunSet::owned, crate::specs::RunSet::IsRunSet))]
+#[tactic(auto, unfolding(
+// what stands in the elements
+crate::specs::RunSet::runs, crate::specs::RunSet::owned, crate::specs::RunSet::IsRunSet,
+// what a head is
+crate::specs::RunSet::set_of))]
 impl RunSet {
     ghost use Rattle.run_set.specs.RunSet.{runs, holds, owned, set_of, IsRunSet};
 
@@ -28,6 +32,7 @@ impl RunSet {
         ensures set { (s : Store) → IsRunSet s result }
         ensures empty { (s : Store) → runs s result ≡ [] }
         ensures owned { (s : Store) → owned s result ≡ [] }
+        ensures head { result ≡ set_of 0 0 }
     {
         RunSet {
             chain: Chain::new(),
@@ -35,7 +40,6 @@ impl RunSet {
     }
 
     /// The set as two words, to be kept in another element.
-    #[tactic(auto, unfolding(crate::specs::RunSet::set_of))]
     pub fn head(self) -> [u32; 2]
         ensures { set_of (slice_index_or result 0 0) (slice_index_or result 1 0) ≡ self }
     {
@@ -43,7 +47,6 @@ impl RunSet {
     }
 
     /// The set whose head was kept in these words.
-    #[tactic(auto, unfolding(crate::specs::RunSet::set_of))]
     pub fn from_head(head: [u32; 2]) -> RunSet
         ensures { result ≡ set_of (slice_index_or head 0 0) (slice_index_or head 1 0) }
     {

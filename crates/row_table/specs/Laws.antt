@@ -1,0 +1,26 @@
+-- Laws of tables of rows.
+use Rattle.std.specs.Prelude.{◌≡◌, ℕ, List, Some}
+use Rattle.vsm_elements.specs.Store.{Store, SameElements}
+use Rattle.vsm_elements.specs.Ownership.{Owns, Leaves, Apart}
+use Rattle.row_table.specs.declared.row.Row.{Row}
+use Rattle.row_table.specs.declared.table.RowTable.{RowTable}
+use Rattle.row_table.specs.Rows.{word}
+use Rattle.row_table.specs.RowTable.{row, rows, owned, words_of, IsTable}
+
+-- a table that stands in elements owns them, and its rows stand under their own first two words, which are
+-- those of their elements
+abbrev pub TablesStand : Type 0
+TablesStand = (s : Store) (q : RowTable) → IsTable s q
+    → Owns s (owned s q)
+    × ((a b : ℕ) (r : Row) → row s q a b ≡ Some r
+        → (word r.words 0 ≡ a) × (word r.words 1 ≡ b) × (words_of s r.id ≡ r.words))
+
+-- a table that stands apart from what a call owns is as it was
+abbrev pub TablesStay : Type 0
+TablesStay = (s t : Store) (had has : List ℕ) (q : RowTable) → Leaves s t had has → IsTable s q → Apart had (owned s q)
+    → IsTable t q × ((a b : ℕ) → row t q a b ≡ row s q a b) × (owned t q ≡ owned s q) × (rows t q ≡ rows s q)
+
+-- where every id keeps what it had, so does every table
+abbrev pub GrowthKeepsTables : Type 0
+GrowthKeepsTables = (s t : Store) (q : RowTable) → SameElements s t → IsTable s q
+    → IsTable t q × ((a b : ℕ) → row t q a b ≡ row s q a b) × (owned t q ≡ owned s q) × (rows t q ≡ rows s q)

@@ -1,0 +1,39 @@
+-- What a contract sees of a `RowTable`: the row under two numbers, and the elements that the table owns.
+--
+-- The words are closed, so that nothing above depends on how the rows stand in the elements.
+use Rattle.std.specs.Prelude.{◌≡◌, ℕ, List, Option, Some, map}
+use Rattle.vsm_elements.specs.Store.{Store}
+use Rattle.vsm_elements.specs.Chain.{Link, element, links}
+use Rattle.vsm_elements.specs.Chain
+use Rattle.row_table.specs.declared.row.Row.{Row}
+use Rattle.row_table.specs.declared.table.RowTable.{RowTable}
+use Rattle.row_table.specs.Rows.{word, row_in}
+use Rattle.row_table.specs.Kept.{IsKept}
+
+-- the row under these two numbers
+unfoldable pub row : Store → RowTable → ℕ → ℕ → Option Row
+row s q a b = row_in a b (links s q.chain)
+
+abbrev pub row_of : Link → Row
+row_of n = record { id = n.id; words = n.words }
+
+-- all rows, in no order that is promised
+unfoldable pub rows : Store → RowTable → List Row
+rows s q = map row_of (links s q.chain)
+
+-- the ids of the table's elements
+unfoldable pub owned : Store → RowTable → List ℕ
+owned s q = Chain.owned s q.chain
+
+-- the table stands in these elements
+unfoldable pub IsTable : Store → RowTable → Type 0
+IsTable s q = IsKept s q.chain
+
+-- the words of the element of this id
+unfoldable pub words_of : Store → ℕ → List ℕ
+words_of s id = (element s id).words
+
+-- the id is that of a row of the table
+abbrev pub IsRow : Store → RowTable → ℕ → Type 0
+IsRow s q id =
+    row s q (word (words_of s id) 0) (word (words_of s id) 1) ≡ Some (record { id = id; words = words_of s id })

@@ -1,0 +1,202 @@
+ghost use Rattle.std.specs.Prelude.{true, ◌≡◌, ℕ, ◌+◌, ◌<◌, ◌++◌, ◌∷◌, ◌||◌, ◌⊎◌, [], length, Some, None, IsSome};
+ghost use Rattle.std.specs.Prelude.{IfSome, IfNone, option_map, slice_index_or, if◌then◌else◌};
+ghost use Rattle.vsm_elements.specs.Store.{Store, among};
+ghost use Rattle.vsm_elements.specs.Ownership.{Leaves, Apart};
+ghost use Rattle.row_table.specs.Rows.{word, same_key, is_under, either_of};
+
+use crate::places::Place;
+use crate::row::Row;
+use vsm_elements::{Chain, Elements, Id};
+
+/// The head of a table of rows, of which no two begin with the same two words.
+///
+/// It is kept by value. Every call is handed the elements that it stands in, and changes those of its own
+/// alone. A table that is no longer wanted is discarded: its elements stay live until then.
+#[derive(Clone, Copy, Debug, PartialEq, Eq)]
+pub struct RowTable {
+    pub(crate) chain: Chain,
+}
+
+#[tactic(auto, unfolding(
+// what stands in the elements
+crate::specs::RowTable::row, crate::specs::RowTable::rows, crate::specs::RowTable::words_of,
+// whose they are
+crate::specs::RowTable::owned, crate::specs::RowTable::IsTable))]
+impl RowTable {
+    ghost use Rattle.row_table.specs.RowTable.{row, rows, owned, words_of, IsTable, IsRow};
+
+    /// The table without rows. It has no element.
+    pub fn new() -> RowTable
+        ensures table { (s : Store) → IsTable s result }
+        ensures empty { (s : Store) (a b : ℕ) → row s result a b ≡ None }
+        ensures owned { (s : Store) → owned s result ≡ [] }
+    {
+        RowTable {
+            chain: Chain::new(),
+        }
+    }
+
+    /// The row under these two numbers.
+    pub fn find(&self, elements: &Elements, first: u32, second: u32) -> Option<Row>
+        requires { IsTable elements.now self.now }
+        ensures { result ≡ row elements.now self.now first second }
+    {
+        let place = self.seek(elements, first, second);
+        if place.index == self.chain.count {
+            return None;
+        }
+        Some(self.visit(elements, place))
+    }
+
+    /// The words of the row of this id.
+    pub fn words(&self, elements: &Elements, id: Id) -> [u32; 7]
+        requires table { IsTable elements.now self.now }
+        requires row { IsRow elements.now self.now id }
+        ensures { result ≡ words_of elements.now id }
+    {
+        elements.get(id).words
+    }
+
+    /// Some row of the table; `None` where it has none.
+    pub fn any(&self, elements: &Elements) -> Option<Row>
+        requires { IsTable elements.now self.now }
+        ensures none { IfNone result (owned elements.now self.now ≡ []) }
+        ensures empty { IfNone result ((a b : ℕ) → row elements.now self.now a b ≡ None) }
+        ensures some { IfSome result (λ r.
+            row elements.now self.now (word r.words 0) (word r.words 1) ≡ Some r) }
+    {
+        if self.chain.count == 0 {
+            return None;
+        }
+        Some(self.visit(elements, Place::FRONT))
+    }
+
+    /// A row with these words. Its key is not in the table.
+    ///
+    /// It takes one element.
+    pub fn insert(&mut self, elements: &mut Elements, words: [u32; 7]) -> Id
+        requires table { IsTable elements.old self.old }
+        requires absent { row elements.old self.old (word words 0) (word words 1) ≡ None }
+        requires room { 0 < elements.old.spare }
+        ensures table { IsTable elements.new self.new }
+        ensures rows { (a b : ℕ) → row elements.new self.new a b
+            ≡ (if is_under a b words then Some (record { id = result; words = words })
+            else row elements.old self.old a b) }
+        ensures owned { Leaves elements.old elements.new
+            (owned elements.old self.old) (owned elements.new self.new) }
+        ensures spares { elements.new.spare + 1 ≡ elements.old.spare }
+    {
+        self.chain.insert(elements, 0, 0, words)
+    }
+
+    /// The row under these two numbers gets other words, and keeps its element. Where its key changes, the new
+    /// one is not in the table.
+    pub fn set(&self, elements: &mut Elements, first: u32, second: u32, words: [u32; 7])
+        requires table { IsTable elements.old self.now }
+        requires there { IsSome (row elements.old self.now first second) }
+        requires key { (is_under first second words ≡ true)
+            ⊎ (row elements.old self.now (word words 0) (word words 1) ≡ None) }
+        ensures table { IsTable elements.new self.now }
+        ensures rows { (a b : ℕ) → row elements.new self.now a b
+            ≡ (if is_under a b words
+            then option_map (λ r. record { id = r.id; words = words }) (row elements.old self.now first second)
+            else if same_key first second a b then None else row elements.old self.now a b) }
+        ensures owned { Leaves elements.old elements.new
+            (owned elements.old self.now) (owned elements.new self.now) }
+        ensures spares { elements.new.spare ≡ elements.old.spare }
+    {
+        let place = self.seek(elements, first, second);
+        let row = self.visit(elements, place);
+        self.chain.set_words(elements, place.index, row.id, words);
+    }
+
+    /// The row under these two numbers goes. Its element becomes a spare one.
+    pub fn remove(&mut self, elements: &mut Elements, first: u32, second: u32)
+        requires table { IsTable elements.old self.old }
+        requires there { IsSome (row elements.old self.old first second) }
+        ensures table { IsTable elements.new self.new }
+        ensures rows { (a b : ℕ) → row elements.new self.new a b
+            ≡ (if same_key first second a b then None else row elements.old self.old a b) }
+        ensures owned { Leaves elements.old elements.new
+            (owned elements.old self.old) (owned elements.new self.new) }
+        ensures spares { elements.new.spare ≡ elements.old.spare + 1 }
+    {
+        let place = self.seek(elements, first, second);
+        self.chain.remove(elements, place.index, place.before);
+    }
+
+    /// The row under these two numbers moves to another table, with its element.
+    pub fn move_row(&mut self, elements: &mut Elements, first: u32, second: u32, to: &mut RowTable)
+        requires table { IsTable elements.old self.old }
+        requires there { IsSome (row elements.old self.old first second) }
+        requires to { IsTable elements.old to.old }
+        requires absent { row elements.old to.old first second ≡ None }
+        requires apart { Apart (owned elements.old self.old) (owned elements.old to.old) }
+        ensures table { IsTable elements.new self.new }
+        ensures to { IsTable elements.new to.new }
+        ensures left { (a b : ℕ) → row elements.new self.new a b
+            ≡ (if same_key first second a b then None else row elements.old self.old a b) }
+        ensures moved { (a b : ℕ) → row elements.new to.new a b
+            ≡ (if same_key first second a b then row elements.old self.old a b else row elements.old to.old a b) }
+        ensures fewer { length (owned elements.new self.new) + 1 ≡ length (owned elements.old self.old) }
+        ensures apart { Apart (owned elements.new self.new) (owned elements.new to.new) }
+        ensures owned { Leaves elements.old elements.new
+            (owned elements.old self.old ++ owned elements.old to.old)
+            (owned elements.new self.new ++ owned elements.new to.new) }
+        ensures spares { elements.new.spare ≡ elements.old.spare }
+    {
+        let place = self.seek(elements, first, second);
+        self.chain
+            .move_link(elements, place.index, place.before, &mut to.chain);
+    }
+
+    /// Every row moves to another table, with its element.
+    #[tactic(auto)]
+    pub fn move_all(self, elements: &mut Elements, to: &mut RowTable)
+        requires table { IsTable elements.old self }
+        requires to { IsTable elements.old to.old }
+        requires absent { (a b : ℕ) → IsSome (row elements.old self a b) → row elements.old to.old a b ≡ None }
+        requires apart { Apart (owned elements.old self) (owned elements.old to.old) }
+        ensures table { IsTable elements.new to.new }
+        ensures rows { (a b : ℕ) → row elements.new to.new a b
+            ≡ either_of (row elements.old self a b) (row elements.old to.old a b) }
+        ensures owned { Leaves elements.old elements.new
+            (owned elements.old self ++ owned elements.old to.old) (owned elements.new to.new) }
+        ensures spares { elements.new.spare ≡ elements.old.spare }
+    {
+        let mut rest = self;
+        while let Some(row) = rest.any(elements) {
+            rest.move_row(elements, row.words[0], row.words[1], to);
+        }
+    }
+
+    /// Takes some row out. Its element becomes a spare one.
+    pub fn pop(&mut self, elements: &mut Elements) -> Option<Row>
+        requires { IsTable elements.old self.old }
+        ensures table { IsTable elements.new self.new }
+        ensures none { IfNone result (rows elements.new self.new ≡ []) }
+        ensures bare { IfNone result (owned elements.new self.new ≡ []) }
+        ensures same { IfNone result (elements.new ≡ elements.old) }
+        ensures kept { IfNone result (self.new ≡ self.old) }
+        ensures some { IfSome result (λ r. rows elements.old self.old ≡ r ∷ rows elements.new self.new) }
+        ensures fewer { (id : ℕ) → among id (owned elements.new self.new) ≡ true
+            → among id (owned elements.old self.old) ≡ true }
+        ensures owned { Leaves elements.old elements.new
+            (owned elements.old self.old) (owned elements.new self.new) }
+    {
+        if self.chain.count == 0 {
+            return None;
+        }
+        let row = self.visit(elements, Place::FRONT);
+        self.chain.remove(elements, 0, 0);
+        Some(row)
+    }
+
+    /// Gives back every element of the table.
+    pub fn discard(self, elements: &mut Elements)
+        requires { IsTable elements.old self }
+        ensures owned { Leaves elements.old elements.new (owned elements.old self) [] }
+    {
+        self.chain.discard(elements);
+    }
+}

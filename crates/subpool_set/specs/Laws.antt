@@ -1,0 +1,79 @@
+-- Laws of sets of subpools.
+use Rattle.std.specs.Prelude.{◌≡◌, ℕ, true, List, [], ◌++◌, Some, None, IsSome}
+use Rattle.vsm_elements.specs.Store.{Store, among}
+use Rattle.vsm_elements.specs.Ownership.{Owns, Leaves, Apart}
+use Rattle.descriptor_queue.specs.Extents.{extents, IsExtents}
+use Rattle.descriptor_queue.specs.Extents
+use Rattle.free_queue.specs.FreeQueue.{areas, IsFreeQueue}
+use Rattle.free_queue.specs.FreeQueue
+use Rattle.subpool_set.specs.declared.set.SubpoolSet.{SubpoolSet}
+use Rattle.row_table.specs.Rows.{either_of}
+use Rattle.subpool_set.specs.Pools.{Pool, Sight, Pools, no_queues, sight_of_pool, sight_without, pools_with, pool_alone}
+use Rattle.subpool_set.specs.SubpoolSet.{sight, pool, owned, number_of, owner_of, IsSubpoolSet, IsPool}
+use Rattle.subpool_set.specs.SubpoolSet.{queue_ids, QueuesStand, IsParked, parked_pool, parked_owned, parked_queue_ids}
+use Rattle.subpool_set.specs.declared.parked.ParkedPool.{ParkedPool}
+use Rattle.subpool_set.specs.QueueElements.{ids_of, StandApart, AreApart, AreApartTogether}
+use Rattle.subpool_set.specs.declared.queues.Queues.{Queues}
+
+-- the queues of a new subpool are empty, in whatever elements
+abbrev pub NewQueuesAreEmpty : Type 0
+NewQueuesAreEmpty = (s : Store) →
+    IsExtents s no_queues.extents × (extents s no_queues.extents ≡ [])
+    × (Extents.owned s no_queues.extents ≡ [])
+    × IsFreeQueue s no_queues.free × (areas s no_queues.free ≡ []) × (FreeQueue.owned s no_queues.free ≡ [])
+
+-- a set that stands in elements owns them, and what is seen is there, seen by its owner
+abbrev pub SetsStand : Type 0
+SetsStand = (s : Store) (q : SubpoolSet) → IsSubpoolSet s q
+    → Owns s (owned s q) × ((t n o : ℕ) → sight s q t n ≡ Some o → sight s q o n ≡ Some o)
+
+-- a subpool that is there has one id, by which its number and owner are told, and its owner sees it
+abbrev pub PoolsAreNamed : Type 0
+PoolsAreNamed = (s : Store) (q : SubpoolSet) (n o : ℕ) (p : Pool) → IsSubpoolSet s q → pool s q n o ≡ Some p
+    → IsPool s q p.id × (number_of s p.id ≡ n) × (owner_of s p.id ≡ o) × (sight s q o n ≡ Some o)
+
+-- a set that stands apart from what a call owns, as one on a queue, is as it was: so is each head in it
+abbrev pub SetsStay : Type 0
+SetsStay = (s t : Store) (had has : List ℕ) (q : SubpoolSet) → Leaves s t had has → IsSubpoolSet s q
+    → Apart had (owned s q)
+    → IsSubpoolSet t q × ((task n : ℕ) → sight t q task n ≡ sight s q task n)
+    × ((n o : ℕ) → pool t q n o ≡ pool s q n o) × (owned t q ≡ owned s q)
+
+-- where a call leaves alone what the set and its queues own, the queues stand, and their ids are the same
+abbrev pub QueuesStay : Type 0
+QueuesStay = (s t : Store) (had has : List ℕ) (q : SubpoolSet) → Leaves s t had has → IsSubpoolSet s q → QueuesStand s q
+    → Apart had (owned s q) → Apart had (queue_ids s q)
+    → QueuesStand t q × ((n o : ℕ) (p : Pool) → pool s q n o ≡ Some p → ids_of t p.queues ≡ ids_of s p.queues)
+
+-- a call on the queues of one subpool leaves all others: with its new heads the queues stand
+abbrev pub QueueCallsKeep : Type 0
+QueueCallsKeep = (s t : Store) (q : SubpoolSet) (n o : ℕ) (p : Pool) (queues : Queues)
+    → IsSubpoolSet s q → QueuesStand s q → pool s q n o ≡ Some p
+    → Leaves s t (ids_of s p.queues) (ids_of t queues) → StandApart t queues
+    → AreApart t (pools_with (pool t q) n o (Some (record { id = p.id; queues = queues }))) (owned t q)
+
+-- a set that stands beside parked subpools, and its queues, are as they were once these are discarded
+abbrev pub DiscardsKeep : Type 0
+DiscardsKeep = (s t : Store) (q : SubpoolSet) (p : ParkedPool) → IsSubpoolSet s q → IsParked s p
+    → Apart (parked_owned s p) (owned s q)
+    → AreApartTogether s (parked_pool s p) (pool s q) (parked_owned s p) (owned s q)
+    → ((n o : ℕ) → IsSome (parked_pool s p n o) → pool s q n o ≡ None)
+    → Leaves s t (parked_owned s p ++ parked_queue_ids s p) []
+    → IsSubpoolSet t q × QueuesStand t q × ((task n : ℕ) → sight t q task n ≡ sight s q task n)
+    × ((n o : ℕ) → pool t q n o ≡ pool s q n o)
+
+-- an id is among the queues' just where a subpool's queues have it
+abbrev pub QueueIdsAre : Type 0
+QueueIdsAre = (s : Store) (q : SubpoolSet) (i : ℕ) → IsSubpoolSet s q
+    → (among i (queue_ids s q) ≡ true
+    → (n : ℕ) × (o : ℕ) × (p : Pool) × ((pool s q n o ≡ Some p) × (among i (ids_of s p.queues) ≡ true)))
+    × ((n o : ℕ) (p : Pool) → pool s q n o ≡ Some p → among i (ids_of s p.queues) ≡ true
+    → among i (queue_ids s q) ≡ true)
+
+-- what was taken out, put back beside what was left, is what was there
+abbrev pub PutBack : Type 0
+PutBack = (f : Sight) (p : Pools) (number owner : ℕ)
+    → ((t n : ℕ) → either_of (sight_of_pool f number owner t n) (sight_without f number owner t n) ≡ f t n)
+    × ((n o : ℕ) → either_of (pool_alone p number owner n o) (pools_with p number owner None n o) ≡ p n o)
+    × ((t n : ℕ) → IsSome (sight_of_pool f number owner t n) → sight_without f number owner t n ≡ None)
+    × ((n o : ℕ) → IsSome (pool_alone p number owner n o) → pools_with p number owner None n o ≡ None)

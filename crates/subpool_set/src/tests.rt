@@ -1,0 +1,189 @@
+//! A set beside the plain slow program: the owner that each task sees at each number.
+
+ghost use Rattle.subpool_set.specs.SubpoolSet.{IsSubpoolSet, QueuesStand};
+
+use super::*;
+use laws::{discards_keep, put_back};
+use std::process::Abort;
+use std::test::Fail;
+use vsm_elements::Elements;
+
+// The owner that each of four tasks sees at each of three numbers; 0 where it sees none.
+type Seen = [[u8; 3]; 4];
+
+fn compare(rt: &impl Abort, elements: &Elements, set: &SubpoolSet, seen: &Seen)
+    requires { IsSubpoolSet elements.now set.now }
+{
+    for task in 0..4u8 {
+        for number in 0..3u8 {
+            let owner = match set.visible(elements, task + 1, number) {
+                Some(id) => set.owner(elements, id),
+                None => 0,
+            };
+            assert_eq!(rt; owner, seen[usize::from(task)][usize::from(number)]);
+        }
+    }
+}
+
+// The number and the owner of the `i`-th subpool.
+fn subpool_at(elements: &Elements, set: &SubpoolSet, i: u32) -> (u8, u8)
+    requires { IsSubpoolSet elements.now set.now }
+{
+    for task in 1..65u8 {
+        for number in 0..128u8 {
+            if let Some(id) = set.visible(elements, task, number) {
+                if set.pool_at(elements, i) == Some(id) {
+                    return (set.number(elements, id), set.owner(elements, id));
+                }
+            }
+        }
+    }
+    (0, 0)
+}
+
+fn create(rt: &impl Abort, elements: &mut Elements, set: &mut SubpoolSet, task: u8, number: u8)
+    requires set { IsSubpoolSet elements.old set.old }
+    requires queues { QueuesStand elements.old set.old }
+    ensures set { IsSubpoolSet elements.new set.new }
+    ensures queues { QueuesStand elements.new set.new }
+{
+    assert!(rt; task >= 1 && task <= 64 && number <= 127);
+    assert!(rt; elements.spare() > 0);
+    assert!(rt; set.visible(elements, task, number).is_none());
+    let _id = set.create(elements, task, number);
+}
+
+// The task shares the subpool of this number that another sees.
+fn share(
+    rt: &impl Abort,
+    elements: &mut Elements,
+    set: &mut SubpoolSet,
+    task: u8,
+    from: u8,
+    number: u8,
+)
+    requires set { IsSubpoolSet elements.old set.old }
+    requires queues { QueuesStand elements.old set.old }
+    ensures set { IsSubpoolSet elements.new set.new }
+    ensures queues { QueuesStand elements.new set.new }
+{
+    assert!(rt; task >= 1 && task <= 64);
+    assert!(rt; elements.spare() > 0);
+    assert!(rt; set.visible(elements, task, number).is_none());
+    match set.visible(elements, from, number) {
+        Some(id) => set.share(elements, task, id),
+        None => assert!(rt; false),
+    }
+}
+
+fn pass(
+    rt: &impl Abort,
+    elements: &mut Elements,
+    set: &mut SubpoolSet,
+    giver: u8,
+    number: u8,
+    to: u8,
+)
+    requires set { IsSubpoolSet elements.old set.old }
+    requires queues { QueuesStand elements.old set.old }
+    ensures set { IsSubpoolSet elements.new set.new }
+    ensures queues { QueuesStand elements.new set.new }
+{
+    assert!(rt; to >= 1 && to <= 64);
+    assert!(rt; set.visible(elements, to, number).is_none());
+    match set.visible(elements, giver, number) {
+        Some(id) => set.pass(elements, id, to),
+        None => assert!(rt; false),
+    }
+}
+
+// The subpool goes and comes back; `without` is seen in between.
+fn out_and_in(
+    rt: &impl Abort,
+    elements: &mut Elements,
+    set: &mut SubpoolSet,
+    task: u8,
+    number: u8,
+    without: &Seen,
+)
+    requires set { IsSubpoolSet elements.old set.old }
+    requires queues { QueuesStand elements.old set.old }
+    ensures set { IsSubpoolSet elements.new set.new }
+    ensures queues { QueuesStand elements.new set.new }
+{
+    match set.visible(elements, task, number) {
+        Some(id) => {
+            let spare = elements.spare();
+            let parked = set.unplug(elements, id);
+            compare(rt, elements, set, without);
+            put_back();
+            set.replug(elements, parked);
+            assert!(rt; elements.spare() == spare);
+        }
+        None => assert!(rt; false),
+    }
+}
+
+// The subpool goes for good.
+fn discard(rt: &impl Abort, elements: &mut Elements, set: &mut SubpoolSet, task: u8, number: u8)
+    requires set { IsSubpoolSet elements.old set.old }
+    requires queues { QueuesStand elements.old set.old }
+    ensures set { IsSubpoolSet elements.new set.new }
+    ensures queues { QueuesStand elements.new set.new }
+{
+    match set.visible(elements, task, number) {
+        Some(id) => {
+            let parked = set.unplug(elements, id);
+            discards_keep();
+            parked.discard(elements);
+        }
+        None => assert!(rt; false),
+    }
+}
+
+#[test]
+fn the_set_is_the_plain_one(rt: HostRuntime) -> Result<(), Fail> {
+    let mut elements = Elements::new(rt.alloc());
+    elements.reserve(64)?;
+    let mut set = SubpoolSet::new();
+    create(&rt, &mut elements, &mut set, 1, 1);
+    create(&rt, &mut elements, &mut set, 1, 2);
+    create(&rt, &mut elements, &mut set, 2, 1);
+    share(&rt, &mut elements, &mut set, 3, 1, 1);
+    share(&rt, &mut elements, &mut set, 4, 1, 2);
+    share(&rt, &mut elements, &mut set, 2, 4, 2);
+    let seen = [[0, 1, 1], [0, 2, 1], [0, 1, 0], [0, 0, 1]];
+    compare(&rt, &elements, &set, &seen);
+    let without = [[0, 0, 1], [0, 2, 1], [0, 0, 0], [0, 0, 1]];
+    out_and_in(&rt, &mut elements, &mut set, 3, 1, &without);
+    compare(&rt, &elements, &set, &seen);
+    pass(&rt, &mut elements, &mut set, 1, 2, 3);
+    let given = [[0, 1, 0], [0, 2, 3], [0, 1, 3], [0, 0, 3]];
+    compare(&rt, &elements, &set, &given);
+    let without = [[0, 1, 0], [0, 2, 0], [0, 1, 0], [0, 0, 0]];
+    out_and_in(&rt, &mut elements, &mut set, 4, 2, &without);
+    compare(&rt, &elements, &set, &given);
+    for (i, want) in [(0, (1, 1)), (1, (1, 2)), (2, (2, 3)), (3, (0, 0))] {
+        assert_eq!(rt; subpool_at(&elements, &set, i), want);
+    }
+    assert_eq!(rt; elements.spare(), 122);
+    discard(&rt, &mut elements, &mut set, 2, 1);
+    compare(
+        &rt,
+        &elements,
+        &set,
+        &[[0, 1, 0], [0, 0, 3], [0, 1, 3], [0, 0, 3]],
+    );
+    discard(&rt, &mut elements, &mut set, 4, 2);
+    compare(
+        &rt,
+        &elements,
+        &set,
+        &[[0, 1, 0], [0, 0, 0], [0, 1, 0], [0, 0, 0]],
+    );
+    discard(&rt, &mut elements, &mut set, 1, 1);
+    compare(&rt, &elements, &set, &[[0; 3]; 4]);
+    assert_eq!(rt; elements.spare(), 128);
+    assert_eq!(rt; elements.release(), 1);
+    Ok(())
+}

@@ -1,0 +1,126 @@
+//! A tree of six tasks: registers, a subtree that is parked and restored, and tasks that end.
+
+ghost use Rattle.task_tree.specs.TaskTree.{IsTaskTree};
+
+use super::*;
+use laws::{put_back, root_is_above, trees_stand, trees_stay};
+use std::process::Abort;
+use std::test::Fail;
+use vsm_elements::Elements;
+
+fn attach(rt: &impl Abort, elements: &mut Elements, tree: &mut TaskTree, under: u8, want: u8)
+    requires { IsTaskTree elements.old tree.old }
+    ensures { IsTaskTree elements.new tree.new }
+{
+    assert!(rt; elements.spare() >= 4);
+    assert!(rt; tree.check_run(elements, under).is_ok());
+    match tree.check_attach(elements) {
+        Ok(number) => {
+            assert_eq!(rt; number, want);
+            tree.attach(elements, under, number);
+        }
+        Err(_) => assert!(rt; false),
+    }
+}
+
+// Each register of the task gets a word of its own.
+fn fill(rt: &impl Abort, elements: &mut Elements, tree: &mut TaskTree, task: u8)
+    requires { IsTaskTree elements.old tree.old }
+    ensures { IsTaskTree elements.new tree.new }
+{
+    for r in 0..16u8 {
+        assert!(rt; tree.check_run(elements, task).is_ok());
+        let word = u32::from(task) * 256 + u32::from(r);
+        assert_eq!(rt; tree.swap_register(elements, task, r, word), 0);
+    }
+}
+
+// The tasks that are there are these, with these parents, and each has its words.
+fn compare(rt: &impl Abort, elements: &Elements, tree: &TaskTree, tasks: &[(u8, u8)])
+    requires { IsTaskTree elements.now tree.now }
+{
+    let mut i = 0u32;
+    for (task, parent) in tasks {
+        assert_eq!(rt; tree.task_at(elements, i), Some(*task));
+        assert!(rt; *task == 1 || tree.check_detach(elements, *parent, *task).is_ok());
+        for r in 0..16u8 {
+            let word = u32::from(*task) * 256 + u32::from(r);
+            assert_eq!(rt; tree.register(elements, *task, r), word);
+        }
+        i = i.saturating_add(1);
+    }
+    assert_eq!(rt; tree.task_at(elements, i), None);
+}
+
+// The task and all below it go and come back; these are there in between.
+fn out_and_in(
+    rt: &impl Abort,
+    elements: &mut Elements,
+    tree: &mut TaskTree,
+    task: u8,
+    rest: &[(u8, u8)],
+)
+    requires { IsTaskTree elements.old tree.old }
+    ensures { IsTaskTree elements.new tree.new }
+{
+    assert!(rt; task != 1);
+    assert!(rt; tree.current() == 1);
+    assert!(rt; tree.check_run(elements, task).is_ok());
+    root_is_above();
+    trees_stand();
+    let parked = tree.park_subtree(elements, task);
+    compare(rt, elements, tree, rest);
+    put_back();
+    tree.restore_tasks(elements, parked);
+}
+
+// The task ends, with all below it.
+fn end(rt: &impl Abort, elements: &mut Elements, tree: &mut TaskTree, task: u8)
+    requires { IsTaskTree elements.old tree.old }
+    ensures { IsTaskTree elements.new tree.new }
+{
+    assert!(rt; task != 1);
+    assert!(rt; tree.current() == 1);
+    assert!(rt; tree.check_run(elements, task).is_ok());
+    root_is_above();
+    let parked = tree.park_subtree(elements, task);
+    trees_stay();
+    parked.discard(elements);
+}
+
+#[test]
+fn a_subtree_comes_back_as_it_was(rt: HostRuntime) -> Result<(), Fail> {
+    let mut elements = Elements::new(rt.alloc());
+    elements.reserve(64)?;
+    let mut tree = TaskTree::new(&mut elements);
+    attach(&rt, &mut elements, &mut tree, 1, 2);
+    attach(&rt, &mut elements, &mut tree, 2, 3);
+    attach(&rt, &mut elements, &mut tree, 2, 4);
+    attach(&rt, &mut elements, &mut tree, 3, 5);
+    attach(&rt, &mut elements, &mut tree, 1, 6);
+    for task in 1..7u8 {
+        fill(&rt, &mut elements, &mut tree, task);
+    }
+    let all = [(1, 0), (2, 1), (3, 2), (4, 2), (5, 3), (6, 1)];
+    compare(&rt, &elements, &tree, &all);
+    out_and_in(&rt, &mut elements, &mut tree, 2, &[(1, 0), (6, 1)]);
+    compare(&rt, &elements, &tree, &all);
+    out_and_in(
+        &rt,
+        &mut elements,
+        &mut tree,
+        3,
+        &[(1, 0), (2, 1), (4, 2), (6, 1)],
+    );
+    compare(&rt, &elements, &tree, &all);
+    assert_eq!(rt; elements.spare(), 104);
+    assert_eq!(rt; tree.check_end(&elements, 3), Err(TreeFault::HasSubtasks));
+    end(&rt, &mut elements, &mut tree, 3);
+    compare(&rt, &elements, &tree, &[(1, 0), (2, 1), (4, 2), (6, 1)]);
+    end(&rt, &mut elements, &mut tree, 6);
+    end(&rt, &mut elements, &mut tree, 2);
+    compare(&rt, &elements, &tree, &[(1, 0)]);
+    assert_eq!(rt; elements.spare(), 124);
+    assert_eq!(rt; elements.release(), 1);
+    Ok(())
+}
