@@ -1,7 +1,7 @@
 -- The words of the worked examples: settings, calls with few operands, answers, and what is looked at after a list of
 -- calls. A search for a place is computed number by number, so some examples have smaller regions than the default
 -- settings.
-use Rattle.std.specs.Prelude.{ℕ, ◌+◌, ◌*◌, Bool, true, false, Option, Some, None, List, map, flat_map, codes}
+use Rattle.std.specs.Prelude.{ℕ, ◌+◌, ◌*◌, Bool, true, false, Option, Some, None, List, map, flat_map, codes, length}
 use Rattle.vsm_model.specs.declared.causes.Code.{Code}
 use Rattle.vsm_model.specs.declared.causes.Code.TheVariants.{System, User}
 use Rattle.vsm_model.specs.declared.causes.Family.{Family}
@@ -198,9 +198,11 @@ name_after settings calls name = word_of (after settings calls).names name
 abbrev pub owner_after : Settings → List (Call FormedService) → ℕ → ℕ → Option ℕ
 owner_after settings calls task number = (after settings calls).storage.sight task number
 
--- the map after these calls, with so many changes kept
-abbrev pub map_after : Settings → List (Call FormedService) → ℕ → List ℕ
-map_after settings calls kept = map_text settings (after settings calls) kept
+-- the map after these calls
+abbrev pub map_after : Settings → List (Call FormedService) → List ℕ
+map_after settings calls =
+    let b = bench_after settings calls in
+    map_text settings b.present (length b.past)
 
 -- lines of text
 abbrev pub lines : List (List ℕ) → List ℕ

@@ -6,10 +6,11 @@ use Rattle.vsm_model.specs.declared.services.Build.{Build}
 use Rattle.vsm_model.specs.Services.{build, get}
 use Rattle.vsm_model.specs.Standing.{Call, Back, Moved}
 use Rattle.vsm_model.specs.Forms.{FormedService}
-use Rattle.worked_examples.specs.Calls.{standard, answers, address, asks, asks_with_name, storage_release}
+use Rattle.worked_examples.specs.Calls.{pages, standard, answers, address, asks, asks_with_name, storage_release}
 use Rattle.worked_examples.specs.Calls.{release_whole, attach_task, run_task, pool_name, build_cells, cells}
 use Rattle.worked_examples.specs.Calls.{get_operands, get_cell, conditional_get, free_cell, delete_cells, granted}
-use Rattle.worked_examples.specs.Calls.{returned, cell, attached, turn, user_abend, name_after, map_after, lines}
+use Rattle.worked_examples.specs.Calls.{returned, cell, attached, turn, system_abend, user_abend, name_after, map_after}
+use Rattle.worked_examples.specs.Calls.{lines}
 
 abbrev pub new_cells : Build
 new_cells = record (cells 2 16 3) { secondary = Some 1 }
@@ -88,10 +89,34 @@ ACellPoolFollowsItsSubpool =
     ∷ [])
     × (name_after standard calls_with_a_given_pool (codes "Q") ≡ Some (address 6 8))
 
+-- Without a place for a further extent an unconditional GET has the code of want of storage; a cell that is freed can
+-- be had by either form.
+abbrev pub NoPlaceForAFurtherExtent : Type 0
+NoPlaceForAFurtherExtent =
+    answers (pages 1 1)
+    (build_cells (cells 1 4096 0)
+    ∷ get_cell
+    ∷ get_cell
+    ∷ conditional_get
+    ∷ free_cell (address 6 0)
+    ∷ conditional_get
+    ∷ free_cell (address 6 0)
+    ∷ get_cell
+    ∷ [])
+    ≡ granted (address 6 0) 4096
+    ∷ cell (address 6 0)
+    ∷ system_abend 0x878
+    ∷ returned 4
+    ∷ returned 0
+    ∷ cell (address 6 0)
+    ∷ returned 0
+    ∷ cell (address 6 0)
+    ∷ []
+
 -- The map of a cell pool of which two cells are in use.
 abbrev pub ACellPoolInAMap : Type 0
 ACellPoolInAMap =
-    map_after standard calls_on_cells 8
+    map_after standard calls_on_cells
     ≡ lines
     (codes " TASK 1 PARENT 0 CURRENT"
     ∷ codes "  R0 00000000 00006000 00000000 00000000 00000000 00000000 00000000 00000000"

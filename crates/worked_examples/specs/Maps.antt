@@ -22,7 +22,7 @@ AMap =
     ∷ storage_obtain 16 1
     ∷ storage_release 16 (address 6 0) 1
     ∷ storage_release 16 (address 6 32) 1
-    ∷ []) 5
+    ∷ [])
     ≡ lines
     (codes " TASK 1 PARENT 0 CURRENT"
     ∷ codes "  R0 00000000 00006020 00000000 00000000 00000000 00000000 00000000 00000000"
@@ -76,10 +76,10 @@ OnlyTheOwnerGivesASubpool =
     ∷ user_abend 3005
     ∷ []
 
--- Eight of these calls are kept. The map has a line of each kind.
+-- The map of that has a line of each kind; eight of the ten calls are kept.
 abbrev pub AMapOfAllKindsOfLines : Type 0
 AMapOfAllKindsOfLines =
-    map_after (pages 2 1) calls_of_all_kinds 8
+    map_after (pages 2 1) calls_of_all_kinds
     ≡ lines
     (codes " TASK 1 PARENT 0"
     ∷ codes "  R0 00000000 00000004 00000000 00000000 00000000 00000000 00000000 00000000"
@@ -154,7 +154,7 @@ AnEndTakesACellPool =
 -- the cell is gone.
 abbrev pub AMapFromBeforeAnEnd : Type 0
 AMapFromBeforeAnEnd =
-    map_after (pages 2 1) (calls_past_an_end ++ Back 1 ∷ Back 5 ∷ []) 7
+    map_after (pages 2 1) (calls_past_an_end ++ Back 1 ∷ Back 5 ∷ [])
     ≡ lines
     (codes " TASK 1 PARENT 0"
     ∷ codes "  R0 00000000 00000004 00000000 00000000 00000000 00000000 00000000 00000000"

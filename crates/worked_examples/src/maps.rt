@@ -13,7 +13,7 @@ pub fn only_the_owner_gives_a_subpool()
     ensures { OnlyTheOwnerGivesASubpool }
 {}
 
-/// Eight of these calls are kept. The map has a line of each kind.
+/// The map of that has a line of each kind; eight of the ten calls are kept.
 pub fn a_map_of_all_kinds_of_lines()
     ensures { AMapOfAllKindsOfLines }
 {}
