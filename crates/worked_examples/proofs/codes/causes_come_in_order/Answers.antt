@@ -1,0 +1,7 @@
+use Rattle.std.proofs.Common.{refl}
+use Rattle.vsm_model.specs.Releasing.{is_idle}
+use Rattle.worked_examples.proofs.codes.causes_come_in_order.Goals as goal
+
+pub returns : goal.returns
+unfolding is_idle
+returns c = (refl, refl, refl, refl, refl)

@@ -1,0 +1,7 @@
+use Rattle.std.proofs.Common.{refl}
+use Rattle.vsm_model.specs.Releasing.{is_idle}
+use Rattle.worked_examples.proofs.tasks.a_gift_is_handed_on.Goals as goal
+
+pub returns : goal.returns
+unfolding is_idle
+returns c = refl

@@ -1,0 +1,55 @@
+//! Steps back and forward, and the history that they move along. Behind each answer stand the numbers of changes that
+//! are kept and undone then.
+ghost use Rattle.worked_examples.specs.Steps.{AHistoryOfOneChange, ARefusedStatementIsNotKept};
+ghost use Rattle.worked_examples.specs.Steps.{AnAnswerOf4DiscardsWhatWasUndone, AnAnswerOf4IsKept};
+ghost use Rattle.worked_examples.specs.Steps.{ForwardGivesTheBenchBack, ForwardUntilANewStatement};
+ghost use Rattle.worked_examples.specs.Steps.{TheOldestChangeIsForgotten, ThereAndBack};
+ghost use Rattle.worked_examples.specs.Steps.{ThreeAreasReleasedAndOneStepBack};
+
+/// The last of three releases empties the page; a step back takes that release back, and the next area is the first
+/// free one.
+pub fn three_areas_released_and_one_step_back()
+    ensures { ThreeAreasReleasedAndOneStepBack }
+{}
+
+/// A refused statement isn't kept, and a step back past what is kept undoes nothing.
+pub fn a_refused_statement_is_not_kept()
+    ensures { ARefusedStatementIsNotKept }
+{}
+
+/// What was undone can be done again until another statement is accepted.
+pub fn forward_until_a_new_statement()
+    ensures { ForwardUntilANewStatement }
+{}
+
+/// A step forward over as many statements gives the bench from before the step back.
+pub fn forward_gives_the_bench_back()
+    ensures { ForwardGivesTheBenchBack }
+{}
+
+/// A history of two changes forgets the oldest of three.
+pub fn the_oldest_change_is_forgotten()
+    ensures { TheOldestChangeIsForgotten }
+{}
+
+/// A history of one change takes one step back. An answer 4 is a change like any other: what was undone is gone then. A
+/// step of none is always made.
+pub fn a_history_of_one_change()
+    ensures { AHistoryOfOneChange }
+{}
+
+/// An answer 4 is kept, and sets register 15 alone; a step back takes that back.
+pub fn an_answer_of_4_is_kept()
+    ensures { AnAnswerOf4IsKept }
+{}
+
+/// A page that a step back takes away is there again after the step forward; an answer 4 discards what was undone.
+pub fn an_answer_of_4_discards_what_was_undone()
+    ensures { AnAnswerOf4DiscardsWhatWasUndone }
+{}
+
+/// A page that was given and left with its owner comes back by steps, with its byte; and at last there is the first
+/// state.
+pub fn there_and_back()
+    ensures { ThereAndBack }
+{}
