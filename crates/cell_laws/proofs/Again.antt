@@ -41,8 +41,7 @@ last_freed_is_first settings names_full names_full_2 s t u name cell g reply rep
           (handed_out t name (pool_of t name)) some in
           let is : got settings t name ≡ handed_out t name pool = first ∙ ap (handed_out t name) its in
           let out : replied (get name g) (handed_out t name pool) ≡ Accepted u reply_2 = sym (ap (replied (get name g)) is) ∙ done in
-          let after : State = (handed_out t name pool).0 in
-          (
+          let after : State = (handed_out t name pool).0 in (
             sym (reply_is (get name g) (handed_out t name pool) u reply_2 out),
             ap (λ (v : State). cell_pool_in v.cell_pools name) (sym (state_is (get name g) (handed_out t name pool) u reply_2 out))
                 ∙ ap (λ (v : State). cell_pool_in v.cell_pools name) (words_alone (registers_set (get name g) (Cell cell)) after)

@@ -85,9 +85,9 @@ row_at P [] name pool h found = absurd (none_is_not pool found) where
   none_is_not q e = cc
 row_at P (row ∷ table) name pool h found =
     chosen (eq_by_cmp order name row.0) found (λ e. row_at P table name pool (All-tail (λ row. P row.1) row table h) e) where
-  chosen : (b : Bool) → (if b then Some row.1 else cell_pool_in table name) ≡ Some pool → (cell_pool_in table name ≡ Some pool → P pool) → P pool
-  chosen true e later = subst P (same_pool row.1 pool e) (All-head (λ row. P row.1) row table h)
-  chosen false e later = later e
+      chosen : (b : Bool) → (if b then Some row.1 else cell_pool_in table name) ≡ Some pool → (cell_pool_in table name ≡ Some pool → P pool) → P pool
+      chosen true e later = subst P (same_pool row.1 pool e) (All-head (λ row. P row.1) row table h)
+      chosen false e later = later e
 
 pub cells_of_two_pools_lie_apart : CellsOfTwoPoolsLieApart
 cells_of_two_pools_lie_apart settings s name name_2 p q cell other w apart found found_2 here there =
@@ -148,41 +148,43 @@ module _ (settings : Settings) (s t : State) (w : IsWellFormed settings s) (name
   of_free : IsFirstFree s t name pool cell → ((other : List ℕ) → IsInUse s.cell_pools other cell → ⊥) × IsInUse t.cell_pools name cell
   of_free h = (not_used, (record pool { free = h.rest }, h.after, and_from (is_in (cells_of pool) cell) (not (is_in h.rest cell)) a_cell (ap not (once cell h.rest distinct))))
     where
-    a_cell : is_in (cells_of pool) cell ≡ true
-    a_cell =
-        All-head (λ c. is_in (cells_of pool) c ≡ true) cell h.rest (subst (λ xs. All (λ c. is_in (cells_of pool) c ≡ true) xs) h.was_first sound.are_cells_of_it)
+      a_cell : is_in (cells_of pool) cell ≡ true
+      a_cell =
+          All-head (λ c. is_in (cells_of pool) c ≡ true) cell h.rest (subst (λ xs. All (λ c. is_in (cells_of pool) c ≡ true) xs) h.was_first sound.are_cells_of_it)
 
-    distinct : AllPairs (λ c d. c ≢ d) (cell ∷ h.rest)
-    distinct = subst (λ xs. AllPairs (λ c d. c ≢ d) xs) h.was_first sound.distinct
+      distinct : AllPairs (λ c d. c ≢ d) (cell ∷ h.rest)
+      distinct = subst (λ xs. AllPairs (λ c d. c ≢ d) xs) h.was_first sound.distinct
 
-    is_free : is_in pool.free cell ≡ true
-    is_free = ap (λ xs. is_in xs cell) h.was_first ∙ or_left (cell == cell) (is_in h.rest cell) (eq-eqb cell cell refl)
+      is_free : is_in pool.free cell ≡ true
+      is_free = ap (λ xs. is_in xs cell) h.was_first ∙ or_left (cell == cell) (is_in h.rest cell) (eq-eqb cell cell refl)
 
-    not_used : (other : List ℕ) → IsInUse s.cell_pools other cell → ⊥
-    not_used other (q, at, used) =
-        let parts = and_parts (is_in (cells_of q) cell) (not (is_in q.free cell)) used in
-        elim (same_or_other other name) [
-          | inl same ↦
-              let is : q ≡ pool = same_pool q pool (sym at ∙ ap (cell_pool_in s.cell_pools) same ∙ found) in
-              both_ways (is_in pool.free cell) (ap (λ (r : CellPool). is_in r.free cell) (sym is) ∙ not-true (is_in q.free cell) parts.1) is_free
-          | inr apart ↦
-              let size = (cell_bounds pool.size pool.primary sound.bounds.0).0 in
-              let size_2 = (cell_bounds q.size q.primary (sound_of s other q w.cell_pools at).bounds.0).0 in
-              elim (cells_of_two_pools_lie_apart settings s name other pool q cell cell w (λ e. apart (sym e)) found at a_cell parts.0) [
-                | inl before ↦ omega (arith, before, size)
-                | inr behind ↦ omega (arith, behind, size_2)
-              ]
-        ]
+      not_used : (other : List ℕ) → IsInUse s.cell_pools other cell → ⊥
+      not_used other (q, at, used) =
+          let parts = and_parts (is_in (cells_of q) cell) (not (is_in q.free cell)) used in
+          elim (same_or_other other name) [
+            | inl same ↦
+                let is : q ≡ pool = same_pool q pool (sym at ∙ ap (cell_pool_in s.cell_pools) same ∙ found) in
+                both_ways (is_in pool.free cell) (ap (λ (r : CellPool). is_in r.free cell) (sym is) ∙ not-true (is_in q.free cell) parts.1) is_free
+            | inr apart ↦
+                let size = (cell_bounds pool.size pool.primary sound.bounds.0).0 in
+                let size_2 = (cell_bounds q.size q.primary (sound_of s other q w.cell_pools at).bounds.0).0 in
+                elim (cells_of_two_pools_lie_apart settings s name other pool q cell cell w (λ e. apart (sym e)) found at a_cell parts.0) [
+                  | inl before ↦ omega (arith, before, size)
+                  | inr behind ↦ omega (arith, behind, size_2)
+                ]
+          ]
 
   -- one of a further extent
   of_further : IsFirstOfFurther settings s t name pool cell → ((other : List ℕ) → IsInUse s.cell_pools other cell → ⊥) × IsInUse t.cell_pools name cell
   of_further h = (
     λ other used. both_ways (s.taken (cell / 8)) not_taken
         (cell_is_taken s used.0 cell (sound_of s other used.0 w.cell_pools used.1) (and_parts (is_in (cells_of used.0) cell) (not (is_in used.0.free cell)) used.2).0),
-    (record pool { extents = pool.extents ++ record { address = cell; cells = pool.secondary } ∷ []; free = h.rest },
-    h.after,
-    and_from (is_in (cells_of (with_extent pool (record { address = cell; cells = pool.secondary }))) cell) (not (is_in h.rest cell)) a_cell
-        (ap not (once cell h.rest (subst (λ xs. AllPairs (λ c d. c ≢ d) xs) h.cells (cells_distinct pool.size cell pool.secondary (omega (arith, size))))))),
+    (
+      record pool { extents = pool.extents ++ record { address = cell; cells = pool.secondary } ∷ []; free = h.rest },
+      h.after,
+      and_from (is_in (cells_of (with_extent pool (record { address = cell; cells = pool.secondary }))) cell) (not (is_in h.rest cell)) a_cell
+          (ap not (once cell h.rest (subst (λ xs. AllPairs (λ c d. c ≢ d) xs) h.cells (cells_distinct pool.size cell pool.secondary (omega (arith, size)))))),
+    ),
   ) where
     size : 4 ≤ pool.size
     size = (cell_bounds pool.size pool.secondary sound.bounds.1).0

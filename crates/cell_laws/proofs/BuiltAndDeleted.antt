@@ -22,6 +22,8 @@ use Rattle.vsm_model.specs.WellFormed.{IsWellFormed}
 use Rattle.vsm_model.proofs.Chosen.{past, no_cause}
 use Rattle.cell_laws.specs.Extents.{lies_in, AreaIsTaken}
 use Rattle.cell_laws.specs.Promises.{SubpoolIsThere, IsBuilt, BuildMakesACellPool, IsDeleted, DeleteGivesItsExtentsBack}
+use Rattle.cell_laws.proofs.CellLists.{cell_bounds, some_doublewords}
+use Rattle.cell_laws.proofs.Lowest.{lowest_place}
 use Rattle.cell_laws.proofs.Tables.{put_found, put_others, without_found, without_others}
 use Rattle.cell_laws.proofs.Placed.{place_from, area_taken, area_alone, area_table, picked, same_some, none_some, none_or_some, owned_by}
 use Rattle.cell_laws.proofs.Pools.{pool_is}
@@ -135,6 +137,7 @@ module _ (settings : Settings) (s : State) (w : IsWellFormed settings s) (name :
       let own = own_kept settings s w b.number may.private in
       let is = own_alone s b.number in
       let count = extent_doublewords pool b.primary in
+      let bounds = cell_bounds b.size b.primary may.valid.0 in
       let (r, one, clear) = place_from s pool.subpool count (Contains (regions_for settings pool.location)) (regions_for settings pool.location)
       (All-contains_itself (regions_for settings pool.location)) may.there in
       let same_pages : v.pages ≡ s.pages = ap (λ (u : State). u.pages) is in
@@ -170,6 +173,7 @@ module _ (settings : Settings) (s : State) (w : IsWellFormed settings s) (name :
           zero_bytes = a.zero_bytes;
           same_bytes = a.same_bytes;
         });
+        lowest = lowest_place s pool.subpool count (some_doublewords pool b.primary bounds.2 bounds.0) (regions_for settings pool.location) may.there;
         after = put_found u.cell_pools name new;
         others = λ other apart. put_others u.cell_pools name other new apart ∙ ap (λ table. cell_pool_in table other) same_table;
         current = same_current;

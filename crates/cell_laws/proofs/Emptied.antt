@@ -184,9 +184,9 @@ module _ (settings : Settings) (s : State) (w : PagesAreSound settings s) where
       ∙ extents_at_once s pool xs (λ k. false)
       ∙ ap (emptied s pool.subpool) (λ i k. no_more (list_any (lies_in pool k) xs) i)
     where
-    no_more : (b : Bool) → (b || false) ≡ b
-    no_more true = refl
-    no_more false = refl
+      no_more : (b : Bool) → (b || false) ≡ b
+      no_more true = refl
+      no_more false = refl
 
   module _ (p : Subpool) (gone : ℕ → Bool) where
     abbrev left : ℕ → Bool

@@ -128,9 +128,9 @@ module _ (settings : Settings) (s : State) (valid : settings_valid settings ≡ 
             (extended_sound settings s u w positive alone same its sound whole r region (address_of goes) its.secondary some a name (drop 1 all) apart left)
             (first_of (λ cell. is_in (cells_of (with_extent its new)) cell ≡ true) all some_cell are_its);
       } where
-    some_cells : (size first count : ℕ) → 1 ≤ count → (length (cells_from size first count) == 0) ≡ false
-    some_cells size first zero some = absurd (omega (arith, some))
-    some_cells size first (suc count) some = ne_eqb (suc (length (cells_from size (first + size) count))) 0 (λ none. omega (arith, none))
+        some_cells : (size first count : ℕ) → 1 ≤ count → (length (cells_from size first count) == 0) ≡ false
+        some_cells size first zero some = absurd (omega (arith, some))
+        some_cells size first (suc count) some = ne_eqb (suc (length (cells_from size (first + size) count))) 0 (λ none. omega (arith, none))
 
   either_out : (conditional : Bool) → (has_no_cell its && (conditional || is_nowhere goes)) ≡ false → IsGood settings (got settings s name)
   either_out conditional room =

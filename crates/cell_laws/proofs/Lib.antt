@@ -3,6 +3,7 @@ pub mod Tables
 pub mod CellLists
 pub mod Spans
 pub mod Placed
+pub mod Lowest
 pub mod Words
 pub mod Pools
 pub mod Answered

@@ -65,8 +65,7 @@ module _ {X : Type 0} (R : X → X → Type 0) where
         let outer = pairs_parts before (here ++ after) h in
         let inner = pairs_parts here after outer.1 in
         let left : Across before here = All-weaker (λ x. All (R x) (here ++ after)) (λ x. All (R x) here) (λ x e. all_left (R x) here after e) before outer.2 in
-        let right : Across before after = All-weaker (λ x. All (R x) (here ++ after)) (λ x. All (R x) after) (λ x e. all_right (R x) here after e) before outer.2 in
-        (
+        let right : Across before after = All-weaker (λ x. All (R x) (here ++ after)) (λ x. All (R x) after) (λ x e. all_right (R x) here after e) before outer.2 in (
           inner.0,
           pairs_append before after outer.0 inner.1 right,
           λ k d below. All-append (R _) before after (across_turned before here left k d below) (inner.2 k d below),

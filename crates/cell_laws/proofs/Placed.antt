@@ -71,8 +71,12 @@ module _ (s : State) (p : Subpool) (count : ℕ) where
   place_from Good [] good e = absurd (true≢false e)
   place_from Good (r ∷ rs) good e =
       either (λ goes. (r : Region) × Good r × IsOpenIn s p count r goes) (place_in s p count 1 r) (place s rs p count 1)
-      (λ here. (r, All-head Good r rs good, open_from r (least_fit s r p count 1) (least_run s r (pages_for count))
-      (least_among (fits s r p count 1) (r.first * 512) (r.count * 512)) (least_among (is_open_run s r (pages_for count)) r.first r.count) here))
+      (λ here. (
+        r,
+        All-head Good r rs good,
+        open_from r (least_fit s r p count 1) (least_run s r (pages_for count))
+            (least_among (fits s r p count 1) (r.first * 512) (r.count * 512)) (least_among (is_open_run s r (pages_for count)) r.first r.count) here,
+      ))
       (λ later. place_from Good rs (All-tail Good r rs good) later) e
 
 -- a page of one of the regions is in a region

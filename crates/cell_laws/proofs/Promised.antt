@@ -29,7 +29,8 @@ use Rattle.cell_laws.specs.Extents.{AreaIsTaken}
 use Rattle.cell_laws.specs.Registers.{AddressIsSet}
 use Rattle.cell_laws.specs.Promises.{HasNoFreeCell, IsSeen, IsFreed, FreeMakesACellFree, IsHandedOut, GetHandsOutACell}
 use Rattle.cell_laws.proofs.Tables.{put_found, put_others}
-use Rattle.cell_laws.proofs.CellLists.{cell_bounds}
+use Rattle.cell_laws.proofs.CellLists.{cell_bounds, some_doublewords}
+use Rattle.cell_laws.proofs.Lowest.{lowest_place}
 use Rattle.cell_laws.proofs.Placed.{place_from, area_taken, area_alone, area_table}
 use Rattle.cell_laws.proofs.Pools.{sound_of, pool_is, held}
 use Rattle.cell_laws.proofs.Answered.{state_is, reply_is}
@@ -116,6 +117,13 @@ module _ (settings : Settings) (s : State) (w : IsWellFormed settings s) (name :
   abbrev HandedOut : State × Reply → Type 0
   HandedOut after = (cell : ℕ) × (after.1 ≡ Cell cell) × IsHandedOut settings s (with_registers after.0 (registers_set (get name g) after.1)) name g cell
 
+  as_worded : (v : State) (row : List (ℕ × ℕ)) (cell : ℕ) → IsHandedOut settings s (worded v row) name g cell →
+      IsHandedOut settings s (with_registers v row) name g cell
+  as_worded v row cell h = subst (λ t. IsHandedOut settings s t name g cell) (sym (words_alone row v)) h
+
+  as_handed : (before after : State × Reply) → before ≡ after → HandedOut after → HandedOut before
+  as_handed before after e h = subst HandedOut (sym e) h
+
   free_out : has_no_cell its ≡ false → HandedOut (handed_out s name its)
   free_out some =
       let cell : ℕ = unwrap_or (slice_get its.free 0) 0 in
@@ -124,7 +132,7 @@ module _ (settings : Settings) (s : State) (w : IsWellFormed settings s) (name :
       let row : List (ℕ × ℕ) = (15, 0) ∷ (1, cell) ∷ named_register g.register cell in (
         cell,
         refl,
-        subst (λ t. IsHandedOut settings s t name g cell) (sym (words_alone row v)) (record {
+        as_worded v row cell (record {
           pool = its;
           before = seen_pool s name sees_it;
           source = inl (record {
@@ -142,7 +150,8 @@ module _ (settings : Settings) (s : State) (w : IsWellFormed settings s) (name :
       HandedOut (handed_out (with_extent_area s its its.secondary goes) name (with_extent its new))
   further_out plain none there =
       let sound = sound_of s name its w.cell_pools (pool_is s name sees_it).0 in
-      let some : 1 ≤ its.secondary = (cell_bounds its.size its.secondary sound.bounds.1).2 in
+      let bounds = cell_bounds its.size its.secondary sound.bounds.1 in
+      let some : 1 ≤ its.secondary = bounds.2 in
       let count = extent_doublewords its its.secondary in
       let address : ℕ = address_of goes in
       let (r, one, clear) = place_from s its.subpool count (Contains (regions_for settings its.location)) (regions_for settings its.location)
@@ -161,32 +170,36 @@ module _ (settings : Settings) (s : State) (w : IsWellFormed settings s) (name :
       let same_current : u.current ≡ s.current = ap (λ (x : State). x.current) alone in
       let same_words : u.words ≡ s.words = ap (λ (x : State). x.words) alone in
       let same_table : u.cell_pools ≡ s.cell_pools = area_table s its.subpool count goes in
-      subst HandedOut (sym now) (
+      as_handed (handed_out u name (with_extent its new)) (v, Cell address) now (
         address,
         refl,
-        subst (λ t. IsHandedOut settings s t name g address) (sym (words_alone row v)) (record {
+        as_worded v row address (record {
           pool = its;
           before = seen_pool s name sees_it;
-          source = inr (plain, record {
-            none_free = empty;
-            region = r;
-            on_its_side = one;
-            area = record {
-              on_doubleword = a.on_doubleword;
-              in_region = a.in_region;
-              was_free = a.was_free;
-              taken = a.taken;
-              in_subpool = a.in_subpool;
-              others = a.others;
-              needed = a.needed;
-              zero_bytes = a.zero_bytes;
-              same_bytes = a.same_bytes;
-            };
-            rest = rest;
-            cells = cells;
-            after = put_found u.cell_pools name after;
-            same = ap (λ (x : State). record x { words = (with_registers v row).words; cell_pools = with_cell_pool u.cell_pools name after }) alone;
-          });
+          source = inr (
+            plain,
+            record {
+              none_free = empty;
+              region = r;
+              on_its_side = one;
+              area = record {
+                on_doubleword = a.on_doubleword;
+                in_region = a.in_region;
+                was_free = a.was_free;
+                taken = a.taken;
+                in_subpool = a.in_subpool;
+                others = a.others;
+                needed = a.needed;
+                zero_bytes = a.zero_bytes;
+                same_bytes = a.same_bytes;
+              };
+              lowest = lowest_place s its.subpool count (some_doublewords its its.secondary some bounds.0) (regions_for settings its.location) there;
+              rest = rest;
+              cells = cells;
+              after = put_found u.cell_pools name after;
+              same = ap (λ (x : State). record x { words = (with_registers v row).words; cell_pools = with_cell_pool u.cell_pools name after }) alone;
+            },
+          );
           others = λ other apart. put_others u.cell_pools name other after apart ∙ ap (λ table. cell_pool_in table other) same_table;
           registers = address_from s v (worded v row) g.register address same_current same_words (address_worded v g.register address);
         }),

@@ -1,8 +1,7 @@
 -- A service on a cell pool is refused for the first cause whose condition holds.
-use Rattle.std.proofs.Common.{◌≡◌, ◌⊎◌, ℕ, ◌*◌, ◌/◌, ◌%◌, ◌≤◌, Bool, true, false, not, ◌&&◌, ◌||◌, nat_le, nat_lt, ◌==◌, Option, Some, None, is_some, List, [], ◌∷◌, length, refl, sym, ◌∙◌, ap, subst, arith, inl, inr, true≢false}
-use Rattle.std.specs.Prelude.{All}
+use Rattle.std.proofs.Common.{◌≡◌, ◌⊎◌, ℕ, ◌%◌, ◌≤◌, Bool, true, false, not, ◌&&◌, ◌||◌, nat_le, nat_lt, ◌==◌, Option, Some, None, is_some, List, [], ◌∷◌, length, refl, sym, ◌∙◌, ap, subst, inl, inr, true≢false}
 use Rattle.std.proofs.lemmas.Bool.{and_parts, and_from, and_cases, or_cases, or_parts, both_ways, not-true, not-false, eqb-true, eqb-false, eq-eqb, leb-true, leb-false, le-leb, ltb-true, ltb-false, cond-true}
-use Rattle.std.proofs.lemmas.List.Elements.{All-contains, All-cons, All-nil}
+use Rattle.std.proofs.lemmas.List.Elements.{All-contains}
 use Rattle.vsm_model.specs.declared.Subpool.{Subpool}
 use Rattle.vsm_model.specs.declared.causes.Cause.{Cause}
 use Rattle.vsm_model.specs.declared.causes.Cause.TheVariants.{UnsupportedSubpool, SubpoolNotAllowed, TooManyNames, NoStorage, BadCells, CellPoolExists, TooManyCellPools, NoCellPool, NotInUse}
@@ -10,21 +9,21 @@ use Rattle.vsm_model.specs.declared.limits.Settings.{Settings}
 use Rattle.vsm_model.specs.declared.replies.Reply.{Reply}
 use Rattle.vsm_model.specs.declared.replies.Reply.TheVariants.{Returned}
 use Rattle.vsm_model.specs.declared.services.Get.{Get}
-use Rattle.vsm_model.specs.Search.{all_pass, holds, is_in, IsLeastAmong}
-use Rattle.vsm_model.specs.Regions.{Region, within, pages_for, regions_for}
+use Rattle.vsm_model.specs.Search.{holds, is_in}
+use Rattle.vsm_model.specs.Regions.{regions_for}
 use Rattle.vsm_model.specs.CellPools.{CellPool, cell_pool_in, cells_of, extent_doublewords}
 use Rattle.vsm_model.specs.State.{State}
-use Rattle.vsm_model.specs.Subpools.{same_subpool, sees}
-use Rattle.vsm_model.specs.Areas.{is_free, fits, is_open_run, least_fit, least_run, Place, Inside, Fresh, Nowhere, or_fresh, or_place, place_in, place, is_nowhere}
+use Rattle.vsm_model.specs.Subpools.{sees}
+use Rattle.vsm_model.specs.Areas.{place, is_nowhere}
 use Rattle.vsm_model.specs.Services.{Service, build, get, free, delete, is_conditional}
 use Rattle.vsm_model.specs.Causes.{Causes, first_cause, answers_four}
 use Rattle.vsm_model.specs.Standing.{Accepted, Refused}
 use Rattle.vsm_model.specs.Cells.{are_cells, secondary_count, sees_pool, pool_of, has_no_cell, extent_place, new_pool, is_in_use, get_causes}
 use Rattle.vsm_model.specs.Step.{answered, replied}
 use Rattle.vsm_model.proofs.Chosen.{Stepped, refused_for_the_first}
-use Rattle.vsm_model.proofs.Least.{all_pass_from, least_among}
-use Rattle.cell_laws.specs.FirstCauses.{AreCells, AreFree, AreUnassigned, HasNoRoom, HasItsNumbers, IsFirstOfBuild, SeesNone, IsFirstOfGet, IsFirstOfFree, IsFirstOfDelete, BuildIsRefusedForTheFirst, GetIsRefusedForTheFirst, FreeIsRefusedForTheFirst, DeleteIsRefusedForTheFirst}
-use Rattle.cell_laws.proofs.Spans.{among-in}
+use Rattle.cell_laws.specs.LowestAddress.{HasNoRoomIn}
+use Rattle.cell_laws.specs.FirstCauses.{AreCells, HasNoRoom, HasItsNumbers, IsFirstOfBuild, SeesNone, IsFirstOfGet, IsFirstOfFree, IsFirstOfDelete, BuildIsRefusedForTheFirst, GetIsRefusedForTheFirst, FreeIsRefusedForTheFirst, DeleteIsRefusedForTheFirst}
+use Rattle.cell_laws.proofs.Lowest.{no_room_all}
 use Rattle.cell_laws.proofs.CellLists.{some_doublewords, cell_bounds}
 use Rattle.cell_laws.proofs.Pools.{sound_of, pool_is}
 use Rattle.cell_laws.proofs.Getting.{empty_list}
@@ -65,62 +64,10 @@ are_the_cells size count h =
     (and_from ((size % 4) == 0) (nat_le 4 size) (eq-eqb (size % 4) 0 h.in_fours) (le-leb 4 size h.least))
     (le-leb size 4096 h.most)) (le-leb 1 count h.some)) (le-leb count 4096 h.few)
 
-same_self : (p : Subpool) → same_subpool p p ≡ true
-same_self p = and_from (p.number == p.number) (p.owner == p.owner) (eq-eqb p.number p.number refl) (eq-eqb p.owner p.owner refl)
-
-module _ (s : State) (p : Subpool) (count : ℕ) (some : 1 ≤ count) where
-  module _ (r : Region) where
-    fits_from : (d : ℕ) → AreFree r s p count d → fits s r p count 1 d ≡ true
-    fits_from d h =
-        and_from ((d % 1) == 0) (all_pass (λ k. within r (k / 512) && is_free s p k) d count) (eq-eqb (d % 1) 0 (omega arith))
-        (all_pass_from (λ k. within r (k / 512) && is_free s p k) d count (λ k low high.
-        let here = h k low high in
-        and_from (within r (k / 512)) (is_free s p k) here.0
-        (and_from (holds (same_subpool p) (s.pages (k / 512))) (not (s.taken k)) (ap (holds (same_subpool p)) here.1 ∙ same_self p) (ap not here.2))))
-
-    run_from : (n page : ℕ) → AreUnassigned r s n page → is_open_run s r n page ≡ true
-    run_from n page h =
-        all_pass_from (λ k. within r k && not (is_some (s.pages k))) page n (λ k low high.
-        let here = h k low high in
-        and_from (within r k) (not (is_some (s.pages k))) here.0 (ap (λ (o : Option Subpool). not (is_some o)) here.1))
-
-    abbrev NoRoom : Type 0
-    NoRoom = ((d : ℕ) → AreFree r s p count d → ⊥) × ((page : ℕ) → AreUnassigned r s (pages_for count) page → ⊥)
-
-    no_room_by : (o f : Option ℕ) → IsLeastAmong (fits s r p count 1) (r.first * 512) (r.count * 512) o →
-        IsLeastAmong (is_open_run s r (pages_for count)) r.first r.count f → is_nowhere (or_fresh o f) ≡ true → NoRoom
-    no_room_by (Some d) f g h e = absurd (true≢false (sym e))
-    no_room_by None (Some page) g h e = absurd (true≢false (sym e))
-    no_room_by None None g h e = (
-      λ d free.
-          let at = among-in r.first r.count (d / 512) (free d (omega arith) (omega (arith, some))).0 in
-          let low = at.0 in
-          let high = at.1 in
-          both_ways (fits s r p count 1 d) (g d (omega (arith, low)) (omega (arith, high))) (fits_from d free),
-      λ page clear.
-          let at = among-in r.first r.count page (clear page (omega arith) (omega (arith, some))).0 in
-          both_ways (is_open_run s r (pages_for count) page) (h page at.0 at.1) (run_from (pages_for count) page clear),
-    )
-
-    no_room_in : is_nowhere (place_in s p count 1 r) ≡ true → NoRoom
-    no_room_in e =
-        no_room_by (least_fit s r p count 1) (least_run s r (pages_for count)) (least_among (fits s r p count 1) (r.first * 512) (r.count * 512))
-        (least_among (is_open_run s r (pages_for count)) r.first r.count) e
-
-  neither : (a b : Place) → is_nowhere (or_place a b) ≡ true → (is_nowhere a ≡ true) × (is_nowhere b ≡ true)
-  neither (Inside d) b e = absurd (true≢false (sym e))
-  neither (Fresh page) b e = absurd (true≢false (sym e))
-  neither Nowhere b e = (refl, e)
-
-  no_room_all : (rs : List Region) → is_nowhere (place s rs p count 1) ≡ true → All NoRoom rs
-  no_room_all [] e = All-nil NoRoom
-  no_room_all (r ∷ rs) e =
-      let parts = neither (place_in s p count 1 r) (place s rs p count 1) e in
-      All-cons NoRoom r rs (no_room_in r parts.0) (no_room_all rs parts.1)
-
-  no_room : (settings : Settings) (pool : CellPool) → is_nowhere (place s (regions_for settings pool.location) p count 1) ≡ true →
-      HasNoRoom settings pool.location s p count
-  no_room settings pool e r one = All-contains NoRoom (regions_for settings pool.location) r (no_room_all (regions_for settings pool.location) e) one
+no_room : (s : State) (p : Subpool) (count : ℕ) → 1 ≤ count → (settings : Settings) (pool : CellPool) →
+    is_nowhere (place s (regions_for settings pool.location) p count 1) ≡ true → HasNoRoom settings pool.location s p count
+no_room s p count some settings pool e r one =
+    All-contains (λ r. HasNoRoomIn r s p count) (regions_for settings pool.location) r (no_room_all s p count some (regions_for settings pool.location) e) one
 
 some_pool : (o : Option CellPool) → is_some o ≡ true → (q : CellPool) × (o ≡ Some q)
 some_pool None e = absurd (true≢false (sym e))
@@ -147,8 +94,11 @@ build_is_refused settings names_full s name header b cause e =
     (λ above same. subst F same (ltb-true 127 b.number above, eqb-false b.number 131 apart.0, eqb-false b.number 132 apart.1)) (λ private is.
     let low = ltb-false 127 b.number private in
     at_cause (not valid) BadCells cause third (F cause) is
-    (λ bad same. subst F same (low, λ h. both_ways valid (not-true valid bad)
-    (and_from (are_cells b.size b.primary) (are_cells b.size (secondary_count b)) (are_the_cells b.size b.primary h.0) (are_the_cells b.size (secondary_count b) h.1)))) (λ good is.
+    (λ bad same. subst F same (
+      low,
+      λ h. both_ways valid (not-true valid bad)
+          (and_from (are_cells b.size b.primary) (are_cells b.size (secondary_count b)) (are_the_cells b.size b.primary h.0) (are_the_cells b.size (secondary_count b) h.1)),
+    )) (λ good is.
     let parts = and_parts (are_cells b.size b.primary) (are_cells b.size (secondary_count b)) (not-false valid good) in
     let numbers : HasItsNumbers b = (cells_are b.size b.primary parts.0, cells_are b.size (secondary_count b) parts.1) in
     at_cause (is_some (cell_pool_in s.cell_pools name)) CellPoolExists cause fourth (F cause) is
@@ -157,13 +107,18 @@ build_is_refused settings names_full s name header b cause e =
     at_cause (nat_le 256 (length s.cell_pools)) TooManyCellPools cause fifth (F cause) is
     (λ many same. subst F same (low, numbers, none, leb-true 256 (length s.cell_pools) many)) (λ few is.
     at_cause (is_nowhere (extent_place settings s pool b.primary)) NoStorage cause [] (F cause) is
-    (λ nowhere same. subst F same (low, numbers, none, leb-false 256 (length s.cell_pools) few,
-    no_room s pool.subpool (extent_doublewords pool b.primary) (some_doublewords pool b.primary numbers.0.some numbers.0.least) settings pool nowhere))
+    (λ nowhere same. subst F same (
+      low,
+      numbers,
+      none,
+      leb-false 256 (length s.cell_pools) few,
+      no_room s pool.subpool (extent_doublewords pool b.primary) (some_doublewords pool b.primary numbers.0.some numbers.0.least) settings pool nowhere,
+    ))
     (λ _ is. absurd (none_is_not cause is)))))))
   where
-  either : (n : ℕ) → ((n == 131) ≡ true) ⊎ ((n == 132) ≡ true) → (n ≡ 131) ⊎ (n ≡ 132)
-  either n (inl is) = inl (eqb-true n 131 is)
-  either n (inr is) = inr (eqb-true n 132 is)
+    either : (n : ℕ) → ((n == 131) ≡ true) ⊎ ((n == 132) ≡ true) → (n ≡ 131) ⊎ (n ≡ 132)
+    either n (inl is) = inl (eqb-true n 131 is)
+    either n (inr is) = inr (eqb-true n 132 is)
 
 -- a cell pool that isn't seen
 sees_none : (s : State) (name : List ℕ) → sees_pool s name ≡ false → SeesNone s name
@@ -191,25 +146,33 @@ get_is_refused settings names_full s name g cause w e =
     let sound = sound_of s name its w.cell_pools (pool_is s name seen_it).0 in
     let bounds = cell_bounds its.size its.secondary sound.bounds.1 in
     let no_place : nowhere ≡ true = sym (ap (λ b. b || nowhere) plain) ∙ parts.1 in
-    subst F same (room, plain, (its, seen_pool s name seen_it, empty_list its.free parts.0,
-    no_room s its.subpool (extent_doublewords its its.secondary) (some_doublewords its its.secondary bounds.2 bounds.0) settings its no_place)))
+    subst F same (
+      room,
+      plain,
+      (
+        its,
+        seen_pool s name seen_it,
+        empty_list its.free parts.0,
+        no_room s its.subpool (extent_doublewords its its.secondary) (some_doublewords its its.secondary bounds.2 bounds.0) settings its no_place,
+      ),
+    ))
     (λ _ is. absurd (none_is_not cause is))))
   where
-  first_is : (settings : Settings) (names_full : Bool) (s : State) (name : List ℕ) (g : Get) (cause : Cause) →
-      answered settings s (get name g) (first_cause (get_causes settings names_full s name g)) ≡ Refused cause →
-      first_cause (get_causes settings names_full s name g) ≡ Some cause
-  first_is settings names_full s name g cause e = refused_for_the_first settings names_full s (get name g) cause e
+    first_is : (settings : Settings) (names_full : Bool) (s : State) (name : List ℕ) (g : Get) (cause : Cause) →
+        answered settings s (get name g) (first_cause (get_causes settings names_full s name g)) ≡ Refused cause →
+        first_cause (get_causes settings names_full s name g) ≡ Some cause
+    first_is settings names_full s name g cause e = refused_for_the_first settings names_full s (get name g) cause e
 
-  refused_is_not : (c : Cause) (o : Stepped) → o ≡ Refused c → (t : State) (r : Reply) → o ≡ Accepted t r → ⊥
-  refused_is_not c o e t r f = cc
+    refused_is_not : (c : Cause) (o : Stepped) → o ≡ Refused c → (t : State) (r : Reply) → o ≡ Accepted t r → ⊥
+    refused_is_not c o e t r f = cc
 
-  not_conditional : (b : Bool) (settings : Settings) (s : State) (x : Service) (cause : Cause) → is_conditional x ≡ b → cause ≡ NoStorage →
-      answered settings s x (Some cause) ≡ Refused cause → b ≡ false
-  not_conditional false settings s x cause is want e = refl
-  not_conditional true settings s x cause is want e =
-      let four : (is_conditional x && answers_four cause) ≡ true = and_from (is_conditional x) (answers_four cause) is (ap answers_four want) in
-      absurd (refused_is_not cause (answered settings s x (Some cause)) e _ _
-      (cond-true (is_conditional x && answers_four cause) (replied x (s, Returned 4)) (Refused cause) four))
+    not_conditional : (b : Bool) (settings : Settings) (s : State) (x : Service) (cause : Cause) → is_conditional x ≡ b → cause ≡ NoStorage →
+        answered settings s x (Some cause) ≡ Refused cause → b ≡ false
+    not_conditional false settings s x cause is want e = refl
+    not_conditional true settings s x cause is want e =
+        let four : (is_conditional x && answers_four cause) ≡ true = and_from (is_conditional x) (answers_four cause) is (ap answers_four want) in
+        absurd (refused_is_not cause (answered settings s x (Some cause)) e _ _
+        (cond-true (is_conditional x && answers_four cause) (replied x (s, Returned 4)) (Refused cause) four))
 
 pub free_is_refused : FreeIsRefusedForTheFirst
 free_is_refused settings names_full s name cell cause e =
@@ -219,13 +182,16 @@ free_is_refused settings names_full s name cell cause e =
     at_cause (not (sees_pool s name)) NoCellPool cause ((not (is_in_use its cell), NotInUse) ∷ []) (F cause) is
     (λ unseen same. subst F same (sees_none s name (not-true (sees_pool s name) unseen))) (λ seen is.
     at_cause (not (is_in_use its cell)) NotInUse cause [] (F cause) is
-    (λ idle same. subst F same (its, seen_pool s name (not-false (sees_pool s name) seen),
-    either its cell (and_cases (is_in (cells_of its) cell) (not (is_in its.free cell)) (not-true (is_in_use its cell) idle))))
+    (λ idle same. subst F same (
+      its,
+      seen_pool s name (not-false (sees_pool s name) seen),
+      either its cell (and_cases (is_in (cells_of its) cell) (not (is_in its.free cell)) (not-true (is_in_use its cell) idle)),
+    ))
     (λ _ is. absurd (none_is_not cause is)))
   where
-  either : (p : CellPool) (c : ℕ) → (is_in (cells_of p) c ≡ false) ⊎ (not (is_in p.free c) ≡ false) → (is_in (cells_of p) c ≡ false) ⊎ (is_in p.free c ≡ true)
-  either p c (inl e) = inl e
-  either p c (inr e) = inr (not-false (is_in p.free c) e)
+    either : (p : CellPool) (c : ℕ) → (is_in (cells_of p) c ≡ false) ⊎ (not (is_in p.free c) ≡ false) → (is_in (cells_of p) c ≡ false) ⊎ (is_in p.free c ≡ true)
+    either p c (inl e) = inl e
+    either p c (inr e) = inr (not-false (is_in p.free c) e)
 
 pub delete_is_refused : DeleteIsRefusedForTheFirst
 delete_is_refused settings names_full s name cause e =

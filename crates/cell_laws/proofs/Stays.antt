@@ -91,12 +91,12 @@ module _ (keep : CellPool → Bool) where
               | false ↦ rest
             ]
       ] refl where
-    some_none : (p : CellPool) → ◌≡◌ {A = Option CellPool} (Some p) None → ⊥
-    some_none p e = cc
+        some_none : (p : CellPool) → ◌≡◌ {A = Option CellPool} (Some p) None → ⊥
+        some_none p e = cc
 
-    either : {o p : Option CellPool} → o ≡ p → (p ≡ Some pool) ⊎ (p ≡ None) → (o ≡ Some pool) ⊎ (o ≡ None)
-    either e (inl is) = inl (e ∙ is)
-    either e (inr is) = inr (e ∙ is)
+        either : {o p : Option CellPool} → o ≡ p → (p ≡ Some pool) ⊎ (p ≡ None) → (o ≡ Some pool) ⊎ (o ≡ None)
+        either e (inl is) = inl (e ∙ is)
+        either e (inr is) = inr (e ∙ is)
 
 -- with other values the names have those
 mapped_pool : (f : CellPool → CellPool) (table : CellPools) (name : List ℕ) →
@@ -184,9 +184,11 @@ module _ (name : List ℕ) (cell : ℕ) where
   after_first s t pool handed at h (q, found, used) =
       let is : q ≡ pool = same_pool q pool (sym found ∙ at) in
       let parts = and_parts (is_in (cells_of pool) cell) (not (is_in pool.free cell)) (subst (λ (r : CellPool). is_in_use r cell ≡ true) is used) in
-      let not_free : is_in (handed ∷ h.rest) cell ≡ false = ap (λ xs. is_in xs cell) (sym h.was_first) ∙ not-true (is_in pool.free cell) parts.1 in
-      (record pool { free = h.rest }, h.after,
-      and_from (is_in (cells_of pool) cell) (not (is_in h.rest cell)) parts.0 (ap not (or_parts (handed == cell) (is_in h.rest cell) not_free).1))
+      let not_free : is_in (handed ∷ h.rest) cell ≡ false = ap (λ xs. is_in xs cell) (sym h.was_first) ∙ not-true (is_in pool.free cell) parts.1 in (
+        record pool { free = h.rest },
+        h.after,
+        and_from (is_in (cells_of pool) cell) (not (is_in h.rest cell)) parts.0 (ap not (or_parts (handed == cell) (is_in h.rest cell) not_free).1),
+      )
 
   -- nor is a cell of a further extent
   after_further : (settings : Settings) (s t : State) (w : IsWellFormed settings s) (pool : CellPool) (handed : ℕ) → cell_pool_in s.cell_pools name ≡ Some pool →
@@ -206,10 +208,12 @@ module _ (name : List ℕ) (cell : ℕ) where
       let on = h.area.on_doubleword in
       both_ways (s.taken (cell / 8))
       (h.area.was_free (cell / 8) (in-among (handed / 8) (extent_doublewords pool pool.secondary) (cell / 8) (omega (arith, low)) (omega (arith, high, size, on))))
-      (cell_is_taken s pool cell sound parts.0)) in
-      (record pool { extents = pool.extents ++ new ∷ []; free = h.rest }, h.after,
-      and_from (is_in (cells_of (with_extent pool new)) cell) (not (is_in h.rest cell))
-      (ap (λ xs. is_in xs cell) (cells_grown pool new) ∙ in_left (cells_of pool) (extent_cells pool.size new) cell parts.0) (ap not not_new))
+      (cell_is_taken s pool cell sound parts.0)) in (
+        record pool { extents = pool.extents ++ new ∷ []; free = h.rest },
+        h.after,
+        and_from (is_in (cells_of (with_extent pool new)) cell) (not (is_in h.rest cell))
+            (ap (λ xs. is_in xs cell) (cells_grown pool new) ∙ in_left (cells_of pool) (extent_cells pool.size new) cell parts.0) (ap not not_new),
+      )
 
   after_get : (settings : Settings) (s t : State) (w : IsWellFormed settings s) (other : List ℕ) (g : Get) (handed : ℕ) → IsHandedOut settings s t other g handed →
       IsInUse s.cell_pools name cell → IsInUse t.cell_pools name cell

@@ -1,6 +1,6 @@
 -- Why a service on a cell pool is refused: for the first cause, in their order, whose condition holds, by the state
 -- before. Assembler Services Reference, CPOOL.
-use Rattle.std.specs.Prelude.{◌≡◌, ◌≢◌, ◌⊎◌, ℕ, ◌+◌, ◌*◌, ◌/◌, ◌%◌, ◌<◌, ◌≤◌, Bool, true, false, Some, None, Option}
+use Rattle.std.specs.Prelude.{◌≡◌, ◌≢◌, ◌⊎◌, ℕ, ◌*◌, ◌%◌, ◌<◌, ◌≤◌, Bool, true, false, Some, None, Option}
 use Rattle.std.specs.Prelude.{List, [], length, Contains}
 use Rattle.vsm_model.specs.declared.Subpool.{Subpool}
 use Rattle.vsm_model.specs.declared.causes.Cause.{Cause}
@@ -12,7 +12,7 @@ use Rattle.vsm_model.specs.declared.limits.Settings.{Settings}
 use Rattle.vsm_model.specs.declared.services.Build.{Build}
 use Rattle.vsm_model.specs.declared.services.Get.{Get}
 use Rattle.vsm_model.specs.Search.{is_in}
-use Rattle.vsm_model.specs.Regions.{Region, within, doublewords, pages_for, regions_for, side}
+use Rattle.vsm_model.specs.Regions.{Region, doublewords, regions_for, side}
 use Rattle.vsm_model.specs.CellPools.{CellPool, cell_pool_in, cells_of}
 use Rattle.vsm_model.specs.State.{State}
 use Rattle.vsm_model.specs.Subpools.{seen_or_own}
@@ -21,6 +21,7 @@ use Rattle.vsm_model.specs.Cells.{secondary_count}
 use Rattle.vsm_model.specs.Standing.{Refused}
 use Rattle.vsm_model.specs.Step.{step}
 use Rattle.vsm_model.specs.WellFormed.{IsWellFormed}
+use Rattle.cell_laws.specs.LowestAddress.{HasNoRoomIn}
 use Rattle.cell_laws.specs.Promises.{IsSeen}
 
 -- the size of a cell is a multiple of 4 from 4 to 4096, and an extent has 1 to 4096 of them
@@ -31,21 +32,12 @@ pub record AreCells (size count : ℕ) : Type 0 where
   pub some : 1 ≤ count
   pub few : count ≤ 4096
 
--- the count doublewords from d on lie in the region and are free in the subpool
-abbrev pub AreFree : Region → State → Subpool → ℕ → ℕ → Type 0
-AreFree r s p count d =
-    (k : ℕ) → d ≤ k → k < d + count → (within r (k / 512) ≡ true) × (s.pages (k / 512) ≡ Some p) × (s.taken k ≡ false)
-
--- the count pages from this one on lie in the region and aren't assigned
-abbrev pub AreUnassigned : Region → State → ℕ → ℕ → Type 0
-AreUnassigned r s count page = (k : ℕ) → page ≤ k → k < page + count → (within r k ≡ true) × (s.pages k ≡ None)
-
 -- In no region on this side of the line there's room for so many doublewords, neither in the free storage of the
 -- subpool nor in unassigned pages.
 abbrev pub HasNoRoom : Settings → Residence → State → Subpool → ℕ → Type 0
 HasNoRoom settings location s p count =
     (r : Region) → Contains (regions_for settings location) r →
-    ((d : ℕ) → AreFree r s p count d → ⊥) × ((page : ℕ) → AreUnassigned r s (pages_for count) page → ⊥)
+    HasNoRoomIn r s p count
 
 -- the numbers of a BUILD are within their bounds
 abbrev pub HasItsNumbers : Build → Type 0

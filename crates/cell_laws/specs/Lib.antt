@@ -1,4 +1,5 @@
 pub mod Extents
+pub mod LowestAddress
 pub mod Kept
 pub mod Registers
 pub mod Promises

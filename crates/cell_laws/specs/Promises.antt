@@ -19,6 +19,7 @@ use Rattle.vsm_model.specs.Standing.{Accepted}
 use Rattle.vsm_model.specs.Step.{step}
 use Rattle.vsm_model.specs.WellFormed.{IsWellFormed}
 use Rattle.cell_laws.specs.Extents.{lies_in, AreaIsTaken}
+use Rattle.cell_laws.specs.LowestAddress.{IsLowestAddress}
 use Rattle.cell_laws.specs.Registers.{ReturnCodeIsSet, AddressIsSet, ReturnCodeIsAll}
 
 -- From s to t, cell pools of other names stay as they are.
@@ -57,23 +58,26 @@ pub record IsFirstFree (s t : State) (name : List ℕ) (pool : CellPool) (cell :
   pub same : t ≡ record s { words = t.words; cell_pools = t.cell_pools }
 
 -- No cell was free: the cell is the first of a further extent of the secondary number of cells, in storage that was
--- free on the cell pool's side of the line; the cells behind it are free, in ascending order.
+-- free on the cell pool's side of the line, at the lowest address; the cells behind it are free, in ascending order.
 pub record IsFirstOfFurther (settings : Settings) (s t : State) (name : List ℕ) (pool : CellPool) (cell : ℕ) : Type 0
   where
-  pub none_free : pool.free ≡ []
-  pub region : Region
-  pub on_its_side : Contains (regions_for settings pool.location) region
-  pub area : AreaIsTaken region s t pool.subpool cell (doublewords (pool.secondary * pool.size))
-  pub rest : List ℕ
-  pub cells : cells_from pool.size cell pool.secondary ≡ cell ∷ rest
-  pub after :
-      cell_pool_in t.cell_pools name
-      ≡ Some (record pool {
-        extents = pool.extents ++ record { address = cell; cells = pool.secondary } ∷ [];
-        free = rest;
-      })
-  pub same :
-      t ≡ record s { words = t.words; pages = t.pages; taken = t.taken; bytes = t.bytes; cell_pools = t.cell_pools }
+    pub none_free : pool.free ≡ []
+    pub region : Region
+    pub on_its_side : Contains (regions_for settings pool.location) region
+    pub area : AreaIsTaken region s t pool.subpool cell (doublewords (pool.secondary * pool.size))
+    pub lowest :
+        IsLowestAddress (regions_for settings pool.location) s pool.subpool
+        (doublewords (pool.secondary * pool.size)) cell
+    pub rest : List ℕ
+    pub cells : cells_from pool.size cell pool.secondary ≡ cell ∷ rest
+    pub after :
+        cell_pool_in t.cell_pools name
+        ≡ Some (record pool {
+          extents = pool.extents ++ record { address = cell; cells = pool.secondary } ∷ [];
+          free = rest;
+        })
+    pub same :
+        t ≡ record s { words = t.words; pages = t.pages; taken = t.taken; bytes = t.bytes; cell_pools = t.cell_pools }
 
 -- From s to t, a cell was handed out.
 pub record IsHandedOut (settings : Settings) (s t : State) (name : List ℕ) (g : Get) (cell : ℕ) : Type 0 where
@@ -123,6 +127,9 @@ pub record IsBuilt (settings : Settings) (s t : State) (name : List ℕ) (header
   pub on_its_side : Contains (regions_for settings (side settings b.location)) region
   pub area :
       AreaIsTaken region s t (record { number = b.number; owner = owner }) address (doublewords (b.primary * b.size))
+  pub lowest :
+      IsLowestAddress (regions_for settings (side settings b.location)) s (record { number = b.number; owner = owner })
+      (doublewords (b.primary * b.size)) address
   -- the cell pool has this one extent, and all its cells are free, in ascending order
   pub after :
       cell_pool_in t.cell_pools name

@@ -19,19 +19,19 @@ pub fn cell_pools_stay_well_formed()
 {}
 
 /// A GET hands out the first free cell, or, where none is free, the first cell of a further extent of the secondary
-/// number of cells, in storage that was free; the conditional form is answered 4 there. A FREE makes just this cell
-/// free, and the next to be handed out. Other cell pools, the tasks, the subpools and who sees them stay, and of the
-/// registers those change that the macro sets.
+/// number of cells, in storage that was free, at the lowest address; the conditional form is answered 4 there. A FREE
+/// makes just this cell free, and the next to be handed out. Other cell pools, the tasks, the subpools and who sees
+/// them stay, and of the registers those change that the macro sets.
 pub fn cells_are_handed_out()
     ensures get { GetHandsOutACell }
     ensures free { FreeMakesACellFree }
 {}
 
-/// A BUILD makes a cell pool of a new name with one extent, in storage that was free, of the subpool that the task sees
-/// at the number or of a new one; all its cells are free, in ascending order. A DELETE takes the cell pool away and
-/// gives exactly its extents back, with cells in use: each page of the subpool that has nothing taken is unassigned
-/// then, with its bytes. Other cell pools, the tasks and all other storage stay, and register 15 alone is set. The
-/// order in which a DELETE goes through its extents is without meaning.
+/// A BUILD makes a cell pool of a new name with one extent, in storage that was free, at the lowest address, of the
+/// subpool that the task sees at the number or of a new one; all its cells are free, in ascending order. A DELETE takes
+/// the cell pool away and gives exactly its extents back, with cells in use: each page of the subpool that has nothing
+/// taken is unassigned then, with its bytes. Other cell pools, the tasks and all other storage stay, and register 15
+/// alone is set. The order in which a DELETE goes through its extents is without meaning.
 pub fn cell_pools_come_and_go()
     ensures build { BuildMakesACellPool }
     ensures delete { DeleteGivesItsExtentsBack }
