@@ -1,49 +1,35 @@
 -- Cell pools as plain values, and what the calls do to them.
-use Rattle.std.specs.Prelude.{◌≡◌, ℕ, ◌+◌, ◌-◌, ◌*◌, ◌%◌, ◌/◌, Bool, false, ◌&&◌, ◌||◌, ◌==◌, not, nat_lt, nat_le}
-use Rattle.std.specs.Prelude.{if◌then◌else◌, List, [], ◌∷◌, ◌++◌, length, take, drop, map, Option, Some, None}
-use Rattle.std.specs.List.{range_with_len}
+use Rattle.std.specs.Prelude.{◌≡◌, ℕ, ◌+◌, ◌-◌, ◌*◌, ◌/◌, Bool, true, ◌&&◌, ◌==◌, not, nat_lt, if◌then◌else◌}
+use Rattle.std.specs.Prelude.{List, [], ◌∷◌, ◌++◌, length, take, drop, map, flat_map, Option, Some, None}
+use Rattle.std.specs.List.{range_with_len, list_any}
+use Rattle.std.specs.Str.{bytes_eq}
 use Rattle.vsm_elements.specs.Store.{among}
-use Rattle.list_table.specs.Entries.{word}
-use Rattle.cell_pool.specs.declared.label.Label.{Label}
-use Rattle.cell_pool.specs.declared.pools.Settings.{Settings}
-
--- one area of cells: where it begins, and how many cells it has
-pub record Extent : Type 0 where
-  pub start : ℕ
-  pub count : ℕ
+use Rattle.cell_pool.specs.declared.settings.Settings.{Settings}
+use Rattle.cell_pool.specs.declared.settings.Extent.{Extent}
 
 -- A cell pool: the id that names it, its name, what it was built with, its extents in the order in which they were
 -- made, and its free cells in the order in which they are handed out.
 pub record Pool : Type 0 where
   pub id : ℕ
-  pub name : Label
+  pub name : List ℕ
   pub settings : Settings
+  pub header : Option (List ℕ)
   pub extents : List Extent
   pub cells : List ℕ
-
--- the seven words are the same
-abbrev pub same_words : List ℕ → List ℕ → Bool
-same_words a b =
-    (word a 0 == word b 0) && (word a 1 == word b 1) && (word a 2 == word b 2) && (word a 3 == word b 3)
-    && (word a 4 == word b 4) && (word a 5 == word b 5) && (word a 6 == word b 6)
-
--- the two names are the same; closed, since the test is long
-unfoldable pub same_name : Label → Label → Bool
-same_name a b = same_words a.first b.first && same_words a.second b.second && same_words a.third b.third
 
 -- the first pool of which the test holds
 abbrev pub first_with : (Pool → Bool) → List Pool → Option Pool
 first_with test [] = None
 first_with test (p ∷ ps) = if test p then Some p else first_with test ps
 
-abbrev pub is_named : Label → Pool → Bool
-is_named name p = same_name name p.name
+abbrev pub is_named : List ℕ → Pool → Bool
+is_named name p = bytes_eq name p.name
 
 abbrev pub is_of : ℕ → Pool → Bool
 is_of id p = id == p.id
 
 -- the pool of this name
-abbrev pub pool_in : Label → List Pool → Option Pool
+abbrev pub pool_in : List ℕ → List Pool → Option Pool
 pool_in name ps = first_with (is_named name) ps
 
 -- the pool of this id
@@ -59,31 +45,29 @@ Single (p ∷ ps) = (pool_in p.name ps ≡ None) × Single ps
 unfoldable pub cells_from : ℕ → ℕ → ℕ → List ℕ
 cells_from size start count = map (λ k. start + k * size) (range_with_len 0 count)
 
--- the number is one of the extent's cells
-abbrev pub is_cell : ℕ → ℕ → Extent → Bool
-is_cell size addr x =
-    nat_le x.start addr && (((addr - x.start) % size) == 0) && nat_lt ((addr - x.start) / size) x.count
-
--- the number is a cell of one of these extents
-abbrev pub in_extents : ℕ → ℕ → List Extent → Bool
-in_extents size addr [] = false
-in_extents size addr (x ∷ xs) = is_cell size addr x || in_extents size addr xs
+-- all cells of these extents
+abbrev pub cells_of : ℕ → List Extent → List ℕ
+cells_of size extents = flat_map (λ x. cells_from size x.start x.count) extents
 
 -- a cell of the pool that isn't free
 abbrev pub uses : Pool → ℕ → Bool
-uses p addr = in_extents p.settings.size addr p.extents && not (among addr p.cells)
+uses p address = among address (cells_of p.settings.size p.extents) && not (among address p.cells)
 
--- the area overlaps the extent: an address below the one's end stands in the other
+-- a length in bytes, rounded up to whole doublewords
+abbrev pub rounded : ℕ → ℕ
+rounded len = 8 * ((len + 7) / 8)
+
+-- The area and the extent have an address in common, where the extent goes to the end of its last doubleword.
 abbrev pub overlaps : ℕ → ℕ → ℕ → Extent → Bool
-overlaps size start len x = nat_lt start (x.start + x.count * size) && nat_lt x.start (start + len)
+overlaps size start len x = nat_lt start (x.start + rounded (x.count * size)) && nat_lt x.start (start + len)
 
-abbrev pub overlaps_any : ℕ → ℕ → ℕ → List Extent → Bool
-overlaps_any size start len [] = false
-overlaps_any size start len (x ∷ xs) = overlaps size start len x || overlaps_any size start len xs
+-- the area overlaps an extent of the pool
+abbrev pub meets : ℕ → ℕ → Pool → Bool
+meets start len p = list_any (overlaps p.settings.size start len) p.extents
 
-abbrev pub holds_in : ℕ → ℕ → List Pool → Bool
-holds_in start len [] = false
-holds_in start len (p ∷ ps) = overlaps_any p.settings.size start len p.extents || holds_in start len ps
+-- the area overlaps an extent of some pool
+abbrev pub Meets : (List ℕ → Option Pool) → ℕ → ℕ → Type 0
+Meets pools start len = (name : List ℕ) × (p : Pool) × (pools name ≡ Some p) × (meets start len p ≡ true)
 
 -- What the calls do to a pool.
 
@@ -93,27 +77,27 @@ without_first p = record p { cells = drop 1 p.cells }
 
 -- a cell is put in front
 abbrev pub with_first : ℕ → Pool → Pool
-with_first addr p = record p { cells = addr ∷ p.cells }
+with_first address p = record p { cells = address ∷ p.cells }
 
 -- an extent more, its cells behind the free ones
 abbrev pub extended : ℕ → ℕ → Pool → Pool
-extended start count p = record {
-  id = p.id;
-  name = p.name;
-  settings = p.settings;
+extended start count p = record p {
   extents = p.extents ++ record { start = start; count = count } ∷ [];
   cells = p.cells ++ cells_from p.settings.size start count;
 }
 
--- the last extent gone, with as many cells from the end of the free ones
-abbrev pub retracted : Extent → Pool → Pool
-retracted x p = record {
-  id = p.id;
-  name = p.name;
-  settings = p.settings;
+-- the last extent gone, with so many cells from the end of the free ones
+abbrev pub retracted : ℕ → Pool → Pool
+retracted count p = record p {
   extents = take (length p.extents - 1) p.extents;
-  cells = take (length p.cells - x.count) p.cells;
+  cells = take (length p.cells - count) p.cells;
 }
+
+-- The cells of the last extent are the end of the free ones: the pool is what `rest` is with one more extent.
+pub record IsExtended (p : Pool) : Type 0 where
+  pub rest : Pool
+  pub last : Extent
+  pub is : p ≡ extended last.start last.count rest
 
 -- the change is made to the pool of this id alone
 abbrev pub at_id : ℕ → (Pool → Pool) → Pool → Pool
@@ -130,7 +114,7 @@ all_but test None = None
 all_but test (Some p) = if test p then None else Some p
 
 abbrev pub lies_in : ℕ → Pool → Bool
-lies_in pool p = p.settings.pool == pool
+lies_in subpool p = p.settings.subpool == subpool
 
 -- the first of the two that is there
 abbrev pub either_of : Option Pool → Option Pool → Option Pool

@@ -1,42 +1,19 @@
-ghost use Rattle.std.specs.Prelude.{◌≡◌, ℕ, ◌+◌, ◌*◌, ◌≤◌, ◌<◌, ◌^◌, ◌++◌, ◌∷◌, [], length, take, drop, List};
-ghost use Rattle.std.specs.Prelude.{Some, None, IsSome, IfSome, IfNone, option_map, slice_get, if◌then◌else◌};
+ghost use Rattle.std.specs.Prelude.{◌≡◌, ℕ, ◌+◌, ◌≤◌, ◌<◌, ◌++◌, ◌∷◌, [], length, take, List, Option};
+ghost use Rattle.std.specs.Prelude.{Some, None, IsSome, IfSome, option_map, slice_get, if◌then◌else◌, ◌==◌};
+ghost use Rattle.std.specs.Str.{bytes_eq};
 ghost use Rattle.vsm_elements.specs.Store.{Store};
 ghost use Rattle.vsm_elements.specs.Ownership.{Leaves, Apart};
-ghost use Rattle.vsm_elements.specs.Chain.{links};
 ghost use Rattle.list_table.specs.ListTable.{entries, earlier, later, entry_of, owned_but, list_ids, IsPlace, IsOpen};
-ghost use Rattle.list_table.specs.ListTable as spec_table;
 ghost use Rattle.list_table.specs.Entries.{word};
-ghost use Rattle.cell_pool.specs.Pools.{same_name, only, all_but, is_of, at_id, id_in};
-ghost use Rattle.cell_pool.specs.Pools.{without_first, with_first, extended};
-ghost use Rattle.cell_pool.specs.Kept.{pool_of, pools_of};
+ghost use Rattle.cell_pool.specs.Pools.{Pool, only, all_but, either_of, is_of, lies_in, id_in};
+ghost use Rattle.cell_pool.specs.Kept.{pool_of, pools_of, IsSound};
 
-use crate::label::Label;
-use crate::lists::{append_cells, insert, item, label, put_texts, remove};
+use crate::label::{form_of, label_of_name};
+use crate::lists::{label, put_texts};
 use crate::parked::ParkedCells;
+use crate::settings::{CellId, Header, Name, Settings};
 use list_table::{ListTable, Row};
 use vsm_elements::{Elements, Id};
-
-/// The name of a cell pool: the id of its row, which it keeps while it is parked.
-pub type CellId = Id;
-
-/// What a cell pool is built with: the subpool that it lies in, its cells' size, how many cells its first and each
-/// further extent have, and its header and where it may lie, in words.
-#[derive(Clone, Copy, Debug)]
-pub struct Settings {
-    pub pool: u32,
-    pub size: u32,
-    pub primary: u32,
-    pub secondary: u32,
-    pub header: [u32; 7],
-    pub form: [u32; 7],
-}
-
-/// An extent of a cell pool: where it begins, and how many cells it has.
-#[derive(Clone, Copy, Debug, PartialEq, Eq)]
-pub struct Extent {
-    pub start: u32,
-    pub count: u32,
-}
 
 /// The head of all cell pools, each under its name.
 ///
@@ -48,24 +25,21 @@ pub struct CellPools {
 
 // A place between two rows: how many stand before it, and the id of the last of these, or 0.
 #[derive(Clone, Copy)]
-struct Place {
-    index: u32,
-    before: Id,
+pub(crate) struct Place {
+    pub index: u32,
+    pub before: Id,
 }
 
-// The items of text at the head of each list.
-const TEXTS: u32 = 5;
-
 impl CellPools {
-    ghost use Rattle.cell_pool.specs.CellPools.{pool, by_id, owned, parked_pool, parked_owned, IsCellPools, IsParked};
+    ghost use Rattle.cell_pool.specs.CellPools.{pool, pools, by_id, owned, IsCellPools, IsParked};
+    ghost use Rattle.cell_pool.specs.CellPools.{parked_pool, parked_by_id, parked_owned};
 
     /// No cell pool. It has no element.
-    #[tactic(auto, unfolding(
-        crate::specs::CellPools::pool, crate::specs::CellPools::owned, crate::specs::CellPools::IsCellPools
-    ))]
+    #[tactic(auto, unfolding(crate::specs::CellPools::pool, crate::specs::CellPools::by_id, crate::specs::CellPools::owned, crate::specs::CellPools::IsCellPools))]
     pub fn new() -> CellPools
         ensures pools { (s : Store) → IsCellPools s result }
-        ensures empty { (s : Store) (n : Label) → pool s result n ≡ None }
+        ensures empty { (s : Store) (n : List ℕ) → pool s result n ≡ None }
+        ensures ids { (s : Store) (i : ℕ) → by_id s result i ≡ None }
         ensures owned { (s : Store) → owned s result ≡ [] }
     {
         CellPools {
@@ -73,11 +47,22 @@ impl CellPools {
         }
     }
 
-    /// The pool of this name.
-    pub fn find(&self, elements: &Elements, name: Label) -> Option<CellId>
+    /// How many cell pools there are.
+    #[tactic(auto, unfolding(crate::specs::CellPools::pools, crate::specs::CellPools::IsCellPools))]
+    pub fn count(&self, elements: &Elements) -> u32
         requires { IsCellPools elements.now self.now }
-        ensures { result ≡ option_map (λ p. p.id) (pool elements.now self.now name) }
+        ensures { result ≡ length (pools elements.now self.now) }
     {
+        self.table.count(elements)
+    }
+
+    /// The pool of this name.
+    pub fn find(&self, elements: &Elements, name: &Name) -> Option<CellId>
+        requires { IsCellPools elements.now self.now }
+        ensures id { result ≡ option_map (λ p. p.id) (pool elements.now self.now name.now.bytes) }
+        ensures there { IfSome result (λ id. IsSome (by_id elements.now self.now id)) }
+    {
+        let wanted = label_of_name(name);
         let count = self.table.count(elements);
         let mut place = Place {
             index: 0,
@@ -85,7 +70,7 @@ impl CellPools {
         };
         while place.index < count {
             let row = self.table.row(elements, place.index, place.before);
-            if name.same(label(row.list, elements)) {
+            if wanted.same(label(row.list, elements)) {
                 return Some(row.id);
             }
             place = Place {
@@ -99,33 +84,58 @@ impl CellPools {
     /// A pool of this name, without extents and without free cells.
     ///
     /// It takes six elements.
-    pub fn build(&mut self, elements: &mut Elements, name: Label, settings: Settings) -> CellId
+    pub fn build(
+        &mut self,
+        elements: &mut Elements,
+        name: &Name,
+        settings: Settings,
+        header: Option<Header>,
+    ) -> CellId
         requires pools { IsCellPools elements.old self.old }
-        requires absent { pool elements.old self.old name ≡ None }
+        requires absent { pool elements.old self.old name.now.bytes ≡ None }
         requires size { 0 < settings.size }
         requires room { 6 ≤ elements.old.spare }
         ensures pools { IsCellPools elements.new self.new }
-        ensures names { (n : Label) → pool elements.new self.new n
-            ≡ (if same_name n name
-            then Some (record { id = result; name = name; settings = settings; extents = []; cells = [] })
+        ensures names { (n : List ℕ) → pool elements.new self.new n
+            ≡ (if bytes_eq n name.now.bytes
+            then Some (record {
+              id = result;
+              name = name.now.bytes;
+              settings = settings;
+              header = option_map (λ h. h.items) header;
+              extents = [];
+              cells = [];
+            })
             else pool elements.old self.old n) }
+        ensures ids { (i : ℕ) → by_id elements.new self.new i
+            ≡ (if i == result
+            then Some (record {
+              id = result;
+              name = name.now.bytes;
+              settings = settings;
+              header = option_map (λ h. h.items) header;
+              extents = [];
+              cells = [];
+            })
+            else by_id elements.old self.old i) }
         ensures owned { Leaves elements.old elements.new
             (owned elements.old self.old) (owned elements.new self.new) }
         ensures spares { elements.new.spare + 6 ≡ elements.old.spare }
     {
         let Settings {
-            pool,
+            subpool,
             size,
             primary,
             secondary,
-            header,
-            form,
+            side,
         } = settings;
+        let named = label_of_name(name);
+        let form = form_of(side, &header);
         self.table
-            .push(elements, [pool, size, primary, secondary, 0]);
+            .push(elements, [subpool, size, primary, secondary, 0]);
         let mut row = self.table.row(elements, 0, 0);
         let mut list = row.list;
-        put_texts(&mut list, elements, name, header, form);
+        put_texts(&mut list, elements, named, form);
         row.list = list;
         self.table.write(elements, row);
         row.id
@@ -137,10 +147,14 @@ impl CellPools {
         requires there { IsSome (by_id elements.old self.old id) }
         ensures pools { IsCellPools elements.new self.new }
         ensures parked { IsParked elements.new result }
-        ensures names { (n : Label) → pool elements.new self.new n
+        ensures names { (n : List ℕ) → pool elements.new self.new n
             ≡ all_but (is_of id) (pool elements.old self.old n) }
-        ensures names_out { (n : Label) → parked_pool elements.new result n
+        ensures ids { (i : ℕ) → by_id elements.new self.new i
+            ≡ all_but (is_of id) (by_id elements.old self.old i) }
+        ensures names_out { (n : List ℕ) → parked_pool elements.new result n
             ≡ only (is_of id) (pool elements.old self.old n) }
+        ensures ids_out { (i : ℕ) → parked_by_id elements.new result i
+            ≡ only (is_of id) (by_id elements.old self.old i) }
         ensures apart { Apart (owned elements.new self.new) (parked_owned elements.new result) }
         ensures owned { Leaves elements.old elements.new (owned elements.old self.old)
             (owned elements.new self.new ++ parked_owned elements.new result) }
@@ -155,6 +169,74 @@ impl CellPools {
         }
     }
 
+    /// Takes all pools out that lie in a subpool, as [`CellPools::park_one`] takes one.
+    pub fn park_pools(&mut self, elements: &mut Elements, subpool: u32) -> ParkedCells
+        requires { IsCellPools elements.old self.old }
+        ensures pools { IsCellPools elements.new self.new }
+        ensures parked { IsParked elements.new result }
+        ensures names { (n : List ℕ) → pool elements.new self.new n
+            ≡ all_but (lies_in subpool) (pool elements.old self.old n) }
+        ensures ids { (i : ℕ) → by_id elements.new self.new i
+            ≡ all_but (lies_in subpool) (by_id elements.old self.old i) }
+        ensures names_out { (n : List ℕ) → parked_pool elements.new result n
+            ≡ only (lies_in subpool) (pool elements.old self.old n) }
+        ensures ids_out { (i : ℕ) → parked_by_id elements.new result i
+            ≡ only (lies_in subpool) (by_id elements.old self.old i) }
+        ensures apart { Apart (owned elements.new self.new) (parked_owned elements.new result) }
+        ensures owned { Leaves elements.old elements.new (owned elements.old self.old)
+            (owned elements.new self.new ++ parked_owned elements.new result) }
+        ensures spares { elements.new.spare ≡ elements.old.spare }
+    {
+        let mut out = ListTable::new();
+        let mut place = Place {
+            index: 0,
+            before: 0,
+        };
+        let count = self.table.count(elements);
+        let mut left = count;
+        while left > 0 {
+            left -= 1;
+            let row = self.table.row(elements, place.index, place.before);
+            if row.words[0] == subpool {
+                self.table
+                    .move_row(elements, place.index, place.before, &mut out);
+            } else {
+                place = Place {
+                    index: place.index + 1,
+                    before: row.id,
+                };
+            }
+        }
+        ParkedCells {
+            pools: CellPools { table: out },
+        }
+    }
+
+    /// Puts parked pools back. It takes no element and gives none.
+    pub fn restore_pools(&mut self, elements: &mut Elements, parked: ParkedCells)
+        requires pools { IsCellPools elements.old self.old }
+        requires parked { IsParked elements.old parked }
+        requires names { (n : List ℕ) → IsSome (parked_pool elements.old parked n)
+            → pool elements.old self.old n ≡ None }
+        requires apart { Apart (parked_owned elements.old parked) (owned elements.old self.old) }
+        ensures pools { IsCellPools elements.new self.new }
+        ensures names { (n : List ℕ) → pool elements.new self.new n
+            ≡ either_of (parked_pool elements.old parked n) (pool elements.old self.old n) }
+        ensures ids { (i : ℕ) → by_id elements.new self.new i
+            ≡ either_of (parked_by_id elements.old parked i) (by_id elements.old self.old i) }
+        ensures owned { Leaves elements.old elements.new
+            (parked_owned elements.old parked ++ owned elements.old self.old) (owned elements.new self.new) }
+        ensures spares { elements.new.spare ≡ elements.old.spare }
+    {
+        let ParkedCells { pools } = parked;
+        let mut rest = pools.table;
+        let mut table = self.table;
+        while rest.count(elements) > 0 {
+            rest.move_row(elements, 0, 0, &mut table);
+        }
+        self.table = table;
+    }
+
     // The place of the row of this id.
     fn place(&self, elements: &Elements, id: CellId) -> Place
         requires pools { IsCellPools elements.now self.now }
@@ -167,7 +249,7 @@ impl CellPools {
     }
 
     // The row of this id, in hand.
-    fn row(&self, elements: &Elements, id: CellId) -> Row
+    pub(crate) fn row(&self, elements: &Elements, id: CellId) -> Row
         requires pools { IsCellPools elements.now self.now }
         requires there { IsSome (by_id elements.now self.now id) }
         ensures named { result.id ≡ id }
@@ -176,7 +258,8 @@ impl CellPools {
             ≡ earlier elements.now self.now.table result.index
             ++ entry_of elements.now result ∷ later elements.now self.now.table result.index }
         ensures pool { by_id elements.now self.now id ≡ Some (pool_of (entry_of elements.now result)) }
-        ensures sound { (5 + word result.words 4 ≤ result.list.count) × (0 < word result.words 1) }
+        ensures room { 5 + word result.words 4 ≤ result.list.count }
+        ensures sound { IsSound (entry_of elements.now result) }
         ensures owned { (t : Store) (has : List ℕ) → Leaves elements.now t
             (owned_but elements.now self.now.table result.index ++ list_ids elements.now result.list) has
             → Leaves elements.now t (owned elements.now self.now) has }
@@ -208,109 +291,5 @@ impl CellPools {
             };
         }
         place
-    }
-
-    /// The first free cell of the pool; `None` where none is free.
-    pub fn first_free(&self, elements: &Elements, id: CellId) -> Option<u32>
-        requires pools { IsCellPools elements.now self.now }
-        requires there { IsSome (by_id elements.now self.now id) }
-        ensures { IfSome (by_id elements.now self.now id) (λ p. result ≡ slice_get p.cells 0) }
-    {
-        let row = self.row(elements, id);
-        let front = TEXTS + row.words[4];
-        if front == row.list.count {
-            return None;
-        }
-        Some(item(row.list, elements, front)[0])
-    }
-
-    /// Hands out the first free cell.
-    ///
-    /// Its element becomes a spare one.
-    pub fn take_cell(&mut self, elements: &mut Elements, id: CellId) -> u32
-        requires pools { IsCellPools elements.old self.old }
-        requires there { IsSome (by_id elements.old self.old id) }
-        requires free { IfSome (by_id elements.old self.old id) (λ p. 0 < length p.cells) }
-        ensures pools { IsCellPools elements.new self.new }
-        ensures cell { IfSome (by_id elements.old self.old id) (λ p. slice_get p.cells 0 ≡ Some result) }
-        ensures names { (n : Label) → pool elements.new self.new n
-            ≡ option_map (at_id id without_first) (pool elements.old self.old n) }
-        ensures ids { (i : ℕ) → by_id elements.new self.new i
-            ≡ option_map (at_id id without_first) (by_id elements.old self.old i) }
-        ensures owned { Leaves elements.old elements.new
-            (owned elements.old self.old) (owned elements.new self.new) }
-        ensures spares { elements.new.spare ≡ elements.old.spare + 1 }
-    {
-        let mut row = self.row(elements, id);
-        let front = TEXTS + row.words[4];
-        let cell = item(row.list, elements, front)[0];
-        let mut list = row.list;
-        remove(&mut list, elements, front, 1);
-        row.list = list;
-        self.table.write(elements, row);
-        cell
-    }
-
-    /// Puts a cell in front of the free ones.
-    ///
-    /// It takes one element.
-    pub fn put_cell(&mut self, elements: &mut Elements, id: CellId, cell: u32)
-        requires pools { IsCellPools elements.old self.old }
-        requires there { IsSome (by_id elements.old self.old id) }
-        requires room { 0 < elements.old.spare }
-        ensures pools { IsCellPools elements.new self.new }
-        ensures names { (n : Label) → pool elements.new self.new n
-            ≡ option_map (at_id id (with_first cell)) (pool elements.old self.old n) }
-        ensures ids { (i : ℕ) → by_id elements.new self.new i
-            ≡ option_map (at_id id (with_first cell)) (by_id elements.old self.old i) }
-        ensures owned { Leaves elements.old elements.new
-            (owned elements.old self.old) (owned elements.new self.new) }
-        ensures spares { elements.new.spare + 1 ≡ elements.old.spare }
-    {
-        let mut row = self.row(elements, id);
-        let front = TEXTS + row.words[4];
-        let mut list = row.list;
-        insert(&mut list, elements, front, [cell, 0, 0, 0, 0, 0, 0]);
-        row.list = list;
-        self.table.write(elements, row);
-    }
-
-    /// An extent more, behind all others. Its cells stand in ascending order behind the free ones.
-    ///
-    /// It takes an element for the extent, and one for each cell.
-    pub fn extend(&mut self, elements: &mut Elements, id: CellId, start: u32, count: u32)
-        requires pools { IsCellPools elements.old self.old }
-        requires there { IsSome (by_id elements.old self.old id) }
-        requires range { IfSome (by_id elements.old self.old id) (λ p. start + count * p.settings.size ≤ 2 ^ 32) }
-        requires room { count + 1 ≤ elements.old.spare }
-        ensures pools { IsCellPools elements.new self.new }
-        ensures names { (n : Label) → pool elements.new self.new n
-            ≡ option_map (at_id id (extended start count)) (pool elements.old self.old n) }
-        ensures ids { (i : ℕ) → by_id elements.new self.new i
-            ≡ option_map (at_id id (extended start count)) (by_id elements.old self.old i) }
-        ensures owned { Leaves elements.old elements.new
-            (owned elements.old self.old) (owned elements.new self.new) }
-        ensures spares { elements.new.spare + count + 1 ≡ elements.old.spare }
-    {
-        let mut row = self.row(elements, id);
-        let size = row.words[1];
-        let extents = row.words[4];
-        row.words = [
-            row.words[0],
-            row.words[1],
-            row.words[2],
-            row.words[3],
-            extents + 1,
-        ];
-        let mut list = row.list;
-        insert(
-            &mut list,
-            elements,
-            TEXTS + extents,
-            [start, count, 0, 0, 0, 0, 0],
-        );
-        append_cells(&mut list, elements, size, start, count);
-        row.list = list;
-        self.table.write(elements, row);
     }
 }
