@@ -1,0 +1,55 @@
+use Rattle.std.proofs.Common.{◌≡◌, ◌≤◌, ◌∙◌, List, true, false, sym, subst, arith, length, refl}
+use Rattle.vsm_elements.specs.Chain.{links}
+use Rattle.vsm_elements.proofs.ChainLemmas.{not_both}
+use Rattle.list_table.specs.Entries.{Entry}
+use Rattle.list_table.specs.ListTable.{entries, entry_of}
+use Rattle.cell_pool.specs.Pools.{Pool, is_named, meets}
+use Rattle.cell_pool.specs.Kept.{pool_of, pools_of, IsSound, AllSound}
+use Rattle.cell_pool.specs.CellPools.{pool, IsCellPools}
+use Rattle.cell_pool.proofs.ItemLemmas.{length-items}
+use Rattle.cell_pool.proofs.ShapeLemmas.{met}
+use Rattle.cell_pool.proofs.PoolLemmas.{none_more, none_all, before_is, sound_at, found_other, one_named, name_refl, none_found}
+use Rattle.cell_pool.proofs.pools.CellPools.holds.Goals as goal
+
+pub count-count-requires : goal.count-count-requires
+unfolding IsCellPools
+count-count-requires c = c.requires.table
+
+pub row-row-requires-clause-table : goal.row-row-requires-clause-table
+unfolding IsCellPools
+row-row-requires-clause-table c = c.requires.table
+
+pub meets-requires-clause-within : goal.meets-requires-clause-within
+unfolding IsCellPools
+meets-requires-clause-within c =
+    let P : List Entry → Type 0 = AllSound in
+    let sound : IsSound (entry_of c.args.elements.now c.row-row.result) = sound_at _ _ _ (subst P c.row-row.ensures.parts c.requires.sound) in
+    omega (arith, sound.room, length-items (links c.args.elements.now c.row-row.result.list), c.row-row.ensures.open.list.count)
+
+pub returns-then-meets : goal.returns-then-meets
+unfolding pool IsCellPools
+returns-then-meets c =
+    let P : List Entry → Type 0 = AllSound in
+    let sound : IsSound (entry_of c.args.elements.now c.row-row.result) = sound_at _ _ _ (subst P c.row-row.ensures.parts c.requires.sound) in
+    let p : Pool = pool_of (entry_of c.args.elements.now c.row-row.result) in
+    let ps : List Pool = pools_of (entries c.args.elements.now c.args.self.now.table) in
+    let hit : meets c.args.start c.args.len p ≡ true = sym (met (entry_of c.args.elements.now c.row-row.result) sound.room c.args.start c.args.len c.meets.result c.meets.ensures) ∙ c.if-meets.true in
+    let found = before_is (meets c.args.start c.args.len) (entries c.args.elements.now c.args.self.now.table) c.loop-place.place.index (entry_of c.args.elements.now c.row-row.result) c.row-row.ensures.entry c.loop-place.invariant.earlier hit in
+    ((λ t. (p.name, p, found_other (meets c.args.start c.args.len) (is_named p.name) ps p found (one_named p.name ps c.requires.single) (name_refl p.name), hit)), (λ m. refl))
+
+pub loop-place-preserved : goal.loop-place-preserved
+unfolding IsCellPools
+loop-place-preserved c =
+    let P : List Entry → Type 0 = AllSound in
+    let sound : IsSound (entry_of c.args.elements.now c.row-row.result) = sound_at _ _ _ (subst P c.row-row.ensures.parts c.requires.sound) in
+    record {
+      place = c.row-row.ensures.next;
+      earlier = none_more (meets c.args.start c.args.len) (entries c.args.elements.now c.args.self.now.table) c.loop-place.place.index (entry_of c.args.elements.now c.row-row.result) c.row-row.ensures.entry c.loop-place.invariant.earlier (sym (met (entry_of c.args.elements.now c.row-row.result) sound.room c.args.start c.args.len c.meets.result c.meets.ensures) ∙ c.if-meets.false);
+    }
+
+pub returns : goal.returns
+unfolding pool
+returns c =
+    let past : length (entries c.args.elements.now c.args.self.now.table) ≤ c.loop-place.place.index = omega (arith, c.count-count.ensures.count) in
+    let none = none_all (meets c.args.start c.args.len) (entries c.args.elements.now c.args.self.now.table) c.loop-place.place.index past c.loop-place.invariant.earlier in
+    ((λ t. absurd (not_both false t refl)), (λ m. absurd (not_both (meets c.args.start c.args.len m.1) m.3 (none_found (meets c.args.start c.args.len) (is_named m.0) (pools_of (entries c.args.elements.now c.args.self.now.table)) m.1 none m.2))))

@@ -1,0 +1,98 @@
+use Rattle.std.proofs.Common.{◌≡◌, ◌≤◌, ◌<◌, ◌+◌, ◌-◌, ◌∷◌, [], ◌∙◌, ap, sym, arith, subst, Option, Some, length, refl}
+use Rattle.std.specs.Prelude.{slice_get, IfSome}
+use Rattle.vsm_elements.specs.Chain.{links}
+use Rattle.vsm_elements.proofs.ChainFrame.{Leaves-trans}
+use Rattle.list_table.specs.Entries.{word}
+use Rattle.list_table.specs.Kept.{items_of}
+use Rattle.list_table.specs.ListTable.{entry_of}
+use Rattle.cell_pool.specs.Pools.{Pool, IsExtended, retracted}
+use Rattle.cell_pool.specs.Kept.{extent_of, pool_of}
+use Rattle.cell_pool.specs.CellPools.{IsCellPools}
+use Rattle.cell_pool.proofs.ItemLemmas.{length-items}
+use Rattle.cell_pool.proofs.LawLemmas.{some_extent, last_cells}
+use Rattle.cell_pool.proofs.ShapeLemmas.{all_length, cut_length, extents_length, extent_there, cut_pool, cut_sound}
+use Rattle.cell_pool.proofs.CallLemmas.{ready, done_kept, done_names, done_ids, done_owned}
+use Rattle.cell_pool.proofs.pools.CellPools.retract.Goals as goal
+
+pub overflow_sub-extents : goal.overflow_sub-extents
+overflow_sub-extents c =
+    let x : IsExtended (pool_of (entry_of c.args.elements.now c.row-row.result)) = (let P : Option Pool → Type 0 = λ z. IfSome z (λ (p : Pool). IsExtended p) in subst P c.row-row.ensures.pool c.requires.last) in
+    let some : 0 < word c.row-row.result.words 4 = omega (arith, some_extent (pool_of (entry_of c.args.elements.now c.row-row.result)) x, extents_length (entry_of c.args.elements.now c.row-row.result) c.row-row.ensures.sound.room) in
+    omega arith
+
+pub item-words-requires-clause-within : goal.item-words-requires-clause-within
+item-words-requires-clause-within c =
+    let x : IsExtended (pool_of (entry_of c.args.elements.now c.row-row.result)) = (let P : Option Pool → Type 0 = λ z. IfSome z (λ (p : Pool). IsExtended p) in subst P c.row-row.ensures.pool c.requires.last) in
+    let some : 0 < word c.row-row.result.words 4 = omega (arith, some_extent (pool_of (entry_of c.args.elements.now c.row-row.result)) x, extents_length (entry_of c.args.elements.now c.row-row.result) c.row-row.ensures.sound.room) in
+    omega (arith, c.row-row.ensures.room)
+
+pub overflow_sub-end : goal.overflow_sub-end
+overflow_sub-end c =
+    let x : IsExtended (pool_of (entry_of c.args.elements.now c.row-row.result)) = (let P : Option Pool → Type 0 = λ z. IfSome z (λ (p : Pool). IsExtended p) in subst P c.row-row.ensures.pool c.requires.last) in
+    let some : 0 < word c.row-row.result.words 4 = omega (arith, some_extent (pool_of (entry_of c.args.elements.now c.row-row.result)) x, extents_length (entry_of c.args.elements.now c.row-row.result) c.row-row.ensures.sound.room) in
+    let there : slice_get (pool_of (entry_of c.args.elements.now c.row-row.result)).extents (word c.row-row.result.words 4 - 1) ≡ Some (extent_of c.item-words.result) = extent_there (entry_of c.args.elements.now c.row-row.result) c.row-row.ensures.sound.room (word c.row-row.result.words 4 - 1) c.item-words.result (omega arith) c.item-words.ensures in
+    let few : (word c.item-words.result 1) ≤ length (pool_of (entry_of c.args.elements.now c.row-row.result)).cells = last_cells (pool_of (entry_of c.args.elements.now c.row-row.result)) x (word c.row-row.result.words 4 - 1) (extent_of c.item-words.result) (omega (arith, extents_length (entry_of c.args.elements.now c.row-row.result) c.row-row.ensures.sound.room)) there in
+    let all : c.row-row.result.list.count ≡ (5 + word c.row-row.result.words 4) + length (pool_of (entry_of c.args.elements.now c.row-row.result)).cells = omega (arith, all_length (entry_of c.args.elements.now c.row-row.result) c.row-row.ensures.sound.room, length-items (links c.args.elements.now c.row-row.result.list), c.row-row.ensures.open.list.count) in
+    omega arith
+
+pub remove-requires-clause-within : goal.remove-requires-clause-within
+remove-requires-clause-within c =
+    let x : IsExtended (pool_of (entry_of c.args.elements.now c.row-row.result)) = (let P : Option Pool → Type 0 = λ z. IfSome z (λ (p : Pool). IsExtended p) in subst P c.row-row.ensures.pool c.requires.last) in
+    let some : 0 < word c.row-row.result.words 4 = omega (arith, some_extent (pool_of (entry_of c.args.elements.now c.row-row.result)) x, extents_length (entry_of c.args.elements.now c.row-row.result) c.row-row.ensures.sound.room) in
+    let there : slice_get (pool_of (entry_of c.args.elements.now c.row-row.result)).extents (word c.row-row.result.words 4 - 1) ≡ Some (extent_of c.item-words.result) = extent_there (entry_of c.args.elements.now c.row-row.result) c.row-row.ensures.sound.room (word c.row-row.result.words 4 - 1) c.item-words.result (omega arith) c.item-words.ensures in
+    let few : (word c.item-words.result 1) ≤ length (pool_of (entry_of c.args.elements.now c.row-row.result)).cells = last_cells (pool_of (entry_of c.args.elements.now c.row-row.result)) x (word c.row-row.result.words 4 - 1) (extent_of c.item-words.result) (omega (arith, extents_length (entry_of c.args.elements.now c.row-row.result) c.row-row.ensures.sound.room)) there in
+    let all : c.row-row.result.list.count ≡ (5 + word c.row-row.result.words 4) + length (pool_of (entry_of c.args.elements.now c.row-row.result)).cells = omega (arith, all_length (entry_of c.args.elements.now c.row-row.result) c.row-row.ensures.sound.room, length-items (links c.args.elements.now c.row-row.result.list), c.row-row.ensures.open.list.count) in
+    omega arith
+
+pub remove-requires-2-clause-within : goal.remove-requires-2-clause-within
+remove-requires-2-clause-within c =
+    let x : IsExtended (pool_of (entry_of c.args.elements.now c.row-row.result)) = (let P : Option Pool → Type 0 = λ z. IfSome z (λ (p : Pool). IsExtended p) in subst P c.row-row.ensures.pool c.requires.last) in
+    let some : 0 < word c.row-row.result.words 4 = omega (arith, some_extent (pool_of (entry_of c.args.elements.now c.row-row.result)) x, extents_length (entry_of c.args.elements.now c.row-row.result) c.row-row.ensures.sound.room) in
+    let there : slice_get (pool_of (entry_of c.args.elements.now c.row-row.result)).extents (word c.row-row.result.words 4 - 1) ≡ Some (extent_of c.item-words.result) = extent_there (entry_of c.args.elements.now c.row-row.result) c.row-row.ensures.sound.room (word c.row-row.result.words 4 - 1) c.item-words.result (omega arith) c.item-words.ensures in
+    let few : (word c.item-words.result 1) ≤ length (pool_of (entry_of c.args.elements.now c.row-row.result)).cells = last_cells (pool_of (entry_of c.args.elements.now c.row-row.result)) x (word c.row-row.result.words 4 - 1) (extent_of c.item-words.result) (omega (arith, extents_length (entry_of c.args.elements.now c.row-row.result) c.row-row.ensures.sound.room)) there in
+    let all : c.row-row.result.list.count ≡ (5 + word c.row-row.result.words 4) + length (pool_of (entry_of c.args.elements.now c.row-row.result)).cells = omega (arith, all_length (entry_of c.args.elements.now c.row-row.result) c.row-row.ensures.sound.room, length-items (links c.args.elements.now c.row-row.result.list), c.row-row.ensures.open.list.count) in
+    omega (arith, c.remove.ensures.chain.count, length-items (links c.remove.new.elements c.remove.new.list), ap length c.remove.ensures.items, cut_length (items_of (links c.args.elements.now c.row-row.result.list)) (c.row-row.result.list.count - (word c.item-words.result 1)) (word c.item-words.result 1) (omega (arith, length-items (links c.args.elements.now c.row-row.result.list), c.row-row.ensures.open.list.count)), length-items (links c.args.elements.now c.row-row.result.list), c.row-row.ensures.open.list.count)
+
+pub write-requires : goal.write-requires
+write-requires c = ready c.args.elements.now c.remove-2.new.elements c.args.self.now c.row-row.result c.remove-2.new.list (word c.row-row.result.words 0 ∷ word c.row-row.result.words 1 ∷ word c.row-row.result.words 2 ∷ word c.row-row.result.words 3 ∷ (word c.row-row.result.words 4 - 1) ∷ []) c.row-row.ensures.open (Leaves-trans _ _ _ _ _ _ c.remove.ensures.owned c.remove-2.ensures.owned) c.remove-2.ensures.chain
+
+pub returns-clause-extent : goal.returns-clause-extent
+returns-clause-extent c =
+    let x : IsExtended (pool_of (entry_of c.args.elements.now c.row-row.result)) = (let P : Option Pool → Type 0 = λ z. IfSome z (λ (p : Pool). IsExtended p) in subst P c.row-row.ensures.pool c.requires.last) in
+    let some : 0 < word c.row-row.result.words 4 = omega (arith, some_extent (pool_of (entry_of c.args.elements.now c.row-row.result)) x, extents_length (entry_of c.args.elements.now c.row-row.result) c.row-row.ensures.sound.room) in
+    let P : Option Pool → Type 0 = λ z. IfSome z (λ (p : Pool). slice_get p.extents (length p.extents - 1) ≡ Some (extent_of c.item-words.result)) in
+    let k : length (pool_of (entry_of c.args.elements.now c.row-row.result)).extents - 1 ≡ (word c.row-row.result.words 4 - 1) = omega (arith, extents_length (entry_of c.args.elements.now c.row-row.result) c.row-row.ensures.sound.room) in
+    subst P (sym c.row-row.ensures.pool) (ap (slice_get (pool_of (entry_of c.args.elements.now c.row-row.result)).extents) k ∙ extent_there (entry_of c.args.elements.now c.row-row.result) c.row-row.ensures.sound.room (word c.row-row.result.words 4 - 1) c.item-words.result (omega arith) c.item-words.ensures)
+
+pub returns-clause-pools : goal.returns-clause-pools
+unfolding IsCellPools
+returns-clause-pools c =
+    let x : IsExtended (pool_of (entry_of c.args.elements.now c.row-row.result)) = (let P : Option Pool → Type 0 = λ z. IfSome z (λ (p : Pool). IsExtended p) in subst P c.row-row.ensures.pool c.requires.last) in
+    let some : 0 < word c.row-row.result.words 4 = omega (arith, some_extent (pool_of (entry_of c.args.elements.now c.row-row.result)) x, extents_length (entry_of c.args.elements.now c.row-row.result) c.row-row.ensures.sound.room) in
+    let there : slice_get (pool_of (entry_of c.args.elements.now c.row-row.result)).extents (word c.row-row.result.words 4 - 1) ≡ Some (extent_of c.item-words.result) = extent_there (entry_of c.args.elements.now c.row-row.result) c.row-row.ensures.sound.room (word c.row-row.result.words 4 - 1) c.item-words.result (omega arith) c.item-words.ensures in
+    let few : (word c.item-words.result 1) ≤ length (pool_of (entry_of c.args.elements.now c.row-row.result)).cells = last_cells (pool_of (entry_of c.args.elements.now c.row-row.result)) x (word c.row-row.result.words 4 - 1) (extent_of c.item-words.result) (omega (arith, extents_length (entry_of c.args.elements.now c.row-row.result) c.row-row.ensures.sound.room)) there in
+    let all : c.row-row.result.list.count ≡ (5 + word c.row-row.result.words 4) + length (pool_of (entry_of c.args.elements.now c.row-row.result)).cells = omega (arith, all_length (entry_of c.args.elements.now c.row-row.result) c.row-row.ensures.sound.room, length-items (links c.args.elements.now c.row-row.result.list), c.row-row.ensures.open.list.count) in
+    done_kept c.args.elements.now c.remove-2.new.elements c.args.self.now c.row-row.result c.remove-2.new.list (word c.row-row.result.words 0 ∷ word c.row-row.result.words 1 ∷ word c.row-row.result.words 2 ∷ word c.row-row.result.words 3 ∷ (word c.row-row.result.words 4 - 1) ∷ []) c.row-row.ensures.open (Leaves-trans _ _ _ _ _ _ c.remove.ensures.owned c.remove-2.ensures.owned) c.remove-2.ensures.chain c.write.new.elements c.requires.pools c.args.id (retracted (word c.item-words.result 1)) c.row-row.ensures.named c.row-row.ensures.parts c.write.ensures.table c.write.ensures.entries (cut_pool (entry_of c.args.elements.now c.row-row.result) c.row-row.ensures.sound.room (items_of (links c.remove.new.elements c.remove.new.list)) (items_of (links c.remove-2.new.elements c.remove-2.new.list)) (c.row-row.result.list.count - (word c.item-words.result 1)) (word c.item-words.result 1) (word c.row-row.result.words 4 - 1) (length (pool_of (entry_of c.args.elements.now c.row-row.result)).cells - (word c.item-words.result 1)) (word c.row-row.result.words 0 ∷ word c.row-row.result.words 1 ∷ word c.row-row.result.words 2 ∷ word c.row-row.result.words 3 ∷ (word c.row-row.result.words 4 - 1) ∷ []) refl (omega arith) refl (omega arith) (omega arith) c.remove.ensures.items c.remove-2.ensures.items) (λ p. refl) (λ p. refl) (cut_sound (entry_of c.args.elements.now c.row-row.result) c.row-row.ensures.sound.room (items_of (links c.remove.new.elements c.remove.new.list)) (items_of (links c.remove-2.new.elements c.remove-2.new.list)) (c.row-row.result.list.count - (word c.item-words.result 1)) (word c.item-words.result 1) (word c.row-row.result.words 4 - 1) (length (pool_of (entry_of c.args.elements.now c.row-row.result)).cells - (word c.item-words.result 1)) (word c.row-row.result.words 0 ∷ word c.row-row.result.words 1 ∷ word c.row-row.result.words 2 ∷ word c.row-row.result.words 3 ∷ (word c.row-row.result.words 4 - 1) ∷ []) refl (omega arith) refl (omega arith) (omega arith) c.remove.ensures.items c.remove-2.ensures.items c.row-row.ensures.sound)
+
+pub returns-clause-names : goal.returns-clause-names
+unfolding IsCellPools
+returns-clause-names c =
+    let x : IsExtended (pool_of (entry_of c.args.elements.now c.row-row.result)) = (let P : Option Pool → Type 0 = λ z. IfSome z (λ (p : Pool). IsExtended p) in subst P c.row-row.ensures.pool c.requires.last) in
+    let some : 0 < word c.row-row.result.words 4 = omega (arith, some_extent (pool_of (entry_of c.args.elements.now c.row-row.result)) x, extents_length (entry_of c.args.elements.now c.row-row.result) c.row-row.ensures.sound.room) in
+    let there : slice_get (pool_of (entry_of c.args.elements.now c.row-row.result)).extents (word c.row-row.result.words 4 - 1) ≡ Some (extent_of c.item-words.result) = extent_there (entry_of c.args.elements.now c.row-row.result) c.row-row.ensures.sound.room (word c.row-row.result.words 4 - 1) c.item-words.result (omega arith) c.item-words.ensures in
+    let few : (word c.item-words.result 1) ≤ length (pool_of (entry_of c.args.elements.now c.row-row.result)).cells = last_cells (pool_of (entry_of c.args.elements.now c.row-row.result)) x (word c.row-row.result.words 4 - 1) (extent_of c.item-words.result) (omega (arith, extents_length (entry_of c.args.elements.now c.row-row.result) c.row-row.ensures.sound.room)) there in
+    let all : c.row-row.result.list.count ≡ (5 + word c.row-row.result.words 4) + length (pool_of (entry_of c.args.elements.now c.row-row.result)).cells = omega (arith, all_length (entry_of c.args.elements.now c.row-row.result) c.row-row.ensures.sound.room, length-items (links c.args.elements.now c.row-row.result.list), c.row-row.ensures.open.list.count) in
+    done_names c.args.elements.now c.remove-2.new.elements c.args.self.now c.row-row.result c.remove-2.new.list (word c.row-row.result.words 0 ∷ word c.row-row.result.words 1 ∷ word c.row-row.result.words 2 ∷ word c.row-row.result.words 3 ∷ (word c.row-row.result.words 4 - 1) ∷ []) c.row-row.ensures.open (Leaves-trans _ _ _ _ _ _ c.remove.ensures.owned c.remove-2.ensures.owned) c.remove-2.ensures.chain c.write.new.elements c.requires.pools c.args.id (retracted (word c.item-words.result 1)) c.row-row.ensures.named c.row-row.ensures.parts c.write.ensures.table c.write.ensures.entries (cut_pool (entry_of c.args.elements.now c.row-row.result) c.row-row.ensures.sound.room (items_of (links c.remove.new.elements c.remove.new.list)) (items_of (links c.remove-2.new.elements c.remove-2.new.list)) (c.row-row.result.list.count - (word c.item-words.result 1)) (word c.item-words.result 1) (word c.row-row.result.words 4 - 1) (length (pool_of (entry_of c.args.elements.now c.row-row.result)).cells - (word c.item-words.result 1)) (word c.row-row.result.words 0 ∷ word c.row-row.result.words 1 ∷ word c.row-row.result.words 2 ∷ word c.row-row.result.words 3 ∷ (word c.row-row.result.words 4 - 1) ∷ []) refl (omega arith) refl (omega arith) (omega arith) c.remove.ensures.items c.remove-2.ensures.items) (λ p. refl) (λ p. refl) (cut_sound (entry_of c.args.elements.now c.row-row.result) c.row-row.ensures.sound.room (items_of (links c.remove.new.elements c.remove.new.list)) (items_of (links c.remove-2.new.elements c.remove-2.new.list)) (c.row-row.result.list.count - (word c.item-words.result 1)) (word c.item-words.result 1) (word c.row-row.result.words 4 - 1) (length (pool_of (entry_of c.args.elements.now c.row-row.result)).cells - (word c.item-words.result 1)) (word c.row-row.result.words 0 ∷ word c.row-row.result.words 1 ∷ word c.row-row.result.words 2 ∷ word c.row-row.result.words 3 ∷ (word c.row-row.result.words 4 - 1) ∷ []) refl (omega arith) refl (omega arith) (omega arith) c.remove.ensures.items c.remove-2.ensures.items c.row-row.ensures.sound)
+
+pub returns-clause-ids : goal.returns-clause-ids
+unfolding IsCellPools
+returns-clause-ids c =
+    let x : IsExtended (pool_of (entry_of c.args.elements.now c.row-row.result)) = (let P : Option Pool → Type 0 = λ z. IfSome z (λ (p : Pool). IsExtended p) in subst P c.row-row.ensures.pool c.requires.last) in
+    let some : 0 < word c.row-row.result.words 4 = omega (arith, some_extent (pool_of (entry_of c.args.elements.now c.row-row.result)) x, extents_length (entry_of c.args.elements.now c.row-row.result) c.row-row.ensures.sound.room) in
+    let there : slice_get (pool_of (entry_of c.args.elements.now c.row-row.result)).extents (word c.row-row.result.words 4 - 1) ≡ Some (extent_of c.item-words.result) = extent_there (entry_of c.args.elements.now c.row-row.result) c.row-row.ensures.sound.room (word c.row-row.result.words 4 - 1) c.item-words.result (omega arith) c.item-words.ensures in
+    let few : (word c.item-words.result 1) ≤ length (pool_of (entry_of c.args.elements.now c.row-row.result)).cells = last_cells (pool_of (entry_of c.args.elements.now c.row-row.result)) x (word c.row-row.result.words 4 - 1) (extent_of c.item-words.result) (omega (arith, extents_length (entry_of c.args.elements.now c.row-row.result) c.row-row.ensures.sound.room)) there in
+    let all : c.row-row.result.list.count ≡ (5 + word c.row-row.result.words 4) + length (pool_of (entry_of c.args.elements.now c.row-row.result)).cells = omega (arith, all_length (entry_of c.args.elements.now c.row-row.result) c.row-row.ensures.sound.room, length-items (links c.args.elements.now c.row-row.result.list), c.row-row.ensures.open.list.count) in
+    done_ids c.args.elements.now c.remove-2.new.elements c.args.self.now c.row-row.result c.remove-2.new.list (word c.row-row.result.words 0 ∷ word c.row-row.result.words 1 ∷ word c.row-row.result.words 2 ∷ word c.row-row.result.words 3 ∷ (word c.row-row.result.words 4 - 1) ∷ []) c.row-row.ensures.open (Leaves-trans _ _ _ _ _ _ c.remove.ensures.owned c.remove-2.ensures.owned) c.remove-2.ensures.chain c.write.new.elements c.requires.pools c.args.id (retracted (word c.item-words.result 1)) c.row-row.ensures.named c.row-row.ensures.parts c.write.ensures.table c.write.ensures.entries (cut_pool (entry_of c.args.elements.now c.row-row.result) c.row-row.ensures.sound.room (items_of (links c.remove.new.elements c.remove.new.list)) (items_of (links c.remove-2.new.elements c.remove-2.new.list)) (c.row-row.result.list.count - (word c.item-words.result 1)) (word c.item-words.result 1) (word c.row-row.result.words 4 - 1) (length (pool_of (entry_of c.args.elements.now c.row-row.result)).cells - (word c.item-words.result 1)) (word c.row-row.result.words 0 ∷ word c.row-row.result.words 1 ∷ word c.row-row.result.words 2 ∷ word c.row-row.result.words 3 ∷ (word c.row-row.result.words 4 - 1) ∷ []) refl (omega arith) refl (omega arith) (omega arith) c.remove.ensures.items c.remove-2.ensures.items) (λ p. refl) (λ p. refl) (cut_sound (entry_of c.args.elements.now c.row-row.result) c.row-row.ensures.sound.room (items_of (links c.remove.new.elements c.remove.new.list)) (items_of (links c.remove-2.new.elements c.remove-2.new.list)) (c.row-row.result.list.count - (word c.item-words.result 1)) (word c.item-words.result 1) (word c.row-row.result.words 4 - 1) (length (pool_of (entry_of c.args.elements.now c.row-row.result)).cells - (word c.item-words.result 1)) (word c.row-row.result.words 0 ∷ word c.row-row.result.words 1 ∷ word c.row-row.result.words 2 ∷ word c.row-row.result.words 3 ∷ (word c.row-row.result.words 4 - 1) ∷ []) refl (omega arith) refl (omega arith) (omega arith) c.remove.ensures.items c.remove-2.ensures.items c.row-row.ensures.sound)
+
+pub returns-clause-owned : goal.returns-clause-owned
+returns-clause-owned c = done_owned c.args.elements.now c.remove-2.new.elements c.args.self.now c.row-row.result c.remove-2.new.list (word c.row-row.result.words 0 ∷ word c.row-row.result.words 1 ∷ word c.row-row.result.words 2 ∷ word c.row-row.result.words 3 ∷ (word c.row-row.result.words 4 - 1) ∷ []) c.row-row.ensures.open (Leaves-trans _ _ _ _ _ _ c.remove.ensures.owned c.remove-2.ensures.owned) c.remove-2.ensures.chain c.write.new.elements c.row-row.ensures.owned c.write.ensures.owned

@@ -1,0 +1,80 @@
+-- How cell pools stand in a table of lists. No public clause cites this module.
+--
+-- A row's words are the subpool, the cell size, the primary and the secondary count, and how many extents there are.
+-- Its list has three items of the name, one of the header and one of its end with the side, then the extents, then the
+-- free cells.
+use Rattle.std.specs.Prelude.{◌≡◌, ℕ, ◌+◌, ◌≤◌, ◌<◌, List, [], ◌∷◌, length, take, drop, map, slice_index_or}
+use Rattle.vsm_elements.specs.Store.{Store}
+use Rattle.list_table.specs.Entries.{Entry, word}
+use Rattle.list_table.specs.ListTable.{entries, IsTable}
+use Rattle.list_table.specs.declared.table.ListTable.{ListTable}
+use Rattle.cell_pool.specs.declared.label.Label.{Label}
+use Rattle.cell_pool.specs.declared.settings.Settings.{Settings}
+use Rattle.cell_pool.specs.declared.settings.Extent.{Extent}
+use Rattle.cell_pool.specs.Names.{packed, spelled, side_in, header_in}
+use Rattle.cell_pool.specs.Pools.{Pool, Single, cells_from}
+
+abbrev pub item : List (List ℕ) → ℕ → List ℕ
+item items k = slice_index_or items k []
+
+abbrev pub extent_of : List ℕ → Extent
+extent_of ws = record { start = word ws 0; count = word ws 1 }
+
+abbrev pub cell_of : List ℕ → ℕ
+cell_of ws = word ws 0
+
+abbrev pub label_of : List (List ℕ) → Label
+label_of items = record { first = item items 0; second = item items 1; third = item items 2 }
+
+-- what a row's words and the form say
+abbrev pub settings_in : List ℕ → List ℕ → Settings
+settings_in ws form = record {
+  subpool = word ws 0;
+  size = word ws 1;
+  primary = word ws 2;
+  secondary = word ws 3;
+  side = side_in form;
+}
+
+-- the pool of an id, a row's words, a name's words, a header and a form, extents and cells
+abbrev pub made_of : ℕ → List ℕ → Label → List ℕ → List ℕ → List Extent → List ℕ → Pool
+made_of id ws label front form extents cells = record {
+  id = id;
+  name = spelled label;
+  settings = settings_in ws form;
+  header = header_in front form;
+  extents = extents;
+  cells = cells;
+}
+
+-- the pool in a row; closed
+unfoldable pub pool_of : Entry → Pool
+pool_of e =
+    made_of e.id e.words (label_of e.items) (item e.items 3) (item e.items 4)
+    (map extent_of (take (word e.words 4) (drop 5 e.items))) (map cell_of (drop (word e.words 4) (drop 5 e.items)))
+
+abbrev pub pools_of : List Entry → List Pool
+pools_of es = map pool_of es
+
+-- the row has its texts and its extents, cells of some size, and just the words of its name
+pub record IsSound (e : Entry) : Type 0 where
+  pub room : 5 + word e.words 4 ≤ length e.items
+  pub size : 0 < word e.words 1
+  pub named : label_of e.items ≡ packed (pool_of e).name
+
+abbrev pub AllSound : List Entry → Type 0
+AllSound [] = Unit {0}
+AllSound (e ∷ es) = IsSound e × AllSound es
+
+pub record IsKept (s : Store) (q : ListTable) : Type 0 where
+  pub table : IsTable s q
+  pub single : Single (pools_of (entries s q))
+  pub sound : AllSound (entries s q)
+
+-- the item of a free cell
+abbrev pub cell_item : ℕ → List ℕ
+cell_item address = address ∷ 0 ∷ 0 ∷ 0 ∷ 0 ∷ 0 ∷ 0 ∷ []
+
+-- those of an extent's cells
+abbrev pub cell_items : ℕ → ℕ → ℕ → List (List ℕ)
+cell_items size start count = map cell_item (cells_from size start count)

@@ -1,0 +1,39 @@
+-- Laws of cell pools.
+use Rattle.std.specs.Prelude.{◌≡◌, ℕ, List, Some}
+use Rattle.vsm_elements.specs.Store.{Store, SameElements}
+use Rattle.vsm_elements.specs.Ownership.{Owns, Leaves, Apart}
+use Rattle.cell_pool.specs.declared.pools.CellPools.{CellPools}
+use Rattle.cell_pool.specs.Pools.{Pool, extended, retracted}
+use Rattle.cell_pool.specs.CellPools.{pool, by_id, owned, IsCellPools}
+
+-- the pool of a name is the pool of its id, and the other way round
+pub record AreOne (s : Store) (q : CellPools) : Type 0 where
+  pub names : (n : List ℕ) (p : Pool) → pool s q n ≡ Some p → (p.name ≡ n) × (by_id s q p.id ≡ Some p)
+  pub ids : (i : ℕ) (p : Pool) → by_id s q i ≡ Some p → (p.id ≡ i) × (pool s q p.name ≡ Some p)
+
+abbrev pub PoolsAreOne : Type 0
+PoolsAreOne = (s : Store) (q : CellPools) → IsCellPools s q → AreOne s q
+
+-- cell pools that stand own their elements
+abbrev pub PoolsOwn : Type 0
+PoolsOwn = (s : Store) (q : CellPools) → IsCellPools s q → Owns s (owned s q)
+
+-- the pools are what they were
+pub record AreSame (s t : Store) (q : CellPools) : Type 0 where
+  pub stand : IsCellPools t q
+  pub names : (n : List ℕ) → pool t q n ≡ pool s q n
+  pub ids : (i : ℕ) → by_id t q i ≡ by_id s q i
+  pub elements : owned t q ≡ owned s q
+
+-- cell pools that stand apart from what a call owns are as they were
+abbrev pub PoolsStay : Type 0
+PoolsStay = (s t : Store) (had has : List ℕ) (q : CellPools) → Leaves s t had has → IsCellPools s q
+    → Apart had (owned s q) → AreSame s t q
+
+-- where every id keeps what it had, so do cell pools
+abbrev pub GrowthKeepsPools : Type 0
+GrowthKeepsPools = (s t : Store) (q : CellPools) → SameElements s t → IsCellPools s q → AreSame s t q
+
+-- an extent that was added last is what is taken back
+abbrev pub RetractsBack : Type 0
+RetractsBack = (p : Pool) (start count : ℕ) → retracted count (extended start count p) ≡ p

@@ -1,0 +1,28 @@
+//! Laws of cell pools. Each is the contract of a function that does nothing.
+
+ghost use Rattle.cell_pool.specs.Laws.{PoolsAreOne, PoolsOwn, PoolsStay, GrowthKeepsPools, RetractsBack};
+
+/// The pool of a name is the pool of its id, and the other way round.
+pub fn pools_are_one()
+    ensures { PoolsAreOne }
+{}
+
+/// Cell pools own their elements: live ones, each once.
+pub fn pools_own()
+    ensures { PoolsOwn }
+{}
+
+/// A call that leaves what it doesn't own leaves all cell pools that stand apart.
+pub fn pools_stay()
+    ensures { PoolsStay }
+{}
+
+/// [`reserve`](vsm_elements::Elements::reserve) leaves all cell pools as they were.
+pub fn growth_keeps_pools()
+    ensures { GrowthKeepsPools }
+{}
+
+/// To retract an extent undoes that it was added.
+pub fn retracts_back()
+    ensures { RetractsBack }
+{}

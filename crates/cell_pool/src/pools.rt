@@ -1,0 +1,295 @@
+ghost use Rattle.std.specs.Prelude.{◌≡◌, ℕ, ◌+◌, ◌≤◌, ◌<◌, ◌++◌, ◌∷◌, [], length, take, List, Option};
+ghost use Rattle.std.specs.Prelude.{Some, None, IsSome, IfSome, option_map, slice_get, if◌then◌else◌, ◌==◌};
+ghost use Rattle.std.specs.Str.{bytes_eq};
+ghost use Rattle.vsm_elements.specs.Store.{Store};
+ghost use Rattle.vsm_elements.specs.Ownership.{Leaves, Apart};
+ghost use Rattle.list_table.specs.ListTable.{entries, earlier, later, entry_of, owned_but, list_ids, IsPlace, IsOpen};
+ghost use Rattle.list_table.specs.Entries.{word};
+ghost use Rattle.cell_pool.specs.Pools.{Pool, only, all_but, either_of, is_of, lies_in, id_in};
+ghost use Rattle.cell_pool.specs.Kept.{pool_of, pools_of, IsSound};
+
+use crate::label::{form_of, label_of_name};
+use crate::lists::{label, put_texts};
+use crate::parked::ParkedCells;
+use crate::settings::{CellId, Header, Name, Settings};
+use list_table::{ListTable, Row};
+use vsm_elements::{Elements, Id};
+
+/// The head of all cell pools, each under its name.
+///
+/// It is kept by value. Every call is handed the elements that it stands in, and changes those of its own alone.
+#[derive(Clone, Copy, Debug)]
+pub struct CellPools {
+    pub(crate) table: ListTable,
+}
+
+// A place between two rows: how many stand before it, and the id of the last of these, or 0.
+#[derive(Clone, Copy)]
+pub(crate) struct Place {
+    pub index: u32,
+    pub before: Id,
+}
+
+impl CellPools {
+    ghost use Rattle.cell_pool.specs.CellPools.{pool, pools, by_id, owned, IsCellPools, IsParked};
+    ghost use Rattle.cell_pool.specs.CellPools.{parked_pool, parked_by_id, parked_owned};
+
+    /// No cell pool. It has no element.
+    #[tactic(auto, unfolding(crate::specs::CellPools::pool, crate::specs::CellPools::by_id, crate::specs::CellPools::owned, crate::specs::CellPools::IsCellPools))]
+    pub fn new() -> CellPools
+        ensures pools { (s : Store) → IsCellPools s result }
+        ensures empty { (s : Store) (n : List ℕ) → pool s result n ≡ None }
+        ensures ids { (s : Store) (i : ℕ) → by_id s result i ≡ None }
+        ensures owned { (s : Store) → owned s result ≡ [] }
+    {
+        CellPools {
+            table: ListTable::new(),
+        }
+    }
+
+    /// How many cell pools there are.
+    #[tactic(auto, unfolding(crate::specs::CellPools::pools, crate::specs::CellPools::IsCellPools))]
+    pub fn count(&self, elements: &Elements) -> u32
+        requires { IsCellPools elements.now self.now }
+        ensures { result ≡ length (pools elements.now self.now) }
+    {
+        self.table.count(elements)
+    }
+
+    /// The pool of this name.
+    pub fn find(&self, elements: &Elements, name: &Name) -> Option<CellId>
+        requires { IsCellPools elements.now self.now }
+        ensures id { result ≡ option_map (λ p. p.id) (pool elements.now self.now name.now.bytes) }
+        ensures there { IfSome result (λ id. IsSome (by_id elements.now self.now id)) }
+    {
+        let wanted = label_of_name(name);
+        let count = self.table.count(elements);
+        let mut place = Place {
+            index: 0,
+            before: 0,
+        };
+        while place.index < count {
+            let row = self.table.row(elements, place.index, place.before);
+            if wanted.same(label(row.list, elements)) {
+                return Some(row.id);
+            }
+            place = Place {
+                index: place.index + 1,
+                before: row.id,
+            };
+        }
+        None
+    }
+
+    /// A pool of this name, without extents and without free cells.
+    ///
+    /// It takes six elements.
+    pub fn build(
+        &mut self,
+        elements: &mut Elements,
+        name: &Name,
+        settings: Settings,
+        header: Option<Header>,
+    ) -> CellId
+        requires pools { IsCellPools elements.old self.old }
+        requires absent { pool elements.old self.old name.now.bytes ≡ None }
+        requires size { 0 < settings.size }
+        requires room { 6 ≤ elements.old.spare }
+        ensures pools { IsCellPools elements.new self.new }
+        ensures names { (n : List ℕ) → pool elements.new self.new n
+            ≡ (if bytes_eq n name.now.bytes
+            then Some (record {
+              id = result;
+              name = name.now.bytes;
+              settings = settings;
+              header = option_map (λ h. h.items) header;
+              extents = [];
+              cells = [];
+            })
+            else pool elements.old self.old n) }
+        ensures ids { (i : ℕ) → by_id elements.new self.new i
+            ≡ (if i == result
+            then Some (record {
+              id = result;
+              name = name.now.bytes;
+              settings = settings;
+              header = option_map (λ h. h.items) header;
+              extents = [];
+              cells = [];
+            })
+            else by_id elements.old self.old i) }
+        ensures owned { Leaves elements.old elements.new
+            (owned elements.old self.old) (owned elements.new self.new) }
+        ensures spares { elements.new.spare + 6 ≡ elements.old.spare }
+    {
+        let Settings {
+            subpool,
+            size,
+            primary,
+            secondary,
+            side,
+        } = settings;
+        let named = label_of_name(name);
+        let form = form_of(side, &header);
+        self.table
+            .push(elements, [subpool, size, primary, secondary, 0]);
+        let mut row = self.table.row(elements, 0, 0);
+        let mut list = row.list;
+        put_texts(&mut list, elements, named, form);
+        row.list = list;
+        self.table.write(elements, row);
+        row.id
+    }
+
+    /// Takes the pool out, with its extents and its free cells. Its elements, and its id, stay.
+    pub fn park_one(&mut self, elements: &mut Elements, id: CellId) -> ParkedCells
+        requires pools { IsCellPools elements.old self.old }
+        requires there { IsSome (by_id elements.old self.old id) }
+        ensures pools { IsCellPools elements.new self.new }
+        ensures parked { IsParked elements.new result }
+        ensures names { (n : List ℕ) → pool elements.new self.new n
+            ≡ all_but (is_of id) (pool elements.old self.old n) }
+        ensures ids { (i : ℕ) → by_id elements.new self.new i
+            ≡ all_but (is_of id) (by_id elements.old self.old i) }
+        ensures names_out { (n : List ℕ) → parked_pool elements.new result n
+            ≡ only (is_of id) (pool elements.old self.old n) }
+        ensures ids_out { (i : ℕ) → parked_by_id elements.new result i
+            ≡ only (is_of id) (by_id elements.old self.old i) }
+        ensures apart { Apart (owned elements.new self.new) (parked_owned elements.new result) }
+        ensures owned { Leaves elements.old elements.new (owned elements.old self.old)
+            (owned elements.new self.new ++ parked_owned elements.new result) }
+        ensures spares { elements.new.spare ≡ elements.old.spare }
+    {
+        let place = self.place(elements, id);
+        let mut table = ListTable::new();
+        self.table
+            .move_row(elements, place.index, place.before, &mut table);
+        ParkedCells {
+            pools: CellPools { table },
+        }
+    }
+
+    /// Takes all pools out that lie in a subpool, as [`CellPools::park_one`] takes one.
+    pub fn park_pools(&mut self, elements: &mut Elements, subpool: u32) -> ParkedCells
+        requires { IsCellPools elements.old self.old }
+        ensures pools { IsCellPools elements.new self.new }
+        ensures parked { IsParked elements.new result }
+        ensures names { (n : List ℕ) → pool elements.new self.new n
+            ≡ all_but (lies_in subpool) (pool elements.old self.old n) }
+        ensures ids { (i : ℕ) → by_id elements.new self.new i
+            ≡ all_but (lies_in subpool) (by_id elements.old self.old i) }
+        ensures names_out { (n : List ℕ) → parked_pool elements.new result n
+            ≡ only (lies_in subpool) (pool elements.old self.old n) }
+        ensures ids_out { (i : ℕ) → parked_by_id elements.new result i
+            ≡ only (lies_in subpool) (by_id elements.old self.old i) }
+        ensures apart { Apart (owned elements.new self.new) (parked_owned elements.new result) }
+        ensures owned { Leaves elements.old elements.new (owned elements.old self.old)
+            (owned elements.new self.new ++ parked_owned elements.new result) }
+        ensures spares { elements.new.spare ≡ elements.old.spare }
+    {
+        let mut out = ListTable::new();
+        let mut place = Place {
+            index: 0,
+            before: 0,
+        };
+        let count = self.table.count(elements);
+        let mut left = count;
+        while left > 0 {
+            left -= 1;
+            let row = self.table.row(elements, place.index, place.before);
+            if row.words[0] == subpool {
+                self.table
+                    .move_row(elements, place.index, place.before, &mut out);
+            } else {
+                place = Place {
+                    index: place.index + 1,
+                    before: row.id,
+                };
+            }
+        }
+        ParkedCells {
+            pools: CellPools { table: out },
+        }
+    }
+
+    /// Puts parked pools back. It takes no element and gives none.
+    pub fn restore_pools(&mut self, elements: &mut Elements, parked: ParkedCells)
+        requires pools { IsCellPools elements.old self.old }
+        requires parked { IsParked elements.old parked }
+        requires names { (n : List ℕ) → IsSome (parked_pool elements.old parked n)
+            → pool elements.old self.old n ≡ None }
+        requires apart { Apart (parked_owned elements.old parked) (owned elements.old self.old) }
+        ensures pools { IsCellPools elements.new self.new }
+        ensures names { (n : List ℕ) → pool elements.new self.new n
+            ≡ either_of (parked_pool elements.old parked n) (pool elements.old self.old n) }
+        ensures ids { (i : ℕ) → by_id elements.new self.new i
+            ≡ either_of (parked_by_id elements.old parked i) (by_id elements.old self.old i) }
+        ensures owned { Leaves elements.old elements.new
+            (parked_owned elements.old parked ++ owned elements.old self.old) (owned elements.new self.new) }
+        ensures spares { elements.new.spare ≡ elements.old.spare }
+    {
+        let ParkedCells { pools } = parked;
+        let mut rest = pools.table;
+        let mut table = self.table;
+        while rest.count(elements) > 0 {
+            rest.move_row(elements, 0, 0, &mut table);
+        }
+        self.table = table;
+    }
+
+    // The place of the row of this id.
+    fn place(&self, elements: &Elements, id: CellId) -> Place
+        requires pools { IsCellPools elements.now self.now }
+        requires there { IsSome (by_id elements.now self.now id) }
+        ensures place { IsPlace elements.now self.now.table result.index result.before }
+        ensures within { result.index < length (entries elements.now self.now.table) }
+        ensures here { IfSome (slice_get (entries elements.now self.now.table) result.index) (λ e. e.id ≡ id) }
+    {
+        self.seek(elements, id)
+    }
+
+    // The row of this id, in hand.
+    pub(crate) fn row(&self, elements: &Elements, id: CellId) -> Row
+        requires pools { IsCellPools elements.now self.now }
+        requires there { IsSome (by_id elements.now self.now id) }
+        ensures named { result.id ≡ id }
+        ensures open { IsOpen elements.now self.now.table result }
+        ensures parts { entries elements.now self.now.table
+            ≡ earlier elements.now self.now.table result.index
+            ++ entry_of elements.now result ∷ later elements.now self.now.table result.index }
+        ensures pool { by_id elements.now self.now id ≡ Some (pool_of (entry_of elements.now result)) }
+        ensures room { 5 + word result.words 4 ≤ result.list.count }
+        ensures sound { IsSound (entry_of elements.now result) }
+        ensures owned { (t : Store) (has : List ℕ) → Leaves elements.now t
+            (owned_but elements.now self.now.table result.index ++ list_ids elements.now result.list) has
+            → Leaves elements.now t (owned elements.now self.now) has }
+    {
+        let place = self.seek(elements, id);
+        self.table.row(elements, place.index, place.before)
+    }
+
+    // The place of the row of this id, or that behind the last.
+    fn seek(&self, elements: &Elements, id: CellId) -> Place
+        requires { IsCellPools elements.now self.now }
+        ensures place { IsPlace elements.now self.now.table result.index result.before }
+        ensures earlier { id_in id (pools_of (take result.index (entries elements.now self.now.table))) ≡ None }
+        ensures here { IfSome (slice_get (entries elements.now self.now.table) result.index) (λ e. e.id ≡ id) }
+    {
+        let count = self.table.count(elements);
+        let mut place = Place {
+            index: 0,
+            before: 0,
+        };
+        while place.index < count {
+            let row = self.table.row(elements, place.index, place.before);
+            if row.id == id {
+                break;
+            }
+            place = Place {
+                index: place.index + 1,
+                before: row.id,
+            };
+        }
+        place
+    }
+}

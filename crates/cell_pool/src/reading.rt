@@ -1,0 +1,107 @@
+//! What is asked of cell pools.
+
+ghost use Rattle.std.specs.Prelude.{◌≡◌, ◌↔◌, ◌∷◌, [], IsSome, IsTrue, IfSome, slice_get};
+ghost use Rattle.cell_pool.specs.Names.{side_in};
+ghost use Rattle.cell_pool.specs.Pools.{uses, Meets};
+
+use crate::lists::{TEXTS, item};
+use crate::pools::{CellPools, Place};
+use crate::settings::{CellId, Extent, Settings, Side};
+use crate::walks::{is_cell, is_free, meets};
+use vsm_elements::Elements;
+
+// The side that a word says.
+fn side_of(word: u32) -> Side
+    ensures { result ≡ side_in (word ∷ []) }
+{
+    if word == 0 { Side::Below } else { Side::Above }
+}
+
+impl CellPools {
+    ghost use Rattle.cell_pool.specs.CellPools.{pool, by_id, IsCellPools};
+
+    /// Whether the address is that of a cell of the pool which isn't free.
+    pub fn in_use(&self, elements: &Elements, id: CellId, address: u32) -> bool
+        requires pools { IsCellPools elements.now self.now }
+        requires there { IsSome (by_id elements.now self.now id) }
+        ensures { IfSome (by_id elements.now self.now id) (λ p. result ≡ uses p address) }
+    {
+        let row = self.row(elements, id);
+        let extents = row.words[4];
+        is_cell(row.list, elements, extents, row.words[1], address)
+            && !is_free(row.list, elements, TEXTS + extents, address)
+    }
+
+    /// Whether the area of so many bytes from an address on overlaps an extent of some pool, up to the end of the last
+    /// doubleword of which a cell is a part.
+    pub fn holds(&self, elements: &Elements, start: u32, len: u32) -> bool
+        requires { IsCellPools elements.now self.now }
+        ensures { IsTrue result ↔ Meets (pool elements.now self.now) start len }
+    {
+        let count = self.table.count(elements);
+        let mut place = Place {
+            index: 0,
+            before: 0,
+        };
+        while place.index < count {
+            let row = self.table.row(elements, place.index, place.before);
+            if meets(row.list, elements, row.words[4], row.words[1], start, len) {
+                return true;
+            }
+            place = Place {
+                index: place.index + 1,
+                before: row.id,
+            };
+        }
+        false
+    }
+
+    /// What the pool was built with.
+    pub fn settings(&self, elements: &Elements, id: CellId) -> Settings
+        requires pools { IsCellPools elements.now self.now }
+        requires there { IsSome (by_id elements.now self.now id) }
+        ensures { IfSome (by_id elements.now self.now id) (λ p. result ≡ p.settings) }
+    {
+        let row = self.row(elements, id);
+        let form = item(row.list, elements, 4);
+        let side = side_of(form[0]);
+        Settings {
+            subpool: row.words[0],
+            size: row.words[1],
+            primary: row.words[2],
+            secondary: row.words[3],
+            side,
+        }
+    }
+
+    /// The pool's extent at an index, in the order in which they were made; `None` past the last.
+    pub fn extent_at(&self, elements: &Elements, id: CellId, i: u32) -> Option<Extent>
+        requires pools { IsCellPools elements.now self.now }
+        requires there { IsSome (by_id elements.now self.now id) }
+        ensures { IfSome (by_id elements.now self.now id) (λ p. result ≡ slice_get p.extents i) }
+    {
+        let row = self.row(elements, id);
+        if i >= row.words[4] {
+            return None;
+        }
+        let words = item(row.list, elements, TEXTS + i);
+        Some(Extent {
+            start: words[0],
+            count: words[1],
+        })
+    }
+
+    /// The pool's free cell at an index, in the order in which they are handed out; `None` past the last.
+    pub fn cell_at(&self, elements: &Elements, id: CellId, i: u32) -> Option<u32>
+        requires pools { IsCellPools elements.now self.now }
+        requires there { IsSome (by_id elements.now self.now id) }
+        ensures { IfSome (by_id elements.now self.now id) (λ p. result ≡ slice_get p.cells i) }
+    {
+        let row = self.row(elements, id);
+        let front = TEXTS + row.words[4];
+        if i >= row.list.count - front {
+            return None;
+        }
+        Some(item(row.list, elements, front + i)[0])
+    }
+}

@@ -1,0 +1,42 @@
+use arrayvec::{ArrayString, ArrayVec};
+use vsm_elements::Id;
+
+/// The name of a cell pool: a text of at most 63 bytes.
+pub type Name = ArrayString<63>;
+
+/// The text of a header: at most 24 bytes.
+pub type Header = ArrayVec<u8, 24>;
+
+/// What names a cell pool to the calls: the id of its row, which it keeps while it is parked.
+pub type CellId = Id;
+
+/// The side of the 16 MB line that a cell pool's extents may lie on: below it alone, or on either side.
+#[derive(Clone, Copy, Debug, PartialEq, Eq)]
+pub enum Side {
+    Below,
+    Above,
+}
+
+/// What a cell pool is built with beside its name and its header.
+#[derive(Clone, Copy, Debug, PartialEq, Eq)]
+pub struct Settings {
+    /// The subpool that it lies in.
+    pub subpool: u32,
+    /// The size of a cell in bytes.
+    pub size: u32,
+    /// How many cells the first extent has.
+    pub primary: u32,
+    /// How many cells each further extent has.
+    pub secondary: u32,
+    /// Where the extents may lie.
+    pub side: Side,
+}
+
+/// An extent of a cell pool.
+#[derive(Clone, Copy, Debug, PartialEq, Eq)]
+pub struct Extent {
+    /// The address of its first cell.
+    pub start: u32,
+    /// How many cells it has.
+    pub count: u32,
+}

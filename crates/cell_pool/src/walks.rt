@@ -1,0 +1,115 @@
+//! Walks over the items of a pool's list.
+
+ghost use Rattle.std.specs.Prelude.{◌≡◌, ◌+◌, ◌*◌, ◌≤◌, ◌<◌, map, take, drop};
+ghost use Rattle.std.specs.List.{list_any};
+ghost use Rattle.vsm_elements.specs.Store.{among};
+ghost use Rattle.vsm_elements.specs.Chain.{links, IsChain};
+ghost use Rattle.list_table.specs.Kept.{items_of};
+ghost use Rattle.cell_pool.specs.Pools.{cells_from, cells_of, overlaps, rounded};
+ghost use Rattle.cell_pool.specs.Kept.{extent_of, cell_of};
+
+use crate::lists::{TEXTS, before};
+use crate::settings::Extent;
+use vsm_elements::{Chain, Elements};
+
+// Whether the address is one of the cells of an extent.
+fn is_cell_of(size: u32, extent: Extent, address: u32) -> bool
+    requires { 0 < size }
+    ensures { result ≡ among address (cells_from size extent.start extent.count) }
+{
+    if address < extent.start {
+        return false;
+    }
+    let past = address - extent.start;
+    if past % size != 0 {
+        return false;
+    }
+    past / size < extent.count
+}
+
+// Whether an area of so many bytes and an extent have an address in common.
+fn overlaps(size: u32, start: u32, len: u32, extent: Extent) -> bool
+    ensures { result ≡ overlaps size start len extent }
+{
+    let bytes = u64::from(extent.count) * u64::from(size);
+    let rounded = 8 * ((bytes + 7) / 8);
+    u64::from(start) < u64::from(extent.start) + rounded
+        && u64::from(extent.start) < u64::from(start) + u64::from(len)
+}
+
+// Whether the address is a cell of one of the extents.
+pub(crate) fn is_cell(
+    list: Chain,
+    elements: &Elements,
+    extents: u32,
+    size: u32,
+    address: u32,
+) -> bool
+    requires chain { IsChain elements.now list }
+    requires within { 5 + extents ≤ list.count }
+    requires size { 0 < size }
+    ensures { result
+        ≡ among address (cells_of size (map extent_of (take extents (drop 5 (items_of (links elements.now list)))))) }
+{
+    let mut id = before(list, elements, TEXTS);
+    for k in 0..extents {
+        id = list.next(elements, TEXTS + k, id);
+        let words = list.words(elements, TEXTS + k, id);
+        let extent = Extent {
+            start: words[0],
+            count: words[1],
+        };
+        if is_cell_of(size, extent, address) {
+            return true;
+        }
+    }
+    false
+}
+
+// Whether the address is a free cell; these are the items from place `front` on.
+pub(crate) fn is_free(list: Chain, elements: &Elements, front: u32, address: u32) -> bool
+    requires chain { IsChain elements.now list }
+    requires within { front ≤ list.count }
+    ensures { result ≡ among address (map cell_of (drop front (items_of (links elements.now list)))) }
+{
+    let mut id = before(list, elements, front);
+    let count = list.count - front;
+    for k in 0..count {
+        id = list.next(elements, front + k, id);
+        let words = list.words(elements, front + k, id);
+        if address == words[0] {
+            return true;
+        }
+    }
+    false
+}
+
+// Whether an area of so many bytes overlaps one of the extents.
+pub(crate) fn meets(
+    list: Chain,
+    elements: &Elements,
+    extents: u32,
+    size: u32,
+    start: u32,
+    len: u32,
+) -> bool
+    requires chain { IsChain elements.now list }
+    requires within { 5 + extents ≤ list.count }
+    ensures { result
+        ≡ list_any (overlaps size start len)
+        (map extent_of (take extents (drop 5 (items_of (links elements.now list))))) }
+{
+    let mut id = before(list, elements, TEXTS);
+    for k in 0..extents {
+        id = list.next(elements, TEXTS + k, id);
+        let words = list.words(elements, TEXTS + k, id);
+        let extent = Extent {
+            start: words[0],
+            count: words[1],
+        };
+        if overlaps(size, start, len, extent) {
+            return true;
+        }
+    }
+    false
+}

@@ -1,0 +1,172 @@
+ghost use Rattle.std.specs.Prelude.{◌≡◌, ℕ, ◌+◌, ◌<◌, ◌++◌, ◌∷◌, [], length, Some, slice_get, List, IfSome, drop};
+ghost use Rattle.vsm_elements.specs.Store.{Store};
+ghost use Rattle.vsm_elements.specs.Ownership.{Leaves, Apart};
+ghost use Rattle.list_table.specs.Kept.{head_in};
+
+use crate::row::Row;
+use vsm_elements::{Chain, Elements, Id};
+
+/// The head of a table of rows, each with words of its own and a list.
+///
+/// It is kept by value. To change a list, a row is taken in hand by [`ListTable::row`], its list is changed as a
+/// [`Chain`], and [`ListTable::write`] puts the row back. A table that is no longer wanted is discarded.
+#[derive(Clone, Copy, Debug, PartialEq, Eq)]
+pub struct ListTable {
+    pub(crate) chain: Chain,
+}
+
+// The words of a row's element: the head of its list, and its own.
+fn row_words(words: [u32; 5], list: Chain) -> [u32; 7]
+    ensures head { head_in result ≡ list }
+    ensures words { drop 2 result ≡ words }
+{
+    [
+        list.first, list.count, words[0], words[1], words[2], words[3], words[4],
+    ]
+}
+
+fn own_words(words: [u32; 7]) -> [u32; 5]
+    ensures { result ≡ drop 2 words }
+{
+    [words[2], words[3], words[4], words[5], words[6]]
+}
+
+fn list_head(words: [u32; 7]) -> Chain
+    ensures { result ≡ head_in words }
+{
+    Chain {
+        first: words[0],
+        count: words[1],
+    }
+}
+
+#[tactic(auto, unfolding(
+    crate::specs::ListTable::entries, crate::specs::ListTable::owned, crate::specs::ListTable::IsTable,
+    crate::specs::ListTable::IsPlace
+))]
+impl ListTable {
+    ghost use Rattle.list_table.specs.ListTable.{entries, earlier, later, owned, owned_but, entry_of, list_ids};
+    ghost use Rattle.list_table.specs.ListTable.{IsTable, IsPlace, IsOpen};
+
+    /// The table without rows. It has no element.
+    pub fn new() -> ListTable
+        ensures table { (s : Store) → IsTable s result }
+        ensures empty { (s : Store) → entries s result ≡ [] }
+        ensures owned { (s : Store) → owned s result ≡ [] }
+        ensures front { (s : Store) → IsPlace s result 0 0 }
+    {
+        ListTable {
+            chain: Chain::new(),
+        }
+    }
+
+    /// How many rows there are.
+    pub fn count(&self, elements: &Elements) -> u32
+        requires { IsTable elements.now self.now }
+        ensures count { result ≡ length (entries elements.now self.now) }
+        ensures front { IsPlace elements.now self.now 0 0 }
+        ensures bare { result ≡ 0 → owned elements.now self.now ≡ [] }
+    {
+        let _spare = elements.spare();
+        self.chain.count
+    }
+
+    /// The row at an index, behind the row of this id (0 at the front).
+    pub fn row(&self, elements: &Elements, index: u32, before: Id) -> Row
+        requires table { IsTable elements.now self.now }
+        requires place { IsPlace elements.now self.now index before }
+        requires there { index < length (entries elements.now self.now) }
+        ensures index { result.index ≡ index }
+        ensures entry { slice_get (entries elements.now self.now) index ≡ Some (entry_of elements.now result) }
+        ensures next { IsPlace elements.now self.now (index + 1) result.id }
+        ensures open { IsOpen elements.now self.now result }
+        ensures parts { entries elements.now self.now
+            ≡ earlier elements.now self.now index ++ entry_of elements.now result ∷ later elements.now self.now index }
+        ensures owned { (t : Store) (has : List ℕ) → Leaves elements.now t
+            (owned_but elements.now self.now index ++ list_ids elements.now result.list) has
+            → Leaves elements.now t (owned elements.now self.now) has }
+    {
+        let id = self.chain.next(elements, index, before);
+        let words = self.chain.words(elements, index, id);
+        Row {
+            index,
+            id,
+            words: own_words(words),
+            list: list_head(words),
+        }
+    }
+
+    /// Puts a row that was in hand back, with its words and its list.
+    pub fn write(&self, elements: &mut Elements, row: Row)
+        requires { IsOpen elements.old self.now row }
+        ensures table { IsTable elements.new self.now }
+        ensures entries { entries elements.new self.now
+            ≡ earlier elements.old self.now row.index
+            ++ entry_of elements.old row ∷ later elements.old self.now row.index }
+        ensures owned { Leaves elements.old elements.new
+            (owned_but elements.old self.now row.index ++ list_ids elements.old row.list)
+            (owned elements.new self.now) }
+        ensures spares { elements.new.spare ≡ elements.old.spare }
+    {
+        let words = row_words(row.words, row.list);
+        self.chain.set_words(elements, row.index, row.id, words);
+    }
+
+    /// A row with these words and an empty list, before all others.
+    ///
+    /// It takes one element.
+    pub fn push(&mut self, elements: &mut Elements, words: [u32; 5]) -> Id
+        requires table { IsTable elements.old self.old }
+        requires room { 0 < elements.old.spare }
+        ensures table { IsTable elements.new self.new }
+        ensures entries { entries elements.new self.new
+            ≡ record { id = result; words = words; items = [] } ∷ entries elements.old self.old }
+        ensures front { IsPlace elements.new self.new 0 0 }
+        ensures owned { Leaves elements.old elements.new
+            (owned elements.old self.old) (owned elements.new self.new) }
+        ensures spares { elements.new.spare + 1 ≡ elements.old.spare }
+    {
+        let words = row_words(words, Chain::new());
+        self.chain.insert(elements, 0, 0, words)
+    }
+
+    /// The row at an index moves to the front of another table, with its list and its elements.
+    pub fn move_row(&mut self, elements: &mut Elements, index: u32, before: Id, to: &mut ListTable)
+        requires table { IsTable elements.old self.old }
+        requires place { IsPlace elements.old self.old index before }
+        requires there { index < length (entries elements.old self.old) }
+        requires to { IsTable elements.old to.old }
+        requires apart { Apart (owned elements.old self.old) (owned elements.old to.old) }
+        ensures table { IsTable elements.new self.new }
+        ensures to { IsTable elements.new to.new }
+        ensures left { entries elements.new self.new
+            ≡ earlier elements.old self.old index ++ later elements.old self.old index }
+        ensures moved { IfSome (slice_get (entries elements.old self.old) index) (λ e.
+            entries elements.new to.new ≡ e ∷ entries elements.old to.old) }
+        ensures place { IsPlace elements.new self.new index before }
+        ensures apart { Apart (owned elements.new self.new) (owned elements.new to.new) }
+        ensures owned { Leaves elements.old elements.new
+            (owned elements.old self.old ++ owned elements.old to.old)
+            (owned elements.new self.new ++ owned elements.new to.new) }
+        ensures spares { elements.new.spare ≡ elements.old.spare }
+    {
+        self.chain.move_link(elements, index, before, &mut to.chain);
+    }
+
+    /// Takes the first row out, and gives back its elements, those of its list among them.
+    pub fn drop_first(&mut self, elements: &mut Elements)
+        requires table { IsTable elements.old self.old }
+        requires some { 0 < length (entries elements.old self.old) }
+        ensures table { IsTable elements.new self.new }
+        ensures entries { entries elements.new self.new ≡ drop 1 (entries elements.old self.old) }
+        ensures owned { Leaves elements.old elements.new
+            (owned elements.old self.old) (owned elements.new self.new) }
+        ensures spares { IfSome (slice_get (entries elements.old self.old) 0) (λ e.
+            elements.new.spare ≡ elements.old.spare + length e.items + 1) }
+    {
+        let id = self.chain.next(elements, 0, 0);
+        let words = self.chain.words(elements, 0, id);
+        list_head(words).discard(elements);
+        self.chain.remove(elements, 0, 0);
+    }
+}
