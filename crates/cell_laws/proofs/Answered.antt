@@ -14,7 +14,6 @@ use Rattle.vsm_model.specs.Step.{replied}
 use Rattle.vsm_model.specs.WellFormed.{IsWellFormed}
 use Rattle.vsm_model.proofs.Chosen.{accepted_state, accepted_reply}
 use Rattle.vsm_model.proofs.Registered.{AreWords, registers_leave_well_formed, words_alone}
-use Rattle.cell_laws.specs.Extents.{ExtentsHaveCells}
 
 -- the state and the reply
 pub state_is : (x : Service) (after : State × Reply) (t : State) (reply : Reply) → replied x after ≡ Accepted t reply →
@@ -24,17 +23,12 @@ state_is x after t reply e = accepted_state _ t after.1 reply e
 pub reply_is : (x : Service) (after : State × Reply) (t : State) (reply : Reply) → replied x after ≡ Accepted t reply → after.1 ≡ reply
 reply_is x after t reply e = accepted_reply _ t after.1 reply e
 
-pub cells_registered : (s : State) (rows : List (ℕ × ℕ)) → ExtentsHaveCells s → ExtentsHaveCells (with_registers s rows)
-cells_registered s rows h = subst ExtentsHaveCells (sym (words_alone rows s)) h
-
 pub left_well_formed : (settings : Settings) (x : Service) (after : State × Reply) (t : State) (reply : Reply) →
-    AreWords (registers_set x after.1) → IsWellFormed settings after.0 → ExtentsHaveCells after.0 → replied x after ≡ Accepted t reply →
-    IsWellFormed settings t × ExtentsHaveCells t
-left_well_formed settings x after t reply words w cells e =
-    subst (λ t. IsWellFormed settings t × ExtentsHaveCells t) (state_is x after t reply e) (
-      registers_leave_well_formed settings (registers_set x after.1) after.0 words w,
-      cells_registered after.0 (registers_set x after.1) cells,
-    )
+    AreWords (registers_set x after.1) → IsWellFormed settings after.0 → replied x after ≡ Accepted t reply →
+    IsWellFormed settings t
+left_well_formed settings x after t reply words w e =
+    subst (IsWellFormed settings) (state_is x after t reply e)
+    (registers_leave_well_formed settings (registers_set x after.1) after.0 words w)
 
 none_is_some : (r : ℕ) → ◌≡◌ {A = Option ℕ} None (Some r) → ⊥
 none_is_some r e = cc

@@ -25,7 +25,7 @@ use Rattle.cell_laws.specs.Kept.{BuildLeavesWellFormed}
 use Rattle.cell_laws.proofs.Lists.{pairs_nil}
 use Rattle.cell_laws.proofs.CellLists.{all_in, cell_bounds, cells_distinct}
 use Rattle.cell_laws.proofs.Placed.{IsOpenIn, place_from, in_regions, area_taken, area_alone, area_table, picked, same_some, none_or_some}
-use Rattle.cell_laws.proofs.Pools.{added_kept, extended_cells}
+use Rattle.cell_laws.proofs.Pools.{added_kept, have_cells}
 use Rattle.cell_laws.proofs.Answered.{left_well_formed}
 
 -- Subpools and sight alone change where a task gets a subpool of its own.
@@ -90,7 +90,7 @@ module _ (settings : Settings) (s : State) (w : IsWellFormed settings s) (n : �
   pool_stays q h =
       pool_still s v q
       (λ e. or_right ((q.subpool.number == n) && (q.subpool.owner == s.current)) (s.subpools q.subpool.number q.subpool.owner) e)
-      (λ x h. record { on_doubleword = h.on_doubleword; is_taken = h.is_taken; in_pages = h.in_pages }) h
+      (λ x h. record { has_cells = h.has_cells; on_doubleword = h.on_doubleword; is_taken = h.is_taken; in_pages = h.in_pages }) h
 
   subpool_kept : n ≤ 127 → IsWellFormed settings v
   subpool_kept private = record {
@@ -163,7 +163,7 @@ some_is_none : {A : Type 0} (o : Option A) → is_some o ≡ false → o ≡ Non
 some_is_none None e = refl
 some_is_none (Some x) e = absurd (true≢false e)
 
-module _ (settings : Settings) (s : State) (w : IsWellFormed settings s) (positive : ExtentsHaveCells s) (name : List ℕ) (header : Option (List ℕ)) (b : Build)
+module _ (settings : Settings) (s : State) (w : IsWellFormed settings s) (name : List ℕ) (header : Option (List ℕ)) (b : Build)
     (private : b.number ≤ 127) (valid : (are_cells b.size b.primary ≡ true) × (are_cells b.size (secondary_count b) ≡ true))
     (none : cell_pool_in s.cell_pools name ≡ None) (room : length s.cell_pools < 256) where
   abbrev pool : CellPool
@@ -175,7 +175,7 @@ module _ (settings : Settings) (s : State) (w : IsWellFormed settings s) (positi
   abbrev new : CellExtent
   new = extent_at goes b.primary
 
-  built_kept : is_nowhere goes ≡ false → IsWellFormed settings (built settings s name header b).0 × ExtentsHaveCells (built settings s name header b).0
+  built_kept : is_nowhere goes ≡ false → IsWellFormed settings (built settings s name header b).0
   built_kept there =
       let own = own_kept settings s w b.number private in
       let t : State = with_own s b.number in
@@ -203,14 +203,12 @@ module _ (settings : Settings) (s : State) (w : IsWellFormed settings s) (positi
       All-weaker (λ cell. is_in cells cell ≡ true) (λ cell. is_in (cells_of (with_extent pool new)) cell ≡ true)
       (λ cell e. ap (λ xs. is_in xs cell) (append-nil cells) ∙ e) cells (all_in cells) in
       let distinct : AllPairs (λ cell other. cell ≢ other) cells = cells_distinct b.size (address_of goes) b.primary (omega (arith, size)) in
-      let held : ExtentsHaveCells t = subst ExtentsHaveCells (sym is) positive in
+      let held : ExtentsHaveCells t = subst ExtentsHaveCells (sym is) (have_cells s w.cell_pools) in
       let no_cells = All-nil (λ (x : CellExtent). 1 ≤ x.cells) in
       let region = in_regions settings pool.location r one in
-      let untabled = area_table t pool.subpool count goes in (
-        added_kept settings t u own.0 held alone untabled pool p no_cells r region (address_of goes) b.primary some a name cells distinct are_its
-            (ap (λ table. cell_pool_in table name) same_table ∙ none) (subst (λ table. length table < 256) (sym same_table) room) refl,
-        extended_cells settings t u own.0 held alone untabled pool p no_cells r region (address_of goes) b.primary some a name cells distinct are_its,
-      )
+      let untabled = area_table t pool.subpool count goes in
+      added_kept settings t u own.0 held alone untabled pool p no_cells r region (address_of goes) b.primary some a name cells distinct are_its
+            (ap (λ table. cell_pool_in table name) same_table ∙ none) (subst (λ table. length table < 256) (sym same_table) room) refl
 
 -- Without a cause the numbers are valid, the name is new, and there's room for one more and a place.
 pub record MayBuild (settings : Settings) (s : State) (name : List ℕ) (header : Option (List ℕ)) (b : Build) : Type 0 where
@@ -240,8 +238,8 @@ may_build settings s name header b e =
     }
 
 pub build_leaves_well_formed : BuildLeavesWellFormed
-build_leaves_well_formed settings names_full s t name header b reply w cells e =
+build_leaves_well_formed settings names_full s t name header b reply w e =
     let done = no_cause settings names_full s t (build name header b) reply refl e in
     let may = may_build settings s name header b done.0 in
-    let kept = built_kept settings s w cells name header b may.private may.valid may.none may.room may.there in
-    left_well_formed settings (build name header b) (built settings s name header b) t reply (omega arith, omega arith, tt) kept.0 kept.1 done.1
+    let kept = built_kept settings s w name header b may.private may.valid may.none may.room may.there in
+    left_well_formed settings (build name header b) (built settings s name header b) t reply (omega arith, omega arith, tt) kept done.1

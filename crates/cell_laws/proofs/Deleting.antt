@@ -14,7 +14,7 @@ use Rattle.vsm_model.specs.Services.{delete}
 use Rattle.vsm_model.specs.Cells.{pool_of, sees_pool, without_extents, deleted}
 use Rattle.vsm_model.specs.WellFormed.{IsWellFormed, PoolIsSound, IsInSubpool, all_extents}
 use Rattle.vsm_model.proofs.Chosen.{past, no_cause}
-use Rattle.cell_laws.specs.Extents.{lies_in, ExtentsHaveCells}
+use Rattle.cell_laws.specs.Extents.{lies_in}
 use Rattle.cell_laws.specs.Kept.{DeleteLeavesWellFormed}
 use Rattle.cell_laws.proofs.Lists.{across_turned}
 use Rattle.cell_laws.proofs.Tables.{row_of}
@@ -78,7 +78,7 @@ module _ (settings : Settings) (s : State) (w : IsWellFormed settings s) (name :
     in_subpool = λ k d below.
         let its = h.in_subpool k d below in
         let moved = extent_left settings s w.pages pool.subpool of_pool q _ its (others_apart q _ its (far k d below)) in
-        record { on_doubleword = moved.on_doubleword; is_taken = moved.is_taken; in_pages = moved.in_pages };
+        record { has_cells = moved.has_cells; on_doubleword = moved.on_doubleword; is_taken = moved.is_taken; in_pages = moved.in_pages };
     are_cells_of_it = h.are_cells_of_it;
     distinct = h.distinct;
     bounds = h.bounds;
@@ -113,11 +113,8 @@ module _ (settings : Settings) (s : State) (w : IsWellFormed settings s) (name :
             (all_stay (others s.cell_pools name) (rest_of (λ row. PoolIsSound s row.1) s.cell_pools name w.cell_pools.each) far);
       }
 
-  pub deleted_cells : ExtentsHaveCells s → ExtentsHaveCells left_over
-  deleted_cells cells = rest_of (λ row. All (λ x. 1 ≤ x.cells) row.1.extents) s.cell_pools name cells
-
 pub delete_leaves_well_formed : DeleteLeavesWellFormed
-delete_leaves_well_formed settings names_full s t name reply w cells e =
+delete_leaves_well_formed settings names_full s t name reply w e =
     let done = no_cause settings names_full s t (delete name) reply refl e in
     let first = past (not (sees_pool s name)) NoCellPool [] done.0 in
     let found = (pool_is s name (not-false (sees_pool s name) first.0)).0 in
@@ -125,5 +122,4 @@ delete_leaves_well_formed settings names_full s t name reply w cells e =
     let is : (deleted s name).0 ≡ left_over settings s w name pool found =
     ap (λ (u : State). record u { cell_pools = without_cell_pool s.cell_pools name }) (left_is settings s w name pool found) in
     left_well_formed settings (delete name) (deleted s name) t reply (omega arith, omega arith, tt)
-    (subst (IsWellFormed settings) (sym is) (deleted_kept settings s w name pool found))
-    (subst ExtentsHaveCells (sym is) (deleted_cells settings s w name pool found cells)) done.1
+    (subst (IsWellFormed settings) (sym is) (deleted_kept settings s w name pool found)) done.1

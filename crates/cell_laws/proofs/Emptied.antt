@@ -225,6 +225,7 @@ module _ (settings : Settings) (s : State) (w : PagesAreSound settings s) where
     pub extent_left : (q : CellPool) (y : CellExtent) → IsInSubpool s q y →
         ((d : ℕ) → among (y.address / 8) (extent_doublewords q y.cells) d ≡ true → gone d ≡ false) → IsInSubpool (emptied s p gone) q y
     extent_left q y h apart = record {
+      has_cells = h.has_cells;
       on_doubleword = h.on_doubleword;
       is_taken = λ d own. and_from (not (gone d)) (s.taken d) (ap not (apart d own)) (h.is_taken d own);
       in_pages = λ d own.

@@ -24,12 +24,12 @@ use Rattle.vsm_model.specs.Causes.{first_cause}
 use Rattle.vsm_model.specs.WellFormed.{IsWellFormed, PoolIsSound}
 use Rattle.vsm_model.proofs.Chosen.{past, no_cause, accepted_has_its_effect}
 use Rattle.vsm_model.proofs.Registered.{AreWords, register_leaves_well_formed}
-use Rattle.cell_laws.specs.Extents.{AreaIsTaken, ExtentsHaveCells}
+use Rattle.cell_laws.specs.Extents.{AreaIsTaken}
 use Rattle.cell_laws.specs.Kept.{GetLeavesWellFormed, FreeLeavesWellFormed}
 use Rattle.cell_laws.proofs.CellLists.{in_left, in_right, all_in, all_drop, pairs_drop, cell_bounds, cells_distinct}
 use Rattle.cell_laws.proofs.Placed.{place_from, in_regions, area_taken, area_alone, area_table}
 use Rattle.cell_laws.proofs.Words.{cell_is_word}
-use Rattle.cell_laws.proofs.Pools.{sound_of, cells_of_each, pool_is, freed_kept, freed_cells, grown, extended, extended_pages, extended_sound, extended_kept, extended_cells}
+use Rattle.cell_laws.proofs.Pools.{sound_of, cells_of_each, pool_is, freed_kept, grown, extended, extended_pages, extended_sound, extended_kept, have_cells}
 use Rattle.cell_laws.proofs.Answered.{left_well_formed, named_words, none_of}
 
 -- the first of a list that isn't empty
@@ -50,12 +50,11 @@ cells_grown pool x =
 -- What GET leaves: a well-formed state, and the address of a cell.
 pub record IsGood (settings : Settings) (after : State × Reply) : Type 0 where
   pub state : IsWellFormed settings after.0
-  pub cells : ExtentsHaveCells after.0
   pub cell : ℕ
   pub reply : after.1 ≡ Cell cell
   pub small : cell < 2 ^ 32
 
-module _ (settings : Settings) (s : State) (valid : settings_valid settings ≡ true) (w : IsWellFormed settings s) (positive : ExtentsHaveCells s) (name : List ℕ)
+module _ (settings : Settings) (s : State) (valid : settings_valid settings ≡ true) (w : IsWellFormed settings s) (name : List ℕ)
     (found : cell_pool_in s.cell_pools name ≡ Some (pool_of s name)) where
   abbrev its : CellPool
   its = pool_of s name
@@ -69,7 +68,6 @@ module _ (settings : Settings) (s : State) (valid : settings_valid settings ≡ 
     state = freed_kept settings s w name its found (drop 1 its.free)
         (all_drop (λ cell. is_in (cells_of its) cell ≡ true) its.free sound.are_cells_of_it)
         (pairs_drop (λ cell other. cell ≢ other) its.free sound.distinct);
-    cells = freed_cells settings s w name its found (drop 1 its.free) positive;
     cell = unwrap_or (slice_get its.free 0) 0;
     reply = refl;
     small = cell_is_word settings s its (unwrap_or (slice_get its.free 0) 0) valid w.pages sound
@@ -97,6 +95,7 @@ module _ (settings : Settings) (s : State) (valid : settings_valid settings ≡ 
       let alone = area_alone s its.subpool count goes in
       let same = area_table s its.subpool count goes in
       let region = in_regions settings its.location r one in
+      let positive = have_cells s w.cell_pools in
       let whole = cells_of_each s name its w.cell_pools positive found in
       let all : List ℕ = its.free ++ extent_cells its.size new in
       let empty = empty_list its.free none in
@@ -117,7 +116,6 @@ module _ (settings : Settings) (s : State) (valid : settings_valid settings ≡ 
       let apart = pairs_drop (λ cell other. cell ≢ other) all distinct in
       record {
         state = extended_kept settings s u w positive alone same its sound whole r region (address_of goes) its.secondary some a name (drop 1 all) apart left found;
-        cells = extended_cells settings s u w positive alone same its sound whole r region (address_of goes) its.secondary some a name (drop 1 all) apart left;
         cell = unwrap_or (slice_get all 0) 0;
         reply = refl;
         small = cell_is_word settings
@@ -151,22 +149,22 @@ get_may settings names_full s name g none =
     (not-false (sees_pool s name) first.0, (past _ NoStorage [] second.1).0)
 
 pub get_leaves_well_formed : GetLeavesWellFormed
-get_leaves_well_formed settings names_full s t name g reply valid low w cells e =
+get_leaves_well_formed settings names_full s t name g reply valid low w e =
     elim (accepted_has_its_effect settings names_full s t (get name g) reply e) [
       | inl done ↦
           let may = get_may settings names_full s name g done.0 in
-          let good = either_out settings s valid w cells name (pool_is s name may.0).0 g.conditional may.1 in
+          let good = either_out settings s valid w name (pool_is s name may.0).0 g.conditional may.1 in
           left_well_formed settings (get name g) (got settings s name) t reply
           (subst (λ (r : Reply). AreWords (registers_set (get name g) r)) (sym good.reply)
           (omega arith, omega arith, (omega arith, good.small, named_words g.register good.cell low good.small)))
-          good.state good.cells done.1
+          good.state done.1
       | inr four ↦
-          subst (λ t. IsWellFormed settings t × ExtentsHaveCells t) (sym four.2)
-          (register_leaves_well_formed s 15 4 settings (omega arith) (omega arith) w, cells)
+          subst (IsWellFormed settings) (sym four.2)
+          (register_leaves_well_formed s 15 4 settings (omega arith) (omega arith) w)
     ]
 
 pub free_leaves_well_formed : FreeLeavesWellFormed
-free_leaves_well_formed settings names_full s t name cell reply w cells e =
+free_leaves_well_formed settings names_full s t name cell reply w e =
     let done = no_cause settings names_full s t (free name cell) reply refl e in
     let first = past (not (sees_pool s name)) NoCellPool ((not (is_in_use (pool_of s name) cell), NotInUse) ∷ []) done.0 in
     let second = past (not (is_in_use (pool_of s name) cell)) NotInUse [] first.1 in
@@ -177,5 +175,4 @@ free_leaves_well_formed settings names_full s t name cell reply w cells e =
     left_well_formed settings (free name cell) (freed s name cell) t reply (omega arith, omega arith, tt)
     (freed_kept settings s w name its found (cell ∷ its.free)
     (All-cons (λ c. is_in (cells_of its) c ≡ true) cell its.free used.0 sound.are_cells_of_it)
-    (AllPairs-cons (λ c d. c ≢ d) cell its.free (none_of its.free cell (not-true (is_in its.free cell) used.1)) sound.distinct))
-    (freed_cells settings s w name its found (cell ∷ its.free) cells) done.1
+    (AllPairs-cons (λ c d. c ≢ d) cell its.free (none_of its.free cell (not-true (is_in its.free cell) used.1)) sound.distinct)) done.1

@@ -19,4 +19,3 @@ pub mod Stays
 pub mod Again
 pub mod Refused
 pub mod Order
-pub mod Positive

@@ -1,5 +1,5 @@
 -- An area at its place is taken, and what holds of pages and extents still does.
-use Rattle.std.proofs.Common.{◌≡◌, ◌⊎◌, ℕ, ◌*◌, ◌/◌, Bool, true, false, not, ◌&&◌, ◌||◌, ◌==◌, if◌then◌else◌, Option, Some, None, is_some, List, [], ◌∷◌, refl, sym, ◌∙◌, ap, subst, arith, inl, inr, true≢false}
+use Rattle.std.proofs.Common.{◌≡◌, ◌≤◌, ◌⊎◌, ℕ, ◌*◌, ◌/◌, Bool, true, false, not, ◌&&◌, ◌||◌, ◌==◌, if◌then◌else◌, Option, Some, None, is_some, List, [], ◌∷◌, refl, sym, ◌∙◌, ap, subst, arith, inl, inr, true≢false}
 use Rattle.std.specs.Prelude.{All, Contains}
 use Rattle.std.proofs.lemmas.Bool.{cases_Bool, and_parts, or_cases, or_left, or_right, eqb-true, not-true, both_ways, false_from_ne_true, cond-true, cond-false}
 use Rattle.std.proofs.lemmas.List.Elements.{All-head, All-tail, All-cons, All-nil, All-contains}
@@ -242,15 +242,17 @@ module _ (s t : State) (r : Region) (its : Subpool) (address count : ℕ) (a : A
   -- an extent that was in its subpool still is
   pub extent_stays : (pool : CellPool) (x : CellExtent) → IsInSubpool s pool x → IsInSubpool t pool x
   extent_stays pool x h = record {
+    has_cells = h.has_cells;
     on_doubleword = h.on_doubleword;
     is_taken = λ d own. a.taken d ∙ or_right (among (address / 8) count d) (s.taken d) (h.is_taken d own);
     in_pages = λ d own. a.others (d / 512) pool.subpool (h.in_pages d own);
   }
 
 -- the area is an extent of a cell pool of its subpool
-pub extent_taken : (s t : State) (r : Region) (pool : CellPool) (address cells : ℕ) →
+pub extent_taken : (s t : State) (r : Region) (pool : CellPool) (address cells : ℕ) → 1 ≤ cells →
     AreaIsTaken r s t pool.subpool address (extent_doublewords pool cells) → IsInSubpool t pool (record { address = address; cells = cells })
-extent_taken s t r pool address cells a = record {
+extent_taken s t r pool address cells some a = record {
+  has_cells = some;
   on_doubleword = a.on_doubleword;
   is_taken = λ d own. a.taken d ∙ or_left (among (address / 8) (extent_doublewords pool cells) d) (s.taken d) own;
   in_pages = λ d own. a.in_subpool d own;

@@ -63,13 +63,20 @@ pages_tabled settings s name pool w = record {
 pub pool_tabled : (s : State) (name : List ℕ) (new pool : CellPool) → PoolIsSound s pool → PoolIsSound (with_pool s name new) pool
 pool_tabled s name new pool p =
     pool_still s (with_pool s name new) pool (λ e. e)
-    (λ x h. record { on_doubleword = h.on_doubleword; is_taken = h.is_taken; in_pages = h.in_pages }) p
+    (λ x h. record { has_cells = h.has_cells; on_doubleword = h.on_doubleword; is_taken = h.is_taken; in_pages = h.in_pages }) p
 
 -- the cell pool of a name is sound
 pub sound_of : (s : State) (name : List ℕ) (pool : CellPool) → CellPoolsAreSound s → cell_pool_in s.cell_pools name ≡ Some pool → PoolIsSound s pool
 sound_of s name pool w found =
     let row = row_of s.cell_pools name pool w.ascending found in
     (all_but_one (λ row. PoolIsSound s row.1) row.before (name, pool) row.after (subst (EachIsSound s) row.is w.each)).0
+
+-- each extent of a sound table has a cell
+pub have_cells : (s : State) → CellPoolsAreSound s → ExtentsHaveCells s
+have_cells s w =
+    All-weaker (λ row. PoolIsSound s row.1) (λ row. All (λ x. 1 ≤ x.cells) row.1.extents)
+    (λ row p. All-weaker (IsInSubpool s row.1) (λ x. 1 ≤ x.cells) (λ x h. h.has_cells) row.1.extents p.in_subpool)
+    s.cell_pools w.each
 
 pub cells_of_each : (s : State) (name : List ℕ) (pool : CellPool) → CellPoolsAreSound s → ExtentsHaveCells s →
     cell_pool_in s.cell_pools name ≡ Some pool → All (λ x. 1 ≤ x.cells) pool.extents
@@ -118,7 +125,7 @@ module _ (settings : Settings) (s : State) (w : IsWellFormed settings s) (name :
         has_subpool = p.has_subpool;
         in_subpool = λ k d below.
             let h = p.in_subpool k d below in
-            record { on_doubleword = h.on_doubleword; is_taken = h.is_taken; in_pages = h.in_pages };
+            record { has_cells = h.has_cells; on_doubleword = h.on_doubleword; is_taken = h.is_taken; in_pages = h.in_pages };
         are_cells_of_it = cells;
         distinct = distinct;
         bounds = p.bounds;
@@ -132,10 +139,6 @@ module _ (settings : Settings) (s : State) (w : IsWellFormed settings s) (name :
             (others s.cell_pools name) (rest_of (λ row. PoolIsSound s row.1) s.cell_pools name w.cell_pools.each))
             parts.0 parts.2;
       }
-
-  pub freed_cells : (free : List ℕ) → ExtentsHaveCells s → ExtentsHaveCells (with_pool s name (record pool { free = free }))
-  freed_cells free cells =
-      all_put (λ q. All (λ x. 1 ≤ x.cells) q.extents) s.cell_pools name (record pool { free = free }) (cells_of_each s name pool w.cell_pools cells found) cells
 
 -- With an extent more, in an area that was free.
 module _ (settings : Settings) (s u : State) (w : IsWellFormed settings s) (positive : ExtentsHaveCells s) (alone : StorageAlone s u) (same : u.cell_pools ≡ s.cell_pools)
@@ -209,11 +212,11 @@ module _ (settings : Settings) (s u : State) (w : IsWellFormed settings s) (posi
     extended_sound = record {
       has_subpool = still_there pool.subpool.number pool.subpool.owner p.has_subpool;
       in_subpool =
-          let new = extent_taken s u r pool address cells a in
+          let new = extent_taken s u r pool address cells some a in
           All-push (IsInSubpool extended (grown free)) pool.extents further
           (λ k d below. let h = extent_stays s u r pool.subpool address (extent_doublewords pool cells) a pool _ (p.in_subpool k d below) in
-          record { on_doubleword = h.on_doubleword; is_taken = h.is_taken; in_pages = h.in_pages })
-          (record { on_doubleword = new.on_doubleword; is_taken = new.is_taken; in_pages = new.in_pages });
+          record { has_cells = h.has_cells; on_doubleword = h.on_doubleword; is_taken = h.is_taken; in_pages = h.in_pages })
+          (record { has_cells = new.has_cells; on_doubleword = new.on_doubleword; is_taken = new.is_taken; in_pages = new.in_pages });
       are_cells_of_it = its;
       distinct = distinct;
       bounds = p.bounds;
@@ -251,9 +254,3 @@ module _ (settings : Settings) (s u : State) (w : IsWellFormed settings s) (posi
         (spans_apart free (subst (AllPairs Apart) (sym no_spans) (pairs_nil Apart)))
         (spans_across free (all_extents s.cell_pools) (subst (λ xs. Across Apart xs (all_extents s.cell_pools)) (sym no_spans) (All-nil (λ x. All (Apart x) (all_extents s.cell_pools))))
         (all_apart s.cell_pools w.cell_pools.each positive)))
-
-    pub extended_cells : ExtentsHaveCells extended
-    extended_cells =
-        subst (λ (table : CellPools). All (λ row. All (λ x. 1 ≤ x.cells) row.1.extents) table) (sym table_is)
-        (all_put (λ q. All (λ x. 1 ≤ x.cells) q.extents) s.cell_pools name (grown free)
-        (All-push (λ x. 1 ≤ x.cells) pool.extents further whole some) positive)

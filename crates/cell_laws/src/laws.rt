@@ -3,19 +3,17 @@ ghost use Rattle.cell_laws.specs.FirstCauses.{BuildIsRefusedForTheFirst, DeleteI
 ghost use Rattle.cell_laws.specs.FirstCauses.{FreeIsRefusedForTheFirst, GetIsRefusedForTheFirst};
 ghost use Rattle.cell_laws.specs.InUse.{CellsOfAPoolLieApart, CellsOfTwoPoolsLieApart, HandedOutWasNotInUse};
 ghost use Rattle.cell_laws.specs.InUse.{LastFreedIsFirst, StaysInUse};
-ghost use Rattle.cell_laws.specs.Kept.{BuildLeavesWellFormed, DeleteLeavesWellFormed, ExtentsKeepTheirCells};
+ghost use Rattle.cell_laws.specs.Kept.{BuildLeavesWellFormed, DeleteLeavesWellFormed};
 ghost use Rattle.cell_laws.specs.Kept.{FreeLeavesWellFormed, GetLeavesWellFormed};
 ghost use Rattle.cell_laws.specs.Promises.{BuildMakesACellPool, DeleteGivesItsExtentsBack, FreeMakesACellFree};
 ghost use Rattle.cell_laws.specs.Promises.{GetHandsOutACell, OrderIsWithoutMeaning};
 
-/// A BUILD, a GET, a FREE and a DELETE that are accepted leave a well-formed state well-formed, in which each extent
-/// has a cell; and each extent has one after any other service too.
+/// A BUILD, a GET, a FREE and a DELETE that are accepted leave a well-formed state well-formed.
 pub fn cell_pools_stay_well_formed()
     ensures build { BuildLeavesWellFormed }
     ensures get { GetLeavesWellFormed }
     ensures free { FreeLeavesWellFormed }
     ensures delete { DeleteLeavesWellFormed }
-    ensures cells { ExtentsKeepTheirCells }
 {}
 
 /// A GET hands out the first free cell, or, where none is free, the first cell of a further extent of the secondary

@@ -1,7 +1,6 @@
 use Rattle.cell_laws.proofs.Building.{build_leaves_well_formed}
 use Rattle.cell_laws.proofs.Deleting.{delete_leaves_well_formed}
 use Rattle.cell_laws.proofs.Getting.{free_leaves_well_formed, get_leaves_well_formed}
-use Rattle.cell_laws.proofs.Positive.{extents_keep_their_cells}
 use Rattle.cell_laws.proofs.laws.cell_pools_stay_well_formed.Goals as goal
 
 pub returns-clause-build : goal.returns-clause-build
@@ -15,6 +14,3 @@ returns-clause-free c = free_leaves_well_formed
 
 pub returns-clause-delete : goal.returns-clause-delete
 returns-clause-delete c = delete_leaves_well_formed
-
-pub returns-clause-cells : goal.returns-clause-cells
-returns-clause-cells c = extents_keep_their_cells
