@@ -1,12 +1,14 @@
 -- An accepted obtain, release or store leaves a well-formed state.
-use Rattle.std.proofs.Common.{◌≡◌, ℕ, zero, suc, ◌+◌, ◌*◌, ◌/◌, ◌%◌, ◌<◌, ◌^◌, Bool, true, false, nat_lt, Option, Some, None, List, [], ◌∷◌, ◌++◌, length, slice_index_or, if◌then◌else◌, refl, sym, subst, arith, inl, inr}
+use Rattle.std.proofs.Common.{◌≡◌, ℕ, zero, suc, ◌+◌, ◌*◌, ◌/◌, ◌%◌, ◌<◌, ◌^◌, Bool, true, false, nat_lt, Option, Some, None, List, [], ◌∷◌, ◌++◌, length, slice_index_or, if◌then◌else◌, refl, sym, subst, arith, inl, inr, true≢false}
 use Rattle.std.specs.List.{list_any}
 use Rattle.std.proofs.lemmas.Bool.{and_from, or_parts, both_ways, false_from_ne_true, lt-ltb}
 use Rattle.vsm_model.specs.declared.limits.Settings.{Settings}
-use Rattle.vsm_model.specs.declared.replies.Reply.TheVariants.{Obtained, Returned}
+use Rattle.vsm_model.specs.declared.replies.Reply.{Reply}
+use Rattle.vsm_model.specs.declared.replies.Reply.TheVariants.{Obtained, Returned, Stored}
 use Rattle.vsm_model.specs.declared.services.Lengths.{Lengths}
 use Rattle.vsm_model.specs.declared.services.Lengths.TheVariants.{Fixed, Variable}
 use Rattle.vsm_model.specs.declared.services.Obtain.{Obtain}
+use Rattle.vsm_model.specs.Names.{GivesAddress}
 use Rattle.vsm_model.specs.Regions.{among, doublewords, regions_for, side}
 use Rattle.vsm_model.specs.CellPools.{CellPool, CellExtent, extent_doublewords}
 use Rattle.vsm_model.specs.State.{State}
@@ -17,9 +19,9 @@ use Rattle.vsm_model.specs.Services.{obtain, release, whole, store}
 use Rattle.vsm_model.specs.Obtaining.{place_for}
 use Rattle.vsm_model.specs.Releasing.{overlaps_extent, without_area, without_storage}
 use Rattle.vsm_model.specs.WellFormed.{IsWellFormed}
-use Rattle.vsm_model.proofs.Chosen.{accepted_has_its_effect, accepted_state, no_cause}
+use Rattle.vsm_model.proofs.Chosen.{accepted_has_its_effect, accepted_state, accepted_reply, no_cause}
 use Rattle.vsm_model.proofs.Registered.{AreWords, registers_leave_well_formed, register_leaves_well_formed}
-use Rattle.storage_laws.specs.Kept.{IsRegister, ObtainLeavesWellFormed, ReleaseLeavesWellFormed, WholeReleaseLeavesWellFormed, StoreLeavesWellFormed}
+use Rattle.storage_laws.specs.Kept.{IsRegister, OneNameTooManyIsGivenNoAddress, ObtainLeavesWellFormed, ReleaseLeavesWellFormed, WholeReleaseLeavesWellFormed, StoreLeavesWellFormed}
 use Rattle.storage_laws.proofs.Cases.{among_in}
 use Rattle.storage_laws.proofs.Places.{IsOf, Goes, regions_are, place_goes, place_in_words}
 use Rattle.storage_laws.proofs.Changes.{own_kept, own_is_there, area_kept, released_kept, emptied_kept, stored_kept}
@@ -125,3 +127,20 @@ store_leaves_well_formed settings names_full s t address bytes reply are w e =
     let done = no_cause settings names_full s t (store address bytes) reply refl e in
     subst (IsWellFormed settings) (accepted_state _ t _ reply done.1)
     (stored_kept settings s w address bytes (store_allowed s address bytes done.0) are)
+
+no_address_of : (reply : Reply) (address code : ℕ) → GivesAddress reply address → Returned code ≡ reply → ⊥
+no_address_of reply address code gives is = subst (λ r. GivesAddress r address) (sym is) gives
+
+pub one_name_too_many_is_given_no_address : OneNameTooManyIsGivenNoAddress
+one_name_too_many_is_given_no_address settings s t reply address gives = (
+  λ o e. elim (accepted_has_its_effect settings true s t (obtain o) reply e) [
+    | inl done ↦ true≢false (obtain_allowed settings true s o done.0).room
+    | inr four ↦ no_address_of reply address 4 gives (sym four.1)
+  ],
+  λ r e. elim (accepted_has_its_effect settings true s t (release r) reply e) [
+    | inl done ↦ no_address_of reply address 0 gives (accepted_reply _ t (Returned 0) reply done.1)
+    | inr four ↦ no_address_of reply address 4 gives (sym four.1)
+  ],
+  λ number e. no_address_of reply address 0 gives (accepted_reply _ t (Returned 0) reply (no_cause settings true s t (whole number) reply refl e).1),
+  λ at bytes e. subst (λ r. GivesAddress r address) (sym (accepted_reply _ t Stored reply (no_cause settings true s t (store at bytes) reply refl e).1)) gives,
+)

@@ -4,6 +4,7 @@ use Rattle.vsm_model.specs.declared.limits.Settings.{Settings}
 use Rattle.vsm_model.specs.declared.replies.Reply.{Reply}
 use Rattle.vsm_model.specs.declared.services.Obtain.{Obtain}
 use Rattle.vsm_model.specs.declared.services.Release.{Release}
+use Rattle.vsm_model.specs.Names.{GivesAddress}
 use Rattle.vsm_model.specs.Regions.{settings_valid}
 use Rattle.vsm_model.specs.Services.{obtain, release, whole, store}
 use Rattle.vsm_model.specs.Standing.{Accepted}
@@ -37,3 +38,12 @@ StoreLeavesWellFormed =
     (settings : Settings) (names_full : Bool) (s t : State) (address : ℕ) (bytes : List ℕ) (reply : Reply) →
     All (λ byte. byte < 256) bytes → IsWellFormed settings s →
     step settings names_full s (store address bytes) ≡ Accepted t reply → IsWellFormed settings t
+
+-- Where a statement's name would be one too many, none of these services gives it an address.
+abbrev pub OneNameTooManyIsGivenNoAddress : Type 0
+OneNameTooManyIsGivenNoAddress =
+    (settings : Settings) (s t : State) (reply : Reply) (address : ℕ) → GivesAddress reply address →
+    ((o : Obtain) → step settings true s (obtain o) ≡ Accepted t reply → ⊥)
+    × ((r : Release) → step settings true s (release r) ≡ Accepted t reply → ⊥)
+    × ((number : ℕ) → step settings true s (whole number) ≡ Accepted t reply → ⊥)
+    × ((at : ℕ) (bytes : List ℕ) → step settings true s (store at bytes) ≡ Accepted t reply → ⊥)

@@ -18,6 +18,7 @@ ghost use Rattle.storage_laws.specs.Granted.{
 };
 ghost use Rattle.storage_laws.specs.Kept.{
   ObtainLeavesWellFormed,
+  OneNameTooManyIsGivenNoAddress,
   ReleaseLeavesWellFormed,
   StoreLeavesWellFormed,
   WholeReleaseLeavesWellFormed,
@@ -25,12 +26,13 @@ ghost use Rattle.storage_laws.specs.Kept.{
 ghost use Rattle.storage_laws.specs.LowestAddress.{ObtainTakesTheLowestAddress};
 
 /// What holds of each state that is reached still holds when an area is obtained or released, a whole subpool is
-/// released, or bytes are stored.
+/// released, or bytes are stored; and none of these services gives an address to a name that would be one too many.
 pub fn well_formed()
     ensures obtain { ObtainLeavesWellFormed }
     ensures release { ReleaseLeavesWellFormed }
     ensures whole { WholeReleaseLeavesWellFormed }
     ensures store { StoreLeavesWellFormed }
+    ensures names { OneNameTooManyIsGivenNoAddress }
 {}
 
 /// An accepted obtain grants an area that was free, of a multiple of 8 bytes from the minimum to the maximum rounded up

@@ -1,13 +1,13 @@
 -- What an accepted statement does to the names.
-use Rattle.std.proofs.Common.{◌≡◌, ◌⊎◌, ℕ, Bool, true, false, if◌then◌else◌, Option, Some, None, is_some, List, [], ◌∷◌, ◌++◌, map, refl, sym, ◌∙◌, ap, inl, inr}
+use Rattle.std.proofs.Common.{◌≡◌, ◌⊎◌, ℕ, Bool, true, false, if◌then◌else◌, Option, Some, None, is_some, List, [], ◌∷◌, ◌++◌, map, refl, sym, ◌∙◌, ap, inl, inr, length, ◌≤◌}
 use Rattle.vsm_model.specs.declared.causes.Cause.{Cause}
 use Rattle.vsm_model.specs.declared.replies.Reply.{Reply}
 use Rattle.vsm_model.specs.declared.replies.Reply.TheVariants.{Obtained, Returned, Cell, Attached, Turn, Stored}
 use Rattle.vsm_model.specs.Standing.{Outcome, Accepted, Refused}
-use Rattle.vsm_model.specs.Names.{NamedState, word_of, same_name, with_name, is_one_too_many, names_after, named, GivesAddress, NamesKeepTheirOrder, StatementIsItsService, AreaIsNamed, OtherwiseNamesStay}
+use Rattle.vsm_model.specs.Names.{NamedState, word_of, same_name, with_name, is_one_too_many, names_after, named, AreDistinct, GivesAddress, NamesKeepTheirOrder, StatementIsItsService, AreaIsNamed, OtherwiseNamesStay}
 use Rattle.vsm_model.specs.Step.{step}
 use Rattle.vsm_model.proofs.Chosen.{Stepped}
-use Rattle.vsm_model.proofs.Rows.{name_stands, others_stand}
+use Rattle.vsm_model.proofs.Rows.{name_stands, others_stand, with_name-distinct, with_name-few}
 
 abbrev Rows : Type 0
 Rows = List (List ℕ × ℕ)
@@ -83,3 +83,17 @@ names_keep_their_order (row ∷ rows) name word =
       | true ↦ refl
       | false ↦ ap (λ xs. row.0 ∷ xs) (names_keep_their_order rows name word) ∙ behind (is_some (word_of rows name)) row.0 name (map (λ row. row.0) rows)
     ]
+
+-- names stay distinct and few behind a reply, where one that gives an address comes with room for the name
+pub names_stay_sound : (names : Rows) (name : Option (List ℕ)) (r : Reply) →
+    ((address : ℕ) → GivesAddress r address → is_one_too_many names name ≡ false) → AreDistinct names → length names ≤ 1024 →
+    AreDistinct (names_after names name r) × (length (names_after names name r) ≤ 1024)
+names_stay_sound names None r room distinct few = (distinct, few)
+names_stay_sound names (Some own) (Obtained at given) room distinct few =
+    (with_name-distinct names own at distinct, with_name-few names own at few (room at refl))
+names_stay_sound names (Some own) (Cell at) room distinct few =
+    (with_name-distinct names own at distinct, with_name-few names own at few (room at refl))
+names_stay_sound names (Some own) (Returned code) room distinct few = (distinct, few)
+names_stay_sound names (Some own) (Attached task) room distinct few = (distinct, few)
+names_stay_sound names (Some own) (Turn task) room distinct few = (distinct, few)
+names_stay_sound names (Some own) Stored room distinct few = (distinct, few)

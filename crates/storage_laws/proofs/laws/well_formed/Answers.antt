@@ -1,4 +1,4 @@
-use Rattle.storage_laws.proofs.Kept.{obtain_leaves_well_formed, release_leaves_well_formed, whole_release_leaves_well_formed, store_leaves_well_formed}
+use Rattle.storage_laws.proofs.Kept.{obtain_leaves_well_formed, release_leaves_well_formed, whole_release_leaves_well_formed, store_leaves_well_formed, one_name_too_many_is_given_no_address}
 use Rattle.storage_laws.proofs.laws.well_formed.Goals as goal
 
 pub returns-clause-obtain : goal.returns-clause-obtain
@@ -12,3 +12,6 @@ returns-clause-whole c = whole_release_leaves_well_formed
 
 pub returns-clause-store : goal.returns-clause-store
 returns-clause-store c = store_leaves_well_formed
+
+pub returns-clause-names : goal.returns-clause-names
+returns-clause-names c = one_name_too_many_is_given_no_address
