@@ -16,6 +16,7 @@ pub mod Promised
 pub mod BuiltAndDeleted
 pub mod Apart
 pub mod Stays
+pub mod Once
 pub mod Again
 pub mod Refused
 pub mod Order

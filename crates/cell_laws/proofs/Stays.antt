@@ -27,7 +27,7 @@ use Rattle.vsm_model.specs.WellFormed.{IsWellFormed}
 use Rattle.vsm_model.proofs.Chosen.{accepted_has_its_effect}
 use Rattle.vsm_model.proofs.Registered.{words_alone}
 use Rattle.cell_laws.specs.Promises.{IsFreed, IsHandedOut, IsFirstFree, IsFirstOfFurther, OthersStay}
-use Rattle.cell_laws.specs.InUse.{IsInUse, StaysInUse}
+use Rattle.cell_laws.specs.InUse.{IsInUse, CanEnd, StaysInUse}
 use Rattle.cell_laws.proofs.Tables.{order, same_name, same_pool, below_none}
 use Rattle.cell_laws.proofs.CellLists.{in_left, cell_within, cell_bounds}
 use Rattle.cell_laws.proofs.Spans.{in-among}
@@ -156,24 +156,35 @@ module _ (name : List ℕ) (cell : ℕ) where
 
   -- the table of what is left is that of the effect
   by_effect : (settings : Settings) (names_full : Bool) (s t : State) (x : Service) (reply : Reply) → step settings names_full s x ≡ Accepted t reply →
-      IsInUse s.cell_pools name cell → Stays (effect settings s x).0.cell_pools → Stays t.cell_pools
-  by_effect settings names_full s t x reply e busy stays =
+      (P : CellPools → Type 0) → P s.cell_pools → P (effect settings s x).0.cell_pools → P t.cell_pools
+  by_effect settings names_full s t x reply e P before after_it =
       elim (accepted_has_its_effect settings names_full s t x reply e) [
         | inl done ↦
             let after : State = (effect settings s x).0 in
             let same : t.cell_pools ≡ after.cell_pools =
             ap (λ (u : State). u.cell_pools) (sym (state_is x (effect settings s x) t reply done.1))
             ∙ ap (λ (u : State). u.cell_pools) (words_alone (registers_set x (effect settings s x).1) after) in
-            subst Stays (sym same) stays
-        | inr four ↦ inl (same_use s.cell_pools t.cell_pools (ap (λ (u : State). u.cell_pools) four.2) busy)
+            subst P (sym same) after_it
+        | inr four ↦ subst P (sym (ap (λ (u : State). u.cell_pools) four.2)) before
       ]
 
   abbrev Kept : Service → CellPools → Type 0
-  Kept x table = IsInUse table name cell ⊎ (x ≡ free name cell) ⊎ (cell_pool_in table name ≡ None)
+  Kept x table = IsInUse table name cell ⊎ (x ≡ free name cell) ⊎ (CanEnd x name × (cell_pool_in table name ≡ None))
 
-  kept_from : (x : Service) (table : CellPools) → Stays table → Kept x table
-  kept_from x table (inl busy) = inl busy
-  kept_from x table (inr gone) = inr (inr gone)
+  -- a service that leaves the cell in use,
+  kept_by : (settings : Settings) (names_full : Bool) (s t : State) (x : Service) (reply : Reply) → step settings names_full s x ≡ Accepted t reply →
+      IsInUse s.cell_pools name cell → IsInUse (effect settings s x).0.cell_pools name cell → Kept x t.cell_pools
+  kept_by settings names_full s t x reply e before after_it =
+      inl (by_effect settings names_full s t x reply e (λ table. IsInUse table name cell) before after_it)
+
+  -- and one by which its cell pool can be gone
+  ended_by : (settings : Settings) (names_full : Bool) (s t : State) (x : Service) (reply : Reply) → step settings names_full s x ≡ Accepted t reply →
+      CanEnd x name → IsInUse s.cell_pools name cell → Stays (effect settings s x).0.cell_pools → Kept x t.cell_pools
+  ended_by settings names_full s t x reply e can before after_it =
+      elim (by_effect settings names_full s t x reply e Stays (inl before) after_it) [
+        | inl still ↦ inl still
+        | inr gone ↦ inr (inr (can, gone))
+      ]
 
   others_use : (s t : State) (other : List ℕ) → OthersStay s t other → name ≢ other → IsInUse s.cell_pools name cell → IsInUse t.cell_pools name cell
   others_use s t other stay apart (pool, found, used) = (pool, stay name apart ∙ found, used)
@@ -253,26 +264,26 @@ some_is_not p e = cc
 pub stays_in_use : StaysInUse
 stays_in_use settings names_full s t (obtain o) reply name cell w e busy =
     let count : ℕ = unwrap_or (longest settings s o) 0 in
-    kept_from name cell (obtain o) t.cell_pools (by_effect name cell settings names_full s t (obtain o) reply e busy
-    (inl (same_use name cell s.cell_pools _
-    (area_table (with_own s o.number) (seen_or_own s o.number) count (place_for settings s o count) ∙ own_table name cell s o.number) busy)))
+    kept_by name cell settings names_full s t (obtain o) reply e busy
+    (same_use name cell s.cell_pools _
+    (area_table (with_own s o.number) (seen_or_own s o.number) count (place_for settings s o count) ∙ own_table name cell s o.number) busy)
 stays_in_use settings names_full s t (release r) reply name cell w e busy =
-    kept_from name cell (release r) t.cell_pools (by_effect name cell settings names_full s t (release r) reply e busy (inl busy))
+    kept_by name cell settings names_full s t (release r) reply e busy busy
 stays_in_use settings names_full s t (whole number) reply name cell w e busy =
-    kept_from name cell (whole number) t.cell_pools (by_effect name cell settings names_full s t (whole number) reply e busy
-    (kept_use name cell (λ pool. not (same_subpool (seen_or_own s number) pool.subpool)) s.cell_pools w.cell_pools.ascending busy))
+    ended_by name cell settings names_full s t (whole number) reply e tt busy
+    (kept_use name cell (λ pool. not (same_subpool (seen_or_own s number) pool.subpool)) s.cell_pools w.cell_pools.ascending busy)
 stays_in_use settings names_full s t (attach a) reply name cell w e busy =
-    kept_from name cell (attach a) t.cell_pools (by_effect name cell settings names_full s t (attach a) reply e busy (inl (attached_use name cell s a busy)))
+    kept_by name cell settings names_full s t (attach a) reply e busy (attached_use name cell s a busy)
 stays_in_use settings names_full s t (detach task) reply name cell w e busy =
-    kept_from name cell (detach task) t.cell_pools (by_effect name cell settings names_full s t (detach task) reply e busy
-    (kept_use name cell (λ pool. not (is_in_subtree s task pool.subpool.owner)) s.cell_pools w.cell_pools.ascending busy))
+    ended_by name cell settings names_full s t (detach task) reply e tt busy
+    (kept_use name cell (λ pool. not (is_in_subtree s task pool.subpool.owner)) s.cell_pools w.cell_pools.ascending busy)
 stays_in_use settings names_full s t end_task reply name cell w e busy =
-    kept_from name cell end_task t.cell_pools (by_effect name cell settings names_full s t end_task reply e busy
-    (kept_use name cell (λ pool. not (pool.subpool.owner == s.current)) s.cell_pools w.cell_pools.ascending busy))
+    ended_by name cell settings names_full s t end_task reply e tt busy
+    (kept_use name cell (λ pool. not (pool.subpool.owner == s.current)) s.cell_pools w.cell_pools.ascending busy)
 stays_in_use settings names_full s t (run task) reply name cell w e busy =
-    kept_from name cell (run task) t.cell_pools (by_effect name cell settings names_full s t (run task) reply e busy (inl busy))
+    kept_by name cell settings names_full s t (run task) reply e busy busy
 stays_in_use settings names_full s t (store address bytes) reply name cell w e busy =
-    kept_from name cell (store address bytes) t.cell_pools (by_effect name cell settings names_full s t (store address bytes) reply e busy (inl busy))
+    kept_by name cell settings names_full s t (store address bytes) reply e busy busy
 stays_in_use settings names_full s t (build other header b) reply name cell w e busy =
     let built = (build_makes_a_cell_pool settings names_full s t other header b reply w e).2 in
     elim (same_or_other name other) [
@@ -289,6 +300,6 @@ stays_in_use settings names_full s t (free other freed) reply name cell w e busy
 stays_in_use settings names_full s t (delete other) reply name cell w e busy =
     let deleted = (delete_gives_its_extents_back settings names_full s t other reply w e).0 in
     elim (same_or_other name other) [
-      | inl same ↦ inr (inr (ap (cell_pool_in t.cell_pools) same ∙ deleted.gone))
+      | inl same ↦ inr (inr (sym same, ap (cell_pool_in t.cell_pools) same ∙ deleted.gone))
       | inr apart ↦ inl (others_use name cell s t other deleted.others apart busy)
     ]

@@ -1,6 +1,6 @@
 -- Cells that are in use: they lie apart, and none is handed out twice.
 -- Assembler Services Reference, CPOOL; Assembler Services Guide, "Virtual storage management", "Using the CPOOL macro".
-use Rattle.std.specs.Prelude.{◌≡◌, ◌≢◌, ◌⊎◌, ℕ, ◌+◌, ◌≤◌, Bool, true, Some, None, List}
+use Rattle.std.specs.Prelude.{◌≡◌, ◌≢◌, ◌⊎◌, ℕ, ◌+◌, ◌≤◌, Bool, true, Some, None, List, [], ◌∷◌, All}
 use Rattle.vsm_model.specs.declared.limits.Settings.{Settings}
 use Rattle.vsm_model.specs.declared.replies.Reply.{Reply}
 use Rattle.vsm_model.specs.declared.replies.Reply.TheVariants.{Cell}
@@ -8,7 +8,7 @@ use Rattle.vsm_model.specs.declared.services.Get.{Get}
 use Rattle.vsm_model.specs.Search.{is_in}
 use Rattle.vsm_model.specs.CellPools.{CellPool, CellPools, cell_pool_in, cells_of}
 use Rattle.vsm_model.specs.State.{State}
-use Rattle.vsm_model.specs.Services.{Service, get, free}
+use Rattle.vsm_model.specs.Services.{Service, whole, detach, end_task, get, free, delete}
 use Rattle.vsm_model.specs.Cells.{is_in_use}
 use Rattle.vsm_model.specs.Standing.{Accepted}
 use Rattle.vsm_model.specs.Step.{step}
@@ -46,12 +46,44 @@ HandedOutWasNotInUse =
     step settings names_full s (get name g) ≡ Accepted t (Cell cell) →
     ((other : List ℕ) → IsInUse s.cell_pools other cell → ⊥) × IsInUse t.cell_pools name cell
 
+-- the services by which a cell pool of the name can be gone: a DELETE of it, the release of a whole subpool, and the
+-- end of tasks
+abbrev pub CanEnd : Service → List ℕ → Type 0
+CanEnd (delete other) name = other ≡ name
+CanEnd (whole number) name = Unit {0}
+CanEnd (detach task) name = Unit {0}
+CanEnd end_task name = Unit {0}
+CanEnd _ name = ⊥
+
 -- A cell that is in use stays in use, whatever is asked, until it's given back or its cell pool is gone.
 abbrev pub StaysInUse : Type 0
 StaysInUse =
     (settings : Settings) (names_full : Bool) (s t : State) (x : Service) (reply : Reply) (name : List ℕ) (cell : ℕ) →
     IsWellFormed settings s → step settings names_full s x ≡ Accepted t reply → IsInUse s.cell_pools name cell →
-    IsInUse t.cell_pools name cell ⊎ (x ≡ free name cell) ⊎ (cell_pool_in t.cell_pools name ≡ None)
+    IsInUse t.cell_pools name cell ⊎ (x ≡ free name cell) ⊎ (CanEnd x name × (cell_pool_in t.cell_pools name ≡ None))
+
+-- Services that are accepted one after the other, from s to t, each with whether the name of its statement is one too
+-- many; behind each the state has a property.
+abbrev pub Follow : Settings → (State → Type 0) → State → List (Bool × Service) → State → Type 0
+Follow settings has s [] t = t ≡ s
+Follow settings has s (x ∷ xs) t =
+    (next : State) × (reply : Reply) × (step settings x.0 s x.1 ≡ Accepted next reply) × has next
+    × Follow settings has next xs t
+
+-- the state is well-formed, and the name has a cell pool
+abbrev pub HasPool : Settings → List ℕ → State → Type 0
+HasPool settings name s =
+    IsWellFormed settings s × ((pool : CellPool) × (cell_pool_in s.cell_pools name ≡ Some pool))
+
+-- Behind a GET no GET, of whatever cell pool, hands out the same cell, as long as the cell pool is there and no FREE
+-- gives the cell back.
+abbrev pub NoCellIsHandedOutTwice : Type 0
+NoCellIsHandedOutTwice =
+    (settings : Settings) (names_full names_full_2 : Bool) (s t u v : State) (name other : List ℕ) (g h : Get)
+    (cell : ℕ) (between : List (Bool × Service)) → IsWellFormed settings s → IsWellFormed settings t →
+    step settings names_full s (get name g) ≡ Accepted t (Cell cell) →
+    Follow settings (HasPool settings name) t between u → All (λ x. x.1 ≢ free name cell) between →
+    step settings names_full_2 u (get other h) ≡ Accepted v (Cell cell) → ⊥
 
 -- The cell that was given back last is handed out first, and then the cell pool is as it was before.
 abbrev pub LastFreedIsFirst : Type 0

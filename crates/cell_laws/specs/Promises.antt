@@ -119,8 +119,8 @@ pub record IsBuilt (settings : Settings) (s t : State) (name : List ℕ) (header
   pub valid : (are_cells b.size b.primary ≡ true) × (are_cells b.size (secondary_count b) ≡ true)
   pub was_new : cell_pool_in s.cell_pools name ≡ None
   pub room : length s.cell_pools < 256
-  -- the extent is in free storage of the subpool that the task sees at the number then, on the side of the line that is
-  -- asked for
+  -- the extent is in free storage of the subpool that the task sees at the number then, or in unassigned pages, at the
+  -- lowest address on the side of the line that is asked for
   pub owner : ℕ
   pub subpool : SubpoolIsThere s t b.number owner
   pub region : Region

@@ -2,7 +2,7 @@
 ghost use Rattle.cell_laws.specs.FirstCauses.{BuildIsRefusedForTheFirst, DeleteIsRefusedForTheFirst};
 ghost use Rattle.cell_laws.specs.FirstCauses.{FreeIsRefusedForTheFirst, GetIsRefusedForTheFirst};
 ghost use Rattle.cell_laws.specs.InUse.{CellsOfAPoolLieApart, CellsOfTwoPoolsLieApart, HandedOutWasNotInUse};
-ghost use Rattle.cell_laws.specs.InUse.{LastFreedIsFirst, StaysInUse};
+ghost use Rattle.cell_laws.specs.InUse.{LastFreedIsFirst, NoCellIsHandedOutTwice, StaysInUse};
 ghost use Rattle.cell_laws.specs.Kept.{BuildLeavesWellFormed, DeleteLeavesWellFormed};
 ghost use Rattle.cell_laws.specs.Kept.{FreeLeavesWellFormed, GetLeavesWellFormed};
 ghost use Rattle.cell_laws.specs.Promises.{BuildMakesACellPool, DeleteGivesItsExtentsBack, FreeMakesACellFree};
@@ -37,11 +37,14 @@ pub fn cell_pools_come_and_go()
 {}
 
 /// No cell is handed out twice: one that a GET hands out was in use in no cell pool, and from then on it's in use,
-/// whatever is asked, until a FREE gives it back or its cell pool is gone. Cells lie apart, those of one cell pool and
-/// those of two. The cell that was given back last is handed out first.
+/// whatever is asked, until a FREE gives it back or its cell pool is gone; so till then no GET of any cell pool hands
+/// it out, behind whatever list of services. A cell pool goes by a DELETE of it, the release of a whole subpool or the
+/// end of tasks alone. Cells lie apart, those of one cell pool and those of two. The cell that was given back last is
+/// handed out first.
 pub fn no_cell_is_handed_out_twice()
     ensures handed_out { HandedOutWasNotInUse }
     ensures stays { StaysInUse }
+    ensures once { NoCellIsHandedOutTwice }
     ensures apart { CellsOfAPoolLieApart }
     ensures apart_from_others { CellsOfTwoPoolsLieApart }
     ensures last_first { LastFreedIsFirst }

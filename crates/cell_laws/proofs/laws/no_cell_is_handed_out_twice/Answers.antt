@@ -1,5 +1,6 @@
 use Rattle.cell_laws.proofs.Again.{last_freed_is_first}
 use Rattle.cell_laws.proofs.Apart.{cells_of_a_pool_lie_apart, cells_of_two_pools_lie_apart, handed_out_was_not_in_use}
+use Rattle.cell_laws.proofs.Once.{no_cell_is_handed_out_twice}
 use Rattle.cell_laws.proofs.Stays.{stays_in_use}
 use Rattle.cell_laws.proofs.laws.no_cell_is_handed_out_twice.Goals as goal
 
@@ -17,3 +18,6 @@ returns-clause-apart_from_others c = cells_of_two_pools_lie_apart
 
 pub returns-clause-last_first : goal.returns-clause-last_first
 returns-clause-last_first c = last_freed_is_first
+
+pub returns-clause-once : goal.returns-clause-once
+returns-clause-once c = no_cell_is_handed_out_twice
