@@ -1,5 +1,6 @@
 -- What becomes of names, and each state that statements reach.
 use Rattle.std.proofs.Common.{◌≡◌, ℕ, ◌≤◌, Bool, true, false, not, ◌&&◌, ◌||◌, Option, Some, None, List, [], ◌∷◌, length, All, refl, sym, ◌∙◌, ap, subst, inl, inr, true≢false}
+use Rattle.std.proofs.lemmas.List.Elements.{All-head, All-tail}
 use Rattle.vsm_model.specs.declared.causes.Cause.{Cause}
 use Rattle.vsm_model.specs.declared.causes.Cause.TheVariants.{TooManyNames, NoStorage, NoCellPool}
 use Rattle.vsm_model.specs.declared.limits.Settings.{Settings}
@@ -23,7 +24,7 @@ use Rattle.machine_laws.specs.Reached.{HasItsValues, NamesNothing, IsStatement, 
 use Rattle.machine_laws.proofs.Services.{service_leaves_well_formed}
 
 -- the reply has an address for a name
-gives : Reply → Bool
+abbrev gives : Reply → Bool
 gives (Obtained address length) = true
 gives (Cell address) = true
 gives (Returned code) = false
@@ -32,7 +33,6 @@ gives (Turn task) = false
 gives Stored = false
 
 module _ (settings : Settings) (s t : State) (reply : Reply) where
-  unfolding gives
   -- a service whose effect gives none
   gives_none : (x : Service) → step settings true s x ≡ Accepted t reply → gives (effect settings s x).1 ≡ false → gives reply ≡ true → ⊥
   gives_none x e none some =
@@ -85,7 +85,6 @@ module _ (names : List (List ℕ × ℕ)) (distinct : AreDistinct names) (few : 
   given name address true is none = absurd (none refl)
   given name address false is none = (with_name-distinct names name address distinct, with_name-few names name address few is)
 
-  unfolding gives
   names_kept : (named_by : Option (List ℕ)) (reply : Reply) → (gives reply ≡ true → is_one_too_many names named_by ≡ true → ⊥) → Kept (names_after names named_by reply)
   names_kept None (Obtained address length) none = (distinct, few)
   names_kept None (Cell address) none = (distinct, few)
@@ -139,5 +138,5 @@ left_well_formed settings m x (Refused cause) valid is_one e w = w
 pub reached_is_well_formed : ReachedIsWellFormed
 reached_is_well_formed settings [] valid all = first_is_well_formed settings
 reached_is_well_formed settings (x ∷ older) valid all =
-    left_well_formed settings (alone first_named_state (named_step settings) older) x _ valid all.0 refl
-    (reached_is_well_formed settings older valid all.1)
+    left_well_formed settings (alone first_named_state (named_step settings) older) x _ valid (All-head IsStatement x older all) refl
+    (reached_is_well_formed settings older valid (All-tail IsStatement x older all))
