@@ -11,7 +11,7 @@ use Rattle.vsm_model.specs.Forms.{FormedService}
 use Rattle.worked_examples.specs.Calls.{pages, standard, answers, address, high, asks, asks_with_name, area}
 use Rattle.worked_examples.specs.Calls.{storage_obtain, storage_release, conditional_release, release_whole}
 use Rattle.worked_examples.specs.Calls.{attach_task, detach_task, run_task, pool_name, get_operands, conditional_get}
-use Rattle.worked_examples.specs.Calls.{granted, returned, cell, attached, turn, user_abend, map_after, lines}
+use Rattle.worked_examples.specs.Calls.{granted, returned, cell, new_task, turn, user_abend, map_after, lines}
 
 -- The map of three areas, of which two are released.
 abbrev pub AMap : Type 0
@@ -66,9 +66,9 @@ OnlyTheOwnerGivesASubpool =
     answers (pages 2 1) calls_of_all_kinds
     ≡ granted (address 6 0) 8
     ∷ granted (address high 0) 24
-    ∷ attached 2
-    ∷ attached 3
-    ∷ attached 4
+    ∷ new_task 2
+    ∷ new_task 3
+    ∷ new_task 4
     ∷ turn 3
     ∷ user_abend 3005
     ∷ granted (address 7 0) 16
@@ -133,9 +133,9 @@ AnEndTakesACellPool =
     answers (pages 2 1) (calls_past_an_end ++ Back 1 ∷ Back 5 ∷ [])
     ≡ granted (address 6 0) 8
     ∷ granted (address high 0) 24
-    ∷ attached 2
-    ∷ attached 3
-    ∷ attached 4
+    ∷ new_task 2
+    ∷ new_task 3
+    ∷ new_task 4
     ∷ turn 3
     ∷ user_abend 3005
     ∷ granted (address 7 0) 16
