@@ -25,7 +25,7 @@ use Rattle.vsm_model.specs.Standing.{Call, Apply, Answer, Replied, RefusedFor, B
 use Rattle.vsm_model.specs.Standing.{plain_answers}
 use Rattle.vsm_model.specs.Names.{NamedState, first_named_state, word_of}
 use Rattle.vsm_model.specs.Forms.{FormedService, formed_step}
-use Rattle.vsm_model.specs.Map.{line, numbers, map_text}
+use Rattle.vsm_model.specs.Map.{line, map_text}
 use Rattle.vsm_model.specs.declared.limits.Residence.TheVariants as residence
 
 -- regions of so many pages below and above the line, for a caller that resides below it
@@ -136,7 +136,7 @@ abbrev pub pool_name : List ℕ
 pool_name = codes "CP"
 
 abbrev pub build_cells : Build → Call FormedService
-build_cells numbers = asks S (build pool_name None numbers)
+build_cells b = asks S (build pool_name None b)
 
 -- so many cells in each extent, of a size in bytes, from a subpool
 abbrev pub cells : ℕ → ℕ → ℕ → Build
@@ -168,8 +168,8 @@ returned code = Replied (Returned code)
 abbrev pub cell : ℕ → Answer Reply Code
 cell at = Replied (Cell at)
 
-abbrev pub attached : ℕ → Answer Reply Code
-attached task = Replied (Attached task)
+abbrev pub new_task : ℕ → Answer Reply Code
+new_task task = Replied (Attached task)
 
 abbrev pub turn : ℕ → Answer Reply Code
 turn task = Replied (Turn task)

@@ -9,7 +9,7 @@ use Rattle.vsm_model.specs.Forms.{FormedService}
 use Rattle.worked_examples.specs.Calls.{pages, standard, answers, address, asks, asks_with_name, storage_release}
 use Rattle.worked_examples.specs.Calls.{release_whole, attach_task, run_task, pool_name, build_cells, cells}
 use Rattle.worked_examples.specs.Calls.{get_operands, get_cell, conditional_get, free_cell, delete_cells, granted}
-use Rattle.worked_examples.specs.Calls.{returned, cell, attached, turn, system_abend, user_abend, name_after, map_after}
+use Rattle.worked_examples.specs.Calls.{returned, cell, new_task, turn, system_abend, user_abend, name_after, map_after}
 use Rattle.worked_examples.specs.Calls.{lines}
 
 abbrev pub new_cells : Build
@@ -75,7 +75,7 @@ abbrev pub ACellPoolFollowsItsSubpool : Type 0
 ACellPoolFollowsItsSubpool =
     (answers standard (calls_with_a_given_pool ++ free_cell (address 6 8) ∷ conditional_get ∷ [])
     ≡ granted (address 6 0) 8
-    ∷ attached 2
+    ∷ new_task 2
     ∷ user_abend 3010
     ∷ turn 2
     ∷ cell (address 6 0)

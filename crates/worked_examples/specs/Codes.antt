@@ -106,7 +106,8 @@ CausesComeInOrder =
     ∷ [])
     ≡ RefusedFor NoStorage ∷ RefusedFor NotAssigned ∷ RefusedFor BadList ∷ [])
 
--- An area in parts of which a form of each family is refused, or answered 4; and cells, which no release takes.
+-- The same release is refused with another code in each family of forms, and answered 4 where it is conditional. Cells
+-- are not released as an area.
 abbrev pub FormsAndTheirCodes : Type 0
 FormsAndTheirCodes =
     answers (pages 2 1)
@@ -145,8 +146,8 @@ an_obtain = obtain (area 8 0)
 abbrev pub a_release : Service
 a_release = release (given_back 8 (address 6 0) 0)
 
--- The codes of all causes; and those whose last two digits are others in other forms: of an E form that obtains, of one
--- that releases, and of an R form.
+-- The codes of all causes as they are printed for STORAGE; and those whose last two digits are others in other forms:
+-- of an E form that obtains, of one that releases, and of an R form.
 abbrev pub CompletionCodesAsTexts : Type 0
 CompletionCodesAsTexts =
     (code_texts S a_release
@@ -205,7 +206,7 @@ CompletionCodesAsTexts =
     × (code_texts R a_release (SubpoolNotAllowed ∷ Misaligned ∷ OverlapsFree ∷ NotInSubpool ∷ [])
     ≡ codes "SB0A" ∷ codes "S90A" ∷ codes "SA0A" ∷ codes "U3003" ∷ [])
 
--- Replies as they are printed: eight upper case hexadecimal digits for an address and a length.
+-- Replies as they are printed: an address and a length have eight upper case hexadecimal digits.
 abbrev pub RepliesAsTexts : Type 0
 RepliesAsTexts =
     map reply_text

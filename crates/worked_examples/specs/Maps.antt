@@ -1,4 +1,4 @@
--- Maps of small machines, line by line.
+-- Maps of small machines, line by line, and the answers to the calls before them.
 use Rattle.std.specs.Prelude.{◌≡◌, false, Some, None, List, [], ◌∷◌, ◌++◌, codes}
 use Rattle.vsm_model.specs.declared.causes.Family.TheVariants.{S}
 use Rattle.vsm_model.specs.declared.services.Location.TheVariants.{Either}
@@ -11,7 +11,7 @@ use Rattle.vsm_model.specs.Forms.{FormedService}
 use Rattle.worked_examples.specs.Calls.{pages, standard, answers, address, high, asks, asks_with_name, area}
 use Rattle.worked_examples.specs.Calls.{storage_obtain, storage_release, conditional_release, release_whole}
 use Rattle.worked_examples.specs.Calls.{attach_task, detach_task, run_task, pool_name, get_operands, conditional_get}
-use Rattle.worked_examples.specs.Calls.{granted, returned, cell, attached, turn, user_abend, map_after, lines}
+use Rattle.worked_examples.specs.Calls.{granted, returned, cell, new_task, turn, user_abend, map_after, lines}
 
 -- The map of three areas, of which two are released.
 abbrev pub AMap : Type 0
@@ -66,9 +66,9 @@ OnlyTheOwnerGivesASubpool =
     answers (pages 2 1) calls_of_all_kinds
     ≡ granted (address 6 0) 8
     ∷ granted (address high 0) 24
-    ∷ attached 2
-    ∷ attached 3
-    ∷ attached 4
+    ∷ new_task 2
+    ∷ new_task 3
+    ∷ new_task 4
     ∷ turn 3
     ∷ user_abend 3005
     ∷ granted (address 7 0) 16
@@ -76,7 +76,9 @@ OnlyTheOwnerGivesASubpool =
     ∷ user_abend 3005
     ∷ []
 
--- The map of that has a line of each kind; eight of the ten calls are kept.
+-- A map with lines of each kind: tasks, of which one is current; subpools with sharers, and their extents and free
+-- areas on both sides of the line; a cell pool with a header and a free cell; totals, names, and the history, in which
+-- eight of the ten calls are kept.
 abbrev pub AMapOfAllKindsOfLines : Type 0
 AMapOfAllKindsOfLines =
     map_after (pages 2 1) calls_of_all_kinds
@@ -131,9 +133,9 @@ AnEndTakesACellPool =
     answers (pages 2 1) (calls_past_an_end ++ Back 1 ∷ Back 5 ∷ [])
     ≡ granted (address 6 0) 8
     ∷ granted (address high 0) 24
-    ∷ attached 2
-    ∷ attached 3
-    ∷ attached 4
+    ∷ new_task 2
+    ∷ new_task 3
+    ∷ new_task 4
     ∷ turn 3
     ∷ user_abend 3005
     ∷ granted (address 7 0) 16
@@ -150,8 +152,8 @@ AnEndTakesACellPool =
     ∷ Moved
     ∷ []
 
--- Steps back over all that and the GET give the map from before it: the whole cell pool is there again, and the name of
--- the cell is gone.
+-- Steps back over the end of a subpool's owner, and over what came before it, give the map from before all that: the
+-- whole cell pool is there again, and the name that a cell was given is gone.
 abbrev pub AMapFromBeforeAnEnd : Type 0
 AMapFromBeforeAnEnd =
     map_after (pages 2 1) (calls_past_an_end ++ Back 1 ∷ Back 5 ∷ [])

@@ -8,7 +8,7 @@ use Rattle.vsm_model.specs.Names.{first_named_state}
 use Rattle.vsm_model.specs.Forms.{FormedService}
 use Rattle.worked_examples.specs.Calls.{pages, standard, with_history, counted_answers, answers, bench_after, after}
 use Rattle.worked_examples.specs.Calls.{address, storage_obtain, conditional_obtain, storage_release, release_whole}
-use Rattle.worked_examples.specs.Calls.{poke, attach_task, end_of_task, run_task, granted, returned, attached, turn}
+use Rattle.worked_examples.specs.Calls.{poke, attach_task, end_of_task, run_task, granted, returned, new_task, turn}
 use Rattle.worked_examples.specs.Calls.{user_abend, peeked, register_after}
 
 -- The last of three releases empties the page; a step back takes that release back, and the next area is the first free
@@ -161,7 +161,7 @@ calls_on_one_page =
 abbrev pub ThereAndBack : Type 0
 ThereAndBack =
     (answers standard (calls_on_one_page ++ Back 3 ∷ release_whole 5 ∷ [])
-    ≡ attached 2
+    ≡ new_task 2
     ∷ turn 2
     ∷ granted (address 6 0) 8
     ∷ Replied Stored

@@ -13,7 +13,7 @@ use Rattle.vsm_model.specs.Forms.{FormedService}
 use Rattle.worked_examples.specs.Calls.{pages, standard, answers, address, high, asks, asks_with_name, area, variable}
 use Rattle.worked_examples.specs.Calls.{storage_obtain, conditional_obtain, getmain, given_back, storage_release}
 use Rattle.worked_examples.specs.Calls.{conditional_release, release_whole, poke, attach_task, run_task, granted}
-use Rattle.worked_examples.specs.Calls.{returned, attached, turn, system_abend, user_abend, peeked, register_after}
+use Rattle.worked_examples.specs.Calls.{returned, new_task, turn, system_abend, user_abend, peeked, register_after}
 use Rattle.worked_examples.specs.Calls.{name_after, owner_after}
 
 -- One byte takes a doubleword, at the first address of the region.
@@ -244,7 +244,7 @@ WholeReleasesAndNumbers =
     ∷ granted (address 6 0) 8
     ∷ system_abend 0xb05
     ∷ system_abend 0xb78
-    ∷ attached 2
+    ∷ new_task 2
     ∷ turn 2
     ∷ user_abend 3005
     ∷ []

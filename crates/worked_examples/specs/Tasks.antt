@@ -11,7 +11,7 @@ use Rattle.vsm_model.specs.Forms.{FormedService}
 use Rattle.vsm_model.specs.Map.{numbers}
 use Rattle.worked_examples.specs.Calls.{pages, standard, answers, after, address, high, asks, asks_with_name, area}
 use Rattle.worked_examples.specs.Calls.{storage_obtain, storage_release, poke, attach_task, detach_task, end_of_task}
-use Rattle.worked_examples.specs.Calls.{run_task, granted, returned, attached, turn, system_abend, user_abend, peeked}
+use Rattle.worked_examples.specs.Calls.{run_task, granted, returned, new_task, turn, system_abend, user_abend, peeked}
 use Rattle.worked_examples.specs.Calls.{owner_after}
 
 abbrev pub calls_up_to_the_end : List (Call FormedService)
@@ -36,7 +36,7 @@ GiftsAndShares =
     ≡ granted (address 6 0) 8
     ∷ Replied Stored
     ∷ granted (address 7 0) 8
-    ∷ attached 2
+    ∷ new_task 2
     ∷ granted (address 8 0) 8
     ∷ turn 2
     ∷ granted (address 7 8) 8
@@ -66,8 +66,8 @@ ASharerSeesAGift =
     ∷ storage_release 8 (address 6 0) 5
     ∷ [])
     ≡ granted (address 6 0) 8
-    ∷ attached 2
-    ∷ attached 3
+    ∷ new_task 2
+    ∷ new_task 3
     ∷ turn 2
     ∷ granted (address 6 8) 8
     ∷ turn 1
@@ -99,9 +99,9 @@ AGiftIsHandedOn =
     ∷ detach_task 2
     ∷ storage_obtain 8 2
     ∷ [])
-    ≡ attached 2
+    ≡ new_task 2
     ∷ turn 2
-    ∷ attached 3
+    ∷ new_task 3
     ∷ turn 3
     ∷ granted (address 6 0) 8
     ∷ granted (address high 0) 8
@@ -128,7 +128,7 @@ calls_with_a_list =
 abbrev pub AListInStorage : Type 0
 AListInStorage =
     (answers standard calls_with_a_list
-    ≡ granted (address 6 0) 8 ∷ Replied Stored ∷ attached 2 ∷ Replied Stored ∷ user_abend 3014 ∷ Replied Stored ∷ [])
+    ≡ granted (address 6 0) 8 ∷ Replied Stored ∷ new_task 2 ∷ Replied Stored ∷ user_abend 3014 ∷ Replied Stored ∷ [])
     × (peeked standard calls_with_a_list (address 6 0) 8 ≡ Some (2 ∷ 5 ∷ 5 ∷ 0 ∷ 0 ∷ 0 ∷ 0x60 ∷ 0 ∷ []))
     × ((after standard calls_with_a_list).storage.subpools 5 2 ≡ true)
     × (owner_after standard calls_with_a_list 2 6 ≡ Some 2)
@@ -154,12 +154,12 @@ ListsAtTheLastBytes =
     (answers (pages 1 1) calls_at_the_last_bytes
     ≡ granted (address 6 0) 4096
     ∷ Replied Stored
-    ∷ attached 2
+    ∷ new_task 2
     ∷ Replied Stored
     ∷ system_abend 0x0c4
     ∷ system_abend 0x0c4
     ∷ Replied Stored
-    ∷ attached 3
+    ∷ new_task 3
     ∷ system_abend 0x0c4
     ∷ [])
     × (owner_after (pages 1 1) calls_at_the_last_bytes 2 9 ≡ Some 2)
@@ -188,9 +188,9 @@ TasksBeginAndEnd =
     ∷ run_task 3
     ∷ end_of_task
     ∷ [])
-    ≡ attached 2
+    ≡ new_task 2
     ∷ turn 2
-    ∷ attached 3
+    ∷ new_task 3
     ∷ system_abend 0xa03
     ∷ turn 3
     ∷ user_abend 3008
@@ -221,14 +221,14 @@ WhoCanNotEndATask =
     ∷ run_task 3
     ∷ [])
     ≡ user_abend 3008
-    ∷ attached 2
+    ∷ new_task 2
     ∷ system_abend 0xa03
     ∷ user_abend 3008
     ∷ user_abend 3008
     ∷ user_abend 3008
     ∷ turn 2
     ∷ user_abend 3008
-    ∷ attached 3
+    ∷ new_task 3
     ∷ turn 1
     ∷ user_abend 3008
     ∷ returned 0
@@ -239,7 +239,7 @@ WhoCanNotEndATask =
 abbrev pub AtMost64Tasks : Type 0
 AtMost64Tasks =
     answers (pages 1 1) (replicate 64 (attach_task Nothing Nothing))
-    ≡ map attached (numbers 2 65) ++ user_abend 3013 ∷ []
+    ≡ map new_task (numbers 2 65) ++ user_abend 3013 ∷ []
 
 -- Each of 63 new tasks is the subtask of the one before it. The last one can't attach another; the end of task 2 ends
 -- them all, and the next new task has its number.
@@ -255,12 +255,12 @@ SixtyFourTasksInARow =
     ∷ run_task 64
     ∷ attach_task Nothing Nothing
     ∷ [])
-    ≡ flat_map (λ task. attached task ∷ turn task ∷ []) (numbers 2 65)
+    ≡ flat_map (λ task. new_task task ∷ turn task ∷ []) (numbers 2 65)
     ++ user_abend 3013
     ∷ turn 63
     ∷ turn 1
     ∷ user_abend 3008
     ∷ returned 0
     ∷ user_abend 3008
-    ∷ attached 2
+    ∷ new_task 2
     ∷ []

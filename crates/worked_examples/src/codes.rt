@@ -8,18 +8,19 @@ pub fn causes_come_in_order()
     ensures { CausesComeInOrder }
 {}
 
-/// An area in parts of which a form of each family is refused, or answered 4; and cells, which no release takes.
+/// The same release is refused with another code in each family of forms, and answered 4 where it is conditional. Cells
+/// are not released as an area.
 pub fn forms_and_their_codes()
     ensures { FormsAndTheirCodes }
 {}
 
-/// The codes of all causes; and those whose last two digits are others in other forms: of an E form that obtains, of
-/// one that releases, and of an R form.
+/// The codes of all causes as they are printed for STORAGE; and those whose last two digits are others in other forms:
+/// of an E form that obtains, of one that releases, and of an R form.
 pub fn completion_codes_as_texts()
     ensures { CompletionCodesAsTexts }
 {}
 
-/// Replies as they are printed: eight upper case hexadecimal digits for an address and a length.
+/// Replies as they are printed: an address and a length have eight upper case hexadecimal digits.
 pub fn replies_as_texts()
     ensures { RepliesAsTexts }
 {}

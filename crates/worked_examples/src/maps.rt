@@ -1,4 +1,4 @@
-//! Maps of small machines, line by line.
+//! Maps of small machines, line by line, and the answers to the calls before them.
 ghost use Rattle.worked_examples.specs.Maps.{AMap, AMapFromBeforeAnEnd, AMapOfAllKindsOfLines, AnEndTakesACellPool};
 ghost use Rattle.worked_examples.specs.Maps.{OnlyTheOwnerGivesASubpool};
 
@@ -13,7 +13,9 @@ pub fn only_the_owner_gives_a_subpool()
     ensures { OnlyTheOwnerGivesASubpool }
 {}
 
-/// The map of that has a line of each kind; eight of the ten calls are kept.
+/// A map with lines of each kind: tasks, of which one is current; subpools with sharers, and their extents and free
+/// areas on both sides of the line; a cell pool with a header and a free cell; totals, names, and the history, in which
+/// eight of the ten calls are kept.
 pub fn a_map_of_all_kinds_of_lines()
     ensures { AMapOfAllKindsOfLines }
 {}
@@ -24,8 +26,8 @@ pub fn an_end_takes_a_cell_pool()
     ensures { AnEndTakesACellPool }
 {}
 
-/// Steps back over all that and the GET give the map from before it: the whole cell pool is there again, and the name
-/// of the cell is gone.
+/// Steps back over the end of a subpool's owner, and over what came before it, give the map from before all that: the
+/// whole cell pool is there again, and the name that a cell was given is gone.
 pub fn a_map_from_before_an_end()
     ensures { AMapFromBeforeAnEnd }
 {}
