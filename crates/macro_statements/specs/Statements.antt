@@ -1,82 +1,110 @@
 -- The request of a statement, or its first fault.
-use Rattle.std.specs.Prelude.{◌≡◌, ℕ, Bool, false, not, ◌&&◌, ◌||◌, ◌==◌, nat_lt, if◌then◌else◌, List, [], ◌∷◌, length}
+use Rattle.std.specs.Prelude.{◌≡◌, ℕ, ◌+◌, Bool, false, not, ◌&&◌, if◌then◌else◌, nat_lt, List, [], ◌∷◌}
 use Rattle.std.specs.Prelude.{Option, Some, None, Result, Ok, Err, codes, unwrap_or, option_and_then}
+use Rattle.std.specs.List.{list_any}
 use Rattle.std.specs.Str.{bytes_eq}
 use Rattle.operand_texts.specs.Words.{is_word, is_name, word, word_len, after_word, after_blanks}
 use Rattle.operand_texts.specs.Field.{outside, operands, is_balanced}
-use Rattle.macro_statements.specs.Keywords.{key_of, value_text, is_keyword_operand}
 use Rattle.operand_texts.specs.Values.{number_of, value_of, target_of, content_of, size_of}
-use Rattle.macro_statements.specs.Rows.{Row, obtain_row, release_row, storage_left_out, is_among, kind_in, value_fault}
 use Rattle.operand_texts.specs.Written.{Written, number, Target, Stored}
+use Rattle.macro_statements.specs.Rows.{Key, position, keyword, same_key, is_among, Entry, Row}
+use Rattle.macro_statements.specs.Rows.{storage_left_out, obtain_row, release_row, poke_row, peek_row, steps_row}
+use Rattle.macro_statements.specs.Keywords.{Operand, operand_at}
+use Rattle.macro_statements.specs.Said.{value_fault}
 use Rattle.macro_statements.specs.Requests.{obtain, release, poke, Asked, act, peek, back, forward}
 use Rattle.macro_statements.specs.declared.faults.FaultKind.{FaultKind}
 use Rattle.macro_statements.specs.declared.faults.FaultKind.TheVariants as fault
 use Rattle.vsm_model.specs.declared.causes.Family.TheVariants as family
 use Rattle.macro_statements.specs.declared.requests.Form.{Form}
-use Rattle.macro_statements.specs.declared.rows.Kind.{Kind}
-use Rattle.macro_statements.specs.declared.rows.Kind.TheVariants as kind
 use Rattle.macro_statements.specs.declared.statements.Operation.{Operation}
 use Rattle.macro_statements.specs.declared.statements.Operation.TheVariants as operation
 
--- What is wrong with an operand whose keyword the row has with this kind, or hasn't, behind operands with these
--- keywords.
-abbrev pub kind_fault : List (List ℕ) → List ℕ → Option Kind → List ℕ → Option FaultKind
-kind_fault before key None value = Some fault.Operand
-kind_fault before key (Some k) value = if is_among before key then Some fault.Repeated else value_fault k value
+-- The entry of a row that has this key.
+abbrev pub entry_for : List Entry → Key → Option Entry
+entry_for [] key = None
+entry_for (e ∷ entries) key = if same_key e.key key then Some e else entry_for entries key
 
--- What is wrong with an operand with this keyword: it is left out, or the row hasn't it, or it was written before, or
--- its value.
-abbrev pub key_fault : List (List ℕ) → Row → List (List ℕ) → Option (List ℕ) → List ℕ → Option FaultKind
-key_fault left_out row before None value = Some fault.Operand
-key_fault left_out row before (Some key) value =
-    if is_among left_out key then Some fault.LeftOut else kind_fault before key (kind_in row key) value
+-- A key is a keyword that is left out.
+abbrev pub is_left_out : List (List ℕ) → Key → Bool
+is_left_out left_out (position i) = false
+is_left_out left_out (keyword name) = list_any (λ w. bytes_eq name w) left_out
 
--- What is wrong with an operand behind operands with these keywords.
-abbrev pub operand_fault : List (List ℕ) → Row → List (List ℕ) → List ℕ → Option FaultKind
-operand_fault left_out row before text = key_fault left_out row before (key_of text) (value_text text)
+-- What is wrong with an operand that a row hasn't: its keyword is left out, or it's none.
+abbrev pub unknown_fault : List (List ℕ) → Option Operand → FaultKind
+unknown_fault left_out None = fault.Operand
+unknown_fault left_out (Some o) = if is_left_out left_out o.key then fault.LeftOut else fault.Operand
+
+-- The key of an operand beside which an entry can't stand is among those before.
+abbrev pub is_excluded : List Key → Option Key → Bool
+is_excluded before None = false
+is_excluded before (Some key) = is_among before key
+
+-- What is wrong with an operand behind operands with these keys, where the row has this entry for its key, or none: the
+-- row hasn't it, or it can't stand beside one of them, or it was written before, or its value.
+abbrev pub entry_fault : List (List ℕ) → List Key → Operand → Option Entry → Option FaultKind
+entry_fault left_out before o None = Some (unknown_fault left_out (Some o))
+entry_fault left_out before o (Some e) =
+    if is_excluded before e.excluded then Some fault.Operand
+    else if is_among before o.key then Some fault.Repeated
+    else value_fault e.kind o.text
+
+-- What is wrong with an operand behind operands with these keys.
+abbrev pub operand_fault : Row → List Key → Option Operand → Option FaultKind
+operand_fault row before None = Some fault.Operand
+operand_fault row before (Some o) = entry_fault row.left_out before o (entry_for row.entries o.key)
 
 -- The earlier of two faults.
 abbrev pub earlier : Option FaultKind → Option FaultKind → Option FaultKind
 earlier None g = g
 earlier (Some f) g = Some f
 
--- The keywords written before, with that of one operand more.
-abbrev pub with_key : List (List ℕ) → Option (List ℕ) → List (List ℕ)
+-- The keys before, with that of one operand more.
+abbrev pub with_key : List Key → Option Operand → List Key
 with_key before None = before
-with_key before (Some key) = key ∷ before
+with_key before (Some o) = o.key ∷ before
 
--- The first fault of the operands from left to right, behind operands with these keywords.
-abbrev pub first_fault : List (List ℕ) → Row → List (List ℕ) → List (List ℕ) → Option FaultKind
-first_fault left_out row before [] = None
-first_fault left_out row before (o ∷ os) =
-    earlier (operand_fault left_out row before o) (first_fault left_out row (with_key before (key_of o)) os)
+-- The first fault of the operands from left to right, the first of which stands at this place behind operands with
+-- these keys.
+abbrev pub fault_from : Row → List Key → ℕ → List (List ℕ) → Option FaultKind
+fault_from row before place [] = None
+fault_from row before place (text ∷ texts) =
+    earlier (operand_fault row before (operand_at place text))
+    (fault_from row (with_key before (operand_at place text)) (place + 1) texts)
+
+-- The first fault of the operands.
+abbrev pub first_fault : Row → List (List ℕ) → Option FaultKind
+first_fault row texts = fault_from row [] 0 texts
 
 -- A fault, or else what the operands ask for.
 abbrev pub unless_fault : {A : Type 0} → Option FaultKind → Result A FaultKind → Result A FaultKind
 unless_fault None r = r
 unless_fault (Some f) r = Err f
 
--- An operand has this keyword.
-abbrev pub is_key : List ℕ → Option (List ℕ) → Bool
-is_key key None = false
-is_key key (Some k) = bytes_eq key k
+-- The text of an operand's value where it has this key, or another text.
+abbrev pub text_or : Key → Option Operand → Option (List ℕ) → Option (List ℕ)
+text_or key None other = other
+text_or key (Some o) other = if same_key key o.key then Some o.text else other
 
--- The text of the value of the operand that has this keyword.
-abbrev pub text_at : List ℕ → List (List ℕ) → Option (List ℕ)
-text_at key [] = None
-text_at key (o ∷ os) = if is_key key (key_of o) then Some (value_text o) else text_at key os
+-- The text of the value of the operand that has this key, of operands the first of which stands at this place.
+abbrev pub text_from : Key → ℕ → List (List ℕ) → Option (List ℕ)
+text_from key place [] = None
+text_from key place (text ∷ texts) = text_or key (operand_at place text) (text_from key (place + 1) texts)
 
--- The value of the operand that has this keyword.
-abbrev pub value_at : List ℕ → List (List ℕ) → Option Written
-value_at key os = option_and_then value_of (text_at key os)
+-- The text of the value of the operand that has this key.
+abbrev pub text_at : Key → List (List ℕ) → Option (List ℕ)
+text_at key texts = text_from key 0 texts
 
--- The place of the operand that has this keyword.
-abbrev pub target_at : List ℕ → List (List ℕ) → Option Target
-target_at key os = option_and_then target_of (text_at key os)
+-- The value of the operand that has this key.
+abbrev pub value_at : Key → List (List ℕ) → Option Written
+value_at key texts = option_and_then value_of (text_at key texts)
+
+-- The place of the operand that has this key.
+abbrev pub target_at : Key → List (List ℕ) → Option Target
+target_at key texts = option_and_then target_of (text_at key texts)
 
 -- SP is 0 where it is left out.
 abbrev pub subpool_at : List (List ℕ) → Written
-subpool_at os = unwrap_or (value_at (codes "SP") os) (number 0)
+subpool_at texts = unwrap_or (value_at (keyword (codes "SP")) texts) (number 0)
 
 -- A condition says YES.
 abbrev pub says_yes : Option (List ℕ) → Bool
@@ -86,7 +114,7 @@ says_yes (Some text) = is_word text (codes "YES")
 -- STORAGE is a form of its own family, and conditional where COND says YES (Assembler Services Reference, "STORAGE -
 -- Obtain and release storage", COND).
 abbrev pub storage_form : List (List ℕ) → Form
-storage_form os = record { family = family.S; conditional = says_yes (text_at (codes "COND") os) }
+storage_form texts = record { family = family.S; conditional = says_yes (text_at (keyword (codes "COND")) texts) }
 
 -- LENGTH is required.
 abbrev pub obtain_with : Option Written → Written → Option Target → Form → Result Asked FaultKind
@@ -102,49 +130,26 @@ release_with (Some length) (Some address) subpool form = Ok (act (release length
 -- STORAGE OBTAIN with the operands behind its form (Assembler Services Reference, "STORAGE - Obtain and release
 -- storage").
 abbrev pub obtain_of : List (List ℕ) → Result Asked FaultKind
-obtain_of os =
-    unless_fault (first_fault storage_left_out obtain_row [] os)
-    (obtain_with (value_at (codes "LENGTH") os) (subpool_at os) (target_at (codes "ADDR") os) (storage_form os))
+obtain_of texts =
+    unless_fault (first_fault obtain_row texts)
+    (obtain_with (value_at (keyword (codes "LENGTH")) texts) (subpool_at texts)
+    (target_at (keyword (codes "ADDR")) texts) (storage_form texts))
 
 -- STORAGE RELEASE with the operands behind its form (there).
 abbrev pub release_of : List (List ℕ) → Result Asked FaultKind
-release_of os =
-    unless_fault (first_fault storage_left_out release_row [] os)
-    (release_with (value_at (codes "LENGTH") os) (value_at (codes "ADDR") os) (subpool_at os) (storage_form os))
+release_of texts =
+    unless_fault (first_fault release_row texts)
+    (release_with (value_at (keyword (codes "LENGTH")) texts) (value_at (keyword (codes "ADDR")) texts)
+    (subpool_at texts) (storage_form texts))
 
--- What is wrong with a first operand that is no form: it may have a keyword that is left out.
-abbrev pub form_fault : List (List ℕ) → List ℕ → FaultKind
-form_fault left_out form = unwrap_or (operand_fault left_out [] [] form) fault.Operand
-
--- STORAGE has a form, OBTAIN or RELEASE, and operands behind it.
+-- STORAGE has a form, OBTAIN or RELEASE, and operands behind it. A first operand that is neither may have a keyword
+-- that is left out.
 abbrev pub storage : List (List ℕ) → Result Asked FaultKind
 storage [] = Err fault.Missing
-storage (form ∷ os) =
-    if is_word form (codes "OBTAIN") then obtain_of os
-    else if is_word form (codes "RELEASE") then release_of os
-    else Err (form_fault storage_left_out form)
-
--- What is wrong with an operand in a position for this kind of value. An empty operand and a keyword operand stand in
--- no position.
-abbrev pub position_fault : Kind → List ℕ → Option FaultKind
-position_fault k o = if (length o == 0) || is_keyword_operand o then Some fault.Operand else value_fault k o
-
--- The first fault of operands that stand in positions for these kinds of values.
-abbrev pub positional_fault : List Kind → List (List ℕ) → Option FaultKind
-positional_fault [] [] = None
-positional_fault [] (o ∷ os) = Some fault.Operand
-positional_fault (k ∷ ks) [] = Some fault.Missing
-positional_fault (k ∷ ks) (o ∷ os) = earlier (position_fault k o) (positional_fault ks os)
-
--- The first operand.
-abbrev pub first_operand : List (List ℕ) → Option (List ℕ)
-first_operand [] = None
-first_operand (o ∷ os) = Some o
-
--- The second operand.
-abbrev pub second_operand : List (List ℕ) → Option (List ℕ)
-second_operand [] = None
-second_operand (o ∷ os) = first_operand os
+storage (form ∷ texts) =
+    if is_word form (codes "OBTAIN") then obtain_of texts
+    else if is_word form (codes "RELEASE") then release_of texts
+    else Err (unknown_fault storage_left_out (operand_at 0 form))
 
 -- An address and what is stored there are required.
 abbrev pub poke_with : Option Written → Option Stored → Result Asked FaultKind
@@ -154,9 +159,9 @@ poke_with (Some address) (Some content) = Ok (act (poke address content))
 
 -- POKE, a statement of the bench's own, has an address and what is stored there.
 abbrev pub poke_of : List (List ℕ) → Result Asked FaultKind
-poke_of os =
-    unless_fault (positional_fault (kind.Value ∷ kind.Content ∷ []) os)
-    (poke_with (option_and_then value_of (first_operand os)) (option_and_then content_of (second_operand os)))
+poke_of texts =
+    unless_fault (first_fault poke_row texts)
+    (poke_with (value_at (position 0) texts) (option_and_then content_of (text_at (position 1) texts)))
 
 -- An address and a length are required.
 abbrev pub peek_with : Option Written → Option ℕ → Result Asked FaultKind
@@ -166,9 +171,9 @@ peek_with (Some address) (Some size) = Ok (peek address size)
 
 -- PEEK, a statement of the bench's own, has an address and a length.
 abbrev pub peek_of : List (List ℕ) → Result Asked FaultKind
-peek_of os =
-    unless_fault (positional_fault (kind.Value ∷ kind.Size ∷ []) os)
-    (peek_with (option_and_then value_of (first_operand os)) (option_and_then size_of (second_operand os)))
+peek_of texts =
+    unless_fault (first_fault peek_row texts)
+    (peek_with (value_at (position 0) texts) (option_and_then size_of (text_at (position 1) texts)))
 
 -- A count is required.
 abbrev pub count_with : Option ℕ → Result ℕ FaultKind
@@ -177,8 +182,8 @@ count_with (Some n) = Ok n
 
 -- One operand, a number.
 abbrev pub count_in : List (List ℕ) → Result ℕ FaultKind
-count_in os =
-    unless_fault (positional_fault (kind.Count ∷ []) os) (count_with (option_and_then number_of (first_operand os)))
+count_in texts =
+    unless_fault (first_fault steps_row texts) (count_with (option_and_then number_of (text_at (position 0) texts)))
 
 -- A step takes a count.
 abbrev pub step_with : (ℕ → Asked) → Result ℕ FaultKind → Result Asked FaultKind

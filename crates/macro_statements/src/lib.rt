@@ -2,12 +2,11 @@
 #![tactic(auto)]
 
 mod faults;
-mod keywords;
 mod laws;
 mod operands;
-mod positions;
 mod requests;
 mod rows;
+mod said;
 mod statements;
 
 pub use faults::FaultKind;

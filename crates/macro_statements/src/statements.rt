@@ -1,20 +1,21 @@
 //! The request of a statement.
 
-ghost use Rattle.std.specs.Prelude.{◌≡◌, ◌≤◌, length, IfOk};
+ghost use Rattle.std.specs.Prelude.{◌≡◌, ◌<◌, ◌≤◌, length, IfOk, unwrap_or};
 ghost use Rattle.std.specs.Option.{option_copied};
 ghost use Rattle.operand_texts.specs.Field.{operands, operands_behind};
-ghost use Rattle.operand_texts.specs.Written.{written_in, IsValue};
+ghost use Rattle.operand_texts.specs.Written.{written_in, number};
 ghost use Rattle.macro_statements.specs.Requests.{seen, asked_in, IsValidAsked};
-ghost use Rattle.macro_statements.specs.Statements.{subpool_at, storage_form, obtain_of, release_of, storage, poke_of};
-ghost use Rattle.macro_statements.specs.Statements.{peek_of, count_in, operation_of, asked_of, of_operation};
-ghost use Rattle.macro_statements.specs.Statements.{from_operation, from_operands, is_misplaced, statement_with};
+ghost use Rattle.macro_statements.specs.Slots.{slots_in, slot, as_value, as_condition, form_by, obtain_by, release_by};
+ghost use Rattle.macro_statements.specs.Slots.{poke_by, peek_by, count_by};
+ghost use Rattle.macro_statements.specs.Statements.{obtain_of, release_of, storage, poke_of, peek_of, count_in};
+ghost use Rattle.macro_statements.specs.Statements.{operation_of, asked_of, from_operation, from_operands};
+ghost use Rattle.macro_statements.specs.Statements.{is_misplaced, statement_with};
 
 use crate::faults::FaultKind;
-use crate::keywords::Keywords;
-use crate::operands::{first_fault, form_fault, place_at, says_yes_at, value_at};
-use crate::positions::{first_number, first_value, positional_fault, second_content, second_size};
+use crate::operands::{operand_at, read, unknown_fault};
 use crate::requests::{Form, Request, Statement};
-use crate::rows::{Kind, OBTAIN, RELEASE, STORAGE_LEFT_OUT};
+use crate::rows::{OBTAIN, PEEK, POKE, RELEASE, STEPS, STORAGE_LEFT_OUT};
+use crate::said::{Said, condition_at, content_at, count_at, place_at, size_at, value_at};
 use operand_texts::nesting::{is_balanced, split};
 use operand_texts::values::Value;
 use operand_texts::words::{after_blanks, after_word, is_name, is_word, word, word_len};
@@ -49,72 +50,91 @@ fn operation_of(text: &[u8]) -> Option<Operation>
     }
 }
 
-/// SP of the operands behind a form, 0 where it is left out.
-fn subpool_at(text: Option<&[u8]>) -> Value
-    ensures value { written_in result ≡ subpool_at (operands_behind (option_copied text.entry)) }
-    ensures valid { IsValue (written_in result) }
+/// Nothing that was read.
+const NOTHING: Option<Said> = None;
+
+/// SP as it was read at a place, 0 where it is left out.
+fn subpool_at(said: &[Option<Said>], i: usize) -> Value
+    requires { i < length said.now }
+    ensures { written_in result ≡ unwrap_or (as_value (slot (slots_in said.now) i)) (number 0) }
 {
-    match value_at(Keywords::SP, text) {
+    match value_at(said, i) {
         Some(subpool) => subpool,
         None => Value::Number(0),
     }
 }
 
-/// The form of STORAGE with the operands behind OBTAIN or RELEASE.
-fn storage_form(text: Option<&[u8]>) -> Form
-    ensures { result ≡ storage_form (operands_behind (option_copied text.entry)) }
+/// The form of STORAGE, whose COND was read at a place.
+fn storage_form(said: &[Option<Said>], i: usize) -> Form
+    requires { i < length said.now }
+    ensures { result ≡ form_by (as_condition (slot (slots_in said.now) i)) }
 {
     Form {
         family: Family::S,
-        conditional: says_yes_at(Keywords::COND, text),
+        conditional: condition_at(said, i),
     }
 }
 
-/// STORAGE OBTAIN with the operands behind its form.
-fn obtain(text: Option<&[u8]>) -> Result<Request, FaultKind>
-    ensures value { seen result ≡ obtain_of (operands_behind (option_copied text.entry)) }
-    ensures valid { IfOk result (λ r. IsValidAsked (asked_in r)) }
+/// What STORAGE OBTAIN asks for by what was read.
+fn obtain_by(said: &[Option<Said>]) -> Result<Request, FaultKind>
+    requires { length said.now ≡ 4 }
+    ensures { seen result ≡ obtain_by (slots_in said.now) }
 {
-    if let Some(fault) = first_fault(&STORAGE_LEFT_OUT, &OBTAIN, text) {
-        return Err(fault);
-    }
-    let Some(length) = value_at(Keywords::LENGTH, text) else {
+    let Some(length) = value_at(said, 0) else {
         return Err(FaultKind::Missing);
     };
     Ok(Request::Act(Statement::Obtain {
         length,
-        subpool: subpool_at(text),
-        place: place_at(Keywords::ADDR, text),
-        form: storage_form(text),
+        subpool: subpool_at(said, 1),
+        place: place_at(said, 2),
+        form: storage_form(said, 3),
     }))
 }
 
-/// STORAGE RELEASE with the operands behind its form.
-fn release(text: Option<&[u8]>) -> Result<Request, FaultKind>
-    ensures value { seen result ≡ release_of (operands_behind (option_copied text.entry)) }
-    ensures valid { IfOk result (λ r. IsValidAsked (asked_in r)) }
+/// STORAGE OBTAIN with the operands behind its form.
+fn obtain(text: Option<&[u8]>) -> Result<Request, FaultKind>
+    ensures { seen result ≡ obtain_of (operands_behind (option_copied text.entry)) }
 {
-    if let Some(fault) = first_fault(&STORAGE_LEFT_OUT, &RELEASE, text) {
-        return Err(fault);
+    let mut said = [NOTHING, NOTHING, NOTHING, NOTHING];
+    match read(&OBTAIN, text, &mut said) {
+        Some(fault) => Err(fault),
+        None => obtain_by(&said),
     }
-    let Some(length) = value_at(Keywords::LENGTH, text) else {
+}
+
+/// What STORAGE RELEASE asks for by what was read.
+fn release_by(said: &[Option<Said>]) -> Result<Request, FaultKind>
+    requires { length said.now ≡ 4 }
+    ensures { seen result ≡ release_by (slots_in said.now) }
+{
+    let Some(length) = value_at(said, 0) else {
         return Err(FaultKind::Missing);
     };
-    let Some(address) = value_at(Keywords::ADDR, text) else {
+    let Some(address) = value_at(said, 1) else {
         return Err(FaultKind::Missing);
     };
     Ok(Request::Act(Statement::Release {
         length,
         address,
-        subpool: subpool_at(text),
-        form: storage_form(text),
+        subpool: subpool_at(said, 2),
+        form: storage_form(said, 3),
     }))
+}
+
+/// STORAGE RELEASE with the operands behind its form.
+fn release(text: Option<&[u8]>) -> Result<Request, FaultKind>
+    ensures { seen result ≡ release_of (operands_behind (option_copied text.entry)) }
+{
+    let mut said = [NOTHING, NOTHING, NOTHING, NOTHING];
+    match read(&RELEASE, text, &mut said) {
+        Some(fault) => Err(fault),
+        None => release_by(&said),
+    }
 }
 
 /// STORAGE with its operand field.
 fn storage(field: &[u8]) -> Result<Request, FaultKind>
-    ensures value { seen result ≡ storage (operands field.now) }
-    ensures valid { IfOk result (λ r. IsValidAsked (asked_in r)) }
+    ensures { seen result ≡ storage (operands field.now) }
 {
     if field.is_empty() {
         return Err(FaultKind::Missing);
@@ -125,58 +145,92 @@ fn storage(field: &[u8]) -> Result<Request, FaultKind>
     } else if is_word(form, b"RELEASE") {
         release(behind)
     } else {
-        Err(form_fault(&STORAGE_LEFT_OUT, form))
+        Err(unknown_fault(&STORAGE_LEFT_OUT, operand_at(0, form)))
     }
 }
 
-/// POKE with its operand field.
-fn poke(field: &[u8]) -> Result<Request, FaultKind>
-    ensures value { seen result ≡ poke_of (operands field.now) }
-    ensures valid { IfOk result (λ r. IsValidAsked (asked_in r)) }
+/// An operand field, where it isn't empty.
+fn some_field(field: &[u8]) -> Option<&[u8]>
+    ensures { operands_behind (option_copied result) ≡ operands field.now }
 {
-    if let Some(fault) = positional_fault(&[Kind::Value, Kind::Content], field) {
-        return Err(fault);
-    }
-    let Some(address) = first_value(field) else {
+    if field.is_empty() { None } else { Some(field) }
+}
+
+/// What POKE asks for by what was read, which is taken.
+fn poke_by(said: &mut [Option<Said>]) -> Result<Request, FaultKind>
+    requires { length said.old ≡ 2 }
+    ensures { seen result ≡ poke_by (slots_in said.old) }
+{
+    let Some(address) = value_at(said, 0) else {
         return Err(FaultKind::Missing);
     };
-    let Some(content) = second_content(field) else {
+    let Some(content) = content_at(said, 1) else {
         return Err(FaultKind::Missing);
     };
     Ok(Request::Act(Statement::Poke { address, content }))
 }
 
-/// PEEK with its operand field.
-fn peek(field: &[u8]) -> Result<Request, FaultKind>
-    ensures value { seen result ≡ peek_of (operands field.now) }
-    ensures valid { IfOk result (λ r. IsValidAsked (asked_in r)) }
+/// POKE with its operand field.
+fn poke(field: &[u8]) -> Result<Request, FaultKind>
+    ensures { seen result ≡ poke_of (operands field.now) }
 {
-    if let Some(fault) = positional_fault(&[Kind::Value, Kind::Size], field) {
-        return Err(fault);
+    let mut said = [NOTHING, NOTHING];
+    match read(&POKE, some_field(field), &mut said) {
+        Some(fault) => Err(fault),
+        None => poke_by(&mut said),
     }
-    let Some(addr) = first_value(field) else {
+}
+
+/// What PEEK asks for by what was read.
+fn peek_by(said: &[Option<Said>]) -> Result<Request, FaultKind>
+    requires { length said.now ≡ 2 }
+    ensures { seen result ≡ peek_by (slots_in said.now) }
+{
+    let Some(addr) = value_at(said, 0) else {
         return Err(FaultKind::Missing);
     };
-    let Some(len) = second_size(field) else {
+    let Some(len) = size_at(said, 1) else {
         return Err(FaultKind::Missing);
     };
     Ok(Request::Peek { addr, len })
+}
+
+/// PEEK with its operand field.
+fn peek(field: &[u8]) -> Result<Request, FaultKind>
+    ensures { seen result ≡ peek_of (operands field.now) }
+{
+    let mut said = [NOTHING, NOTHING];
+    match read(&PEEK, some_field(field), &mut said) {
+        Some(fault) => Err(fault),
+        None => peek_by(&said),
+    }
+}
+
+/// The number of steps by what was read.
+fn count_by(said: &[Option<Said>]) -> Result<u32, FaultKind>
+    requires { length said.now ≡ 1 }
+    ensures { result ≡ count_by (slots_in said.now) }
+{
+    match count_at(said, 0) {
+        Some(count) => Ok(count),
+        None => Err(FaultKind::Missing),
+    }
 }
 
 /// The number that is the only operand of a field.
 fn count_in(field: &[u8]) -> Result<u32, FaultKind>
     ensures { result ≡ count_in (operands field.now) }
 {
-    if let Some(fault) = positional_fault(&[Kind::Count], field) {
-        return Err(fault);
+    let mut said = [NOTHING];
+    match read(&STEPS, some_field(field), &mut said) {
+        Some(fault) => Err(fault),
+        None => count_by(&said),
     }
-    first_number(field).ok_or(FaultKind::Missing)
 }
 
 /// What an operation asks for with this operand field.
 fn asked_of(operation: Operation, field: &[u8]) -> Result<Request, FaultKind>
-    ensures value { seen result ≡ asked_of operation (operands field.now) }
-    ensures valid { IfOk result (λ r. IsValidAsked (asked_in r)) }
+    ensures { seen result ≡ asked_of operation (operands field.now) }
 {
     match operation {
         Operation::Storage => storage(field),
