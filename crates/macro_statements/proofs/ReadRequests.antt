@@ -1,13 +1,16 @@
 -- What each statement asks for by what was read is what its operands ask for.
-use Rattle.std.proofs.Common.{◌≡◌, ℕ, Bool, true, false, List, Option, Some, None, Result, Ok, Err, if◌then◌else◌, codes, unwrap_or, option_and_then, refl, ap, ◌∙◌, sym}
+use Rattle.std.proofs.Common.{◌≡◌, ℕ, Bool, true, false, List, Option, Some, None, Result, if◌then◌else◌, codes, unwrap_or, option_and_then, refl, ap, ◌∙◌, sym}
 use Rattle.std.specs.Option.{option_map}
 use Rattle.operand_texts.specs.Words.{is_word}
 use Rattle.operand_texts.specs.Written.{Written, number, Target, Stored}
 use Rattle.operand_texts.specs.Values.{number_of, value_of, target_of, content_of, size_of}
-use Rattle.macro_statements.specs.Rows.{Key, position, keyword, obtain_row, release_row, poke_row, peek_row, steps_row}
-use Rattle.macro_statements.specs.Said.{Said, value, place, condition, content, size, count, said_of, condition_of}
-use Rattle.macro_statements.specs.Requests.{Asked}
-use Rattle.macro_statements.specs.Statements.{first_fault, text_at, value_at, target_at, subpool_at, says_yes, storage_form, unless_fault, obtain_of, release_of, poke_of, peek_of, count_in, obtain_with, release_with, poke_with, peek_with, count_with}
+use Rattle.macro_statements.specs.Rows.{position, keyword}
+use Rattle.macro_statements.specs.Operands.{first_fault, text_at, value_at, target_at, unless_fault}
+use Rattle.macro_statements.specs.Storage.{obtain_row, release_row, subpool_at, says_yes, storage_form, obtain_of, release_of, obtain_with, release_with}
+use Rattle.macro_statements.specs.Poke.{poke_row, poke_of, poke_with}
+use Rattle.macro_statements.specs.Peek.{peek_row, peek_of, peek_with}
+use Rattle.macro_statements.specs.Steps.{steps_row, count_in, count_with}
+use Rattle.macro_statements.specs.Said.{value, place, condition, content, size, count, said_of}
 use Rattle.macro_statements.specs.Slots.{as_value, as_place, as_condition, as_content, as_size, as_count, form_by, subpool_by, readings, obtain_by, release_by, poke_by, peek_by, count_by}
 use Rattle.macro_statements.specs.declared.faults.FaultKind.{FaultKind}
 use Rattle.macro_statements.specs.declared.rows.Kind.TheVariants as kind

@@ -1,15 +1,13 @@
 -- What operands are read into, by the places of a row's entries, is what they say, and their first fault is the same.
-use Rattle.std.proofs.Common.{◌≡◌, ◌≢◌, ℕ, zero, suc, ◌+◌, ◌<◌, ◌≤◌, ◌==◌, Bool, true, false, not, ◌&&◌, ◌||◌, List, [], ◌∷◌, Option, Some, None, is_some, Result, Ok, Err, length, map, get_or, set, if◌then◌else◌, refl, sym, ap, ◌∙◌, arith, eqb-true, option_and_then}
+use Rattle.std.proofs.Common.{◌≡◌, ◌≢◌, ℕ, zero, suc, ◌+◌, ◌<◌, ◌≤◌, Bool, true, false, not, ◌&&◌, ◌||◌, List, [], ◌∷◌, Option, Some, None, is_some, Result, Ok, Err, length, map, get_or, if◌then◌else◌, refl, sym, ap, ◌∙◌, arith, eqb-true, option_and_then}
 use Rattle.std.specs.Prelude.{slice_set}
-use Rattle.std.specs.List.{list_any}
-use Rattle.std.specs.Str.{bytes_eq}
 use Rattle.std.proofs.lemmas.Slice.Eq.{bytes_eq-Decides}
 use Rattle.std.proofs.lemmas.Bool.{eq-eqb}
 use Rattle.std.proofs.lemmas.List.{get_or-set_same, get_or-set_other, length-set, length-map, get_or-map, ext_get_or}
 use Rattle.macro_statements.specs.Rows.{Key, position, keyword, same_key, is_among, Entry, Row}
+use Rattle.macro_statements.specs.Operands.{entry_for, is_excluded, entry_fault, operand_fault, earlier, with_key, fault_from, first_fault, text_or, text_from, text_at}
 use Rattle.macro_statements.specs.Keywords.{Operand, operand_at}
 use Rattle.macro_statements.specs.Said.{Said, said_of, unsaid_fault, value_fault}
-use Rattle.macro_statements.specs.Statements.{entry_for, is_excluded, unknown_fault, entry_fault, operand_fault, earlier, with_key, fault_from, first_fault, text_or, text_from, text_at}
 use Rattle.macro_statements.specs.Slots.{Slots, found, slot, is_filled, is_barred, filled, with_entry, with_operand, with_operands, no_slots, readings, are_apart, answered}
 use Rattle.macro_statements.specs.declared.faults.FaultKind.{FaultKind}
 use Rattle.macro_statements.specs.declared.faults.FaultKind.TheVariants as fault
@@ -81,13 +79,13 @@ found_same i [] a b k e g h j = cc
 found_same i (f ∷ es) a b k e g h j =
     elim (same_key f.key a) as (λ v. same_key f.key a ≡ v → (if v then Some (i, f) else found (i + 1) es a) ≡ Some (k, e) → a ≡ b) [
       | true ↦ λ p q. (elim (same_key f.key b) as (λ v. same_key f.key b ≡ v → (if v then Some (i, f) else found (i + 1) es b) ≡ Some (k, g) → a ≡ b) [
-          | true ↦ λ r s. sym (key_is f.key a p) ∙ key_is f.key b r
-          | false ↦ λ r s. (let w : i ≡ k = place_is i k f e q in let least : i + 1 ≤ k = found_least (i + 1) es b k g s in absurd (omega (arith, w, least)))
-        ] refl j)
+        | true ↦ λ r s. sym (key_is f.key a p) ∙ key_is f.key b r
+        | false ↦ λ r s. (let w : i ≡ k = place_is i k f e q in let least : i + 1 ≤ k = found_least (i + 1) es b k g s in absurd (omega (arith, w, least)))
+      ] refl j)
       | false ↦ λ p q. (elim (same_key f.key b) as (λ v. (if v then Some (i, f) else found (i + 1) es b) ≡ Some (k, g) → a ≡ b) [
-          | true ↦ λ s. (let w : i ≡ k = place_is i k f g s in let least : i + 1 ≤ k = found_least (i + 1) es a k e q in absurd (omega (arith, w, least)))
-          | false ↦ λ s. found_same (i + 1) es a b k e g q s
-        ] j)
+        | true ↦ λ s. (let w : i ≡ k = place_is i k f g s in let least : i + 1 ≤ k = found_least (i + 1) es a k e q in absurd (omega (arith, w, least)))
+        | false ↦ λ s. found_same (i + 1) es a b k e g q s
+      ] j)
     ] refl h
 
 abbrev entry_in_found : Option (ℕ × Entry) → Option Entry
@@ -143,7 +141,15 @@ taken_filled : (row : Row) (slots : Slots) (o : Operand) (place : ℕ) (entry : 
     → Taken row slots (Some o) more
 taken_filled row slots o place entry more f e None s h = cc
 taken_filled row slots o place entry more f e (Some said) s h = record {
-  operand = o; is = refl; place = place; entry = entry; found = f; empty = e; said = said; says = s; filled = cc;
+  operand = o;
+  is = refl;
+  place = place;
+  entry = entry;
+  found = f;
+  empty = e;
+  said = said;
+  says = s;
+  filled = cc;
 }
 
 taken_entry : (row : Row) (slots : Slots) (o : Operand) (more : Slots) (f : Option (ℕ × Entry)) → found 0 row.entries o.key ≡ f
@@ -155,9 +161,9 @@ taken_entry row slots o more (Some g) f h =
       | true ↦ λ k. cc
       | false ↦ λ k. (elim (is_some (slot slots g.0)) as (λ b. is_some (slot slots g.0) ≡ b → (if b then Err fault.Repeated
           else filled slots g.0 (unsaid_fault g.1.kind o.text) (said_of g.1.kind o.text)) ≡ Ok more → Taken row slots (Some o) more) [
-          | true ↦ λ p q. cc
-          | false ↦ λ p q. taken_filled row slots o g.0 g.1 more f (no_some (slot slots g.0) p) (said_of g.1.kind o.text) refl q
-        ] refl k)
+            | true ↦ λ p q. cc
+            | false ↦ λ p q. taken_filled row slots o g.0 g.1 more f (no_some (slot slots g.0) p) (said_of g.1.kind o.text) refl q
+          ] refl k)
     ] h
 
 taken_with : (row : Row) (slots : Slots) (o : Option Operand) (more : Slots) → with_operand row slots o ≡ Ok more → Taken row slots o more
@@ -181,11 +187,11 @@ seen_found es slots before key k e s h g below other (Some j) f =
           let y : k ≡ j.0 = place_is k j.0 e j.1 x in
           ap (λ n. is_some (slot (slice_set slots k (Some s)) n)) (sym y)
           ∙ ap is_some (get_or-set_same slots k (Some s) None below)
-        )
+          )
       | false ↦ λ p. (
           let apart : j.0 ≢ k = λ w. not_both (same_key key other) (ap (λ x. same_key x other) (found_same 0 es key other k e j.1 g (f ∙ ap (λ n. Some (n, j.1)) w)) ∙ same_self other) p in
           ap is_some (get_or-set_other slots k j.0 (Some s) None apart) ∙ sym (ap (is_filled slots) f) ∙ h.each other
-        )
+          )
     ] refl
 
 seen_taken : (row : Row) (slots : Slots) (before : List Key) (o : Option Operand) (more : Slots) → length slots ≡ length row.entries
@@ -220,16 +226,16 @@ entry_faults row slots before o None h f = refl
 entry_faults row slots before o (Some g) h f =
     let again : is_some (slot slots g.0) ≡ is_among before o.key = sym (ap (is_filled slots) f) ∙ h.each o.key in
     rw (barred row.entries slots before g.1.excluded h, again) (
-      elim (is_excluded before g.1.excluded) as (λ b. fault_in (if b then Err fault.Operand else if is_among before o.key then Err fault.Repeated
-      else filled slots g.0 (unsaid_fault g.1.kind o.text) (said_of g.1.kind o.text))
-      ≡ (if b then Some fault.Operand else if is_among before o.key then Some fault.Repeated else value_fault g.1.kind o.text)) [
-        | true ↦ refl
-        | false ↦ (elim (is_among before o.key) as (λ b. fault_in (if b then Err fault.Repeated else filled slots g.0 (unsaid_fault g.1.kind o.text) (said_of g.1.kind o.text))
-            ≡ (if b then Some fault.Repeated else value_fault g.1.kind o.text)) [
+    elim (is_excluded before g.1.excluded) as (λ b. fault_in (if b then Err fault.Operand else if is_among before o.key then Err fault.Repeated
+    else filled slots g.0 (unsaid_fault g.1.kind o.text) (said_of g.1.kind o.text))
+    ≡ (if b then Some fault.Operand else if is_among before o.key then Some fault.Repeated else value_fault g.1.kind o.text)) [
+      | true ↦ refl
+      | false ↦ (elim (is_among before o.key) as (λ b. fault_in (if b then Err fault.Repeated else filled slots g.0 (unsaid_fault g.1.kind o.text) (said_of g.1.kind o.text))
+          ≡ (if b then Some fault.Repeated else value_fault g.1.kind o.text)) [
             | true ↦ refl
             | false ↦ filled_fault slots g.0 (unsaid_fault g.1.kind o.text) (said_of g.1.kind o.text)
           ])
-      ]
+    ]
     )
 
 one_fault : (row : Row) (slots : Slots) (before : List Key) (o : Option Operand) → IsSeen row.entries slots before
@@ -253,11 +259,11 @@ faults_from row slots before place (text ∷ texts) l h =
           faults_from row more (with_key before (operand_at place text)) (place + 1) texts (long_taken row slots (operand_at place text) more l u)
           (seen_taken row slots before (operand_at place text) more l h u)
           ∙ ap (λ f. earlier f (fault_from row (with_key before (operand_at place text)) (place + 1) texts)) (sym good)
-        )
+          )
       | Err wrong ↦ λ e. (
           let bad : operand_fault row before (operand_at place text) ≡ Some wrong = sym (one_fault row slots before (operand_at place text) h) ∙ ap fault_in e in
           ap (λ f. earlier f (fault_from row (with_key before (operand_at place text)) (place + 1) texts)) (sym bad)
-        )
+          )
     ] refl
 
 pub same_fault : (row : Row) (texts : List (List ℕ)) → fault_in (with_operands row (no_slots row.entries) 0 texts) ≡ first_fault row texts
@@ -285,7 +291,7 @@ said_from row slots place (text ∷ texts) end l h key k e f =
           let u = taken_with row slots (operand_at place text) more r in
           said_from row more (place + 1) texts end (long_taken row slots (operand_at place text) more l u) s key k e f
           ∙ step (operand_at place text) more u (text_from key (place + 1) texts)
-        )
+          )
       | Err wrong ↦ λ r s. absurd (no_ok wrong end s)
     ] refl h
   where
@@ -293,27 +299,27 @@ said_from row slots place (text ∷ texts) end l h key k e f =
         → or_said (slot more k) (option_and_then (said_of e.kind) other) ≡ or_said (slot slots k) (option_and_then (said_of e.kind) (text_or key o other))
     step o more u other =
         rw (u.is, u.filled) (
-          elim (same_key key u.operand.key) as (λ b. same_key key u.operand.key ≡ b
-          → or_said (slot (slice_set slots u.place (Some u.said)) k) (option_and_then (said_of e.kind) other)
-          ≡ or_said (slot slots k) (option_and_then (said_of e.kind) (if b then Some u.operand.text else other))) [
-            | true ↦ λ p. (
-                let w : key ≡ u.operand.key = key_is key u.operand.key p in
-                let x : ◌≡◌ {A = Option (ℕ × Entry)} (Some (k, e)) (Some (u.place, u.entry)) = sym f ∙ ap (λ x. found 0 row.entries x) w ∙ u.found in
-                let at : k ≡ u.place = place_is k u.place e u.entry x in
-                let of : e ≡ u.entry = entry_is k u.place e u.entry x in
-                let below : u.place < 0 + length row.entries = found_below 0 row.entries u.operand.key u.place u.entry u.found in
-                let within : u.place < length slots = omega (arith, below, l) in
-                ap (λ n. or_said (slot (slice_set slots u.place (Some u.said)) n) (option_and_then (said_of e.kind) other)) at
-                ∙ ap (λ s. or_said s (option_and_then (said_of e.kind) other)) (get_or-set_same slots u.place (Some u.said) None within)
-                ∙ sym u.says ∙ ap (λ (g : Entry). said_of g.kind u.operand.text) (sym of)
-                ∙ ap (λ s. or_said s (said_of e.kind u.operand.text)) (sym (ap (λ n. slot slots n) at ∙ u.empty))
+        elim (same_key key u.operand.key) as (λ b. same_key key u.operand.key ≡ b
+        → or_said (slot (slice_set slots u.place (Some u.said)) k) (option_and_then (said_of e.kind) other)
+        ≡ or_said (slot slots k) (option_and_then (said_of e.kind) (if b then Some u.operand.text else other))) [
+          | true ↦ λ p. (
+              let w : key ≡ u.operand.key = key_is key u.operand.key p in
+              let x : ◌≡◌ {A = Option (ℕ × Entry)} (Some (k, e)) (Some (u.place, u.entry)) = sym f ∙ ap (λ x. found 0 row.entries x) w ∙ u.found in
+              let at : k ≡ u.place = place_is k u.place e u.entry x in
+              let of : e ≡ u.entry = entry_is k u.place e u.entry x in
+              let below : u.place < 0 + length row.entries = found_below 0 row.entries u.operand.key u.place u.entry u.found in
+              let within : u.place < length slots = omega (arith, below, l) in
+              ap (λ n. or_said (slot (slice_set slots u.place (Some u.said)) n) (option_and_then (said_of e.kind) other)) at
+              ∙ ap (λ s. or_said s (option_and_then (said_of e.kind) other)) (get_or-set_same slots u.place (Some u.said) None within)
+              ∙ sym u.says ∙ ap (λ (g : Entry). said_of g.kind u.operand.text) (sym of)
+              ∙ ap (λ s. or_said s (said_of e.kind u.operand.text)) (sym (ap (λ n. slot slots n) at ∙ u.empty))
               )
-            | false ↦ λ p. (
-                let apart : k ≢ u.place = λ w. not_both (same_key key u.operand.key) (ap (λ x. same_key x u.operand.key)
-                (found_same 0 row.entries key u.operand.key k e u.entry f (u.found ∙ ap (λ n. Some (n, u.entry)) (sym w))) ∙ same_self u.operand.key) p in
-                ap (λ s. or_said s (option_and_then (said_of e.kind) other)) (get_or-set_other slots u.place k (Some u.said) None apart)
+          | false ↦ λ p. (
+              let apart : k ≢ u.place = λ w. not_both (same_key key u.operand.key) (ap (λ x. same_key x u.operand.key)
+              (found_same 0 row.entries key u.operand.key k e u.entry f (u.found ∙ ap (λ n. Some (n, u.entry)) (sym w))) ∙ same_self u.operand.key) p in
+              ap (λ s. or_said s (option_and_then (said_of e.kind) other)) (get_or-set_other slots u.place k (Some u.said) None apart)
               )
-          ] refl
+        ] refl
         )
 
 -- entries with keys of their own are found at their places

@@ -1,5 +1,5 @@
 -- The requests that operand fields spell are those that are valid.
-use Rattle.std.proofs.Common.{◌≡◌, ℕ, suc, ◌^◌, ◌<◌, ◌≤◌, ◌↔◌, ◌==◌, Bool, true, false, ◌&&◌, List, [], ◌∷◌, ◌++◌, length, map, Option, Some, None, Result, Ok, Err, is_some, nat_le, codes, unwrap_or, option_and_then, if◌then◌else◌, decimal, arith, refl, ap, sym, subst, ◌∙◌, ◌+◌}
+use Rattle.std.proofs.Common.{◌≡◌, ℕ, suc, ◌^◌, ◌<◌, ◌≤◌, ◌↔◌, ◌==◌, Bool, true, false, ◌&&◌, List, [], ◌∷◌, length, map, Option, Some, None, Result, Ok, Err, is_some, nat_le, codes, unwrap_or, option_and_then, if◌then◌else◌, decimal, arith, refl, ap, sym, subst, ◌∙◌, ◌+◌}
 use Rattle.std.specs.List.{AllByRecursion}
 use Rattle.std.specs.Option.{IfSome, option_map}
 use Rattle.std.specs.Prelude.{IfOk}
@@ -10,10 +10,15 @@ use Rattle.operand_texts.specs.Words.{is_name, is_word}
 use Rattle.operand_texts.specs.Written.{Written, number, named, register, Target, Stored, spelled, word, IsValue, IsTarget, IsStored, HasBytes}
 use Rattle.macro_statements.specs.Requests.{obtain, release, poke, Asked, act, peek, back, forward, IsValidAsked, AskedHasBytes, HasRoom, seen, asked_in}
 use Rattle.operand_texts.specs.Values.{number_of, value_of, target_of, content_of, within_size, size_of}
-use Rattle.macro_statements.specs.Rows.{Key, position, keyword, is_among, Entry, entry, Row, obtain_row, release_row, poke_row, peek_row, steps_row, storage_left_out}
+use Rattle.macro_statements.specs.Rows.{Key, position, keyword, is_among, Entry, entry, Row}
+use Rattle.macro_statements.specs.Operands.{entry_for, is_excluded, unknown_fault, first_fault, text_at, value_at, target_at, unless_fault}
+use Rattle.macro_statements.specs.Storage.{obtain_row, release_row, storage_left_out, subpool_at, says_yes, storage_form, obtain_of, release_of, obtain_with, release_with, storage}
+use Rattle.macro_statements.specs.Poke.{poke_row, poke_of, poke_with}
+use Rattle.macro_statements.specs.Peek.{peek_row, peek_of, peek_with}
+use Rattle.macro_statements.specs.Steps.{steps_row, count_with, step_with, count_in}
+use Rattle.macro_statements.specs.Statements.{asked_of, SpellsRequest}
 use Rattle.macro_statements.specs.Keywords.{operand_at}
 use Rattle.macro_statements.specs.Said.{said_of, value, place, content, size, count}
-use Rattle.macro_statements.specs.Statements.{entry_for, is_excluded, unknown_fault, first_fault, text_at, value_at, target_at, subpool_at, says_yes, storage_form, obtain_of, release_of, obtain_with, release_with, poke_of, peek_of, poke_with, peek_with, count_with, step_with, count_in, storage, asked_of, SpellsRequest, unless_fault}
 use Rattle.std.proofs.lemmas.List.{length-append}
 use Rattle.macro_statements.specs.declared.faults.FaultKind.{FaultKind}
 use Rattle.macro_statements.specs.declared.faults.FaultKind.TheVariants as fault
@@ -21,7 +26,6 @@ use Rattle.vsm_model.specs.declared.causes.Family.{Family}
 use Rattle.vsm_model.specs.declared.causes.Family.TheVariants as family
 use Rattle.macro_statements.specs.declared.requests.Form.{Form}
 use Rattle.macro_statements.specs.declared.requests.Request.{Request}
-use Rattle.macro_statements.specs.declared.rows.Kind.{Kind}
 use Rattle.macro_statements.specs.declared.rows.Kind.TheVariants as kind
 use Rattle.macro_statements.specs.declared.statements.Operation.{Operation}
 use Rattle.macro_statements.specs.declared.statements.Operation.TheVariants as operation
@@ -180,15 +184,24 @@ obtain_operands l s p form h =
     let tp = optional_place p h.2 in
     let tc = condition_text form.conditional in
     let items : List Item = item (keyword (codes "LENGTH")) (Some tl.text) ∷ item (keyword (codes "SP")) (Some ts.text)
-        ∷ item (keyword (codes "ADDR")) tp.text ∷ item (keyword (codes "COND")) (Some tc) ∷ [] in
+    ∷ item (keyword (codes "ADDR")) tp.text ∷ item (keyword (codes "COND")) (Some tc) ∷ [] in
     let fit : Good obtain_row items = (
       with_keyword obtain_row _ _ (codes "LENGTH") (entry (keyword (codes "LENGTH")) kind.Length) (Some tl.text) refl refl refl refl refl (value_says tl.text l tl.spells, tl.neat.goes 0),
-      (with_keyword obtain_row _ _ (codes "SP") (entry (keyword (codes "SP")) kind.Value) (Some ts.text) refl refl refl refl refl (value_says ts.text s ts.spells, ts.neat.goes 0),
-      (with_keyword obtain_row _ _ (codes "ADDR") (entry (keyword (codes "ADDR")) kind.Place) tp.text refl refl refl refl refl tp.says,
-      (with_keyword obtain_row _ _ (codes "COND") (entry (keyword (codes "COND")) kind.Condition) (Some tc) refl refl refl refl refl (condition_says form.conditional, word_stands tc (condition_name form.conditional)), tt))),
+      (
+        with_keyword obtain_row _ _ (codes "SP") (entry (keyword (codes "SP")) kind.Value) (Some ts.text) refl refl refl refl refl (value_says ts.text s ts.spells, ts.neat.goes 0),
+        (
+          with_keyword obtain_row _ _ (codes "ADDR") (entry (keyword (codes "ADDR")) kind.Place) tp.text refl refl refl refl refl tp.says,
+          (with_keyword obtain_row _ _ (codes "COND") (entry (keyword (codes "COND")) kind.Condition) (Some tc) refl refl refl refl refl (condition_says form.conditional, word_stands tc (condition_name form.conditional)), tt),
+        ),
+      ),
     ) in
-    let few : AllFew items = (keyed_few (codes "LENGTH") tl.text (omega arith) tl.neat.few, (keyed_few (codes "SP") ts.text (omega arith) ts.neat.few,
-        (optional_few (codes "ADDR") tp.text (omega arith) tp.few, (keyed_few (codes "COND") tc (omega arith) (condition_few form.conditional), tt)))) in
+    let few : AllFew items = (
+      keyed_few (codes "LENGTH") tl.text (omega arith) tl.neat.few,
+      (
+        keyed_few (codes "SP") ts.text (omega arith) ts.neat.few,
+        (optional_few (codes "ADDR") tp.text (omega arith) tp.few, (keyed_few (codes "COND") tc (omega arith) (condition_few form.conditional), tt)),
+      ),
+    ) in
     record {
       operation = operation.Storage;
       first = codes "OBTAIN";
@@ -212,15 +225,24 @@ release_operands l a s form h =
     let ts = value_text_of s h.2 in
     let tc = condition_text form.conditional in
     let items : List Item = item (keyword (codes "LENGTH")) (Some tl.text) ∷ item (keyword (codes "ADDR")) (Some ta.text)
-        ∷ item (keyword (codes "SP")) (Some ts.text) ∷ item (keyword (codes "COND")) (Some tc) ∷ [] in
+    ∷ item (keyword (codes "SP")) (Some ts.text) ∷ item (keyword (codes "COND")) (Some tc) ∷ [] in
     let fit : Good release_row items = (
       with_keyword release_row _ _ (codes "LENGTH") (entry (keyword (codes "LENGTH")) kind.Value) (Some tl.text) refl refl refl refl refl (value_says tl.text l tl.spells, tl.neat.goes 0),
-      (with_keyword release_row _ _ (codes "ADDR") (entry (keyword (codes "ADDR")) kind.Value) (Some ta.text) refl refl refl refl refl (value_says ta.text a ta.spells, ta.neat.goes 0),
-      (with_keyword release_row _ _ (codes "SP") (entry (keyword (codes "SP")) kind.Value) (Some ts.text) refl refl refl refl refl (value_says ts.text s ts.spells, ts.neat.goes 0),
-      (with_keyword release_row _ _ (codes "COND") (entry (keyword (codes "COND")) kind.Condition) (Some tc) refl refl refl refl refl (condition_says form.conditional, word_stands tc (condition_name form.conditional)), tt))),
+      (
+        with_keyword release_row _ _ (codes "ADDR") (entry (keyword (codes "ADDR")) kind.Value) (Some ta.text) refl refl refl refl refl (value_says ta.text a ta.spells, ta.neat.goes 0),
+        (
+          with_keyword release_row _ _ (codes "SP") (entry (keyword (codes "SP")) kind.Value) (Some ts.text) refl refl refl refl refl (value_says ts.text s ts.spells, ts.neat.goes 0),
+          (with_keyword release_row _ _ (codes "COND") (entry (keyword (codes "COND")) kind.Condition) (Some tc) refl refl refl refl refl (condition_says form.conditional, word_stands tc (condition_name form.conditional)), tt),
+        ),
+      ),
     ) in
-    let few : AllFew items = (keyed_few (codes "LENGTH") tl.text (omega arith) tl.neat.few, (keyed_few (codes "ADDR") ta.text (omega arith) ta.neat.few,
-        (keyed_few (codes "SP") ts.text (omega arith) ts.neat.few, (keyed_few (codes "COND") tc (omega arith) (condition_few form.conditional), tt)))) in
+    let few : AllFew items = (
+      keyed_few (codes "LENGTH") tl.text (omega arith) tl.neat.few,
+      (
+        keyed_few (codes "ADDR") ta.text (omega arith) ta.neat.few,
+        (keyed_few (codes "SP") ts.text (omega arith) ts.neat.few, (keyed_few (codes "COND") tc (omega arith) (condition_few form.conditional), tt)),
+      ),
+    ) in
     record {
       operation = operation.Storage;
       first = codes "RELEASE";
@@ -288,7 +310,8 @@ counted n h =
     let neat = number_text n h in
     let items : List Item = item (position 0) (Some (decimal n)) ∷ [] in
     let fit : Good steps_row items = (
-      in_position steps_row _ 0 (entry (position 0) kind.Count) (decimal n) refl refl refl (ap (λ x. is_some (option_map count x)) (written n h)) neat.some neat.no_equals (neat.goes 0), tt,
+      in_position steps_row _ 0 (entry (position 0) kind.Count) (decimal n) refl refl refl (ap (λ x. is_some (option_map count x)) (written n h)) neat.some neat.no_equals (neat.goes 0),
+      tt,
     ) in
     count_is (operands.written items) n (no_fault steps_row items fit) (ap (λ t. option_and_then number_of t) (text steps_row (position 0) items fit) ∙ written n h)
 

@@ -1,5 +1,5 @@
 -- Operands as they are written: what each is read as, that together they have no fault, and that each is found by its key.
-use Rattle.std.proofs.Common.{◌≡◌, ℕ, ◌+◌, ◌*◌, ◌≤◌, ◌==◌, Bool, true, false, ◌&&◌, ◌||◌, List, [], ◌∷◌, ◌++◌, length, map, take, drop, Option, Some, None, is_some, if◌then◌else◌, arith, refl, sym, ap, ◌∙◌}
+use Rattle.std.proofs.Common.{◌≡◌, ℕ, ◌+◌, ◌*◌, ◌≤◌, ◌==◌, Bool, true, false, ◌&&◌, ◌||◌, List, [], ◌∷◌, ◌++◌, length, map, take, drop, Option, Some, None, is_some, if◌then◌else◌, arith, refl, ap, ◌∙◌}
 use Rattle.std.proofs.Math.Seq.{take-append_seam, drop-append-add}
 use Rattle.std.specs.List.{AllByRecursion, position_or_len}
 use Rattle.std.specs.Option.{IfSome}
@@ -10,10 +10,9 @@ use Rattle.operand_texts.specs.Field.{outside}
 use Rattle.operand_texts.specs.Words.{is_name}
 use Rattle.operand_texts.proofs.OperandTexts.{IsPlain, IsOperand, goes_append, goes_plain, plain_name, joined}
 use Rattle.macro_statements.specs.Rows.{Key, position, keyword, same_key, is_among, Entry, Row}
+use Rattle.macro_statements.specs.Operands.{entry_for, is_excluded, entry_fault, operand_fault, earlier, with_key, fault_from, text_or, text_from}
 use Rattle.macro_statements.specs.Keywords.{has_equals, key_text, value_text, is_keyword_operand, Operand, operand_at}
 use Rattle.macro_statements.specs.Said.{said_of, unsaid_fault, value_fault}
-use Rattle.macro_statements.specs.Statements.{entry_for, is_excluded, entry_fault, operand_fault, earlier, with_key, fault_from, text_or, text_from}
-use Rattle.macro_statements.specs.declared.faults.FaultKind.{FaultKind}
 use Rattle.macro_statements.specs.declared.faults.FaultKind.TheVariants as fault
 use Rattle.macro_statements.proofs.ReadSlots.{key_is, same_self}
 

@@ -6,5 +6,10 @@ pub mod Requests
 pub mod Rows
 pub mod Keywords
 pub mod Said
+pub mod Operands
+pub mod Storage
+pub mod Poke
+pub mod Peek
+pub mod Steps
 pub mod Statements
 pub mod Slots

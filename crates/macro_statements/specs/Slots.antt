@@ -8,18 +8,20 @@ use Rattle.std.specs.Char.{to_ascii_uppercase}
 use Rattle.operand_texts.specs.Written.{Written, number, Target, Stored, written_in, target_in, stored_in}
 use Rattle.macro_statements.specs.Rows as rows
 use Rattle.macro_statements.specs.Rows.{position, keyword, same_key, is_among}
+use Rattle.macro_statements.specs.Operands.{unknown_fault, text_at}
+use Rattle.macro_statements.specs.Storage.{obtain_with, release_with}
+use Rattle.macro_statements.specs.Poke.{poke_with}
+use Rattle.macro_statements.specs.Peek.{peek_with}
+use Rattle.macro_statements.specs.Steps.{count_with}
 use Rattle.macro_statements.specs.Keywords as keywords
 use Rattle.macro_statements.specs.Keywords.{operand_at}
 use Rattle.macro_statements.specs.Said as says
 use Rattle.macro_statements.specs.Said.{said_of, unsaid_fault}
-use Rattle.macro_statements.specs.Statements.{unknown_fault, text_at, obtain_with, release_with, poke_with, peek_with}
-use Rattle.macro_statements.specs.Statements.{count_with}
 use Rattle.macro_statements.specs.Requests.{Asked}
 use Rattle.vsm_model.specs.declared.causes.Family.TheVariants as family
 use Rattle.macro_statements.specs.declared.requests.Form.{Form}
 use Rattle.macro_statements.specs.declared.faults.FaultKind.{FaultKind}
 use Rattle.macro_statements.specs.declared.faults.FaultKind.TheVariants as fault
-use Rattle.macro_statements.specs.declared.rows.Kind.{Kind}
 use Rattle.macro_statements.specs.declared.rows.Key.{Key}
 use Rattle.macro_statements.specs.declared.rows.Key.TheVariants as code_key
 use Rattle.macro_statements.specs.declared.rows.Entry.{Entry}

@@ -4,10 +4,14 @@
 mod faults;
 mod laws;
 mod operands;
+mod peek;
+mod poke;
 mod requests;
 mod rows;
 mod said;
 mod statements;
+mod steps;
+mod storage;
 
 pub use faults::FaultKind;
 pub use laws::valid_requests_are_spelled;

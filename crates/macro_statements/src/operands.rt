@@ -2,10 +2,10 @@
 
 ghost use Rattle.std.specs.Prelude.{◌≡◌, ◌==◌, ◌<◌, IsTrue, IfSome, None, is_some, length, map, position};
 ghost use Rattle.std.specs.Option.{option_copied, option_map};
-ghost use Rattle.operand_texts.specs.Field.{outside, operands_from, operands_behind};
+ghost use Rattle.operand_texts.specs.Field.{outside, operands, operands_from, operands_behind};
 ghost use Rattle.macro_statements.specs.Rows.{same_key};
+ghost use Rattle.macro_statements.specs.Operands.{is_left_out, unknown_fault, first_fault};
 ghost use Rattle.macro_statements.specs.Keywords.{operand_at};
-ghost use Rattle.macro_statements.specs.Statements.{is_left_out, unknown_fault, first_fault};
 ghost use Rattle.macro_statements.specs.Slots.{key_in, upper_key, entry_in, row_in, operand_in, slots_in, found};
 ghost use Rattle.macro_statements.specs.Slots.{slot, is_barred, filled, with_operand, with_operands, answered};
 ghost use Rattle.macro_statements.specs.Slots.{are_apart, no_slots, readings};
@@ -200,4 +200,11 @@ pub(crate) fn read(row: &Row, text: Option<&[u8]>, said: &mut [Option<Said>]) ->
         Some(text) => take_all(row, text, said),
         None => None,
     }
+}
+
+/// An operand field, where it isn't empty.
+pub(crate) fn some_field(field: &[u8]) -> Option<&[u8]>
+    ensures { operands_behind (option_copied result) ≡ operands field.now }
+{
+    if field.is_empty() { None } else { Some(field) }
 }

@@ -25,6 +25,9 @@ pub enum Said {
     Count(u32),
 }
 
+/// Nothing that was read.
+pub(crate) const NOTHING: Option<Said> = None;
+
 /// Whether a text is YES, and nothing where it's neither YES nor NO.
 fn condition_of(text: &[u8]) -> Option<bool>
     ensures { result ≡ condition_of text.now }

@@ -1,25 +1,19 @@
 //! The request of a statement.
 
-ghost use Rattle.std.specs.Prelude.{◌≡◌, ◌<◌, ◌≤◌, length, IfOk, unwrap_or};
-ghost use Rattle.std.specs.Option.{option_copied};
-ghost use Rattle.operand_texts.specs.Field.{operands, operands_behind};
-ghost use Rattle.operand_texts.specs.Written.{written_in, number};
+ghost use Rattle.std.specs.Prelude.{◌≡◌, ◌≤◌, length, IfOk};
+ghost use Rattle.operand_texts.specs.Field.{operands};
 ghost use Rattle.macro_statements.specs.Requests.{seen, asked_in, IsValidAsked};
-ghost use Rattle.macro_statements.specs.Slots.{slots_in, slot, as_value, as_condition, form_by, obtain_by, release_by};
-ghost use Rattle.macro_statements.specs.Slots.{poke_by, peek_by, count_by};
-ghost use Rattle.macro_statements.specs.Statements.{obtain_of, release_of, storage, poke_of, peek_of, count_in};
 ghost use Rattle.macro_statements.specs.Statements.{operation_of, asked_of, from_operation, from_operands};
 ghost use Rattle.macro_statements.specs.Statements.{is_misplaced, statement_with};
 
 use crate::faults::FaultKind;
-use crate::operands::{operand_at, read, unknown_fault};
-use crate::requests::{Form, Request, Statement};
-use crate::rows::{OBTAIN, PEEK, POKE, RELEASE, STEPS, STORAGE_LEFT_OUT};
-use crate::said::{Said, condition_at, content_at, count_at, place_at, size_at, value_at};
-use operand_texts::nesting::{is_balanced, split};
-use operand_texts::values::Value;
+use crate::peek::peek;
+use crate::poke::poke;
+use crate::requests::Request;
+use crate::steps::count_in;
+use crate::storage::storage;
+use operand_texts::nesting::is_balanced;
 use operand_texts::words::{after_blanks, after_word, is_name, is_word, word, word_len};
-use vsm_model::Family;
 
 /// An operation that is known.
 #[derive(Clone, Copy)]
@@ -47,184 +41,6 @@ fn operation_of(text: &[u8]) -> Option<Operation>
         Some(Operation::Forward)
     } else {
         None
-    }
-}
-
-/// Nothing that was read.
-const NOTHING: Option<Said> = None;
-
-/// SP as it was read at a place, 0 where it is left out.
-fn subpool_at(said: &[Option<Said>], i: usize) -> Value
-    requires { i < length said.now }
-    ensures { written_in result ≡ unwrap_or (as_value (slot (slots_in said.now) i)) (number 0) }
-{
-    match value_at(said, i) {
-        Some(subpool) => subpool,
-        None => Value::Number(0),
-    }
-}
-
-/// The form of STORAGE, whose COND was read at a place.
-fn storage_form(said: &[Option<Said>], i: usize) -> Form
-    requires { i < length said.now }
-    ensures { result ≡ form_by (as_condition (slot (slots_in said.now) i)) }
-{
-    Form {
-        family: Family::S,
-        conditional: condition_at(said, i),
-    }
-}
-
-/// What STORAGE OBTAIN asks for by what was read.
-fn obtain_by(said: &[Option<Said>]) -> Result<Request, FaultKind>
-    requires { length said.now ≡ 4 }
-    ensures { seen result ≡ obtain_by (slots_in said.now) }
-{
-    let Some(length) = value_at(said, 0) else {
-        return Err(FaultKind::Missing);
-    };
-    Ok(Request::Act(Statement::Obtain {
-        length,
-        subpool: subpool_at(said, 1),
-        place: place_at(said, 2),
-        form: storage_form(said, 3),
-    }))
-}
-
-/// STORAGE OBTAIN with the operands behind its form.
-fn obtain(text: Option<&[u8]>) -> Result<Request, FaultKind>
-    ensures { seen result ≡ obtain_of (operands_behind (option_copied text.entry)) }
-{
-    let mut said = [NOTHING, NOTHING, NOTHING, NOTHING];
-    match read(&OBTAIN, text, &mut said) {
-        Some(fault) => Err(fault),
-        None => obtain_by(&said),
-    }
-}
-
-/// What STORAGE RELEASE asks for by what was read.
-fn release_by(said: &[Option<Said>]) -> Result<Request, FaultKind>
-    requires { length said.now ≡ 4 }
-    ensures { seen result ≡ release_by (slots_in said.now) }
-{
-    let Some(length) = value_at(said, 0) else {
-        return Err(FaultKind::Missing);
-    };
-    let Some(address) = value_at(said, 1) else {
-        return Err(FaultKind::Missing);
-    };
-    Ok(Request::Act(Statement::Release {
-        length,
-        address,
-        subpool: subpool_at(said, 2),
-        form: storage_form(said, 3),
-    }))
-}
-
-/// STORAGE RELEASE with the operands behind its form.
-fn release(text: Option<&[u8]>) -> Result<Request, FaultKind>
-    ensures { seen result ≡ release_of (operands_behind (option_copied text.entry)) }
-{
-    let mut said = [NOTHING, NOTHING, NOTHING, NOTHING];
-    match read(&RELEASE, text, &mut said) {
-        Some(fault) => Err(fault),
-        None => release_by(&said),
-    }
-}
-
-/// STORAGE with its operand field.
-fn storage(field: &[u8]) -> Result<Request, FaultKind>
-    ensures { seen result ≡ storage (operands field.now) }
-{
-    if field.is_empty() {
-        return Err(FaultKind::Missing);
-    }
-    let (form, behind) = split(field);
-    if is_word(form, b"OBTAIN") {
-        obtain(behind)
-    } else if is_word(form, b"RELEASE") {
-        release(behind)
-    } else {
-        Err(unknown_fault(&STORAGE_LEFT_OUT, operand_at(0, form)))
-    }
-}
-
-/// An operand field, where it isn't empty.
-fn some_field(field: &[u8]) -> Option<&[u8]>
-    ensures { operands_behind (option_copied result) ≡ operands field.now }
-{
-    if field.is_empty() { None } else { Some(field) }
-}
-
-/// What POKE asks for by what was read, which is taken.
-fn poke_by(said: &mut [Option<Said>]) -> Result<Request, FaultKind>
-    requires { length said.old ≡ 2 }
-    ensures { seen result ≡ poke_by (slots_in said.old) }
-{
-    let Some(address) = value_at(said, 0) else {
-        return Err(FaultKind::Missing);
-    };
-    let Some(content) = content_at(said, 1) else {
-        return Err(FaultKind::Missing);
-    };
-    Ok(Request::Act(Statement::Poke { address, content }))
-}
-
-/// POKE with its operand field.
-fn poke(field: &[u8]) -> Result<Request, FaultKind>
-    ensures { seen result ≡ poke_of (operands field.now) }
-{
-    let mut said = [NOTHING, NOTHING];
-    match read(&POKE, some_field(field), &mut said) {
-        Some(fault) => Err(fault),
-        None => poke_by(&mut said),
-    }
-}
-
-/// What PEEK asks for by what was read.
-fn peek_by(said: &[Option<Said>]) -> Result<Request, FaultKind>
-    requires { length said.now ≡ 2 }
-    ensures { seen result ≡ peek_by (slots_in said.now) }
-{
-    let Some(addr) = value_at(said, 0) else {
-        return Err(FaultKind::Missing);
-    };
-    let Some(len) = size_at(said, 1) else {
-        return Err(FaultKind::Missing);
-    };
-    Ok(Request::Peek { addr, len })
-}
-
-/// PEEK with its operand field.
-fn peek(field: &[u8]) -> Result<Request, FaultKind>
-    ensures { seen result ≡ peek_of (operands field.now) }
-{
-    let mut said = [NOTHING, NOTHING];
-    match read(&PEEK, some_field(field), &mut said) {
-        Some(fault) => Err(fault),
-        None => peek_by(&said),
-    }
-}
-
-/// The number of steps by what was read.
-fn count_by(said: &[Option<Said>]) -> Result<u32, FaultKind>
-    requires { length said.now ≡ 1 }
-    ensures { result ≡ count_by (slots_in said.now) }
-{
-    match count_at(said, 0) {
-        Some(count) => Ok(count),
-        None => Err(FaultKind::Missing),
-    }
-}
-
-/// The number that is the only operand of a field.
-fn count_in(field: &[u8]) -> Result<u32, FaultKind>
-    ensures { result ≡ count_in (operands field.now) }
-{
-    let mut said = [NOTHING];
-    match read(&STEPS, some_field(field), &mut said) {
-        Some(fault) => Err(fault),
-        None => count_by(&said),
     }
 }
 

@@ -51,7 +51,7 @@ impl Nesting {
     }
 }
 
-// An apostrophe, a parenthesis, a comma and a blank are bytes up to a comma, so that loops pass over those above at once.
+// Apostrophes, parentheses, commas and blanks are bytes up to a comma, so loops pass over those above at once.
 
 /// How many bytes of a text whose first byte stands so belong to the field: those up to the first blank outside
 /// apostrophes, or all.

@@ -1,4 +1,4 @@
-use Rattle.std.proofs.Common.{◌≡◌, ◌∙◌, Some, Ok, ap}
+use Rattle.std.proofs.Common.{◌∙◌, Some, Ok, ap}
 use Rattle.std.proofs.lemmas.List.{map-set}
 use Rattle.std.specs.Option.{option_map}
 use Rattle.macro_statements.specs.Said.{unsaid_fault}

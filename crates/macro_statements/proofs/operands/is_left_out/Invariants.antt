@@ -1,5 +1,5 @@
 use Rattle.std.proofs.Common.{◌≡◌, map, drop}
-use Rattle.macro_statements.specs.Statements.{is_left_out}
+use Rattle.macro_statements.specs.Operands.{is_left_out}
 use Rattle.macro_statements.specs.Slots.{upper_key}
 use Rattle.macro_statements.proofs.operands.is_left_out.Given as goal
 

@@ -2,9 +2,9 @@ use Rattle.std.proofs.Common.{◌∙◌, refl, sym, ap}
 use Rattle.std.specs.Option.{option_copied}
 use Rattle.operand_texts.specs.Field.{operands_behind}
 use Rattle.macro_statements.specs.Slots.{poke_by}
-use Rattle.macro_statements.specs.Statements.{poke_of}
+use Rattle.macro_statements.specs.Poke.{poke_of}
 use Rattle.macro_statements.proofs.ReadRequests.{poke_read}
-use Rattle.macro_statements.proofs.statements.poke.Goals as goal
+use Rattle.macro_statements.proofs.poke.poke.Goals as goal
 
 pub returns-in-None : goal.returns-in-None
 returns-in-None c =

@@ -2,9 +2,9 @@ use Rattle.std.proofs.Common.{◌∙◌, refl, sym, ap}
 use Rattle.std.specs.Option.{option_copied}
 use Rattle.operand_texts.specs.Field.{operands_behind}
 use Rattle.macro_statements.specs.Slots.{peek_by}
-use Rattle.macro_statements.specs.Statements.{peek_of}
+use Rattle.macro_statements.specs.Peek.{peek_of}
 use Rattle.macro_statements.proofs.ReadRequests.{peek_read}
-use Rattle.macro_statements.proofs.statements.peek.Goals as goal
+use Rattle.macro_statements.proofs.peek.peek.Goals as goal
 
 pub returns-in-None : goal.returns-in-None
 returns-in-None c =

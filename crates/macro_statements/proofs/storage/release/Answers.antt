@@ -3,7 +3,7 @@ use Rattle.std.specs.Option.{option_copied}
 use Rattle.operand_texts.specs.Field.{operands_behind}
 use Rattle.macro_statements.specs.Slots.{release_by}
 use Rattle.macro_statements.proofs.ReadRequests.{release_read}
-use Rattle.macro_statements.proofs.statements.release.Goals as goal
+use Rattle.macro_statements.proofs.storage.release.Goals as goal
 
 pub returns-in-None : goal.returns-in-None
 returns-in-None c =
