@@ -3,3 +3,4 @@ pub mod Readings
 pub mod FieldLines
 pub mod WrittenLines
 pub mod ReadRequests
+pub mod Above

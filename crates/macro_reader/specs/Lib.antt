@@ -3,8 +3,14 @@ pub use Rattle.operand_texts.specs.Field
 pub use Rattle.operand_texts.specs.Written
 pub use Rattle.operand_texts.specs.Values
 pub use Rattle.macro_statements.specs.Requests
-pub use Rattle.macro_statements.specs.Keywords
 pub use Rattle.macro_statements.specs.Rows
+pub use Rattle.macro_statements.specs.Keywords
+pub use Rattle.macro_statements.specs.Said
+pub use Rattle.macro_statements.specs.Operands
+pub use Rattle.macro_statements.specs.Storage
+pub use Rattle.macro_statements.specs.Poke
+pub use Rattle.macro_statements.specs.Peek
+pub use Rattle.macro_statements.specs.Steps
 pub use Rattle.macro_statements.specs.Statements
 pub mod Columns
 pub mod Continuation

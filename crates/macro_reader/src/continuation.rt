@@ -11,7 +11,8 @@ use arrayvec::ArrayVec;
 use macro_statements::{from_operands, is_misplaced};
 use operand_texts::nesting::{Nesting, field_len};
 
-/// Where the byte behind a text stands.
+/// Where the byte behind a text stands. No byte above a parenthesis changes that.
+#[tactic(auto, using(crate::proofs::Above::nesting_above))]
 fn nesting_after(start: Nesting, text: &[u8]) -> Nesting
     requires { start.depth + length text.now < 2 ^ 64 }
     ensures value { result ≡ nesting_after start text.now }
@@ -19,7 +20,9 @@ fn nesting_after(start: Nesting, text: &[u8]) -> Nesting
 {
     let mut at = start;
     for byte in text {
-        at = at.past(*byte);
+        if *byte <= b')' {
+            at = at.past(*byte);
+        }
     }
     at
 }
@@ -29,9 +32,7 @@ fn append(text: &mut ArrayVec<u8, FIELD_BYTES>, part: &[u8])
     requires { array_vec_len text.old + length part.now ≤ 575 }
     ensures { text.new.items ≡ text.old.items ++ part.now }
 {
-    for byte in part {
-        text.push(*byte);
-    }
+    let _ = text.try_extend_from_slice(part);
 }
 
 fn ends_with_comma(text: &[u8]) -> bool

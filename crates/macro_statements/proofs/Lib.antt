@@ -1,4 +1,4 @@
-pub mod KeywordBits
-pub mod InPositions
-pub mod KeywordOperands
+pub mod ReadSlots
+pub mod ReadRequests
+pub mod WrittenOperands
 pub mod RequestTexts

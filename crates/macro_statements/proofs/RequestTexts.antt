@@ -1,132 +1,88 @@
 -- The requests that operand fields spell are those that are valid.
-use Rattle.std.proofs.Common.{◌≡◌, ℕ, suc, ◌^◌, ◌<◌, ◌≤◌, ◌↔◌, ◌==◌, Bool, true, false, ◌&&◌, List, [], ◌∷◌, ◌++◌, length, Option, Some, None, Ok, Err, is_some, nat_le, codes, unwrap_or, option_and_then, if◌then◌else◌, decimal, arith, refl, ap, sym, subst, ◌∙◌, ◌+◌}
+use Rattle.std.proofs.Common.{◌≡◌, ℕ, suc, ◌^◌, ◌<◌, ◌≤◌, ◌↔◌, ◌==◌, Bool, true, false, ◌&&◌, List, [], ◌∷◌, length, map, Option, Some, None, Result, Ok, Err, is_some, nat_le, codes, unwrap_or, option_and_then, if◌then◌else◌, decimal, arith, refl, ap, sym, subst, ◌∙◌, ◌+◌}
 use Rattle.std.specs.List.{AllByRecursion}
-use Rattle.std.specs.Option.{IfSome}
+use Rattle.std.specs.Option.{IfSome, option_map}
+use Rattle.std.specs.Prelude.{IfOk}
+use Rattle.std.specs.Char.{to_ascii_uppercase}
 use Rattle.std.proofs.lemmas.Bool.Decides.{nat_tests}
 use Rattle.operand_texts.specs.Field.{outside, is_balanced, operands}
 use Rattle.operand_texts.specs.Words.{is_name, is_word}
 use Rattle.operand_texts.specs.Written.{Written, number, named, register, Target, Stored, spelled, word, IsValue, IsTarget, IsStored, HasBytes}
-use Rattle.macro_statements.specs.Requests.{obtain, release, poke, Asked, act, peek, back, forward, IsValidAsked, AskedHasBytes, HasRoom}
-use Rattle.operand_texts.specs.Values.{number_of, value_of, target_of, content_of, within_size, size_of, is_condition}
-use Rattle.macro_statements.specs.Rows.{obtain_row, release_row, storage_left_out, is_of_kind}
-use Rattle.macro_statements.specs.Statements.{first_fault, text_at, value_at, target_at, subpool_at, says_yes, storage_form, obtain_of, release_of, obtain_with, release_with, position_fault, positional_fault, first_operand, second_operand, poke_of, peek_of, poke_with, peek_with, count_with, step_with, count_in, form_fault, storage, asked_of, SpellsRequest, unless_fault}
+use Rattle.macro_statements.specs.Requests.{obtain, release, poke, Asked, act, peek, back, forward, IsValidAsked, AskedHasBytes, HasRoom, seen, asked_in}
+use Rattle.operand_texts.specs.Values.{number_of, value_of, target_of, content_of, within_size, size_of}
+use Rattle.macro_statements.specs.Rows.{Key, position, keyword, is_among, Entry, entry, Row}
+use Rattle.macro_statements.specs.Operands.{entry_for, is_excluded, unknown_fault, first_fault, text_at, value_at, target_at, unless_fault}
+use Rattle.macro_statements.specs.Storage.{obtain_row, release_row, storage_left_out, subpool_at, says_yes, storage_form, obtain_of, release_of, obtain_with, release_with, storage}
+use Rattle.macro_statements.specs.Poke.{poke_row, poke_of, poke_with}
+use Rattle.macro_statements.specs.Peek.{peek_row, peek_of, peek_with}
+use Rattle.macro_statements.specs.Steps.{steps_row, count_with, step_with, count_in}
+use Rattle.macro_statements.specs.Statements.{asked_of, SpellsRequest}
+use Rattle.macro_statements.specs.Keywords.{operand_at}
+use Rattle.macro_statements.specs.Said.{said_of, value, place, content, size, count}
 use Rattle.std.proofs.lemmas.List.{length-append}
 use Rattle.macro_statements.specs.declared.faults.FaultKind.{FaultKind}
 use Rattle.macro_statements.specs.declared.faults.FaultKind.TheVariants as fault
 use Rattle.vsm_model.specs.declared.causes.Family.{Family}
 use Rattle.vsm_model.specs.declared.causes.Family.TheVariants as family
 use Rattle.macro_statements.specs.declared.requests.Form.{Form}
-use Rattle.macro_statements.specs.declared.rows.Kind.{Kind}
+use Rattle.macro_statements.specs.declared.requests.Request.{Request}
 use Rattle.macro_statements.specs.declared.rows.Kind.TheVariants as kind
 use Rattle.macro_statements.specs.declared.statements.Operation.{Operation}
 use Rattle.macro_statements.specs.declared.statements.Operation.TheVariants as operation
 use Rattle.operand_texts.proofs.OperandTexts.{IsOperand, goes_plain, plain_name, joined, balanced_joined, operands_joined}
-use Rattle.macro_statements.proofs.KeywordOperands.{Keyed, keyed, no_fault_in, found, passed_over, no_keyword}
 use Rattle.operand_texts.proofs.ValueTexts.{ValueText, ContentText, value_text_of, place_text_of, content_text_of, number_text}
 use Rattle.operand_texts.proofs.Spelling.{written, below, spelled_is_valid, spelled_place_is_valid}
 use Rattle.operand_texts.proofs.SpelledBytes.{spelled_content_is_valid}
+use Rattle.macro_statements.proofs.WrittenOperands.{keyed, placed, Item, item, operand_text, Fits, AllFit, no_fault_from, lookup, finds, stand, AllFew, long}
+use Rattle.macro_statements.proofs.WrittenOperands as operands
 
-obtain_is : (os : List (List ℕ)) (l s : Written) (p : Option Target) (c : Bool) → first_fault storage_left_out obtain_row [] os ≡ None
-    → value_at (codes "LENGTH") os ≡ Some l → subpool_at os ≡ s → target_at (codes "ADDR") os ≡ p → says_yes (text_at (codes "COND") os) ≡ c
+-- operands that a row has, each once and of its kind
+abbrev Good : Row → List Item → Type 0
+Good row items = AllFit row [] 0 items
+
+no_fault : (row : Row) (items : List Item) → Good row items → first_fault row (operands.written items) ≡ None
+no_fault row items h = no_fault_from row [] [] (λ k e. e) 0 items h
+
+text : (row : Row) (key : Key) (items : List Item) → Good row items → text_at key (operands.written items) ≡ lookup key items
+text row key items h = finds row [] key 0 items h
+
+with_keyword : (row : Row) (before : List Key) (i : ℕ) (k : List ℕ) (e : Entry) (t : Option (List ℕ)) → is_name k ≡ true → map to_ascii_uppercase k ≡ k
+    → entry_for row.entries (keyword k) ≡ Some e → is_excluded before e.excluded ≡ false → is_among before (keyword k) ≡ false
+    → IfSome t (λ t. (is_some (said_of e.kind t) ≡ true) × IsOperand t) → Fits row before i (keyword k) t
+with_keyword row before i k e None n u has free once says = record { entry = e; has = has; free = free; once = once; says = tt }
+with_keyword row before i k e (Some t) n u has free once says =
+    record { entry = e; has = has; free = free; once = once; says = (says.0, keyed i k t n u says.1) }
+
+in_position : (row : Row) (before : List Key) (i : ℕ) (e : Entry) (t : List ℕ)
+    → entry_for row.entries (position i) ≡ Some e → is_excluded before e.excluded ≡ false → is_among before (position i) ≡ false
+    → is_some (said_of e.kind t) ≡ true → 1 ≤ length t → AllByRecursion (λ c. (c == 61) ≡ false) t → IsOperand t
+    → Fits row before i (position i) (Some t)
+in_position row before i e t has free once says some no_equals stands =
+    record { entry = e; has = has; free = free; once = once; says = (says, placed i t some no_equals stands) }
+
+obtain_is : (os : List (List ℕ)) (l s : Written) (p : Option Target) (c : Bool) → first_fault obtain_row os ≡ None
+    → value_at (keyword (codes "LENGTH")) os ≡ Some l → subpool_at os ≡ s → target_at (keyword (codes "ADDR")) os ≡ p
+    → says_yes (text_at (keyword (codes "COND")) os) ≡ c
     → obtain_of os ≡ Ok (act (obtain l s p (record { family = family.S; conditional = c })))
 obtain_is os l s p c f a b d e = rw (f, a, b, d, e) refl
 
-release_is : (os : List (List ℕ)) (l a s : Written) (c : Bool) → first_fault storage_left_out release_row [] os ≡ None
-    → value_at (codes "LENGTH") os ≡ Some l → value_at (codes "ADDR") os ≡ Some a → subpool_at os ≡ s → says_yes (text_at (codes "COND") os) ≡ c
+release_is : (os : List (List ℕ)) (l a s : Written) (c : Bool) → first_fault release_row os ≡ None
+    → value_at (keyword (codes "LENGTH")) os ≡ Some l → value_at (keyword (codes "ADDR")) os ≡ Some a → subpool_at os ≡ s
+    → says_yes (text_at (keyword (codes "COND")) os) ≡ c
     → release_of os ≡ Ok (act (release l a s (record { family = family.S; conditional = c })))
 release_is os l a s c f e g b d = rw (f, e, g, b, d) refl
 
--- the operands of STORAGE OBTAIN with a place
-obtain_placed : (o1 o2 o3 o4 tl ts tp tc : List ℕ) (l s : Written) (p : Target)
-    → Keyed o1 (codes "LENGTH") tl → Keyed o2 (codes "SP") ts → Keyed o3 (codes "ADDR") tp → Keyed o4 (codes "COND") tc
-    → value_of tl ≡ Some l → value_of ts ≡ Some s → target_of tp ≡ Some p → is_condition tc ≡ true
-    → obtain_of (o1 ∷ o2 ∷ o3 ∷ o4 ∷ []) ≡ Ok (act (obtain l s (Some p) (record { family = family.S; conditional = is_word tc (codes "YES") })))
-obtain_placed o1 o2 o3 o4 tl ts tp tc l s p k1 k2 k3 k4 e1 e2 e3 e4 =
-    let os : List (List ℕ) = o1 ∷ o2 ∷ o3 ∷ o4 ∷ [] in
-    let none : first_fault storage_left_out obtain_row [] os ≡ None =
-    no_fault_in storage_left_out obtain_row [] o1 (codes "LENGTH") tl kind.Length (o2 ∷ o3 ∷ o4 ∷ []) k1 refl refl refl (ap is_some e1)
-    (no_fault_in storage_left_out obtain_row (codes "LENGTH" ∷ []) o2 (codes "SP") ts kind.Value (o3 ∷ o4 ∷ []) k2 refl refl refl (ap is_some e2)
-    (no_fault_in storage_left_out obtain_row (codes "SP" ∷ codes "LENGTH" ∷ []) o3 (codes "ADDR") tp kind.Place (o4 ∷ []) k3 refl refl refl (ap is_some e3)
-    (no_fault_in storage_left_out obtain_row (codes "ADDR" ∷ codes "SP" ∷ codes "LENGTH" ∷ []) o4 (codes "COND") tc kind.Condition [] k4 refl refl refl e4 refl))) in
-    let lengths : text_at (codes "LENGTH") os ≡ Some tl = found (codes "LENGTH") o1 (codes "LENGTH") tl (o2 ∷ o3 ∷ o4 ∷ []) k1 refl in
-    let subpools : text_at (codes "SP") os ≡ Some ts =
-    passed_over (codes "SP") o1 (codes "LENGTH") tl (o2 ∷ o3 ∷ o4 ∷ []) k1 refl ∙ found (codes "SP") o2 (codes "SP") ts (o3 ∷ o4 ∷ []) k2 refl in
-    let places : text_at (codes "ADDR") os ≡ Some tp =
-    passed_over (codes "ADDR") o1 (codes "LENGTH") tl (o2 ∷ o3 ∷ o4 ∷ []) k1 refl ∙ passed_over (codes "ADDR") o2 (codes "SP") ts (o3 ∷ o4 ∷ []) k2 refl
-    ∙ found (codes "ADDR") o3 (codes "ADDR") tp (o4 ∷ []) k3 refl in
-    let conditions : text_at (codes "COND") os ≡ Some tc =
-    passed_over (codes "COND") o1 (codes "LENGTH") tl (o2 ∷ o3 ∷ o4 ∷ []) k1 refl ∙ passed_over (codes "COND") o2 (codes "SP") ts (o3 ∷ o4 ∷ []) k2 refl
-    ∙ passed_over (codes "COND") o3 (codes "ADDR") tp (o4 ∷ []) k3 refl ∙ found (codes "COND") o4 (codes "COND") tc [] k4 refl in
-    obtain_is os l s (Some p) (is_word tc (codes "YES")) none
-    (ap (λ t. option_and_then value_of t) lengths ∙ e1) (ap (λ t. unwrap_or (option_and_then value_of t) (number 0)) subpools ∙ ap (λ v. unwrap_or v (number 0)) e2)
-    (ap (λ t. option_and_then target_of t) places ∙ e3) (ap says_yes conditions)
+poke_is : (os : List (List ℕ)) (a : Written) (c : Stored) → first_fault poke_row os ≡ None
+    → value_at (position 0) os ≡ Some a → option_and_then content_of (text_at (position 1) os) ≡ Some c → poke_of os ≡ Ok (act (poke a c))
+poke_is os a c f e d = rw (f, e, d) refl
 
--- and without one
-obtain_unplaced : (o1 o2 o3 tl ts tc : List ℕ) (l s : Written)
-    → Keyed o1 (codes "LENGTH") tl → Keyed o2 (codes "SP") ts → Keyed o3 (codes "COND") tc
-    → value_of tl ≡ Some l → value_of ts ≡ Some s → is_condition tc ≡ true
-    → obtain_of (o1 ∷ o2 ∷ o3 ∷ []) ≡ Ok (act (obtain l s None (record { family = family.S; conditional = is_word tc (codes "YES") })))
-obtain_unplaced o1 o2 o3 tl ts tc l s k1 k2 k3 e1 e2 e3 =
-    let os : List (List ℕ) = o1 ∷ o2 ∷ o3 ∷ [] in
-    let none : first_fault storage_left_out obtain_row [] os ≡ None =
-    no_fault_in storage_left_out obtain_row [] o1 (codes "LENGTH") tl kind.Length (o2 ∷ o3 ∷ []) k1 refl refl refl (ap is_some e1)
-    (no_fault_in storage_left_out obtain_row (codes "LENGTH" ∷ []) o2 (codes "SP") ts kind.Value (o3 ∷ []) k2 refl refl refl (ap is_some e2)
-    (no_fault_in storage_left_out obtain_row (codes "SP" ∷ codes "LENGTH" ∷ []) o3 (codes "COND") tc kind.Condition [] k3 refl refl refl e3 refl)) in
-    let lengths : text_at (codes "LENGTH") os ≡ Some tl = found (codes "LENGTH") o1 (codes "LENGTH") tl (o2 ∷ o3 ∷ []) k1 refl in
-    let subpools : text_at (codes "SP") os ≡ Some ts =
-    passed_over (codes "SP") o1 (codes "LENGTH") tl (o2 ∷ o3 ∷ []) k1 refl ∙ found (codes "SP") o2 (codes "SP") ts (o3 ∷ []) k2 refl in
-    let places : text_at (codes "ADDR") os ≡ None =
-    passed_over (codes "ADDR") o1 (codes "LENGTH") tl (o2 ∷ o3 ∷ []) k1 refl ∙ passed_over (codes "ADDR") o2 (codes "SP") ts (o3 ∷ []) k2 refl
-    ∙ passed_over (codes "ADDR") o3 (codes "COND") tc [] k3 refl in
-    let conditions : text_at (codes "COND") os ≡ Some tc =
-    passed_over (codes "COND") o1 (codes "LENGTH") tl (o2 ∷ o3 ∷ []) k1 refl ∙ passed_over (codes "COND") o2 (codes "SP") ts (o3 ∷ []) k2 refl
-    ∙ found (codes "COND") o3 (codes "COND") tc [] k3 refl in
-    obtain_is os l s None (is_word tc (codes "YES")) none
-    (ap (λ t. option_and_then value_of t) lengths ∙ e1) (ap (λ t. unwrap_or (option_and_then value_of t) (number 0)) subpools ∙ ap (λ v. unwrap_or v (number 0)) e2)
-    (ap (λ t. option_and_then target_of t) places) (ap says_yes conditions)
+peek_is : (os : List (List ℕ)) (a : Written) (n : ℕ) → first_fault peek_row os ≡ None
+    → value_at (position 0) os ≡ Some a → option_and_then size_of (text_at (position 1) os) ≡ Some n → peek_of os ≡ Ok (peek a n)
+peek_is os a n f e d = rw (f, e, d) refl
 
--- the operands of STORAGE RELEASE
-release_keyed : (o1 o2 o3 o4 tl ta ts tc : List ℕ) (l a s : Written)
-    → Keyed o1 (codes "LENGTH") tl → Keyed o2 (codes "ADDR") ta → Keyed o3 (codes "SP") ts → Keyed o4 (codes "COND") tc
-    → value_of tl ≡ Some l → value_of ta ≡ Some a → value_of ts ≡ Some s → is_condition tc ≡ true
-    → release_of (o1 ∷ o2 ∷ o3 ∷ o4 ∷ []) ≡ Ok (act (release l a s (record { family = family.S; conditional = is_word tc (codes "YES") })))
-release_keyed o1 o2 o3 o4 tl ta ts tc l a s k1 k2 k3 k4 e1 e2 e3 e4 =
-    let os : List (List ℕ) = o1 ∷ o2 ∷ o3 ∷ o4 ∷ [] in
-    let none : first_fault storage_left_out release_row [] os ≡ None =
-    no_fault_in storage_left_out release_row [] o1 (codes "LENGTH") tl kind.Value (o2 ∷ o3 ∷ o4 ∷ []) k1 refl refl refl (ap is_some e1)
-    (no_fault_in storage_left_out release_row (codes "LENGTH" ∷ []) o2 (codes "ADDR") ta kind.Value (o3 ∷ o4 ∷ []) k2 refl refl refl (ap is_some e2)
-    (no_fault_in storage_left_out release_row (codes "ADDR" ∷ codes "LENGTH" ∷ []) o3 (codes "SP") ts kind.Value (o4 ∷ []) k3 refl refl refl (ap is_some e3)
-    (no_fault_in storage_left_out release_row (codes "SP" ∷ codes "ADDR" ∷ codes "LENGTH" ∷ []) o4 (codes "COND") tc kind.Condition [] k4 refl refl refl e4 refl))) in
-    let lengths : text_at (codes "LENGTH") os ≡ Some tl = found (codes "LENGTH") o1 (codes "LENGTH") tl (o2 ∷ o3 ∷ o4 ∷ []) k1 refl in
-    let addresses : text_at (codes "ADDR") os ≡ Some ta =
-    passed_over (codes "ADDR") o1 (codes "LENGTH") tl (o2 ∷ o3 ∷ o4 ∷ []) k1 refl ∙ found (codes "ADDR") o2 (codes "ADDR") ta (o3 ∷ o4 ∷ []) k2 refl in
-    let subpools : text_at (codes "SP") os ≡ Some ts =
-    passed_over (codes "SP") o1 (codes "LENGTH") tl (o2 ∷ o3 ∷ o4 ∷ []) k1 refl ∙ passed_over (codes "SP") o2 (codes "ADDR") ta (o3 ∷ o4 ∷ []) k2 refl
-    ∙ found (codes "SP") o3 (codes "SP") ts (o4 ∷ []) k3 refl in
-    let conditions : text_at (codes "COND") os ≡ Some tc =
-    passed_over (codes "COND") o1 (codes "LENGTH") tl (o2 ∷ o3 ∷ o4 ∷ []) k1 refl ∙ passed_over (codes "COND") o2 (codes "ADDR") ta (o3 ∷ o4 ∷ []) k2 refl
-    ∙ passed_over (codes "COND") o3 (codes "SP") ts (o4 ∷ []) k3 refl ∙ found (codes "COND") o4 (codes "COND") tc [] k4 refl in
-    release_is os l a s (is_word tc (codes "YES")) none
-    (ap (λ t. option_and_then value_of t) lengths ∙ e1) (ap (λ t. option_and_then value_of t) addresses ∙ e2)
-    (ap (λ t. unwrap_or (option_and_then value_of t) (number 0)) subpools ∙ ap (λ v. unwrap_or v (number 0)) e3) (ap says_yes conditions)
-
--- operands in positions
-in_position : (k : Kind) (o : List ℕ) → 1 ≤ length o → AllByRecursion (λ c. (c == 61) ≡ false) o → is_of_kind k o ≡ true → position_fault k o ≡ None
-in_position k [] h p e = absurd (omega (arith, h))
-in_position k (c ∷ cs) h p e =
-    let some : (length (c ∷ cs) == 0) ≡ false = grind (arith, nat_tests) in
-    rw (some, no_keyword (c ∷ cs) p, e) refl
-
-poke_is : (o p : List ℕ) (a : Written) (c : Stored) → position_fault kind.Value o ≡ None → position_fault kind.Content p ≡ None
-    → value_of o ≡ Some a → content_of p ≡ Some c → poke_of (o ∷ p ∷ []) ≡ Ok (act (poke a c))
-poke_is o p a c f g e d = rw (f, g, e, d) refl
-
-peek_is : (o p : List ℕ) (a : Written) (n : ℕ) → position_fault kind.Value o ≡ None → position_fault kind.Size p ≡ None
-    → value_of o ≡ Some a → size_of p ≡ Some n → peek_of (o ∷ p ∷ []) ≡ Ok (peek a n)
-peek_is o p a n f g e d = rw (f, g, e, d) refl
-
-count_is : (o : List ℕ) (n : ℕ) → position_fault kind.Count o ≡ None → number_of o ≡ Some n → count_in (o ∷ []) ≡ Ok n
-count_is o n f e = rw (f, e) refl
+count_is : (os : List (List ℕ)) (n : ℕ) → first_fault steps_row os ≡ None → option_and_then number_of (text_at (position 0) os) ≡ Some n
+    → count_in os ≡ Ok n
+count_is os n f e = rw (f, e) refl
 
 size_is : (n : ℕ) → 1 ≤ n → n ≤ 256 → size_of (decimal n) ≡ Some n
 size_is n h k =
@@ -139,9 +95,9 @@ abbrev condition_text : Bool → List ℕ
 condition_text true = codes "YES"
 condition_text false = codes "NO"
 
-is_condition_text : (c : Bool) → is_condition (condition_text c) ≡ true
-is_condition_text true = refl
-is_condition_text false = refl
+condition_says : (c : Bool) → is_some (said_of kind.Condition (condition_text c)) ≡ true
+condition_says true = refl
+condition_says false = refl
 
 condition_name : (c : Bool) → is_name (condition_text c) ≡ true
 condition_name true = refl
@@ -156,10 +112,6 @@ form_back f false e = ap (λ x. form_of x false) (sym e)
 
 word_stands : (w : List ℕ) → is_name w ≡ true → IsOperand w
 word_stands w h = goes_plain outside w (plain_name w h)
-
--- a keyword operand
-abbrev keyed_text : List ℕ → List ℕ → List ℕ
-keyed_text k t = k ++ 61 ∷ t
 
 -- how many bytes of operands have room behind the operation on a first line, less one and all
 abbrev pub less : Operation → ℕ
@@ -187,34 +139,9 @@ pub record Operands (asked : Asked) : Type 0 where
 two_long : (o p : List ℕ) → length (joined o (p ∷ [])) ≡ length o + length p + 1
 two_long o p = let a = length-append o (44 ∷ p) in omega (arith, a)
 
-four_long : (o p q r : List ℕ) → length (joined o (p ∷ q ∷ r ∷ [])) ≡ length o + length p + length q + length r + 3
-four_long o p q r =
-    let a = length-append o (44 ∷ (p ++ 44 ∷ (q ++ 44 ∷ r))) in
-    let b = length-append p (44 ∷ (q ++ 44 ∷ r)) in
-    let c = length-append q (44 ∷ r) in
-    omega (arith, a, b, c)
-
-five_long : (o p q r s : List ℕ) → length (joined o (p ∷ q ∷ r ∷ s ∷ [])) ≡ length o + length p + length q + length r + length s + 4
-five_long o p q r s =
-    let a = length-append o (44 ∷ (p ++ 44 ∷ (q ++ 44 ∷ (r ++ 44 ∷ s)))) in
-    let b = length-append p (44 ∷ (q ++ 44 ∷ (r ++ 44 ∷ s))) in
-    let c = length-append q (44 ∷ (r ++ 44 ∷ s)) in
-    let d = length-append r (44 ∷ s) in
-    omega (arith, a, b, c, d)
-
-keyed_few : (k t : List ℕ) → length k ≤ 6 → length t ≤ 63 → length (keyed_text k t) ≤ 70
-keyed_few k t h few = let a = length-append k (61 ∷ t) in omega (arith, a, h, few)
-
 condition_few : (c : Bool) → length (condition_text c) ≤ 63
 condition_few true = omega arith
 condition_few false = omega arith
-
-four_fit : (o p q r : List ℕ) → length o ≤ 7 → length p ≤ 70 → length q ≤ 70 → length r ≤ 70 → length (joined o (p ∷ q ∷ r ∷ [])) ≤ 566
-four_fit o p q r a b c d = let e = four_long o p q r in omega (arith, a, b, c, d, e)
-
-five_fit : (o p q r s : List ℕ) → length o ≤ 7 → length p ≤ 70 → length q ≤ 70 → length r ≤ 70 → length s ≤ 70
-    → length (joined o (p ∷ q ∷ r ∷ s ∷ [])) ≤ 566
-five_fit o p q r s a b c d e = let f = five_long o p q r s in omega (arith, a, b, c, d, e, f)
 
 poke_fits : (a : Written) (c : Stored) (ta : ValueText a) (tc : ContentText c) → IsStored c → HasRoom (act (poke a c))
     → length (joined ta.text (tc.text ∷ [])) ≤ 569
@@ -224,51 +151,71 @@ poke_fits (register n) (spelled bytes) ta tc h r =
     let e = two_long ta.text tc.text in let f = ta.size in let g = tc.size in let k = h.1 in omega (arith, e, f, g, k)
 poke_fits (named name) (spelled bytes) ta tc h r =
     let e = two_long ta.text tc.text in let f = ta.size in let g = tc.size in omega (arith, e, f, g, r)
-poke_fits a (word value) ta tc h r =
+poke_fits a (word v) ta tc h r =
     let e = two_long ta.text tc.text in let f = ta.neat.few in let g = tc.size in omega (arith, e, f, g)
 
-condition_keyed : (c : Bool) → Keyed (keyed_text (codes "COND") (condition_text c)) (codes "COND") (condition_text c)
-condition_keyed c = keyed (codes "COND") (condition_text c) refl refl (word_stands (condition_text c) (condition_name c))
+value_says : (t : List ℕ) (v : Written) → value_of t ≡ Some v → is_some (said_of kind.Value t) ≡ true
+value_says t v e = ap (λ x. is_some (option_map value x)) e
+
+-- a place that may be written
+record PlaceText (p : Option Target) : Type 0 where
+  text : Option (List ℕ)
+  spells : option_and_then target_of text ≡ p
+  says : IfSome text (λ t. (is_some (said_of kind.Place t) ≡ true) × IsOperand t)
+  few : IfSome text (λ t. length t ≤ 63)
+
+optional_place : (p : Option Target) → IfSome p IsTarget → PlaceText p
+optional_place None h = record { text = None; spells = refl; says = tt; few = tt }
+optional_place (Some p) h =
+    let t = place_text_of p h in
+    record { text = Some t.text; spells = t.spells; says = (ap (λ x. is_some (option_map place x)) t.spells, t.neat.goes 0); few = t.neat.few }
+
+keyed_few : (k t : List ℕ) → length k ≤ 6 → length t ≤ 63 → length (operand_text (keyword k) t) ≤ 70
+keyed_few k t h few = let a = length-append k (61 ∷ t) in omega (arith, a, h, few)
+
+optional_few : (k : List ℕ) (t : Option (List ℕ)) → length k ≤ 6 → IfSome t (λ t. length t ≤ 63) → IfSome t (λ t. length (operand_text (keyword k) t) ≤ 70)
+optional_few k None h few = tt
+optional_few k (Some t) h few = keyed_few k t h few
 
 obtain_operands : (l s : Written) (p : Option Target) (form : Form) → IsValidAsked (act (obtain l s p form)) → Operands (act (obtain l s p form))
-obtain_operands l s None form h =
+obtain_operands l s p form h =
     let tl = value_text_of l h.0 in
     let ts = value_text_of s h.1 in
-    let k1 = keyed (codes "LENGTH") tl.text refl refl (tl.neat.goes 0) in
-    let k2 = keyed (codes "SP") ts.text refl refl (ts.neat.goes 0) in
-    let k3 = condition_keyed form.conditional in
+    let tp = optional_place p h.2 in
+    let tc = condition_text form.conditional in
+    let items : List Item = item (keyword (codes "LENGTH")) (Some tl.text) ∷ item (keyword (codes "SP")) (Some ts.text)
+    ∷ item (keyword (codes "ADDR")) tp.text ∷ item (keyword (codes "COND")) (Some tc) ∷ [] in
+    let fit : Good obtain_row items = (
+      with_keyword obtain_row _ _ (codes "LENGTH") (entry (keyword (codes "LENGTH")) kind.Length) (Some tl.text) refl refl refl refl refl (value_says tl.text l tl.spells, tl.neat.goes 0),
+      (
+        with_keyword obtain_row _ _ (codes "SP") (entry (keyword (codes "SP")) kind.Value) (Some ts.text) refl refl refl refl refl (value_says ts.text s ts.spells, ts.neat.goes 0),
+        (
+          with_keyword obtain_row _ _ (codes "ADDR") (entry (keyword (codes "ADDR")) kind.Place) tp.text refl refl refl refl refl tp.says,
+          (with_keyword obtain_row _ _ (codes "COND") (entry (keyword (codes "COND")) kind.Condition) (Some tc) refl refl refl refl refl (condition_says form.conditional, word_stands tc (condition_name form.conditional)), tt),
+        ),
+      ),
+    ) in
+    let few : AllFew items = (
+      keyed_few (codes "LENGTH") tl.text (omega arith) tl.neat.few,
+      (
+        keyed_few (codes "SP") ts.text (omega arith) ts.neat.few,
+        (optional_few (codes "ADDR") tp.text (omega arith) tp.few, (keyed_few (codes "COND") tc (omega arith) (condition_few form.conditional), tt)),
+      ),
+    ) in
     record {
       operation = operation.Storage;
       first = codes "OBTAIN";
-      rest = keyed_text (codes "LENGTH") tl.text ∷ keyed_text (codes "SP") ts.text ∷ keyed_text (codes "COND") (condition_text form.conditional) ∷ [];
+      rest = operands.written items;
       some = omega arith;
       stands = word_stands (codes "OBTAIN") refl;
-      stand = (k1.stands, (k2.stands, (k3.stands, tt)));
-      reads = obtain_unplaced _ _ _ tl.text ts.text (condition_text form.conditional) l s k1 k2 k3 tl.spells ts.spells (is_condition_text form.conditional)
-          ∙ ap (λ f. Ok (act (obtain l s None f))) (form_back form.family form.conditional h.3);
-      fits = λ r. four_fit (codes "OBTAIN") (keyed_text (codes "LENGTH") tl.text) (keyed_text (codes "SP") ts.text) (keyed_text (codes "COND") (condition_text form.conditional)) (omega arith) (keyed_few (codes "LENGTH") tl.text (omega arith) tl.neat.few)
-          (keyed_few (codes "SP") ts.text (omega arith) ts.neat.few) (keyed_few (codes "COND") (condition_text form.conditional) (omega arith) (condition_few form.conditional));
-    }
-obtain_operands l s (Some p) form h =
-    let tl = value_text_of l h.0 in
-    let ts = value_text_of s h.1 in
-    let tp = place_text_of p h.2 in
-    let k1 = keyed (codes "LENGTH") tl.text refl refl (tl.neat.goes 0) in
-    let k2 = keyed (codes "SP") ts.text refl refl (ts.neat.goes 0) in
-    let k3 = keyed (codes "ADDR") tp.text refl refl (tp.neat.goes 0) in
-    let k4 = condition_keyed form.conditional in
-    record {
-      operation = operation.Storage;
-      first = codes "OBTAIN";
-      rest = keyed_text (codes "LENGTH") tl.text ∷ keyed_text (codes "SP") ts.text ∷ keyed_text (codes "ADDR") tp.text ∷ keyed_text (codes "COND") (condition_text form.conditional) ∷ [];
-      some = omega arith;
-      stands = word_stands (codes "OBTAIN") refl;
-      stand = (k1.stands, (k2.stands, (k3.stands, (k4.stands, tt))));
-      reads = obtain_placed _ _ _ _ tl.text ts.text tp.text (condition_text form.conditional) l s p k1 k2 k3 k4 tl.spells ts.spells tp.spells (is_condition_text form.conditional)
-          ∙ ap (λ f. Ok (act (obtain l s (Some p) f))) (form_back form.family form.conditional h.3);
-      fits = λ r. five_fit (codes "OBTAIN") (keyed_text (codes "LENGTH") tl.text) (keyed_text (codes "SP") ts.text) (keyed_text (codes "ADDR") tp.text) (keyed_text (codes "COND") (condition_text form.conditional)) (omega arith) (keyed_few (codes "LENGTH") tl.text (omega arith) tl.neat.few)
-          (keyed_few (codes "SP") ts.text (omega arith) ts.neat.few) (keyed_few (codes "ADDR") tp.text (omega arith) tp.neat.few)
-          (keyed_few (codes "COND") (condition_text form.conditional) (omega arith) (condition_few form.conditional));
+      stand = stand obtain_row [] 0 items fit;
+      reads = obtain_is (operands.written items) l s p (is_word tc (codes "YES")) (no_fault obtain_row items fit)
+          (ap (λ t. option_and_then value_of t) (text obtain_row (keyword (codes "LENGTH")) items fit) ∙ tl.spells)
+          (ap (λ t. unwrap_or (option_and_then value_of t) (number 0)) (text obtain_row (keyword (codes "SP")) items fit) ∙ ap (λ v. unwrap_or v (number 0)) ts.spells)
+          (ap (λ t. option_and_then target_of t) (text obtain_row (keyword (codes "ADDR")) items fit) ∙ tp.spells)
+          (ap says_yes (text obtain_row (keyword (codes "COND")) items fit))
+          ∙ ap (λ f. Ok (act (obtain l s p f))) (form_back form.family form.conditional h.3);
+      fits = λ r. (let all = long (codes "OBTAIN") items few in omega (arith, all));
     }
 
 release_operands : (l a s : Written) (form : Form) → IsValidAsked (act (release l a s form)) → Operands (act (release l a s form))
@@ -276,28 +223,51 @@ release_operands l a s form h =
     let tl = value_text_of l h.0 in
     let ta = value_text_of a h.1 in
     let ts = value_text_of s h.2 in
-    let k1 = keyed (codes "LENGTH") tl.text refl refl (tl.neat.goes 0) in
-    let k2 = keyed (codes "ADDR") ta.text refl refl (ta.neat.goes 0) in
-    let k3 = keyed (codes "SP") ts.text refl refl (ts.neat.goes 0) in
-    let k4 = condition_keyed form.conditional in
+    let tc = condition_text form.conditional in
+    let items : List Item = item (keyword (codes "LENGTH")) (Some tl.text) ∷ item (keyword (codes "ADDR")) (Some ta.text)
+    ∷ item (keyword (codes "SP")) (Some ts.text) ∷ item (keyword (codes "COND")) (Some tc) ∷ [] in
+    let fit : Good release_row items = (
+      with_keyword release_row _ _ (codes "LENGTH") (entry (keyword (codes "LENGTH")) kind.Value) (Some tl.text) refl refl refl refl refl (value_says tl.text l tl.spells, tl.neat.goes 0),
+      (
+        with_keyword release_row _ _ (codes "ADDR") (entry (keyword (codes "ADDR")) kind.Value) (Some ta.text) refl refl refl refl refl (value_says ta.text a ta.spells, ta.neat.goes 0),
+        (
+          with_keyword release_row _ _ (codes "SP") (entry (keyword (codes "SP")) kind.Value) (Some ts.text) refl refl refl refl refl (value_says ts.text s ts.spells, ts.neat.goes 0),
+          (with_keyword release_row _ _ (codes "COND") (entry (keyword (codes "COND")) kind.Condition) (Some tc) refl refl refl refl refl (condition_says form.conditional, word_stands tc (condition_name form.conditional)), tt),
+        ),
+      ),
+    ) in
+    let few : AllFew items = (
+      keyed_few (codes "LENGTH") tl.text (omega arith) tl.neat.few,
+      (
+        keyed_few (codes "ADDR") ta.text (omega arith) ta.neat.few,
+        (keyed_few (codes "SP") ts.text (omega arith) ts.neat.few, (keyed_few (codes "COND") tc (omega arith) (condition_few form.conditional), tt)),
+      ),
+    ) in
     record {
       operation = operation.Storage;
       first = codes "RELEASE";
-      rest = keyed_text (codes "LENGTH") tl.text ∷ keyed_text (codes "ADDR") ta.text ∷ keyed_text (codes "SP") ts.text ∷ keyed_text (codes "COND") (condition_text form.conditional) ∷ [];
+      rest = operands.written items;
       some = omega arith;
       stands = word_stands (codes "RELEASE") refl;
-      stand = (k1.stands, (k2.stands, (k3.stands, (k4.stands, tt))));
-      reads = release_keyed _ _ _ _ tl.text ta.text ts.text (condition_text form.conditional) l a s k1 k2 k3 k4 tl.spells ta.spells ts.spells (is_condition_text form.conditional)
+      stand = stand release_row [] 0 items fit;
+      reads = release_is (operands.written items) l a s (is_word tc (codes "YES")) (no_fault release_row items fit)
+          (ap (λ t. option_and_then value_of t) (text release_row (keyword (codes "LENGTH")) items fit) ∙ tl.spells)
+          (ap (λ t. option_and_then value_of t) (text release_row (keyword (codes "ADDR")) items fit) ∙ ta.spells)
+          (ap (λ t. unwrap_or (option_and_then value_of t) (number 0)) (text release_row (keyword (codes "SP")) items fit) ∙ ap (λ v. unwrap_or v (number 0)) ts.spells)
+          (ap says_yes (text release_row (keyword (codes "COND")) items fit))
           ∙ ap (λ f. Ok (act (release l a s f))) (form_back form.family form.conditional h.3);
-      fits = λ r. five_fit (codes "RELEASE") (keyed_text (codes "LENGTH") tl.text) (keyed_text (codes "ADDR") ta.text) (keyed_text (codes "SP") ts.text) (keyed_text (codes "COND") (condition_text form.conditional)) (omega arith) (keyed_few (codes "LENGTH") tl.text (omega arith) tl.neat.few)
-          (keyed_few (codes "ADDR") ta.text (omega arith) ta.neat.few) (keyed_few (codes "SP") ts.text (omega arith) ts.neat.few)
-          (keyed_few (codes "COND") (condition_text form.conditional) (omega arith) (condition_few form.conditional));
+      fits = λ r. (let all = long (codes "RELEASE") items few in omega (arith, all));
     }
 
 poke_operands : (a : Written) (c : Stored) → HasBytes c → IsValidAsked (act (poke a c)) → Operands (act (poke a c))
 poke_operands a c b h =
     let ta = value_text_of a h.0 in
     let tc = content_text_of c b h.1 in
+    let items : List Item = item (position 0) (Some ta.text) ∷ item (position 1) (Some tc.text) ∷ [] in
+    let fit : Good poke_row items = (
+      in_position poke_row _ 0 (entry (position 0) kind.Value) ta.text refl refl refl (value_says ta.text a ta.spells) ta.neat.some ta.neat.no_equals (ta.neat.goes 0),
+      (in_position poke_row _ 1 (entry (position 1) kind.Content) tc.text refl refl refl (ap (λ x. is_some (option_map content x)) tc.spells) tc.some tc.no_equals tc.stands, tt),
+    ) in
     record {
       operation = operation.Poke;
       first = ta.text;
@@ -305,17 +275,23 @@ poke_operands a c b h =
       some = ta.neat.some;
       stands = ta.neat.goes 0;
       stand = (tc.stands, tt);
-      reads = poke_is ta.text tc.text a c (in_position kind.Value ta.text ta.neat.some ta.neat.no_equals (ap is_some ta.spells))
-          (in_position kind.Content tc.text tc.some tc.no_equals (ap is_some tc.spells)) ta.spells tc.spells;
+      reads = poke_is (operands.written items) a c (no_fault poke_row items fit)
+          (ap (λ t. option_and_then value_of t) (text poke_row (position 0) items fit) ∙ ta.spells)
+          (ap (λ t. option_and_then content_of t) (text poke_row (position 1) items fit) ∙ tc.spells);
       fits = λ r. poke_fits a c ta tc h.1 r;
     }
 
 peek_operands : (a : Written) (n : ℕ) → IsValidAsked (peek a n) → Operands (peek a n)
 peek_operands a n h =
     let ta = value_text_of a h.0 in
-    let size = size_is n h.1 h.2 in
+    let spells = size_is n h.1 h.2 in
     let most : n ≤ 256 = h.2 in
     let neat = number_text n (omega (arith, most)) in
+    let items : List Item = item (position 0) (Some ta.text) ∷ item (position 1) (Some (decimal n)) ∷ [] in
+    let fit : Good peek_row items = (
+      in_position peek_row _ 0 (entry (position 0) kind.Value) ta.text refl refl refl (value_says ta.text a ta.spells) ta.neat.some ta.neat.no_equals (ta.neat.goes 0),
+      (in_position peek_row _ 1 (entry (position 1) kind.Size) (decimal n) refl refl refl (ap (λ x. is_some (option_map size x)) spells) neat.some neat.no_equals (neat.goes 0), tt),
+    ) in
     record {
       operation = operation.Peek;
       first = ta.text;
@@ -323,15 +299,21 @@ peek_operands a n h =
       some = ta.neat.some;
       stands = ta.neat.goes 0;
       stand = (neat.goes 0, tt);
-      reads = peek_is ta.text (decimal n) a n (in_position kind.Value ta.text ta.neat.some ta.neat.no_equals (ap is_some ta.spells))
-          (in_position kind.Size (decimal n) neat.some neat.no_equals (ap is_some size)) ta.spells size;
+      reads = peek_is (operands.written items) a n (no_fault peek_row items fit)
+          (ap (λ t. option_and_then value_of t) (text peek_row (position 0) items fit) ∙ ta.spells)
+          (ap (λ t. option_and_then size_of t) (text peek_row (position 1) items fit) ∙ spells);
       fits = λ r. (let e = two_long ta.text (decimal n) in let f = ta.neat.few in let g = neat.few in omega (arith, e, f, g));
     }
 
 counted : (n : ℕ) → n < 2 ^ 32 → count_in (decimal n ∷ []) ≡ Ok n
 counted n h =
     let neat = number_text n h in
-    count_is (decimal n) n (in_position kind.Count (decimal n) neat.some neat.no_equals (ap is_some (written n h))) (written n h)
+    let items : List Item = item (position 0) (Some (decimal n)) ∷ [] in
+    let fit : Good steps_row items = (
+      in_position steps_row _ 0 (entry (position 0) kind.Count) (decimal n) refl refl refl (ap (λ x. is_some (option_map count x)) (written n h)) neat.some neat.no_equals (neat.goes 0),
+      tt,
+    ) in
+    count_is (operands.written items) n (no_fault steps_row items fit) (ap (λ t. option_and_then number_of t) (text steps_row (position 0) items fit) ∙ written n h)
 
 step_operands : (o : Operation) (n : ℕ) (asked : Asked) → n < 2 ^ 32 → asked_of o (decimal n ∷ []) ≡ Ok asked → Operands asked
 step_operands o n asked h e =
@@ -439,15 +421,15 @@ forward_valid None (Some n) asked v h = let same : forward n ≡ asked = cc in s
 
 obtain_of_valid : (os : List (List ℕ)) (asked : Asked) → obtain_of os ≡ Ok asked → IsValidAsked asked
 obtain_of_valid os asked h =
-    obtain_valid (first_fault storage_left_out obtain_row [] os) (value_at (codes "LENGTH") os) (subpool_at os) (target_at (codes "ADDR") os) (storage_form os) asked
-    (value_valid (text_at (codes "LENGTH") os)) (or_zero (value_at (codes "SP") os) (value_valid (text_at (codes "SP") os)))
-    (place_valid (text_at (codes "ADDR") os)) refl h
+    obtain_valid (first_fault obtain_row os) (value_at (keyword (codes "LENGTH")) os) (subpool_at os) (target_at (keyword (codes "ADDR")) os) (storage_form os) asked
+    (value_valid (text_at (keyword (codes "LENGTH")) os)) (or_zero (value_at (keyword (codes "SP")) os) (value_valid (text_at (keyword (codes "SP")) os)))
+    (place_valid (text_at (keyword (codes "ADDR")) os)) refl h
 
 release_of_valid : (os : List (List ℕ)) (asked : Asked) → release_of os ≡ Ok asked → IsValidAsked asked
 release_of_valid os asked h =
-    release_valid (first_fault storage_left_out release_row [] os) (value_at (codes "LENGTH") os) (value_at (codes "ADDR") os) (subpool_at os) (storage_form os) asked
-    (value_valid (text_at (codes "LENGTH") os)) (value_valid (text_at (codes "ADDR") os))
-    (or_zero (value_at (codes "SP") os) (value_valid (text_at (codes "SP") os))) refl h
+    release_valid (first_fault release_row os) (value_at (keyword (codes "LENGTH")) os) (value_at (keyword (codes "ADDR")) os) (subpool_at os) (storage_form os) asked
+    (value_valid (text_at (keyword (codes "LENGTH")) os)) (value_valid (text_at (keyword (codes "ADDR")) os))
+    (or_zero (value_at (keyword (codes "SP")) os) (value_valid (text_at (keyword (codes "SP")) os))) refl h
 
 storage_if : (b c : Bool) (wrong : FaultKind) (os : List (List ℕ)) (asked : Asked)
     → (if b then obtain_of os else if c then release_of os else Err wrong) ≡ Ok asked → IsValidAsked asked
@@ -458,16 +440,16 @@ storage_if false false wrong os asked h = cc
 storage_valid : (os : List (List ℕ)) (asked : Asked) → storage os ≡ Ok asked → IsValidAsked asked
 storage_valid [] asked h = cc
 storage_valid (form ∷ os) asked h =
-    storage_if (is_word form (codes "OBTAIN")) (is_word form (codes "RELEASE")) (form_fault storage_left_out form) os asked h
+    storage_if (is_word form (codes "OBTAIN")) (is_word form (codes "RELEASE")) (unknown_fault storage_left_out (operand_at 0 form)) os asked h
 
 asked_valid : (o : Operation) (os : List (List ℕ)) (asked : Asked) → asked_of o os ≡ Ok asked → IsValidAsked asked
 asked_valid operation.Storage os asked h = storage_valid os asked h
 asked_valid operation.Poke os asked h =
-    poke_valid (positional_fault (kind.Value ∷ kind.Content ∷ []) os) _ _ asked (value_valid (first_operand os)) (content_valid (second_operand os)) h
+    poke_valid (first_fault poke_row os) _ _ asked (value_valid (text_at (position 0) os)) (content_valid (text_at (position 1) os)) h
 asked_valid operation.Peek os asked h =
-    peek_valid (positional_fault (kind.Value ∷ kind.Size ∷ []) os) _ _ asked (value_valid (first_operand os)) (size_valid (second_operand os)) h
-asked_valid operation.Back os asked h = back_valid (positional_fault (kind.Count ∷ []) os) _ asked (number_valid (first_operand os)) h
-asked_valid operation.Forward os asked h = forward_valid (positional_fault (kind.Count ∷ []) os) _ asked (number_valid (first_operand os)) h
+    peek_valid (first_fault peek_row os) _ _ asked (value_valid (text_at (position 0) os)) (size_valid (text_at (position 1) os)) h
+asked_valid operation.Back os asked h = back_valid (first_fault steps_row os) _ asked (number_valid (text_at (position 0) os)) h
+asked_valid operation.Forward os asked h = forward_valid (first_fault steps_row os) _ asked (number_valid (text_at (position 0) os)) h
 
 balanced_if : (b : Bool) (o : Operation) (os : List (List ℕ)) (wrong : FaultKind) (asked : Asked)
     → (if b then asked_of o os else Err wrong) ≡ Ok asked → IsValidAsked asked
@@ -483,3 +465,8 @@ valid_request_is_spelled asked b = (
   λ h. (let o = operands_of asked b h in (o.operation, joined o.first o.rest, field_reads asked o)),
   λ s. spelled_request_is_valid s.0 s.1 asked s.2,
 )
+
+-- so is what the code answers
+pub read_is_valid : (o : Operation) (os : List (List ℕ)) (r : Result Request FaultKind) → seen r ≡ asked_of o os → IfOk r (λ q. IsValidAsked (asked_in q))
+read_is_valid o os (Ok q) h = asked_valid o os (asked_in q) (sym h)
+read_is_valid o os (Err wrong) h = tt

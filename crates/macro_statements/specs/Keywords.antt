@@ -3,6 +3,7 @@ use Rattle.std.specs.Prelude.{ℕ, Bool, ◌&&◌, ◌==◌, nat_lt, if◌then�
 use Rattle.std.specs.List.{position_or_len, before_first, after_first}
 use Rattle.std.specs.Char.{to_ascii_uppercase}
 use Rattle.operand_texts.specs.Words.{is_name}
+use Rattle.macro_statements.specs.Rows.{Key, position, keyword}
 
 -- An operand has an equals sign.
 abbrev pub has_equals : List ℕ → Bool
@@ -21,6 +22,16 @@ value_text text = after_first (λ c. c == 61) text
 abbrev pub is_keyword_operand : List ℕ → Bool
 is_keyword_operand text = has_equals text && is_name (key_text text)
 
--- The keyword of an operand, in upper case.
-abbrev pub key_of : List ℕ → Option (List ℕ)
-key_of text = if is_keyword_operand text then Some (map to_ascii_uppercase (key_text text)) else None
+-- An operand's key, and the text of its value.
+pub record Operand : Type 0 where
+  pub key : Key
+  pub text : List ℕ
+
+-- The operand that a text at this place among the operands is: one with a keyword, which counts in upper case, or one
+-- in its position. An empty text is none.
+abbrev pub operand_at : ℕ → List ℕ → Option Operand
+operand_at place text =
+    if is_keyword_operand text then
+    Some (record { key = keyword (map to_ascii_uppercase (key_text text)); text = value_text text })
+    else if length text == 0 then None
+    else Some (record { key = position place; text = text })

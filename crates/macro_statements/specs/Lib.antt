@@ -3,7 +3,13 @@ pub use Rattle.operand_texts.specs.Field
 pub use Rattle.operand_texts.specs.Written
 pub use Rattle.operand_texts.specs.Values
 pub mod Requests
-pub mod Keywords
 pub mod Rows
+pub mod Keywords
+pub mod Said
+pub mod Operands
+pub mod Storage
+pub mod Poke
+pub mod Peek
+pub mod Steps
 pub mod Statements
-pub mod KeywordSets
+pub mod Slots

@@ -2,13 +2,16 @@
 #![tactic(auto)]
 
 mod faults;
-mod keywords;
 mod laws;
 mod operands;
-mod positions;
+mod peek;
+mod poke;
 mod requests;
 mod rows;
+mod said;
 mod statements;
+mod steps;
+mod storage;
 
 pub use faults::FaultKind;
 pub use laws::valid_requests_are_spelled;

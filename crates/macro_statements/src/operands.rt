@@ -1,163 +1,210 @@
-//! The operands of a form.
+//! The operands of a statement, read by its row.
 
-ghost use Rattle.std.specs.Prelude.{◌≡◌, [], IsTrue, IfSome};
+ghost use Rattle.std.specs.Prelude.{◌≡◌, ◌==◌, ◌<◌, IsTrue, IfSome, None, is_some, length, map, position};
 ghost use Rattle.std.specs.Option.{option_copied, option_map};
-ghost use Rattle.operand_texts.specs.Field.{outside, operands_from, operands_behind};
-ghost use Rattle.macro_statements.specs.Keywords.{key_of};
-ghost use Rattle.operand_texts.specs.Written.{written_in, target_in, IsValue, IsTarget};
-ghost use Rattle.macro_statements.specs.Statements.{operand_fault, first_fault, text_at, value_at, target_at, says_yes};
-ghost use Rattle.macro_statements.specs.Statements.{form_fault};
-ghost use Rattle.macro_statements.specs.KeywordSets.{is_known, are_known, are_known_entries, name_of, names, row_in};
-ghost use Rattle.macro_statements.specs.KeywordSets.{bit_of, with_bit, operand_bit_fault, first_bit_fault, text_by_bit};
+ghost use Rattle.operand_texts.specs.Field.{outside, operands, operands_from, operands_behind};
+ghost use Rattle.macro_statements.specs.Rows.{same_key};
+ghost use Rattle.macro_statements.specs.Operands.{is_left_out, unknown_fault, first_fault};
+ghost use Rattle.macro_statements.specs.Keywords.{operand_at};
+ghost use Rattle.macro_statements.specs.Slots.{key_in, upper_key, entry_in, row_in, operand_in, slots_in, found};
+ghost use Rattle.macro_statements.specs.Slots.{slot, is_barred, filled, with_operand, with_operands, answered};
+ghost use Rattle.macro_statements.specs.Slots.{are_apart, no_slots, readings};
+ghost use Rattle.macro_statements.specs.Said.{said_of, unsaid_fault};
 
 use crate::faults::FaultKind;
-use crate::keywords::{Keywords, key_of, value_text};
-use crate::rows::{Entry, is_among, kind_in, value_fault};
-use bitflags::Flags;
+use crate::rows::{Entry, Key, Kind, Row};
+use crate::said::{Said, said_of, unsaid_fault};
 use operand_texts::nesting::split;
-use operand_texts::values::{Place, Value, place_of, value_of};
-use operand_texts::words::is_word;
+use operand_texts::words::{is_name, is_word};
 
-/// What is wrong with an operand behind those with the keywords that were seen.
-fn operand_fault(
-    left_out: &[Keywords],
-    row: &[Entry],
-    seen: Keywords,
-    text: &[u8],
-) -> Option<FaultKind>
-    ensures { result ≡ operand_bit_fault left_out.now row.now seen.0 text.now }
-{
-    let Some(key) = key_of(text) else {
-        return Some(FaultKind::Operand);
-    };
-    if is_among(left_out, key) {
-        return Some(FaultKind::LeftOut);
-    }
-    let Some(kind) = kind_in(row, key) else {
-        return Some(FaultKind::Operand);
-    };
-    if seen.contains(key) {
-        return Some(FaultKind::Repeated);
-    }
-    value_fault(kind, value_text(text))
+/// An operand's key, its keyword in either case, and the text of its value.
+#[derive(Clone, Copy)]
+pub struct Operand<'a> {
+    pub key: Key<'a>,
+    pub text: &'a [u8],
 }
 
-/// The keywords that were seen, with that of one operand more.
-fn with_key(seen: Keywords, text: &[u8]) -> Keywords
-    ensures { result.0 ≡ with_bit seen.0 (bit_of (key_of text.now)) }
+/// Where the equals sign of an operand stands.
+fn equals_at(text: &[u8]) -> Option<usize>
+    ensures { result ≡ position (λ c. c == 61) text.now }
 {
-    let mut all = seen;
-    if let Some(key) = key_of(text) {
-        all.insert(key);
-    }
-    all
+    text.iter().position(|byte| *byte == b'=')
 }
 
-/// The first fault of the operands of a text, from left to right.
-fn first_fault_in(left_out: &[Keywords], row: &[Entry], text: &[u8]) -> Option<FaultKind>
-    ensures { result ≡ first_bit_fault left_out.now row.now 0 (operands_from outside text.now) }
+/// The operand that a text at this place among the operands is. An empty text is none.
+pub(crate) fn operand_at(place: usize, text: &[u8]) -> Option<Operand<'_>>
+    ensures { option_map operand_in result ≡ operand_at place text.now }
 {
-    let mut seen = Keywords(0);
+    if let Some(i) = equals_at(text) {
+        let name = &text[..i];
+        if is_name(name) {
+            return Some(Operand {
+                key: Key::Keyword(name),
+                text: &text[i + 1..],
+            });
+        }
+    }
+    if text.is_empty() {
+        return None;
+    }
+    Some(Operand {
+        key: Key::Position(place),
+        text,
+    })
+}
+
+/// Whether an entry has this key.
+fn has_key(entry: &Entry, key: Key<'_>) -> bool
+    ensures { result ≡ same_key (key_in entry.now.key) (upper_key key.entry) }
+{
+    match entry.key {
+        Key::Position(place) => match key {
+            Key::Position(at) => place == at,
+            Key::Keyword(_) => false,
+        },
+        Key::Keyword(word) => match key {
+            Key::Position(_) => false,
+            Key::Keyword(name) => is_word(name, word),
+        },
+    }
+}
+
+/// The entry of a key, with its place.
+fn find<'a>(entries: &'a [Entry], key: Key<'_>) -> Option<(usize, &'a Entry)>
+    ensures entry { option_map (λ f. (f.0, entry_in f.1.now)) result
+        ≡ found 0 (map entry_in entries.now) (upper_key key.entry) }
+    ensures within { IfSome result (λ f. f.0 < length entries.now) }
+{
+    for (i, entry) in entries.iter().enumerate() {
+        if has_key(entry, key) {
+            return Some((i, entry));
+        }
+    }
+    None
+}
+
+/// Whether a key is a keyword that is left out.
+fn is_left_out(left_out: &[&[u8]], key: Key<'_>) -> bool
+    ensures { result ≡ is_left_out (map (λ w. w.now) left_out.now) (upper_key key.entry) }
+{
+    let Key::Keyword(name) = key else {
+        return false;
+    };
+    for word in left_out {
+        if is_word(name, word) {
+            return true;
+        }
+    }
+    false
+}
+
+/// What is wrong with an operand that a row hasn't.
+pub(crate) fn unknown_fault(left_out: &[&[u8]], operand: Option<Operand<'_>>) -> FaultKind
+    ensures { result ≡ unknown_fault (map (λ w. w.now) left_out.now) (option_map operand_in operand.entry) }
+{
+    match operand {
+        Some(operand) if is_left_out(left_out, operand.key) => FaultKind::LeftOut,
+        _ => FaultKind::Operand,
+    }
+}
+
+/// Whether something was read for the entry at a place.
+fn is_read(said: &[Option<Said>], i: usize) -> bool
+    requires { i < length said.now }
+    ensures { result ≡ is_some (slot (slots_in said.now) i) }
+{
+    said[i].is_some()
+}
+
+/// Whether the operand beside which an entry can't stand was read.
+fn is_barred(entries: &[Entry], said: &[Option<Said>], excluded: Option<Key<'static>>) -> bool
+    requires { length said.now ≡ length entries.now }
+    ensures { result ≡ is_barred (map entry_in entries.now) (slots_in said.now) (option_map upper_key excluded.entry) }
+{
+    let Some(key) = excluded else {
+        return false;
+    };
+    match find(entries, key) {
+        Some((i, _)) => is_read(said, i),
+        None => false,
+    }
+}
+
+/// Puts what a text says of a kind in a place, or tells what is wrong with it and leaves all as it is.
+fn fill(said: &mut [Option<Said>], i: usize, kind: Kind, text: &[u8]) -> Option<FaultKind>
+    requires { i < length said.old }
+    ensures { answered result (slots_in said.new)
+        ≡ filled (slots_in said.old) i (unsaid_fault kind text.now) (said_of kind text.now) }
+{
+    match said_of(kind, text) {
+        Some(value) => {
+            said[i] = Some(value);
+            None
+        }
+        None => Some(unsaid_fault(kind, text)),
+    }
+}
+
+/// Reads one operand into the place of its entry, or tells its fault and leaves all as it is.
+fn take(row: &Row, operand: Option<Operand<'_>>, said: &mut [Option<Said>]) -> Option<FaultKind>
+    requires { length said.old ≡ length row.now.entries.now }
+    ensures { answered result (slots_in said.new)
+        ≡ with_operand (row_in row.now) (slots_in said.old) (option_map operand_in operand.entry) }
+{
+    let Some(known) = operand else {
+        return Some(FaultKind::Operand);
+    };
+    let Some((i, entry)) = find(row.entries, known.key) else {
+        return Some(unknown_fault(row.left_out, operand));
+    };
+    if is_barred(row.entries, said, entry.excluded) {
+        Some(FaultKind::Operand)
+    } else if is_read(said, i) {
+        Some(FaultKind::Repeated)
+    } else {
+        fill(said, i, entry.kind, known.text)
+    }
+}
+
+/// Reads the operands of a text into the places of their entries, or tells the first fault.
+fn take_all(row: &Row, text: &[u8], said: &mut [Option<Said>]) -> Option<FaultKind>
+    requires { length said.old ≡ length row.now.entries.now }
+    ensures { answered result (slots_in said.new)
+        ≡ with_operands (row_in row.now) (slots_in said.old) 0 (operands_from outside text.now) }
+{
+    let mut place = 0;
     let mut rest = text;
     'operands: loop {
         let (operand, behind) = split(rest);
-        if let Some(fault) = operand_fault(left_out, row, seen, operand) {
+        if let Some(fault) = take(row, operand_at(place, operand), said) {
             return Some(fault);
         }
         let Some(behind) = behind else {
             return None;
         };
-        seen = with_key(seen, operand);
+        place += 1;
         rest = behind;
     }
 }
 
-/// The first fault of the operands behind a form.
-pub(crate) fn first_fault(
-    left_out: &[Keywords],
-    row: &[Entry],
-    text: Option<&[u8]>,
-) -> Option<FaultKind>
-    requires left_out { IsTrue (are_known left_out.now) }
-    requires row { IsTrue (are_known_entries row.now) }
-    ensures { result ≡ first_fault (names left_out.now) (row_in row.now) []
-        (operands_behind (option_copied text.entry)) }
+/// Reads the operands of a statement, each once, into the places of their entries, of which nothing was read before.
+/// Answers the first fault, and what was read is of use only where there is none.
+pub(crate) fn read(row: &Row, text: Option<&[u8]>, said: &mut [Option<Said>]) -> Option<FaultKind>
+    requires empty { slots_in said.old ≡ no_slots (row_in row.now).entries }
+    requires apart { IsTrue (are_apart (row_in row.now).entries) }
+    ensures fault { result ≡ first_fault (row_in row.now) (operands_behind (option_copied text.entry)) }
+    ensures said { result ≡ None
+        → slots_in said.new ≡ readings (row_in row.now).entries (operands_behind (option_copied text.entry)) }
 {
     match text {
-        Some(text) => first_fault_in(left_out, row, text),
+        Some(text) => take_all(row, text, said),
         None => None,
     }
 }
 
-/// The value's text of the operand of a text that has this keyword.
-fn text_in(key: Keywords, text: &[u8]) -> Option<&[u8]>
-    ensures { option_copied result ≡ text_by_bit key.0 (operands_from outside text.now) }
+/// An operand field, where it isn't empty.
+pub(crate) fn some_field(field: &[u8]) -> Option<&[u8]>
+    ensures { operands_behind (option_copied result) ≡ operands field.now }
 {
-    let mut rest = text;
-    'operands: loop {
-        let (operand, behind) = split(rest);
-        if key_of(operand) == Some(key) {
-            return Some(value_text(operand));
-        }
-        let Some(behind) = behind else {
-            return None;
-        };
-        rest = behind;
-    }
-}
-
-/// The value's text of the operand behind a form that has this keyword.
-fn text_at(key: Keywords, text: Option<&[u8]>) -> Option<&[u8]>
-    requires { IsTrue (is_known key.0) }
-    ensures { option_copied result ≡ text_at (name_of key.0) (operands_behind (option_copied text.entry)) }
-{
-    match text {
-        Some(text) => text_in(key, text),
-        None => None,
-    }
-}
-
-/// The value of the operand behind a form that has this keyword.
-pub(crate) fn value_at(key: Keywords, text: Option<&[u8]>) -> Option<Value>
-    requires { IsTrue (is_known key.0) }
-    ensures value { option_map written_in result
-        ≡ value_at (name_of key.0) (operands_behind (option_copied text.entry)) }
-    ensures valid { IfSome result (λ v. IsValue (written_in v)) }
-{
-    match text_at(key, text) {
-        Some(value) => value_of(value),
-        None => None,
-    }
-}
-
-/// The place of the operand behind a form that has this keyword.
-pub(crate) fn place_at(key: Keywords, text: Option<&[u8]>) -> Option<Place>
-    requires { IsTrue (is_known key.0) }
-    ensures value { option_map target_in result
-        ≡ target_at (name_of key.0) (operands_behind (option_copied text.entry)) }
-    ensures valid { IfSome result (λ p. IsTarget (target_in p)) }
-{
-    match text_at(key, text) {
-        Some(place) => place_of(place),
-        None => None,
-    }
-}
-
-/// Whether the operand behind a form that has this keyword is there and says YES.
-pub(crate) fn says_yes_at(key: Keywords, text: Option<&[u8]>) -> bool
-    requires { IsTrue (is_known key.0) }
-    ensures { result ≡ says_yes (text_at (name_of key.0) (operands_behind (option_copied text.entry))) }
-{
-    match text_at(key, text) {
-        Some(condition) => is_word(condition, b"YES"),
-        None => false,
-    }
-}
-
-/// What is wrong with a first operand that is no form.
-pub(crate) fn form_fault(left_out: &[Keywords], form: &[u8]) -> FaultKind
-    requires { IsTrue (are_known left_out.now) }
-    ensures { result ≡ form_fault (names left_out.now) form.now }
-{
-    operand_fault(left_out, &[], Keywords(0), form).unwrap_or(FaultKind::Operand)
+    if field.is_empty() { None } else { Some(field) }
 }

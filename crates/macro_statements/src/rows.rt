@@ -1,14 +1,4 @@
-//! The operands of each form.
-
-ghost use Rattle.std.specs.Prelude.{◌≡◌};
-ghost use Rattle.macro_statements.specs.Rows.{is_of_kind, is_left_out, value_fault};
-ghost use Rattle.macro_statements.specs.KeywordSets.{has_bit, kind_at};
-
-use crate::faults::FaultKind;
-use crate::keywords::Keywords;
-use operand_texts::contents::{content_of, size_of};
-use operand_texts::numbers::number_of;
-use operand_texts::values::{is_condition, is_pair, is_value, place_of};
+//! The operands of each statement.
 
 /// A kind of value.
 #[derive(Clone, Copy)]
@@ -29,127 +19,53 @@ pub enum Kind {
     Count,
 }
 
-/// A keyword that a form has, and the kind of its value.
+/// What an operand is known by.
+#[derive(Clone, Copy)]
+pub enum Key<'a> {
+    /// Its place among all operands, counted from 0.
+    Position(usize),
+    /// Its keyword.
+    Keyword(&'a [u8]),
+}
+
+/// An operand that a row has.
 #[derive(Clone, Copy)]
 pub struct Entry {
-    pub keyword: Keywords,
+    pub key: Key<'static>,
     pub kind: Kind,
+    /// The key of an operand beside which it can't stand.
+    pub excluded: Option<Key<'static>>,
 }
 
-/// The row of STORAGE OBTAIN.
-pub const OBTAIN: [Entry; 4] = [
-    Entry {
-        keyword: Keywords::LENGTH,
-        kind: Kind::Length,
-    },
-    Entry {
-        keyword: Keywords::SP,
-        kind: Kind::Value,
-    },
-    Entry {
-        keyword: Keywords::ADDR,
-        kind: Kind::Place,
-    },
-    Entry {
-        keyword: Keywords::COND,
-        kind: Kind::Condition,
-    },
-];
+/// The operands of a statement behind its form.
+#[derive(Clone, Copy)]
+pub struct Row {
+    pub entries: &'static [Entry],
+    /// The keywords that are left out. A keyword of an entry is none of them.
+    pub left_out: &'static [&'static [u8]],
+}
 
-/// The row of STORAGE RELEASE.
-pub const RELEASE: [Entry; 4] = [
-    Entry {
-        keyword: Keywords::LENGTH,
-        kind: Kind::Value,
-    },
-    Entry {
-        keyword: Keywords::ADDR,
-        kind: Kind::Value,
-    },
-    Entry {
-        keyword: Keywords::SP,
-        kind: Kind::Value,
-    },
-    Entry {
-        keyword: Keywords::COND,
-        kind: Kind::Condition,
-    },
-];
-
-/// The keywords of STORAGE that are left out.
-pub const STORAGE_LEFT_OUT: [Keywords; 18] = [
-    Keywords::BNDRY,
-    Keywords::LOC,
-    Keywords::RELATED,
-    Keywords::LINKAGE,
-    Keywords::REGS,
-    Keywords::KEY,
-    Keywords::CALLRKY,
-    Keywords::TCBADDR,
-    Keywords::OWNER,
-    Keywords::EXECUTABLE,
-    Keywords::CHECKZERO,
-    Keywords::STARTBDY,
-    Keywords::CONTBDY,
-    Keywords::INADDR,
-    Keywords::RTCD,
-    Keywords::BRANCH,
-    Keywords::TCB,
-    Keywords::MF,
-];
-
-/// The kind of value that a keyword takes, where the row has it.
-pub(crate) fn kind_in(row: &[Entry], key: Keywords) -> Option<Kind>
-    ensures { result ≡ kind_at row.now key.0 }
-{
-    for entry in row {
-        if entry.keyword == key {
-            return Some(entry.kind);
+/// An operand with a keyword, in upper case.
+macro_rules! keyword {
+    ($word:literal, $kind:ident) => {
+        Entry {
+            key: Key::Keyword($word),
+            kind: Kind::$kind,
+            excluded: None,
         }
-    }
-    None
+    };
 }
 
-/// Whether a keyword is one of these.
-pub(crate) fn is_among(keywords: &[Keywords], key: Keywords) -> bool
-    ensures { result ≡ has_bit keywords.now key.0 }
-{
-    keywords.iter().any(|k| *k == key)
+/// An operand in a position.
+macro_rules! position {
+    ($place:literal, $kind:ident) => {
+        Entry {
+            key: Key::Position($place),
+            kind: Kind::$kind,
+            excluded: None,
+        }
+    };
 }
 
-/// Whether a text is a value of this kind that is supported.
-fn is_of_kind(kind: Kind, text: &[u8]) -> bool
-    ensures { result ≡ is_of_kind kind text.now }
-{
-    match kind {
-        Kind::Value | Kind::Length => is_value(text),
-        Kind::Place => place_of(text).is_some(),
-        Kind::Condition => is_condition(text),
-        Kind::Content => content_of(text).is_some(),
-        Kind::Size => size_of(text).is_some(),
-        Kind::Count => number_of(text).is_some(),
-    }
-}
-
-/// Whether a text is a value of this kind that isn't supported.
-fn is_left_out(kind: Kind, text: &[u8]) -> bool
-    ensures { result ≡ is_left_out kind text.now }
-{
-    match kind {
-        Kind::Length => is_pair(text),
-        _ => false,
-    }
-}
-
-/// What is wrong with a value of this kind.
-pub(crate) fn value_fault(kind: Kind, text: &[u8]) -> Option<FaultKind>
-    ensures { result ≡ value_fault kind text.now }
-{
-    if is_of_kind(kind, text) {
-        None
-    } else if is_left_out(kind, text) {
-        Some(FaultKind::LeftOut)
-    } else {
-        Some(FaultKind::Value)
-    }
-}
+pub(crate) use keyword;
+pub(crate) use position;

@@ -1,3 +1,4 @@
+pub mod Above
 pub mod Split
 pub mod Names
 pub mod Digits

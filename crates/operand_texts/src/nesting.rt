@@ -51,8 +51,11 @@ impl Nesting {
     }
 }
 
+// Apostrophes, parentheses, commas and blanks are bytes up to a comma, so loops pass over those above at once.
+
 /// How many bytes of a text whose first byte stands so belong to the field: those up to the first blank outside
 /// apostrophes, or all.
+#[tactic(auto, using(crate::proofs::Above::above_field))]
 pub fn field_len(start: Nesting, text: &[u8]) -> usize
     requires { start.depth + length text.now < 2 ^ 64 }
     ensures value { result ≡ field_len start text.now }
@@ -60,6 +63,9 @@ pub fn field_len(start: Nesting, text: &[u8]) -> usize
 {
     let mut at = start;
     for (i, byte) in text.iter().enumerate() {
+        if *byte > b')' {
+            continue;
+        }
         if *byte == b' ' && !at.quoted {
             return i;
         }
@@ -69,11 +75,15 @@ pub fn field_len(start: Nesting, text: &[u8]) -> usize
 }
 
 /// Whether each apostrophe and parenthesis of a text is closed, and none too often.
+#[tactic(auto, using(crate::proofs::Above::above_balanced))]
 pub fn is_balanced(text: &[u8]) -> bool
     ensures { result ≡ is_balanced outside text.now }
 {
     let mut at = Nesting::outside();
     for byte in text {
+        if *byte > b')' {
+            continue;
+        }
         if *byte == b')' && !at.quoted && at.depth == 0 {
             return false;
         }
@@ -83,12 +93,16 @@ pub fn is_balanced(text: &[u8]) -> bool
 }
 
 /// How far the first operand of a field goes.
+#[tactic(auto, using(crate::proofs::Above::above_operand))]
 fn operand_len(text: &[u8]) -> usize
     ensures value { result ≡ operand_len outside text.now }
     ensures within { result ≤ length text.now }
 {
     let mut at = Nesting::outside();
     for (i, byte) in text.iter().enumerate() {
+        if *byte > b',' {
+            continue;
+        }
         if *byte == b',' && !at.quoted && at.depth == 0 {
             return i;
         }

@@ -1,0 +1,53 @@
+-- What an operand says, by the kind of its value.
+use Rattle.std.specs.Prelude.{ℕ, Bool, true, false, if◌then◌else◌, List, Option, Some, None, is_some, codes}
+use Rattle.std.specs.Option.{option_map}
+use Rattle.operand_texts.specs.Words.{is_word}
+use Rattle.operand_texts.specs.Written.{Written, Target, Stored}
+use Rattle.operand_texts.specs.Values.{number_of, value_of, is_pair, target_of, content_of, size_of}
+use Rattle.macro_statements.specs.declared.faults.FaultKind.{FaultKind}
+use Rattle.macro_statements.specs.declared.faults.FaultKind.TheVariants as fault
+use Rattle.macro_statements.specs.declared.rows.Kind.{Kind}
+use Rattle.macro_statements.specs.declared.rows.Kind.TheVariants as kind
+
+pub data Said : Type 0 where
+  value : Written → Said
+  place : Target → Said
+  condition : Bool → Said
+  content : Stored → Said
+  size : ℕ → Said
+  count : ℕ → Said
+
+-- A condition is YES or NO, in either case.
+abbrev pub condition_of : List ℕ → Option Bool
+condition_of text =
+    if is_word text (codes "YES") then Some true
+    else if is_word text (codes "NO") then Some false
+    else None
+
+-- What a text says as a value of this kind, where it's one that is supported.
+abbrev pub said_of : Kind → List ℕ → Option Said
+said_of kind.Value text = option_map value (value_of text)
+said_of kind.Length text = option_map value (value_of text)
+said_of kind.Place text = option_map place (target_of text)
+said_of kind.Condition text = option_map condition (condition_of text)
+said_of kind.Content text = option_map content (content_of text)
+said_of kind.Size text = option_map size (size_of text)
+said_of kind.Count text = option_map count (number_of text)
+
+-- A text is a value of this kind that isn't supported: of lengths that is a pair.
+abbrev pub is_unsupported : Kind → List ℕ → Bool
+is_unsupported kind.Value text = false
+is_unsupported kind.Length text = is_pair text
+is_unsupported kind.Place text = false
+is_unsupported kind.Condition text = false
+is_unsupported kind.Content text = false
+is_unsupported kind.Size text = false
+is_unsupported kind.Count text = false
+
+-- What is wrong with a text that says nothing of this kind.
+abbrev pub unsaid_fault : Kind → List ℕ → FaultKind
+unsaid_fault k text = if is_unsupported k text then fault.LeftOut else fault.Value
+
+-- What is wrong with a value of this kind.
+abbrev pub value_fault : Kind → List ℕ → Option FaultKind
+value_fault k text = if is_some (said_of k text) then None else Some (unsaid_fault k text)

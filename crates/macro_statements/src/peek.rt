@@ -1,0 +1,44 @@
+//! PEEK: shows bytes.
+
+ghost use Rattle.std.specs.Prelude.{◌≡◌, length};
+ghost use Rattle.operand_texts.specs.Field.{operands};
+ghost use Rattle.macro_statements.specs.Requests.{seen};
+ghost use Rattle.macro_statements.specs.Slots.{slots_in, peek_by};
+ghost use Rattle.macro_statements.specs.Peek.{peek_of};
+
+use crate::faults::FaultKind;
+use crate::operands::{read, some_field};
+use crate::requests::Request;
+use crate::rows::{Entry, Key, Kind, Row, position};
+use crate::said::{NOTHING, Said, size_at, value_at};
+
+/// PEEK.
+pub const PEEK: Row = Row {
+    entries: &[position!(0, Value), position!(1, Size)],
+    left_out: &[],
+};
+
+/// What PEEK asks for by what was read.
+fn peek_by(said: &[Option<Said>]) -> Result<Request, FaultKind>
+    requires { length said.now ≡ 2 }
+    ensures { seen result ≡ peek_by (slots_in said.now) }
+{
+    let Some(addr) = value_at(said, 0) else {
+        return Err(FaultKind::Missing);
+    };
+    let Some(len) = size_at(said, 1) else {
+        return Err(FaultKind::Missing);
+    };
+    Ok(Request::Peek { addr, len })
+}
+
+/// PEEK with its operand field.
+pub(crate) fn peek(field: &[u8]) -> Result<Request, FaultKind>
+    ensures { seen result ≡ peek_of (operands field.now) }
+{
+    let mut said = [NOTHING, NOTHING];
+    match read(&PEEK, some_field(field), &mut said) {
+        Some(fault) => Err(fault),
+        None => peek_by(&said),
+    }
+}

@@ -1,0 +1,44 @@
+//! POKE: stores bytes.
+
+ghost use Rattle.std.specs.Prelude.{◌≡◌, length};
+ghost use Rattle.operand_texts.specs.Field.{operands};
+ghost use Rattle.macro_statements.specs.Requests.{seen};
+ghost use Rattle.macro_statements.specs.Slots.{slots_in, poke_by};
+ghost use Rattle.macro_statements.specs.Poke.{poke_of};
+
+use crate::faults::FaultKind;
+use crate::operands::{read, some_field};
+use crate::requests::{Request, Statement};
+use crate::rows::{Entry, Key, Kind, Row, position};
+use crate::said::{NOTHING, Said, content_at, value_at};
+
+/// POKE.
+pub const POKE: Row = Row {
+    entries: &[position!(0, Value), position!(1, Content)],
+    left_out: &[],
+};
+
+/// What POKE asks for by what was read, which is taken.
+fn poke_by(said: &mut [Option<Said>]) -> Result<Request, FaultKind>
+    requires { length said.old ≡ 2 }
+    ensures { seen result ≡ poke_by (slots_in said.old) }
+{
+    let Some(address) = value_at(said, 0) else {
+        return Err(FaultKind::Missing);
+    };
+    let Some(content) = content_at(said, 1) else {
+        return Err(FaultKind::Missing);
+    };
+    Ok(Request::Act(Statement::Poke { address, content }))
+}
+
+/// POKE with its operand field.
+pub(crate) fn poke(field: &[u8]) -> Result<Request, FaultKind>
+    ensures { seen result ≡ poke_of (operands field.now) }
+{
+    let mut said = [NOTHING, NOTHING];
+    match read(&POKE, some_field(field), &mut said) {
+        Some(fault) => Err(fault),
+        None => poke_by(&mut said),
+    }
+}

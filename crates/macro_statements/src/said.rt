@@ -1,0 +1,168 @@
+//! What operands say.
+
+ghost use Rattle.std.specs.Prelude.{◌≡◌, ◌<◌, length};
+ghost use Rattle.std.specs.Option.{option_map};
+ghost use Rattle.operand_texts.specs.Written.{written_in, target_in, stored_in};
+ghost use Rattle.macro_statements.specs.Said.{condition_of, said_of, is_unsupported, unsaid_fault};
+ghost use Rattle.macro_statements.specs.Slots.{said_in, slots_in, slot, as_value, as_place, as_condition, as_content};
+ghost use Rattle.macro_statements.specs.Slots.{as_size, as_count};
+
+use crate::faults::FaultKind;
+use crate::rows::Kind;
+use operand_texts::contents::{Content, content_of, size_of};
+use operand_texts::numbers::number_of;
+use operand_texts::values::{Place, Value, is_pair, place_of, value_of};
+use operand_texts::words::is_word;
+
+/// What an operand says, by the kind of its value.
+#[derive(Drop)]
+pub enum Said {
+    Value(Value),
+    Place(Place),
+    Condition(bool),
+    Content(Content),
+    Size(u16),
+    Count(u32),
+}
+
+/// Nothing that was read.
+pub(crate) const NOTHING: Option<Said> = None;
+
+/// Whether a text is YES, and nothing where it's neither YES nor NO.
+fn condition_of(text: &[u8]) -> Option<bool>
+    ensures { result ≡ condition_of text.now }
+{
+    if is_word(text, b"YES") {
+        Some(true)
+    } else if is_word(text, b"NO") {
+        Some(false)
+    } else {
+        None
+    }
+}
+
+/// What a text says as a value of this kind, where it's one that is supported.
+pub(crate) fn said_of(kind: Kind, text: &[u8]) -> Option<Said>
+    ensures { option_map said_in result ≡ said_of kind text.now }
+{
+    match kind {
+        Kind::Value | Kind::Length => match value_of(text) {
+            Some(value) => Some(Said::Value(value)),
+            None => None,
+        },
+        Kind::Place => match place_of(text) {
+            Some(place) => Some(Said::Place(place)),
+            None => None,
+        },
+        Kind::Condition => match condition_of(text) {
+            Some(condition) => Some(Said::Condition(condition)),
+            None => None,
+        },
+        Kind::Content => match content_of(text) {
+            Some(content) => Some(Said::Content(content)),
+            None => None,
+        },
+        Kind::Size => match size_of(text) {
+            Some(size) => Some(Said::Size(size)),
+            None => None,
+        },
+        Kind::Count => match number_of(text) {
+            Some(count) => Some(Said::Count(count)),
+            None => None,
+        },
+    }
+}
+
+/// Whether a text is a value of this kind that isn't supported.
+fn is_unsupported(kind: Kind, text: &[u8]) -> bool
+    ensures { result ≡ is_unsupported kind text.now }
+{
+    match kind {
+        Kind::Length => is_pair(text),
+        _ => false,
+    }
+}
+
+/// What is wrong with a text that says nothing of this kind.
+pub(crate) fn unsaid_fault(kind: Kind, text: &[u8]) -> FaultKind
+    ensures { result ≡ unsaid_fault kind text.now }
+{
+    if is_unsupported(kind, text) {
+        FaultKind::LeftOut
+    } else {
+        FaultKind::Value
+    }
+}
+
+/// The value that was read at a place.
+pub(crate) fn value_at(said: &[Option<Said>], i: usize) -> Option<Value>
+    requires { i < length said.now }
+    ensures { option_map written_in result ≡ as_value (slot (slots_in said.now) i) }
+{
+    match &said[i] {
+        Some(Said::Value(value)) => Some(*value),
+        _ => None,
+    }
+}
+
+/// The place of storage that was read at a place.
+pub(crate) fn place_at(said: &[Option<Said>], i: usize) -> Option<Place>
+    requires { i < length said.now }
+    ensures { option_map target_in result ≡ as_place (slot (slots_in said.now) i) }
+{
+    match &said[i] {
+        Some(Said::Place(place)) => Some(*place),
+        _ => None,
+    }
+}
+
+/// Whether YES was read at a place.
+pub(crate) fn condition_at(said: &[Option<Said>], i: usize) -> bool
+    requires { i < length said.now }
+    ensures { result ≡ as_condition (slot (slots_in said.now) i) }
+{
+    match &said[i] {
+        Some(Said::Condition(condition)) => *condition,
+        _ => false,
+    }
+}
+
+/// What is stored, by what was said.
+fn as_content(said: Option<Said>) -> Option<Content>
+    ensures { option_map stored_in result ≡ as_content (option_map said_in said) }
+{
+    match said {
+        Some(Said::Content(content)) => Some(content),
+        _ => None,
+    }
+}
+
+/// What was read at a place to be stored, which is taken from there.
+pub(crate) fn content_at(said: &mut [Option<Said>], i: usize) -> Option<Content>
+    requires { i < length said.old }
+    ensures { option_map stored_in result ≡ as_content (slot (slots_in said.old) i) }
+{
+    as_content(said[i].take())
+}
+
+/// The size that was read at a place.
+pub(crate) fn size_at(said: &[Option<Said>], i: usize) -> Option<u16>
+    requires { i < length said.now }
+    ensures { result ≡ as_size (slot (slots_in said.now) i) }
+{
+    match &said[i] {
+        Some(Said::Size(size)) => Some(*size),
+        _ => None,
+    }
+}
+
+/// The count that was read at a place.
+pub(crate) fn count_at(said: &[Option<Said>], i: usize) -> Option<u32>
+    requires { i < length said.now }
+    ensures { result ≡ as_count (slot (slots_in said.now) i) }
+{
+    match &said[i] {
+        Some(Said::Count(count)) => Some(*count),
+        _ => None,
+    }
+}

@@ -1,0 +1,39 @@
+//! BACK and FORWARD: steps over what was done.
+
+ghost use Rattle.std.specs.Prelude.{◌≡◌, length};
+ghost use Rattle.operand_texts.specs.Field.{operands};
+ghost use Rattle.macro_statements.specs.Slots.{slots_in, count_by};
+ghost use Rattle.macro_statements.specs.Steps.{count_in};
+
+use crate::faults::FaultKind;
+use crate::operands::{read, some_field};
+use crate::rows::{Entry, Key, Kind, Row, position};
+use crate::said::{NOTHING, Said, count_at};
+
+/// BACK and FORWARD.
+pub const STEPS: Row = Row {
+    entries: &[position!(0, Count)],
+    left_out: &[],
+};
+
+/// The number of steps by what was read.
+fn count_by(said: &[Option<Said>]) -> Result<u32, FaultKind>
+    requires { length said.now ≡ 1 }
+    ensures { result ≡ count_by (slots_in said.now) }
+{
+    match count_at(said, 0) {
+        Some(count) => Ok(count),
+        None => Err(FaultKind::Missing),
+    }
+}
+
+/// The number that is the only operand of a field.
+pub(crate) fn count_in(field: &[u8]) -> Result<u32, FaultKind>
+    ensures { result ≡ count_in (operands field.now) }
+{
+    let mut said = [NOTHING];
+    match read(&STEPS, some_field(field), &mut said) {
+        Some(fault) => Err(fault),
+        None => count_by(&said),
+    }
+}
