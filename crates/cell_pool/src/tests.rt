@@ -1,0 +1,121 @@
+//! Cells handed out and freed in mixed orders, and the cell pools of a subpool parked and restored.
+
+ghost use Rattle.std.specs.Prelude.{IsSome};
+ghost use Rattle.cell_pool.specs.CellPools.{by_id, IsCellPools};
+
+use super::*;
+use std::process::Abort;
+use std::test::Fail;
+use vsm_elements::Elements;
+
+// Cell pools of a name in subpools 1 and 2, each of two cells of 16 bytes.
+fn build(rt: &impl Abort, elements: &mut Elements, pools: &mut CellPools, text: &str, start: u32)
+    requires { IsCellPools elements.old pools.old }
+    ensures { IsCellPools elements.new pools.new }
+{
+    let mut name = Name::new();
+    assert!(rt; name.try_push_str(text).is_ok());
+    assert!(rt; pools.find(elements, &name).is_none());
+    assert!(rt; elements.spare() >= 9);
+    assert!(rt; start <= 8192);
+    let settings = Settings {
+        subpool: start / 4096,
+        size: 16,
+        primary: 2,
+        secondary: 1,
+        side: Side::Below,
+    };
+    let id = pools.build(elements, &name, settings, None);
+    pools.extend(elements, id, start, 2);
+}
+
+fn find(rt: &impl Abort, elements: &Elements, pools: &CellPools, text: &str) -> CellId
+    requires { IsCellPools elements.now pools.now }
+    ensures { IsSome (by_id elements.now pools.now result) }
+{
+    let mut name = Name::new();
+    assert!(rt; name.try_push_str(text).is_ok());
+    pools.find(elements, &name).expect(rt, "no cell pool")
+}
+
+fn get(rt: &impl Abort, elements: &mut Elements, pools: &mut CellPools, text: &str) -> u32
+    requires { IsCellPools elements.old pools.old }
+    ensures { IsCellPools elements.new pools.new }
+{
+    let id = find(rt, elements, pools, text);
+    let first = pools.first_free(elements, id);
+    assert!(rt; first.is_some());
+    let cell = pools.take_cell(elements, id);
+    assert_eq!(rt; first, Some(cell));
+    cell
+}
+
+fn free(rt: &impl Abort, elements: &mut Elements, pools: &mut CellPools, text: &str, cell: u32)
+    requires { IsCellPools elements.old pools.old }
+    ensures { IsCellPools elements.new pools.new }
+{
+    let id = find(rt, elements, pools, text);
+    assert!(rt; pools.in_use(elements, id, cell));
+    assert!(rt; elements.spare() > 0);
+    pools.put_cell(elements, id, cell);
+    assert!(rt; !pools.in_use(elements, id, cell));
+}
+
+// The two pools of subpool 1 go and come back.
+fn park_and_restore(rt: &impl Abort, elements: &mut Elements, pools: &mut CellPools)
+    requires { IsCellPools elements.old pools.old }
+    ensures { IsCellPools elements.new pools.new }
+{
+    let parked = pools.park_pools(elements, 1);
+    assert_eq!(rt; pools.count(elements), 1);
+    pools.restore_pools(elements, parked);
+    assert_eq!(rt; pools.count(elements), 3);
+}
+
+#[test]
+fn cells_come_back_in_their_order(rt: HostRuntime) -> Result<(), Fail> {
+    let mut elements = Elements::new(rt.alloc());
+    elements.reserve(40)?;
+    let mut pools = CellPools::new();
+    build(&rt, &mut elements, &mut pools, "CP", 4096);
+    assert_eq!(rt; get(&rt, &mut elements, &mut pools, "CP"), 4096);
+    assert_eq!(rt; get(&rt, &mut elements, &mut pools, "CP"), 4112);
+    free(&rt, &mut elements, &mut pools, "CP", 4096);
+    free(&rt, &mut elements, &mut pools, "CP", 4112);
+    assert_eq!(rt; get(&rt, &mut elements, &mut pools, "CP"), 4112);
+    let id = find(&rt, &elements, &pools, "CP");
+    assert_eq!(rt; pools.cell_at(&elements, id, 0), Some(4096));
+    assert_eq!(rt; pools.cell_at(&elements, id, 1), None);
+    assert_eq!(rt; pools.settings(&elements, id).size, 16);
+    assert!(rt; pools.holds(&elements, 4120, 8));
+    assert!(rt; !pools.holds(&elements, 4128, 8));
+    let parked = pools.park_one(&mut elements, id);
+    parked.discard(&mut elements);
+    assert_eq!(rt; elements.spare(), 128);
+    assert_eq!(rt; elements.release(), 1);
+    Ok(())
+}
+
+#[test]
+fn the_pools_of_a_subpool_are_parked_and_restored(rt: HostRuntime) -> Result<(), Fail> {
+    let mut elements = Elements::new(rt.alloc());
+    elements.reserve(60)?;
+    let mut pools = CellPools::new();
+    build(&rt, &mut elements, &mut pools, "A", 4096);
+    build(&rt, &mut elements, &mut pools, "B", 8192);
+    build(&rt, &mut elements, &mut pools, "C", 4096);
+    assert_eq!(rt; get(&rt, &mut elements, &mut pools, "B"), 8192);
+    let before = elements.spare();
+    park_and_restore(&rt, &mut elements, &mut pools);
+    assert_eq!(rt; elements.spare(), before);
+    assert_eq!(rt; get(&rt, &mut elements, &mut pools, "C"), 4096);
+    assert_eq!(rt; get(&rt, &mut elements, &mut pools, "B"), 8208);
+    free(&rt, &mut elements, &mut pools, "C", 4096);
+    let parked = pools.park_pools(&mut elements, 1);
+    parked.discard(&mut elements);
+    let rest = pools.park_pools(&mut elements, 2);
+    rest.discard(&mut elements);
+    assert_eq!(rt; elements.spare(), 128);
+    assert_eq!(rt; elements.release(), 1);
+    Ok(())
+}
