@@ -168,19 +168,11 @@ fn the_set_is_the_plain_one(rt: HostRuntime) -> Result<(), Fail> {
     }
     assert_eq!(rt; elements.spare(), 122);
     discard(&rt, &mut elements, &mut set, 2, 1);
-    compare(
-        &rt,
-        &elements,
-        &set,
-        &[[0, 1, 0], [0, 0, 3], [0, 1, 3], [0, 0, 3]],
-    );
+    let left = [[0, 1, 0], [0, 0, 3], [0, 1, 3], [0, 0, 3]];
+    compare(&rt, &elements, &set, &left);
     discard(&rt, &mut elements, &mut set, 4, 2);
-    compare(
-        &rt,
-        &elements,
-        &set,
-        &[[0, 1, 0], [0, 0, 0], [0, 1, 0], [0, 0, 0]],
-    );
+    let left = [[0, 1, 0], [0, 0, 0], [0, 1, 0], [0, 0, 0]];
+    compare(&rt, &elements, &set, &left);
     discard(&rt, &mut elements, &mut set, 1, 1);
     compare(&rt, &elements, &set, &[[0; 3]; 4]);
     assert_eq!(rt; elements.spare(), 128);
