@@ -42,9 +42,9 @@ fn list_head(words: [u32; 7]) -> Chain
 
 #[tactic(auto, unfolding(
 // what the rows are
-crate::specs::ListTable::entries, crate::specs::ListTable::owned,
+crate::specs::ListTable::entries, crate::specs::ListTable::IsPlace,
 // whose the elements are
-crate::specs::ListTable::IsTable, crate::specs::ListTable::IsPlace))]
+crate::specs::ListTable::owned, crate::specs::ListTable::IsTable))]
 impl ListTable {
     ghost use Rattle.list_table.specs.ListTable.{entries, earlier, later, owned, owned_but, entry_of, list_ids};
     ghost use Rattle.list_table.specs.ListTable.{IsTable, IsPlace, IsOpen};
