@@ -2,6 +2,7 @@ ghost use Rattle.std.specs.Prelude.{◌≡◌, ℕ, ◌+◌, ◌^◌, ◌<◌, �
 ghost use Rattle.std.specs.Prelude.{IfNone};
 ghost use Rattle.vsm_elements.specs.Store.{Store};
 ghost use Rattle.vsm_elements.specs.Ownership.{Leaves};
+ghost use Rattle.run_set.specs.Counts.{joins};
 ghost use Rattle.run_set.specs.Runs.{inside, AreRunsOf, IsCover};
 ghost use Rattle.run_set.specs.Fits.{Fits, IsLeastFit, IsLongest};
 
@@ -53,7 +54,8 @@ impl FreeQueue {
 
     /// The doublewords of an area become free. It is joined to the areas that it touches.
     ///
-    /// It takes one element at most.
+    /// It takes one element, less one for each of the two doublewords beside it that are free: where both are,
+    /// one is given back.
     pub fn free(&mut self, elements: &mut Elements, area: Area)
         requires queue { IsFreeQueue elements.old self.old }
         requires range { (0 < area.len) × (area.start + area.len ≤ 2 ^ 29) }
@@ -66,6 +68,8 @@ impl FreeQueue {
         ensures owned { Leaves elements.old elements.new
             (owned elements.old self.old) (owned elements.new self.new) }
         ensures spares { elements.old.spare ≤ elements.new.spare + 1 }
+        ensures exact { elements.new.spare + 1
+            ≡ elements.old.spare + joins (λ d. is_free elements.old self.old d) area }
     {
         self.set.insert(elements, area);
     }
@@ -73,7 +77,8 @@ impl FreeQueue {
     /// The doublewords of an area are no longer free. What is left of the free area that holds it are none,
     /// one or two areas.
     ///
-    /// It takes one element at most.
+    /// It takes one element for each of the two doublewords beside it that are free, less one: where neither is,
+    /// one is given back.
     pub fn carve(&mut self, elements: &mut Elements, area: Area)
         requires queue { IsFreeQueue elements.old self.old }
         requires range { (0 < area.len) × (area.start + area.len ≤ 2 ^ 29) }
@@ -86,6 +91,8 @@ impl FreeQueue {
         ensures owned { Leaves elements.old elements.new
             (owned elements.old self.old) (owned elements.new self.new) }
         ensures spares { elements.old.spare ≤ elements.new.spare + 1 }
+        ensures exact { elements.new.spare + joins (λ d. is_free elements.old self.old d) area
+            ≡ elements.old.spare + 1 }
     {
         self.set.remove(elements, area);
     }

@@ -2,6 +2,7 @@ ghost use Rattle.std.specs.Prelude.{◌≡◌, ℕ, ◌+◌, ◌^◌, ◌<◌, �
 ghost use Rattle.std.specs.Prelude.{IfNone};
 ghost use Rattle.vsm_elements.specs.Store.{Store};
 ghost use Rattle.vsm_elements.specs.Ownership.{Leaves};
+ghost use Rattle.run_set.specs.Counts.{joins};
 ghost use Rattle.run_set.specs.Runs.{inside, AllIn, NoneIn, AreRunsOf, IsCover};
 ghost use Rattle.run_set.specs.Fits.{Fits, IsLeastFit, IsLongest};
 
@@ -60,7 +61,8 @@ impl RunSet {
 
     /// Adds a run, of whose numbers none is in the set. It is joined to the runs that it touches.
     ///
-    /// It takes one element at most.
+    /// It takes one element, less one for each of the two numbers beside it that are in the set: where both are,
+    /// one is given back.
     pub fn insert(&mut self, elements: &mut Elements, run: Run)
         requires set { IsRunSet elements.old self.old }
         requires range { (0 < run.len) × (run.start + run.len ≤ 2 ^ 29) }
@@ -73,6 +75,8 @@ impl RunSet {
         ensures owned { Leaves elements.old elements.new
             (owned elements.old self.old) (owned elements.new self.new) }
         ensures spares { elements.old.spare ≤ elements.new.spare + 1 }
+        ensures exact { elements.new.spare + 1
+            ≡ elements.old.spare + joins (λ n. holds elements.old self.old n) run }
     {
         let place = self.seek(elements, run.start);
         let left = self.left_of(elements, place, run.start);
@@ -100,7 +104,8 @@ impl RunSet {
     /// Takes a run out, of whose numbers all are in the set. What is left of the maximal run that holds it
     /// are none, one or two runs.
     ///
-    /// It takes one element at most.
+    /// It takes one element for each of the two numbers beside it that are in the set, less one: where neither is,
+    /// one is given back.
     pub fn remove(&mut self, elements: &mut Elements, run: Run)
         requires set { IsRunSet elements.old self.old }
         requires range { (0 < run.len) × (run.start + run.len ≤ 2 ^ 29) }
@@ -113,6 +118,8 @@ impl RunSet {
         ensures owned { Leaves elements.old elements.new
             (owned elements.old self.old) (owned elements.new self.new) }
         ensures spares { elements.old.spare ≤ elements.new.spare + 1 }
+        ensures exact { elements.new.spare + joins (λ n. holds elements.old self.old n) run
+            ≡ elements.old.spare + 1 }
     {
         let place = self.seek(elements, run.start);
         let (whole, _) = self.visit(elements, place);
