@@ -7,7 +7,7 @@ ghost use Rattle.macro_reader.specs.Scripts.{behind_break, awaiting};
 ghost use Rattle.macro_reader.specs.Modes.{mode_of, most_lines};
 ghost use Rattle.macro_statements.specs.Statements.{statement_with};
 ghost use Rattle.macro_reader.specs.declared.modes.OpenStatement.{OpenStatement};
-ghost use Rattle.macro_reader.specs.declared.modes.Mode.TheVariants.{Gathering};
+ghost use Rattle.macro_reader.specs.declared.modes.Mode.TheVariants.{Awaiting, Gathering};
 
 use crate::columns::{is_continued, is_skipped, used};
 use crate::modes::{Mode, OpenStatement};
@@ -64,26 +64,30 @@ fn said(number: u32, first: &[u8], text: &[u8]) -> Result<Fed, Fault>
 }
 
 /// How a line moves a reader that awaits a statement.
-fn start(number: u32, statement: &mut OpenStatement, line: &[u8]) -> (Mode, Result<Fed, Fault>)
-    ensures mode { mode_of result.0 statement.new ≡ (moved number awaiting line.now).0 }
-    ensures few { statement.new.gathered.lines ≤ most_lines result.0 }
-    ensures told { told_by result.1 ≡ (moved number awaiting line.now).1 }
-    ensures valid { IsValidFed result.1 }
+fn start(
+    number: u32,
+    mode: &mut Mode,
+    statement: &mut OpenStatement,
+    line: &[u8],
+) -> Result<Fed, Fault>
+    requires { mode.old ≡ Awaiting }
+    ensures mode { mode_of mode.new statement.new ≡ (moved number awaiting line.now).0 }
+    ensures few { statement.new.gathered.lines ≤ most_lines mode.new }
+    ensures told { told_by result ≡ (moved number awaiting line.now).1 }
+    ensures valid { IsValidFed result }
 {
     let first = used(line);
     if is_skipped(&first) {
-        return (Mode::Awaiting, Ok(Fed::More));
+        return Ok(Fed::More);
     }
     statement.gathered.begin(&first);
     if is_continued(line) {
         statement.number = number;
         statement.first = first;
-        return (Mode::Gathering, Ok(Fed::More));
+        *mode = Mode::Gathering;
+        return Ok(Fed::More);
     }
-    (
-        Mode::Awaiting,
-        said(number, &first, statement.gathered.text.as_slice()),
-    )
+    said(number, &first, statement.gathered.text.as_slice())
 }
 
 /// How a reader stands behind a line that breaks a rule of continuation or is dropped, whatever statement it has.
@@ -99,51 +103,57 @@ fn behind_break(line: &[u8]) -> Mode
 }
 
 /// How a line moves a reader whose statement is open.
-fn go_on(statement: &mut OpenStatement, line: &[u8]) -> (Mode, Result<Fed, Fault>)
-    requires { statement.old.gathered.lines ≤ 8 }
-    ensures mode { mode_of result.0 statement.new ≡ (moved 0 (mode_of Gathering statement.old) line.now).0 }
-    ensures few { statement.new.gathered.lines ≤ most_lines result.0 }
-    ensures told { told_by result.1 ≡ (moved 0 (mode_of Gathering statement.old) line.now).1 }
-    ensures valid { IsValidFed result.1 }
+fn go_on(mode: &mut Mode, statement: &mut OpenStatement, line: &[u8]) -> Result<Fed, Fault>
+    requires mode { mode.old ≡ Gathering }
+    requires fewer { statement.old.gathered.lines ≤ 8 }
+    ensures mode { mode_of mode.new statement.new ≡ (moved 0 (mode_of Gathering statement.old) line.now).0 }
+    ensures few { statement.new.gathered.lines ≤ most_lines mode.new }
+    ensures told { told_by result ≡ (moved 0 (mode_of Gathering statement.old) line.now).1 }
+    ensures valid { IsValidFed result }
 {
     let broken = Fault {
         kind: FaultKind::Continuation,
         line: statement.number,
     };
     if !statement.gathered.take_line(&used(line)) {
-        return (behind_break(line), Err(broken));
+        *mode = behind_break(line);
+        return Err(broken);
     }
     if !is_continued(line) {
-        let fed = said(
+        *mode = Mode::Awaiting;
+        return said(
             statement.number,
             &statement.first,
             statement.gathered.text.as_slice(),
         );
-        return (Mode::Awaiting, fed);
     }
     if statement.gathered.lines > 8 {
-        return (Mode::Dropping, Err(broken));
+        *mode = Mode::Dropping;
+        return Err(broken);
     }
-    (Mode::Gathering, Ok(Fed::More))
+    Ok(Fed::More)
 }
 
 /// How a line moves a reader.
 fn move_on(
     number: u32,
-    mode: Mode,
+    mode: &mut Mode,
     statement: &mut OpenStatement,
     line: &[u8],
-) -> (Mode, Result<Fed, Fault>)
-    requires { statement.old.gathered.lines ≤ most_lines mode }
-    ensures mode { mode_of result.0 statement.new ≡ (moved number (mode_of mode statement.old) line.now).0 }
-    ensures few { statement.new.gathered.lines ≤ most_lines result.0 }
-    ensures told { told_by result.1 ≡ (moved number (mode_of mode statement.old) line.now).1 }
-    ensures valid { IsValidFed result.1 }
+) -> Result<Fed, Fault>
+    requires { statement.old.gathered.lines ≤ most_lines mode.old }
+    ensures mode { mode_of mode.new statement.new ≡ (moved number (mode_of mode.old statement.old) line.now).0 }
+    ensures few { statement.new.gathered.lines ≤ most_lines mode.new }
+    ensures told { told_by result ≡ (moved number (mode_of mode.old statement.old) line.now).1 }
+    ensures valid { IsValidFed result }
 {
-    match mode {
-        Mode::Awaiting => start(number, statement, line),
-        Mode::Dropping => (behind_break(line), Ok(Fed::More)),
-        Mode::Gathering => go_on(statement, line),
+    match *mode {
+        Mode::Awaiting => start(number, mode, statement, line),
+        Mode::Dropping => {
+            *mode = behind_break(line);
+            Ok(Fed::More)
+        }
+        Mode::Gathering => go_on(mode, statement, line),
     }
 }
 
@@ -174,7 +184,8 @@ impl Reader {
         ensures valid { IsValidFed result }
     {
         let number = self.count.saturating_add(1);
-        let (mode, fed) = move_on(number, self.mode, &mut self.statement, line);
+        let mut mode = self.mode;
+        let fed = move_on(number, &mut mode, &mut self.statement, line);
         self.count = number;
         self.mode = mode;
         fed

@@ -8,4 +8,4 @@ returns-clause-answers c = λ lines answers h.
     behind_push lines answers c.args.self.now c.args.line.now c.saturating_add-number.result _ _ _ h
     (rw (← c.self.view_is) c.saturating_add-number.ensures)
     (ap (λ (k : Kept). k.mode) c.self.view_is)
-    c.move_on-mode.ensures.mode c.move_on-mode.ensures.told
+    c.move_on-fed.ensures.mode c.move_on-fed.ensures.told
