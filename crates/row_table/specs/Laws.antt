@@ -13,7 +13,7 @@ abbrev pub TablesStand : Type 0
 TablesStand = (s : Store) (q : RowTable) → IsTable s q
     → Owns s (owned s q)
     × ((a b : ℕ) (r : Row) → row s q a b ≡ Some r
-        → (word r.words 0 ≡ a) × (word r.words 1 ≡ b) × (words_of s r.id ≡ r.words))
+    → (word r.words 0 ≡ a) × (word r.words 1 ≡ b) × (words_of s r.id ≡ r.words))
 
 -- a table that stands apart from what a call owns is as it was
 abbrev pub TablesStay : Type 0

@@ -1,4 +1,4 @@
-use Rattle.std.proofs.Common.{◌≡◌, ℕ, true, false, List, []}
+use Rattle.std.proofs.Common.{ℕ, List, []}
 use Rattle.vsm_elements.specs.Store.{among}
 use Rattle.vsm_elements.specs.Ownership.{Apart}
 use Rattle.vsm_elements.proofs.ChainFrame.{false_if}
