@@ -10,7 +10,7 @@ use Rattle.cell_pool.specs.Kept.{extent_of, pool_of}
 use Rattle.cell_pool.specs.CellPools.{IsCellPools}
 use Rattle.cell_pool.proofs.ItemLemmas.{length-items}
 use Rattle.cell_pool.proofs.LawLemmas.{some_extent, last_cells}
-use Rattle.cell_pool.proofs.ShapeLemmas.{all_length, cut_length, extents_length, extent_there, cut_pool, cut_sound}
+use Rattle.cell_pool.proofs.ShapeLemmas.{all_length, extents_length, extent_there, cut_pool, cut_sound}
 use Rattle.cell_pool.proofs.CallLemmas.{ready, done_kept, done_names, done_ids, done_owned}
 use Rattle.cell_pool.proofs.pools.CellPools.retract.Goals as goal
 
@@ -51,7 +51,7 @@ remove-requires-2-clause-within c =
     let there : slice_get (pool_of (entry_of c.args.elements.now c.row-row.result)).extents (word c.row-row.result.words 4 - 1) ≡ Some (extent_of c.item-words.result) = extent_there (entry_of c.args.elements.now c.row-row.result) c.row-row.ensures.sound.room (word c.row-row.result.words 4 - 1) c.item-words.result (omega arith) c.item-words.ensures in
     let few : (word c.item-words.result 1) ≤ length (pool_of (entry_of c.args.elements.now c.row-row.result)).cells = last_cells (pool_of (entry_of c.args.elements.now c.row-row.result)) x (word c.row-row.result.words 4 - 1) (extent_of c.item-words.result) (omega (arith, extents_length (entry_of c.args.elements.now c.row-row.result) c.row-row.ensures.sound.room)) there in
     let all : c.row-row.result.list.count ≡ (5 + word c.row-row.result.words 4) + length (pool_of (entry_of c.args.elements.now c.row-row.result)).cells = omega (arith, all_length (entry_of c.args.elements.now c.row-row.result) c.row-row.ensures.sound.room, length-items (links c.args.elements.now c.row-row.result.list), c.row-row.ensures.open.list.count) in
-    omega (arith, c.remove.ensures.chain.count, length-items (links c.remove.new.elements c.remove.new.list), ap length c.remove.ensures.items, cut_length (items_of (links c.args.elements.now c.row-row.result.list)) (c.row-row.result.list.count - (word c.item-words.result 1)) (word c.item-words.result 1) (omega (arith, length-items (links c.args.elements.now c.row-row.result.list), c.row-row.ensures.open.list.count)), length-items (links c.args.elements.now c.row-row.result.list), c.row-row.ensures.open.list.count)
+    omega (arith, c.remove.ensures.count)
 
 pub write-requires : goal.write-requires
 write-requires c = ready c.args.elements.now c.remove-2.new.elements c.args.self.now c.row-row.result c.remove-2.new.list (word c.row-row.result.words 0 ∷ word c.row-row.result.words 1 ∷ word c.row-row.result.words 2 ∷ word c.row-row.result.words 3 ∷ (word c.row-row.result.words 4 - 1) ∷ []) c.row-row.ensures.open (Leaves-trans _ _ _ _ _ _ c.remove.ensures.owned c.remove-2.ensures.owned) c.remove-2.ensures.chain
