@@ -2,6 +2,7 @@
 //! that they spell.
 #![tactic(auto)]
 
+mod characters;
 pub mod contents;
 mod laws;
 pub mod nesting;

@@ -7,7 +7,9 @@ ghost use Rattle.std.specs.Str.{IsAscii};
 ghost use Rattle.operand_texts.specs.Words.{is_letter, is_name_byte, is_name, is_word, word_len, blank_len, word};
 ghost use Rattle.operand_texts.specs.Words.{after_word, after_blanks};
 
+use crate::characters::{Classes, classes_of};
 use arrayvec::ArrayString;
+use bitflags::Flags;
 
 /// A name: a letter and up to 62 letters or digits, in upper case.
 pub type Name = ArrayString<63>;
@@ -15,13 +17,13 @@ pub type Name = ArrayString<63>;
 fn is_letter(byte: u8) -> bool
     ensures { result ≡ is_letter byte }
 {
-    matches!(byte, b'A'..=b'Z' | b'a'..=b'z' | b'$' | b'#' | b'@' | b'_')
+    classes_of(byte).intersects(Classes::ALPHABETIC)
 }
 
 fn is_name_byte(byte: u8) -> bool
     ensures { result ≡ is_name_byte byte }
 {
-    is_letter(byte) || matches!(byte, b'0'..=b'9')
+    classes_of(byte).intersects(Classes::ALPHANUMERIC)
 }
 
 fn all_name_bytes(text: &[u8]) -> bool
