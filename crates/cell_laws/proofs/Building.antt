@@ -208,7 +208,7 @@ module _ (settings : Settings) (s : State) (w : IsWellFormed settings s) (name :
       let region = in_regions settings pool.location r one in
       let untabled = area_table t pool.subpool count goes in
       added_kept settings t u own.0 held alone untabled pool p no_cells r region (address_of goes) b.primary some a name cells distinct are_its
-            (ap (λ table. cell_pool_in table name) same_table ∙ none) (subst (λ table. length table < 256) (sym same_table) room) refl
+      (ap (λ table. cell_pool_in table name) same_table ∙ none) (subst (λ table. length table < 256) (sym same_table) room) refl
 
 -- Without a cause the numbers are valid, the name is new, and there's room for one more and a place.
 pub record MayBuild (settings : Settings) (s : State) (name : List ℕ) (header : Option (List ℕ)) (b : Build) : Type 0 where

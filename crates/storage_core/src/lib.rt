@@ -19,7 +19,8 @@ pub use changes::Change;
 pub use plans::{Plan, with_room};
 use std::alloc::{AllocError, Global};
 pub use vsm_model::{
-    Boundary, Cause, Code, Family, Lengths, Location, Obtain, Release, Reply, Residence, Service, Settings, Subpool,
+    Boundary, Cause, Code, Family, Lengths, Location, Obtain, Release, Reply, Residence, Service,
+    Settings, Subpool,
 };
 
 /// The bytes of a page.

@@ -13,11 +13,19 @@ ghost use Rattle.storage_core.specs.Meaning.{state_of, settings_of, region_of};
 ghost use Rattle.storage_core.specs.Planned.{planned, done, acted, reply_of, IsWithin, IsThere, FitsStorage, IsPlain};
 
 use super::{Action, Plan, answered, check_number};
-use crate::{Cause, FIRST_DOUBLEWORD, FIRST_PAGE, Obtain, PAGE_DOUBLEWORDS, Reply, Storage, Subpool};
+use crate::{
+    Cause, FIRST_DOUBLEWORD, FIRST_PAGE, Obtain, PAGE_DOUBLEWORDS, Reply, Storage, Subpool,
+};
 
 impl Storage {
     /// A plan for an area in the subpool, where there is a place for it.
-    fn plan_area(&self, subpool: Subpool, is_new: bool, count: usize, register: Option<u8>) -> Option<Plan>
+    fn plan_area(
+        &self,
+        subpool: Subpool,
+        is_new: bool,
+        count: usize,
+        register: Option<u8>,
+    ) -> Option<Plan>
         requires some { 0 < count }
         requires few { count ≤ 2 ^ 29 }
         ensures area { IfSome result (λ plan. (s : State) →

@@ -12,7 +12,10 @@ ghost use Rattle.storage_core.specs.Meaning.{state_of, settings_of};
 ghost use Rattle.storage_core.specs.Planned.{planned, done, reply_of, FitsStorage};
 
 use super::{Action, Plan, answered, check_number};
-use crate::{Cause, FIRST_DOUBLEWORD, FIRST_PAGE, HIGH_DOUBLEWORD, PAGE_DOUBLEWORDS, Release, Reply, Storage, Subpool};
+use crate::{
+    Cause, FIRST_DOUBLEWORD, FIRST_PAGE, HIGH_DOUBLEWORD, PAGE_DOUBLEWORDS, Release, Reply,
+    Storage, Subpool,
+};
 
 /// Whether each of `count` numbers from `first` on is one of `size` numbers from `start` on.
 fn lies_in(first: usize, count: usize, start: usize, size: usize) -> bool

@@ -12,4 +12,4 @@ turned xs ys h i m = false_if (among i xs) (λ k. not_both (among i ys) m (h i k
 pub returns : goal.returns
 returns g c =
     (c.trees_stay.ensures c.park_subtree-parked.new.elements c.discard.new.elements (parked_owned c.park_subtree-parked.new.elements c.park_subtree-parked.result) [] c.park_subtree-parked.new.self c.discard.ensures.owned c.park_subtree-parked.ensures.tree
-      (turned (owned c.park_subtree-parked.new.elements c.park_subtree-parked.new.self) (parked_owned c.park_subtree-parked.new.elements c.park_subtree-parked.result) c.park_subtree-parked.ensures.apart)).0
+    (turned (owned c.park_subtree-parked.new.elements c.park_subtree-parked.new.self) (parked_owned c.park_subtree-parked.new.elements c.park_subtree-parked.result) c.park_subtree-parked.ensures.apart)).0
