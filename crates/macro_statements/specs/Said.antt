@@ -1,5 +1,5 @@
 -- What an operand says, by the kind of its value.
-use Rattle.std.specs.Prelude.{ℕ, Bool, true, false, if◌then◌else◌, List, Option, Some, None, is_some, codes}
+use Rattle.std.specs.Prelude.{ℕ, Bool, true, false, ◌||◌, if◌then◌else◌, List, Option, Some, None, is_some, codes}
 use Rattle.std.specs.Option.{option_map}
 use Rattle.operand_texts.specs.Words.{is_word}
 use Rattle.operand_texts.specs.Written.{Written, Target, Stored}
@@ -24,12 +24,20 @@ condition_of text =
     else if is_word text (codes "NO") then Some false
     else None
 
+-- A condition in a position is a word of its own, in either case.
+abbrev pub condition_word_of : List ℕ → Option Bool
+condition_word_of text =
+    if is_word text (codes "COND") || is_word text (codes "C") then Some true
+    else if is_word text (codes "UNCOND") || is_word text (codes "U") then Some false
+    else None
+
 -- What a text says as a value of this kind, where it's one that is supported.
 abbrev pub said_of : Kind → List ℕ → Option Said
 said_of kind.Value text = option_map value (value_of text)
 said_of kind.Length text = option_map value (value_of text)
 said_of kind.Place text = option_map place (target_of text)
 said_of kind.Condition text = option_map condition (condition_of text)
+said_of kind.ConditionWord text = option_map condition (condition_word_of text)
 said_of kind.Content text = option_map content (content_of text)
 said_of kind.Size text = option_map size (size_of text)
 said_of kind.Count text = option_map count (number_of text)
@@ -40,13 +48,26 @@ is_unsupported kind.Value text = false
 is_unsupported kind.Length text = is_pair text
 is_unsupported kind.Place text = false
 is_unsupported kind.Condition text = false
+is_unsupported kind.ConditionWord text = false
 is_unsupported kind.Content text = false
 is_unsupported kind.Size text = false
 is_unsupported kind.Count text = false
 
+-- What is wrong with a text that is no value of this kind: it's a bad value, but where words stand for themselves, any
+-- other is no operand of the statement.
+abbrev pub wrong_fault : Kind → FaultKind
+wrong_fault kind.Value = fault.Value
+wrong_fault kind.Length = fault.Value
+wrong_fault kind.Place = fault.Value
+wrong_fault kind.Condition = fault.Value
+wrong_fault kind.ConditionWord = fault.Operand
+wrong_fault kind.Content = fault.Value
+wrong_fault kind.Size = fault.Value
+wrong_fault kind.Count = fault.Value
+
 -- What is wrong with a text that says nothing of this kind.
 abbrev pub unsaid_fault : Kind → List ℕ → FaultKind
-unsaid_fault k text = if is_unsupported k text then fault.LeftOut else fault.Value
+unsaid_fault k text = if is_unsupported k text then fault.LeftOut else wrong_fault k
 
 -- What is wrong with a value of this kind.
 abbrev pub value_fault : Kind → List ℕ → Option FaultKind

@@ -11,6 +11,8 @@ pub enum Kind {
     Place,
     /// YES or NO.
     Condition,
+    /// COND or C, or UNCOND or U, as a word in a position. Any other word there is no operand of the statement.
+    ConditionWord,
     /// X'..' with the digits of 1 to 256 bytes, or A(..) with a value.
     Content,
     /// A number from 1 to 256.

@@ -3,7 +3,8 @@
 ghost use Rattle.std.specs.Prelude.{◌≡◌, ◌<◌, length};
 ghost use Rattle.std.specs.Option.{option_map};
 ghost use Rattle.operand_texts.specs.Written.{written_in, target_in, stored_in};
-ghost use Rattle.macro_statements.specs.Said.{condition_of, said_of, is_unsupported, unsaid_fault};
+ghost use Rattle.macro_statements.specs.Said.{condition_of, condition_word_of, said_of, is_unsupported};
+ghost use Rattle.macro_statements.specs.Said.{wrong_fault, unsaid_fault};
 ghost use Rattle.macro_statements.specs.Slots.{said_in, slots_in, slot, as_value, as_place, as_condition, as_content};
 ghost use Rattle.macro_statements.specs.Slots.{as_size, as_count};
 
@@ -41,6 +42,19 @@ fn condition_of(text: &[u8]) -> Option<bool>
     }
 }
 
+/// Whether a text is the word of a conditional request, and nothing where it's no word of either kind.
+fn condition_word_of(text: &[u8]) -> Option<bool>
+    ensures { result ≡ condition_word_of text.now }
+{
+    if is_word(text, b"COND") || is_word(text, b"C") {
+        Some(true)
+    } else if is_word(text, b"UNCOND") || is_word(text, b"U") {
+        Some(false)
+    } else {
+        None
+    }
+}
+
 /// What a text says as a value of this kind, where it's one that is supported.
 pub(crate) fn said_of(kind: Kind, text: &[u8]) -> Option<Said>
     ensures { option_map said_in result ≡ said_of kind text.now }
@@ -55,6 +69,10 @@ pub(crate) fn said_of(kind: Kind, text: &[u8]) -> Option<Said>
             None => None,
         },
         Kind::Condition => match condition_of(text) {
+            Some(condition) => Some(Said::Condition(condition)),
+            None => None,
+        },
+        Kind::ConditionWord => match condition_word_of(text) {
             Some(condition) => Some(Said::Condition(condition)),
             None => None,
         },
@@ -83,6 +101,16 @@ fn is_unsupported(kind: Kind, text: &[u8]) -> bool
     }
 }
 
+/// What is wrong with a text that is no value of this kind.
+fn wrong_fault(kind: Kind) -> FaultKind
+    ensures { result ≡ wrong_fault kind }
+{
+    match kind {
+        Kind::ConditionWord => FaultKind::Operand,
+        _ => FaultKind::Value,
+    }
+}
+
 /// What is wrong with a text that says nothing of this kind.
 pub(crate) fn unsaid_fault(kind: Kind, text: &[u8]) -> FaultKind
     ensures { result ≡ unsaid_fault kind text.now }
@@ -90,7 +118,7 @@ pub(crate) fn unsaid_fault(kind: Kind, text: &[u8]) -> FaultKind
     if is_unsupported(kind, text) {
         FaultKind::LeftOut
     } else {
-        FaultKind::Value
+        wrong_fault(kind)
     }
 }
 
