@@ -1,6 +1,6 @@
 -- The request of a statement, or its first fault.
 use Rattle.std.specs.Prelude.{◌≡◌, ℕ, Bool, not, ◌&&◌, if◌then◌else◌, nat_lt, List, Option, Some, None}
-use Rattle.std.specs.Prelude.{Result, Ok, Err, codes}
+use Rattle.std.specs.Prelude.{[], Result, Ok, Err, codes}
 use Rattle.operand_texts.specs.Words.{is_word, is_name, word, word_len, after_word, after_blanks}
 use Rattle.operand_texts.specs.Field.{outside, operands, is_balanced}
 use Rattle.macro_statements.specs.Requests.{Asked, back, forward}
@@ -10,6 +10,8 @@ use Rattle.macro_statements.specs.Peek.{peek_of}
 use Rattle.macro_statements.specs.Steps.{count_in, step_with}
 use Rattle.macro_statements.specs.declared.faults.FaultKind.{FaultKind}
 use Rattle.macro_statements.specs.declared.faults.FaultKind.TheVariants as fault
+use Rattle.macro_statements.specs.declared.rows.Behind.{Behind}
+use Rattle.macro_statements.specs.declared.rows.Behind.TheVariants as behind
 use Rattle.macro_statements.specs.declared.statements.Operation.{Operation}
 use Rattle.macro_statements.specs.declared.statements.Operation.TheVariants as operation
 
@@ -44,9 +46,24 @@ SpellsRequest operation field asked = of_operation (Some operation) field ≡ Ok
 abbrev pub from_operation : List ℕ → List ℕ
 from_operation card = after_blanks (after_word card)
 
--- What a first line has from the operands on.
+-- What stands behind an operation: operands, also where it's none that is known, or remarks alone.
+abbrev pub behind_of : Option Operation → Behind
+behind_of None = behind.Operands
+behind_of (Some operation.Storage) = behind.Operands
+behind_of (Some operation.Poke) = behind.Operands
+behind_of (Some operation.Peek) = behind.Operands
+behind_of (Some operation.Back) = behind.Operands
+behind_of (Some operation.Forward) = behind.Operands
+
+-- What of a text behind an operation is operands: nothing where remarks alone stand there.
+abbrev pub operands_in : Behind → List ℕ → List ℕ
+operands_in behind.Operands text = text
+operands_in behind.Remarks text = []
+
+-- What a first line has from the operands on, where its operation has operands.
 abbrev pub from_operands : List ℕ → List ℕ
-from_operands card = after_blanks (after_word (from_operation card))
+from_operands card =
+    operands_in (behind_of (operation_of (word (from_operation card)))) (after_blanks (after_word (from_operation card)))
 
 -- Column 1 isn't blank, and no name with a blank behind it stands there (High Level Assembler Language Reference, "Name
 -- entries").

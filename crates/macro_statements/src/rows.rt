@@ -39,6 +39,15 @@ pub struct Entry {
     pub excluded: Option<Key<'static>>,
 }
 
+/// What stands behind an operation.
+#[derive(Clone, Copy)]
+pub enum Behind {
+    /// Operands by a row, and remarks behind them.
+    Operands,
+    /// Remarks alone: the statement has no operand field, and no row.
+    Remarks,
+}
+
 /// The operands of a statement behind its form.
 #[derive(Clone, Copy)]
 pub struct Row {

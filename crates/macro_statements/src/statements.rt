@@ -4,12 +4,14 @@ ghost use Rattle.std.specs.Prelude.{◌≡◌, ◌≤◌, length, IfOk};
 ghost use Rattle.operand_texts.specs.Field.{operands};
 ghost use Rattle.macro_statements.specs.Requests.{seen, asked_in, IsValidAsked};
 ghost use Rattle.macro_statements.specs.Statements.{operation_of, asked_of, from_operation, from_operands};
+ghost use Rattle.macro_statements.specs.Statements.{behind_of, operands_in};
 ghost use Rattle.macro_statements.specs.Statements.{is_misplaced, statement_with};
 
 use crate::faults::FaultKind;
 use crate::peek::peek;
 use crate::poke::poke;
 use crate::requests::Request;
+use crate::rows::Behind;
 use crate::steps::count_in;
 use crate::storage::storage;
 use operand_texts::nesting::is_balanced;
@@ -64,13 +66,44 @@ fn from_operation(card: &[u8]) -> &[u8]
     after_blanks(after_word(card))
 }
 
+/// What stands behind an operation, or behind a word that is none.
+fn behind_of(operation: Option<Operation>) -> Behind
+    ensures { result ≡ behind_of operation }
+{
+    match operation {
+        Some(
+            Operation::Storage
+            | Operation::Poke
+            | Operation::Peek
+            | Operation::Back
+            | Operation::Forward,
+        )
+        | None => Behind::Operands,
+    }
+}
+
+/// What of a text behind an operation is operands.
+fn operands_in(behind: Behind, text: &[u8]) -> &[u8]
+    ensures value { result.now ≡ operands_in behind text.now }
+    ensures within { length result.now ≤ length text.now }
+{
+    match behind {
+        Behind::Operands => text,
+        Behind::Remarks => &text[..0],
+    }
+}
+
 /// What a first line, columns 1 to 71 of it, has from the operands on: what stands behind the blanks behind the
-/// operation. It may be empty.
+/// operation. It may be empty, and is so where an operation has no operands but remarks alone.
 pub fn from_operands(card: &[u8]) -> &[u8]
     ensures value { result.now ≡ from_operands card.now }
     ensures within { length result.now ≤ length card.now }
 {
-    after_blanks(after_word(from_operation(card)))
+    let from = from_operation(card);
+    operands_in(
+        behind_of(operation_of(word(from))),
+        after_blanks(after_word(from)),
+    )
 }
 
 /// Whether column 1 of a first line isn't blank and no name with a blank behind it stands there, so that nothing tells
