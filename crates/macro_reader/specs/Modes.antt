@@ -1,9 +1,14 @@
 -- Where the code's reader stands, as the grammar sees it.
-use Rattle.std.specs.Prelude.{ℕ}
+use Rattle.std.specs.Prelude.{ℕ, List, [], ◌∷◌, Err}
 use Rattle.macro_reader.specs.Continuation.{Joined}
 use Rattle.macro_reader.specs.Scripts as grammar
+use Rattle.macro_reader.specs.Scripts.{Answer}
+use Rattle.macro_statements.specs.Statements.{statement_with}
+use Rattle.macro_statements.specs.declared.faults.FaultKind.TheVariants as kind
 use Rattle.macro_reader.specs.declared.modes.OpenField.{OpenField}
 use Rattle.macro_reader.specs.declared.modes.OpenStatement.{OpenStatement}
+use Rattle.macro_reader.specs.declared.modes.Due.{Due}
+use Rattle.macro_reader.specs.declared.modes.Due.TheVariants as due
 use Rattle.macro_reader.specs.declared.modes.Mode.{Mode}
 use Rattle.macro_reader.specs.declared.modes.Mode.TheVariants.{Awaiting, Dropping, Gathering}
 
@@ -16,6 +21,12 @@ abbrev pub mode_of : Mode → OpenStatement → grammar.Mode
 mode_of Awaiting o = grammar.awaiting
 mode_of Dropping o = grammar.dropping
 mode_of Gathering o = grammar.gathering o.number o.first (joined o.gathered) o.gathered.lines
+
+-- The answers that are due, by the statement as the line leaves it.
+abbrev pub due_of : Due → OpenStatement → List Answer
+due_of due.Nothing o = []
+due_of due.Whole o = record { line = o.number; what = statement_with o.first (joined o.gathered).text } ∷ []
+due_of due.Broken o = record { line = o.number; what = Err kind.Continuation } ∷ []
 
 -- How many continuation lines the statement may have: one that is open may get another.
 abbrev pub most_lines : Mode → ℕ

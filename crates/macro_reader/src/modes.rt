@@ -30,7 +30,7 @@ pub struct OpenField {
 pub struct OpenStatement {
     /// The number of its first line.
     pub number: u32,
-    /// Columns 1 to 71 of its first line.
+    /// Columns 1 to 71 of its first line, or of a line behind it that was skipped.
     pub first: [u8; 71],
     pub gathered: OpenField,
 }
@@ -49,6 +49,17 @@ impl OpenStatement {
             },
         }
     }
+}
+
+/// Which answer a line makes due.
+#[derive(Clone, Copy)]
+pub enum Due {
+    /// None.
+    Nothing,
+    /// What the statement asks for, which the line ends.
+    Whole,
+    /// The fault of the statement, of which the line breaks a rule of continuation.
+    Broken,
 }
 
 /// Where a reader stands between two lines.

@@ -4,13 +4,12 @@ ghost use Rattle.std.specs.Prelude.{◌≡◌, ◌≤◌, [], ◌∷◌, ◌++�
 ghost use Rattle.macro_reader.specs.Columns.{Line, is_continued};
 ghost use Rattle.macro_reader.specs.Scripts.{Answer, Answers, IsBehind, IsValidFed, told_by, told_at_end, moved};
 ghost use Rattle.macro_reader.specs.Scripts.{behind_break, awaiting};
-ghost use Rattle.macro_reader.specs.Modes.{mode_of, most_lines};
-ghost use Rattle.macro_statements.specs.Statements.{statement_with};
+ghost use Rattle.macro_reader.specs.Modes.{mode_of, due_of, most_lines};
 ghost use Rattle.macro_reader.specs.declared.modes.OpenStatement.{OpenStatement};
 ghost use Rattle.macro_reader.specs.declared.modes.Mode.TheVariants.{Awaiting, Gathering};
 
 use crate::columns::{is_continued, is_skipped, used};
-use crate::modes::{Mode, OpenStatement};
+use crate::modes::{Due, Mode, OpenStatement};
 use macro_statements::{FaultKind, Request, statement_with};
 use std::marker::Model;
 use std::mem;
@@ -52,42 +51,43 @@ impl Model for Reader {
     ghost view = { λ r. record { count = r.count; mode = mode_of r.mode r.statement } };
 }
 
-/// What a whole statement asks for, with the number of its first line.
-fn said(number: u32, first: &[u8], text: &[u8]) -> Result<Fed, Fault>
-    ensures told { told_by result ≡ record { line = number; what = statement_with first.now text.now } ∷ [] }
+/// The answer that is due, by the statement as the line leaves it.
+fn said(due: Due, statement: &OpenStatement) -> Result<Fed, Fault>
+    ensures told { told_by result ≡ due_of due statement.now }
     ensures valid { IsValidFed result }
 {
-    match statement_with(first, text) {
-        Ok(request) => Ok(Fed::Ready(request, number)),
-        Err(kind) => Err(Fault { kind, line: number }),
+    let line = statement.number;
+    match due {
+        Due::Nothing => Ok(Fed::More),
+        Due::Whole => match statement_with(&statement.first, statement.gathered.text.as_slice()) {
+            Ok(request) => Ok(Fed::Ready(request, line)),
+            Err(kind) => Err(Fault { kind, line }),
+        },
+        Due::Broken => Err(Fault {
+            kind: FaultKind::Continuation,
+            line,
+        }),
     }
 }
 
-/// How a line moves a reader that awaits a statement.
-fn start(
-    number: u32,
-    mode: &mut Mode,
-    statement: &mut OpenStatement,
-    line: &[u8],
-) -> Result<Fed, Fault>
+/// How a line moves a reader that awaits a statement, and which answer is due.
+fn start(number: u32, mode: &mut Mode, statement: &mut OpenStatement, line: &[u8]) -> Due
     requires { mode.old ≡ Awaiting }
     ensures mode { mode_of mode.new statement.new ≡ (moved number awaiting line.now).0 }
     ensures few { statement.new.gathered.lines ≤ most_lines mode.new }
-    ensures told { told_by result ≡ (moved number awaiting line.now).1 }
-    ensures valid { IsValidFed result }
+    ensures told { due_of result statement.new ≡ (moved number awaiting line.now).1 }
 {
-    let first = used(line);
-    if is_skipped(&first) {
-        return Ok(Fed::More);
+    statement.first = used(line);
+    if is_skipped(&statement.first) {
+        return Due::Nothing;
     }
-    statement.gathered.begin(&first);
+    statement.number = number;
+    statement.gathered.begin(&statement.first);
     if is_continued(line) {
-        statement.number = number;
-        statement.first = first;
         *mode = Mode::Gathering;
-        return Ok(Fed::More);
+        return Due::Nothing;
     }
-    said(number, &first, statement.gathered.text.as_slice())
+    Due::Whole
 }
 
 /// How a reader stands behind a line that breaks a rule of continuation or is dropped, whatever statement it has.
@@ -102,56 +102,41 @@ fn behind_break(line: &[u8]) -> Mode
     }
 }
 
-/// How a line moves a reader whose statement is open.
-fn go_on(mode: &mut Mode, statement: &mut OpenStatement, line: &[u8]) -> Result<Fed, Fault>
+/// How a line moves a reader whose statement is open, and which answer is due.
+fn go_on(mode: &mut Mode, statement: &mut OpenStatement, line: &[u8]) -> Due
     requires mode { mode.old ≡ Gathering }
     requires fewer { statement.old.gathered.lines ≤ 8 }
     ensures mode { mode_of mode.new statement.new ≡ (moved 0 (mode_of Gathering statement.old) line.now).0 }
     ensures few { statement.new.gathered.lines ≤ most_lines mode.new }
-    ensures told { told_by result ≡ (moved 0 (mode_of Gathering statement.old) line.now).1 }
-    ensures valid { IsValidFed result }
+    ensures told { due_of result statement.new ≡ (moved 0 (mode_of Gathering statement.old) line.now).1 }
 {
-    let broken = Fault {
-        kind: FaultKind::Continuation,
-        line: statement.number,
-    };
     if !statement.gathered.take_line(&used(line)) {
         *mode = behind_break(line);
-        return Err(broken);
+        return Due::Broken;
     }
     if !is_continued(line) {
         *mode = Mode::Awaiting;
-        return said(
-            statement.number,
-            &statement.first,
-            statement.gathered.text.as_slice(),
-        );
+        return Due::Whole;
     }
     if statement.gathered.lines > 8 {
         *mode = Mode::Dropping;
-        return Err(broken);
+        return Due::Broken;
     }
-    Ok(Fed::More)
+    Due::Nothing
 }
 
-/// How a line moves a reader.
-fn move_on(
-    number: u32,
-    mode: &mut Mode,
-    statement: &mut OpenStatement,
-    line: &[u8],
-) -> Result<Fed, Fault>
+/// How a line moves a reader, and which answer is due.
+fn move_on(number: u32, mode: &mut Mode, statement: &mut OpenStatement, line: &[u8]) -> Due
     requires { statement.old.gathered.lines ≤ most_lines mode.old }
     ensures mode { mode_of mode.new statement.new ≡ (moved number (mode_of mode.old statement.old) line.now).0 }
     ensures few { statement.new.gathered.lines ≤ most_lines mode.new }
-    ensures told { told_by result ≡ (moved number (mode_of mode.old statement.old) line.now).1 }
-    ensures valid { IsValidFed result }
+    ensures told { due_of result statement.new ≡ (moved number (mode_of mode.old statement.old) line.now).1 }
 {
     match *mode {
         Mode::Awaiting => start(number, mode, statement, line),
         Mode::Dropping => {
             *mode = behind_break(line);
-            Ok(Fed::More)
+            Due::Nothing
         }
         Mode::Gathering => go_on(mode, statement, line),
     }
@@ -185,10 +170,10 @@ impl Reader {
     {
         let number = self.count.saturating_add(1);
         let mut mode = self.mode;
-        let fed = move_on(number, &mut mode, &mut self.statement, line);
+        let due = move_on(number, &mut mode, &mut self.statement, line);
         self.count = number;
         self.mode = mode;
-        fed
+        said(due, &self.statement)
     }
 
     /// Ends the script. The reader then is as new, but that the count of its lines goes on.
