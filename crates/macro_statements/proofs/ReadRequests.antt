@@ -1,5 +1,5 @@
 -- What each statement asks for by what was read is what its operands ask for.
-use Rattle.std.proofs.Common.{◌≡◌, ℕ, Bool, true, false, List, Option, Some, None, Result, if◌then◌else◌, codes, unwrap_or, option_and_then, refl, ap, ◌∙◌, sym}
+use Rattle.std.proofs.Common.{◌≡◌, ℕ, Bool, true, false, List, Option, Some, None, is_some, Result, if◌then◌else◌, codes, unwrap_or, option_and_then, refl, ap, ◌∙◌, sym}
 use Rattle.std.specs.Option.{option_map}
 use Rattle.operand_texts.specs.Words.{is_word}
 use Rattle.operand_texts.specs.Written.{Written, number, Target, Stored}
@@ -44,13 +44,13 @@ condition_said : (t : Option (List ℕ)) → as_condition (option_and_then (said
 condition_said None = refl
 condition_said (Some t) = condition_back (is_word t (codes "YES")) (is_word t (codes "NO"))
 
-content_back : (c : Option Stored) → as_content (option_map content c) ≡ c
-content_back None = refl
-content_back (Some c) = refl
+content_back : (t : List ℕ) (c : Option Stored) → content_of t ≡ c → as_content (if is_some c then Some (content t) else None) ≡ c
+content_back t None h = refl
+content_back t (Some c) h = h
 
 content_said : (t : Option (List ℕ)) → as_content (option_and_then (said_of kind.Content) t) ≡ option_and_then content_of t
 content_said None = refl
-content_said (Some t) = content_back (content_of t)
+content_said (Some t) = content_back t (content_of t) refl
 
 size_back : (n : Option ℕ) → as_size (option_map size n) ≡ n
 size_back None = refl

@@ -266,7 +266,7 @@ poke_operands a c b h =
     let items : List Item = item (position 0) (Some ta.text) ∷ item (position 1) (Some tc.text) ∷ [] in
     let fit : Good poke_row items = (
       in_position poke_row _ 0 (entry (position 0) kind.Value) ta.text refl refl refl (value_says ta.text a ta.spells) ta.neat.some ta.neat.no_equals (ta.neat.goes 0),
-      (in_position poke_row _ 1 (entry (position 1) kind.Content) tc.text refl refl refl (ap (λ x. is_some (option_map content x)) tc.spells) tc.some tc.no_equals tc.stands, tt),
+      (in_position poke_row _ 1 (entry (position 1) kind.Content) tc.text refl refl refl (ap (λ x. is_some (if is_some x then Some (content tc.text) else None)) tc.spells) tc.some tc.no_equals tc.stands, tt),
     ) in
     record {
       operation = operation.Poke;

@@ -2,18 +2,19 @@
 use Rattle.std.specs.Prelude.{ℕ, Bool, true, false, ◌||◌, if◌then◌else◌, List, Option, Some, None, is_some, codes}
 use Rattle.std.specs.Option.{option_map}
 use Rattle.operand_texts.specs.Words.{is_word}
-use Rattle.operand_texts.specs.Written.{Written, Target, Stored}
+use Rattle.operand_texts.specs.Written.{Written, Target}
 use Rattle.operand_texts.specs.Values.{number_of, value_of, is_pair, target_of, content_of, size_of}
 use Rattle.macro_statements.specs.declared.faults.FaultKind.{FaultKind}
 use Rattle.macro_statements.specs.declared.faults.FaultKind.TheVariants as fault
 use Rattle.macro_statements.specs.declared.rows.Kind.{Kind}
 use Rattle.macro_statements.specs.declared.rows.Kind.TheVariants as kind
 
+-- Of what is stored that is the text that spells it.
 pub data Said : Type 0 where
   value : Written → Said
   place : Target → Said
   condition : Bool → Said
-  content : Stored → Said
+  content : List ℕ → Said
   size : ℕ → Said
   count : ℕ → Said
 
@@ -38,7 +39,7 @@ said_of kind.Length text = option_map value (value_of text)
 said_of kind.Place text = option_map place (target_of text)
 said_of kind.Condition text = option_map condition (condition_of text)
 said_of kind.ConditionWord text = option_map condition (condition_word_of text)
-said_of kind.Content text = option_map content (content_of text)
+said_of kind.Content text = if is_some (content_of text) then Some (content text) else None
 said_of kind.Size text = option_map size (size_of text)
 said_of kind.Count text = option_map count (number_of text)
 

@@ -5,7 +5,8 @@ use Rattle.std.specs.Prelude.{Option, Some, None, is_some, Result, Ok, Err, opti
 use Rattle.std.specs.Prelude.{unwrap_or}
 use Rattle.std.specs.Option.{option_map}
 use Rattle.std.specs.Char.{to_ascii_uppercase}
-use Rattle.operand_texts.specs.Written.{Written, number, Target, Stored, written_in, target_in, stored_in}
+use Rattle.operand_texts.specs.Written.{Written, number, Target, Stored, written_in, target_in}
+use Rattle.operand_texts.specs.Values.{content_of}
 use Rattle.macro_statements.specs.Rows as rows
 use Rattle.macro_statements.specs.Rows.{position, keyword, same_key, is_among}
 use Rattle.macro_statements.specs.Operands.{unknown_fault, text_at}
@@ -54,7 +55,7 @@ abbrev pub said_in : Said → says.Said
 said_in (code_said.Value v) = says.value (written_in v)
 said_in (code_said.Place p) = says.place (target_in p)
 said_in (code_said.Condition b) = says.condition b
-said_in (code_said.Content c) = says.content (stored_in c)
+said_in (code_said.Content text) = says.content text.now
 said_in (code_said.Size n) = says.size n
 said_in (code_said.Count n) = says.count n
 
@@ -141,7 +142,7 @@ as_condition (Some (says.condition b)) = b
 as_condition _ = false
 
 abbrev pub as_content : Option says.Said → Option Stored
-as_content (Some (says.content c)) = Some c
+as_content (Some (says.content text)) = content_of text
 as_content _ = None
 
 abbrev pub as_size : Option says.Said → Option ℕ

@@ -1,6 +1,7 @@
 //! The operands of a statement, read by its row.
 
-ghost use Rattle.std.specs.Prelude.{◌≡◌, ◌==◌, ◌<◌, IsTrue, IfSome, None, is_some, length, map, position};
+ghost use Rattle.std.specs.Prelude.{◌≡◌, ◌==◌, ◌<◌, IsTrue, IfSome, IfOk, IfErr, OnOk, Some, None};
+ghost use Rattle.std.specs.Prelude.{is_some, length, map, position};
 ghost use Rattle.std.specs.Option.{option_copied, option_map};
 ghost use Rattle.operand_texts.specs.Field.{outside, operands, operands_from, operands_behind};
 ghost use Rattle.macro_statements.specs.Rows.{same_key};
@@ -131,7 +132,12 @@ fn is_barred(entries: &[Entry], said: &[Option<Said>], excluded: Option<Key<'sta
 }
 
 /// Puts what a text says of a kind in a place, or tells what is wrong with it and leaves all as it is.
-fn fill(said: &mut [Option<Said>], i: usize, kind: Kind, text: &[u8]) -> Option<FaultKind>
+fn fill<'a>(
+    said: &mut [Option<Said<'a>>],
+    i: usize,
+    kind: Kind,
+    text: &'a [u8],
+) -> Option<FaultKind>
     requires { i < length said.old }
     ensures { answered result (slots_in said.new)
         ≡ filled (slots_in said.old) i (unsaid_fault kind text.now) (said_of kind text.now) }
@@ -146,7 +152,11 @@ fn fill(said: &mut [Option<Said>], i: usize, kind: Kind, text: &[u8]) -> Option<
 }
 
 /// Reads one operand into the place of its entry, or tells its fault and leaves all as it is.
-fn take(row: &Row, operand: Option<Operand<'_>>, said: &mut [Option<Said>]) -> Option<FaultKind>
+fn take<'a>(
+    row: &Row,
+    operand: Option<Operand<'a>>,
+    said: &mut [Option<Said<'a>>],
+) -> Option<FaultKind>
     requires { length said.old ≡ length row.now.entries.now }
     ensures { answered result (slots_in said.new)
         ≡ with_operand (row_in row.now) (slots_in said.old) (option_map operand_in operand.entry) }
@@ -167,7 +177,7 @@ fn take(row: &Row, operand: Option<Operand<'_>>, said: &mut [Option<Said>]) -> O
 }
 
 /// Reads the operands of a text into the places of their entries, or tells the first fault.
-fn take_all(row: &Row, text: &[u8], said: &mut [Option<Said>]) -> Option<FaultKind>
+fn take_all<'a>(row: &Row, text: &'a [u8], said: &mut [Option<Said<'a>>]) -> Option<FaultKind>
     requires { length said.old ≡ length row.now.entries.now }
     ensures { answered result (slots_in said.new)
         ≡ with_operands (row_in row.now) (slots_in said.old) 0 (operands_from outside text.now) }
@@ -187,18 +197,27 @@ fn take_all(row: &Row, text: &[u8], said: &mut [Option<Said>]) -> Option<FaultKi
     }
 }
 
-/// Reads the operands of a statement, each once, into the places of their entries, of which nothing was read before.
-/// Answers the first fault, and what was read is of use only where there is none.
-pub(crate) fn read(row: &Row, text: Option<&[u8]>, said: &mut [Option<Said>]) -> Option<FaultKind>
+/// Reads the operands of a statement, each once, into the places of their entries, of which nothing was read before, and
+/// lends these places; or tells the first fault.
+pub(crate) fn read<'s, 'a>(
+    row: &Row,
+    text: Option<&'a [u8]>,
+    said: &'s mut [Option<Said<'a>>],
+) -> Result<&'s [Option<Said<'a>>], FaultKind>
     requires empty { slots_in said.old ≡ no_slots (row_in row.now).entries }
     requires apart { IsTrue (are_apart (row_in row.now).entries) }
-    ensures fault { result ≡ first_fault (row_in row.now) (operands_behind (option_copied text.entry)) }
-    ensures said { result ≡ None
-        → slots_in said.new ≡ readings (row_in row.now).entries (operands_behind (option_copied text.entry)) }
+    ensures said { IfOk result (λ s. slots_in s.now
+        ≡ readings (row_in row.now).entries (operands_behind (option_copied text.entry))) }
+    ensures fine { OnOk result (first_fault (row_in row.now) (operands_behind (option_copied text.entry)) ≡ None) }
+    ensures fault { IfErr result (λ wrong.
+        first_fault (row_in row.now) (operands_behind (option_copied text.entry)) ≡ Some wrong) }
 {
-    match text {
-        Some(text) => take_all(row, text, said),
-        None => None,
+    let Some(text) = text else {
+        return Ok(said);
+    };
+    match take_all(row, text, said) {
+        Some(fault) => Err(fault),
+        None => Ok(said),
     }
 }
 

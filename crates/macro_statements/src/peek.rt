@@ -38,7 +38,7 @@ pub(crate) fn peek(field: &[u8]) -> Result<Request, FaultKind>
 {
     let mut said = [NOTHING, NOTHING];
     match read(&PEEK, some_field(field), &mut said) {
-        Some(fault) => Err(fault),
-        None => peek_by(&said),
+        Ok(said) => peek_by(said),
+        Err(fault) => Err(fault),
     }
 }

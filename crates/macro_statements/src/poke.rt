@@ -18,10 +18,10 @@ pub const POKE: Row = Row {
     left_out: &[],
 };
 
-/// What POKE asks for by what was read, which is taken.
-fn poke_by(said: &mut [Option<Said>]) -> Result<Request, FaultKind>
-    requires { length said.old ≡ 2 }
-    ensures { seen result ≡ poke_by (slots_in said.old) }
+/// What POKE asks for by what was read.
+fn poke_by(said: &[Option<Said>]) -> Result<Request, FaultKind>
+    requires { length said.now ≡ 2 }
+    ensures { seen result ≡ poke_by (slots_in said.now) }
 {
     let Some(address) = value_at(said, 0) else {
         return Err(FaultKind::Missing);
@@ -38,7 +38,7 @@ pub(crate) fn poke(field: &[u8]) -> Result<Request, FaultKind>
 {
     let mut said = [NOTHING, NOTHING];
     match read(&POKE, some_field(field), &mut said) {
-        Some(fault) => Err(fault),
-        None => poke_by(&mut said),
+        Ok(said) => poke_by(said),
+        Err(fault) => Err(fault),
     }
 }

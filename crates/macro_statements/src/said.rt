@@ -10,24 +10,24 @@ ghost use Rattle.macro_statements.specs.Slots.{as_size, as_count};
 
 use crate::faults::FaultKind;
 use crate::rows::Kind;
-use operand_texts::contents::{Content, content_of, size_of};
+use operand_texts::contents::{Content, content_of, is_content, size_of};
 use operand_texts::numbers::number_of;
 use operand_texts::values::{Place, Value, is_pair, place_of, value_of};
 use operand_texts::words::is_word;
 
-/// What an operand says, by the kind of its value.
-#[derive(Drop)]
-pub enum Said {
+/// What an operand says, by the kind of its value. What is stored stays in its text, which is lent.
+#[derive(Clone, Copy)]
+pub enum Said<'a> {
     Value(Value),
     Place(Place),
     Condition(bool),
-    Content(Content),
+    Content(&'a [u8]),
     Size(u16),
     Count(u32),
 }
 
 /// Nothing that was read.
-pub(crate) const NOTHING: Option<Said> = None;
+pub(crate) const NOTHING: Option<Said<'static>> = None;
 
 /// Whether a text is YES, and nothing where it's neither YES nor NO.
 fn condition_of(text: &[u8]) -> Option<bool>
@@ -56,7 +56,7 @@ fn condition_word_of(text: &[u8]) -> Option<bool>
 }
 
 /// What a text says as a value of this kind, where it's one that is supported.
-pub(crate) fn said_of(kind: Kind, text: &[u8]) -> Option<Said>
+pub(crate) fn said_of(kind: Kind, text: &[u8]) -> Option<Said<'_>>
     ensures { option_map said_in result ≡ said_of kind text.now }
 {
     match kind {
@@ -76,10 +76,8 @@ pub(crate) fn said_of(kind: Kind, text: &[u8]) -> Option<Said>
             Some(condition) => Some(Said::Condition(condition)),
             None => None,
         },
-        Kind::Content => match content_of(text) {
-            Some(content) => Some(Said::Content(content)),
-            None => None,
-        },
+        Kind::Content if is_content(text) => Some(Said::Content(text)),
+        Kind::Content => None,
         Kind::Size => match size_of(text) {
             Some(size) => Some(Said::Size(size)),
             None => None,
@@ -155,22 +153,15 @@ pub(crate) fn condition_at(said: &[Option<Said>], i: usize) -> bool
     }
 }
 
-/// What is stored, by what was said.
-fn as_content(said: Option<Said>) -> Option<Content>
-    ensures { option_map stored_in result ≡ as_content (option_map said_in said) }
+/// What was read at a place to be stored.
+pub(crate) fn content_at(said: &[Option<Said>], i: usize) -> Option<Content>
+    requires { i < length said.now }
+    ensures { option_map stored_in result ≡ as_content (slot (slots_in said.now) i) }
 {
-    match said {
-        Some(Said::Content(content)) => Some(content),
+    match &said[i] {
+        Some(Said::Content(text)) => content_of(text),
         _ => None,
     }
-}
-
-/// What was read at a place to be stored, which is taken from there.
-pub(crate) fn content_at(said: &mut [Option<Said>], i: usize) -> Option<Content>
-    requires { i < length said.old }
-    ensures { option_map stored_in result ≡ as_content (slot (slots_in said.old) i) }
-{
-    as_content(said[i].take())
 }
 
 /// The size that was read at a place.

@@ -33,7 +33,7 @@ pub(crate) fn count_in(field: &[u8]) -> Result<u32, FaultKind>
 {
     let mut said = [NOTHING];
     match read(&STEPS, some_field(field), &mut said) {
-        Some(fault) => Err(fault),
-        None => count_by(&said),
+        Ok(said) => count_by(said),
+        Err(fault) => Err(fault),
     }
 }

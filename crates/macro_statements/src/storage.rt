@@ -106,8 +106,8 @@ fn obtain(text: Option<&[u8]>) -> Result<Request, FaultKind>
 {
     let mut said = [NOTHING, NOTHING, NOTHING, NOTHING];
     match read(&OBTAIN, text, &mut said) {
-        Some(fault) => Err(fault),
-        None => obtain_by(&said),
+        Ok(said) => obtain_by(said),
+        Err(fault) => Err(fault),
     }
 }
 
@@ -136,8 +136,8 @@ fn release(text: Option<&[u8]>) -> Result<Request, FaultKind>
 {
     let mut said = [NOTHING, NOTHING, NOTHING, NOTHING];
     match read(&RELEASE, text, &mut said) {
-        Some(fault) => Err(fault),
-        None => release_by(&said),
+        Ok(said) => release_by(said),
+        Err(fault) => Err(fault),
     }
 }
 

@@ -1,6 +1,8 @@
 //! What POKE stores and how much PEEK shows, as operands spell it.
 
-ghost use Rattle.std.specs.Prelude.{◌≡◌, ◌↔◌, ◌≤◌, ◌/◌, ◌%◌, IfSome, IsTrue, drop, length};
+ghost use Rattle.std.specs.Prelude.{◌≡◌, ◌↔◌, ◌≤◌, ◌/◌, ◌%◌, IfSome, IsTrue, drop, is_some, length};
+ghost use Rattle.std.specs.Char.{is_digit};
+ghost use Rattle.std.specs.List.{list_all};
 ghost use Rattle.std.specs.Option.{option_map};
 ghost use Rattle.operand_texts.specs.Written.{written_in, stored_in, IsValue, IsStored};
 ghost use Rattle.operand_texts.specs.Values.{byte_of, hex_bytes, spelled_bytes, is_address_constant, word_of};
@@ -112,6 +114,46 @@ pub fn content_of(text: &[u8]) -> Option<Content>
             Some(value) => Some(Content::Word(value)),
             None => None,
         }
+    }
+}
+
+fn are_hexadecimal(digits: &[u8]) -> bool
+    ensures { result ≡ list_all (λ c. is_digit c 16) digits.now }
+{
+    digits
+        .iter()
+        .all(|digit| char::from(*digit).to_digit(16).is_some())
+}
+
+/// Whether each pair of digits spells a byte.
+#[tactic(auto, using(crate::proofs::Bytes::hex_digits))]
+fn spell_pairs(digits: &[u8]) -> bool
+    requires { length digits.now % 2 ≡ 0 }
+    ensures { result ≡ is_some (hex_bytes digits.now) }
+{
+    are_hexadecimal(digits)
+}
+
+/// Whether digits spell 1 to 256 bytes.
+fn spell_bytes(digits: &[u8]) -> bool
+    ensures { result ≡ is_some (spelled_bytes digits.now) }
+{
+    if matches!(digits.len(), 2..=512) && digits.len() % 2 == 0 {
+        spell_pairs(digits)
+    } else {
+        false
+    }
+}
+
+/// Whether a text says what is stored, as `content_of` reads it.
+#[tactic(auto, using(crate::proofs::Bytes::quoted_content, crate::proofs::Bytes::word_content))]
+pub fn is_content(text: &[u8]) -> bool
+    ensures { result ≡ is_some (content_of text.now) }
+{
+    if is_quoted(b'X', text) {
+        spell_bytes(&text[2..text.len() - 1])
+    } else {
+        word_of(text).is_some()
     }
 }
 
