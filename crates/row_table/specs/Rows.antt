@@ -1,6 +1,6 @@
 -- Rows as a list: what stands under two numbers.
 use Rattle.std.specs.Prelude.{◌≡◌, ℕ, Bool, ◌&&◌, ◌==◌, List, [], ◌∷◌, Option, Some, None, slice_index_or}
-use Rattle.std.specs.Prelude.{if◌then◌else◌}
+use Rattle.std.specs.Prelude.{◌||◌, nat_lt, if◌then◌else◌}
 use Rattle.vsm_elements.specs.Chain.{Link}
 use Rattle.row_table.specs.declared.row.Row.{Row}
 
@@ -11,6 +11,10 @@ word words k = slice_index_or words k 0
 -- the two keys are one
 abbrev pub same_key : ℕ → ℕ → ℕ → ℕ → Bool
 same_key first second a b = (first == a) && (second == b)
+
+-- the first key comes before the other: by the second number, and then by the first
+abbrev pub comes_before : ℕ → ℕ → ℕ → ℕ → Bool
+comes_before first second a b = nat_lt second b || ((second == b) && nat_lt first a)
 
 -- words that begin with these two
 abbrev pub is_under : ℕ → ℕ → List ℕ → Bool

@@ -1,10 +1,9 @@
 ghost use Rattle.std.specs.Prelude.{◌≡◌, ◌≢◌, ℕ, ◌+◌, ◌<◌, ◌≤◌, ◌++◌, [], Some, None, IsSome, IfSome, IfNone};
-ghost use Rattle.std.specs.Prelude.{option_map, slice_get, ◌&&◌, ◌==◌, not};
 ghost use Rattle.vsm_elements.specs.Store.{Store};
 ghost use Rattle.vsm_elements.specs.Ownership.{Leaves, Apart};
 ghost use Rattle.row_table.specs.Rows.{either_of};
 ghost use Rattle.subpool_set.specs.Pools.{no_queues, sight_with, pools_with, sight_given, pools_given, sight_of_pool};
-ghost use Rattle.subpool_set.specs.Pools.{sight_without, pool_alone, sees, sharers, in_order};
+ghost use Rattle.subpool_set.specs.Pools.{sight_without, pool_alone};
 ghost use Rattle.subpool_set.specs.Kept.{AreWords};
 ghost use Rattle.subpool_set.specs.QueueElements.{AreApart, AreApartTogether};
 
@@ -295,72 +294,5 @@ impl SubpoolSet {
     {
         let ParkedPool { set } = parked;
         set.rows.move_all(elements, &mut self.rows);
-    }
-
-    /// The `i`-th subpool by number and then by owner, from 0 on; `None` past the last.
-    pub fn pool_at(&self, elements: &Elements, i: u32) -> Option<PoolId>
-        requires { IsSubpoolSet elements.now self.now }
-        ensures { result ≡ option_map (λ p. p.id) (slice_get (in_order (pool elements.now self.now)) i) }
-    {
-        let mut left = i;
-        for number in 0..128 {
-            for owner in 1..65 {
-                if let Some(id) = self.own(elements, number, owner) {
-                    if left == 0 {
-                        return Some(id);
-                    }
-                    left -= 1;
-                }
-            }
-        }
-        None
-    }
-
-    /// The `i`-th of the tasks that share the subpool with its owner, in ascending order from 0 on; `None` past the
-    /// last.
-    pub fn sharer_at(&self, elements: &Elements, id: PoolId, i: u32) -> Option<u8>
-        requires set { IsSubpoolSet elements.now self.now }
-        requires pool { IsPool elements.now self.now id }
-        ensures { result ≡ slice_get (sharers (sight elements.now self.now)
-            (number_of elements.now id) (owner_of elements.now id)) i }
-    {
-        let owner = self.owner(elements, id);
-        let number = self.number(elements, id);
-        let mut left = i;
-        for task in 1..65 {
-            if self.shares(elements, task, number, owner) {
-                if left == 0 {
-                    return Some(task);
-                }
-                left -= 1;
-            }
-        }
-        None
-    }
-
-    // The subpool of this number and this owner.
-    fn own(&self, elements: &Elements, number: u8, owner: u8) -> Option<PoolId>
-        requires { IsSubpoolSet elements.now self.now }
-        ensures { result ≡ option_map (λ p. p.id) (pool elements.now self.now number owner) }
-    {
-        let row = self
-            .rows
-            .find(elements, u32::from(owner), u32::from(number))?;
-        if row.words[2] == u32::from(owner) {
-            Some(row.id)
-        } else {
-            None
-        }
-    }
-
-    // Whether the task sees the owner's subpool of this number, and is another.
-    fn shares(&self, elements: &Elements, task: u8, number: u8, owner: u8) -> bool
-        requires { IsSubpoolSet elements.now self.now }
-        ensures { result ≡ (sees (sight elements.now self.now) number owner task && not (task == owner)) }
-    {
-        match self.rows.find(elements, u32::from(task), u32::from(number)) {
-            Some(row) => row.words[2] == u32::from(owner) && task != owner,
-            None => false,
-        }
     }
 }

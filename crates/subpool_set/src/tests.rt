@@ -3,7 +3,7 @@
 ghost use Rattle.subpool_set.specs.SubpoolSet.{IsSubpoolSet, QueuesStand};
 
 use super::*;
-use laws::{discards_keep, put_back};
+use laws::{discards_keep, put_back, sets_stay};
 use std::process::Abort;
 use std::test::Fail;
 use vsm_elements::Elements;
@@ -25,20 +25,53 @@ fn compare(rt: &impl Abort, elements: &Elements, set: &SubpoolSet, seen: &Seen)
     }
 }
 
-// The number and the owner of the `i`-th subpool.
-fn subpool_at(elements: &Elements, set: &SubpoolSet, i: u32) -> (u8, u8)
+// The subpools have these numbers and owners, in this order.
+fn list_subpools(rt: &impl Abort, elements: &Elements, set: &SubpoolSet, want: &[(u8, u8)])
     requires { IsSubpoolSet elements.now set.now }
 {
-    for task in 1..65u8 {
-        for number in 0..128u8 {
-            if let Some(id) = set.visible(elements, task, number) {
-                if set.pool_at(elements, i) == Some(id) {
-                    return (set.number(elements, id), set.owner(elements, id));
-                }
+    let mut last = (0, 0);
+    let mut i = 0u32;
+    for subpool in want {
+        match set.pool_after(elements, last.0, last.1) {
+            Some(id) => {
+                assert_eq!(rt; set.pool_at(elements, i), Some(id));
+                last = (set.number(elements, id), set.owner(elements, id));
+                assert_eq!(rt; last, *subpool);
             }
+            None => assert!(rt; false),
         }
+        i = i.saturating_add(1);
     }
-    (0, 0)
+    assert_eq!(rt; set.pool_after(elements, last.0, last.1), None);
+    assert_eq!(rt; set.pool_at(elements, i), None);
+}
+
+// These other tasks see the subpool that the task sees at the number, in this order.
+fn list_sharers(
+    rt: &impl Abort,
+    elements: &Elements,
+    set: &SubpoolSet,
+    task: u8,
+    number: u8,
+    want: &[u8],
+)
+    requires { IsSubpoolSet elements.now set.now }
+{
+    match set.visible(elements, task, number) {
+        Some(id) => {
+            let mut last = 0;
+            let mut i = 0u32;
+            for sharer in want {
+                assert_eq!(rt; set.sharer_at(elements, id, i), Some(*sharer));
+                assert_eq!(rt; set.sharer_after(elements, id, last), Some(*sharer));
+                last = *sharer;
+                i = i.saturating_add(1);
+            }
+            assert_eq!(rt; set.sharer_at(elements, id, i), None);
+            assert_eq!(rt; set.sharer_after(elements, id, last), None);
+        }
+        None => assert!(rt; false),
+    }
 }
 
 fn create(rt: &impl Abort, elements: &mut Elements, set: &mut SubpoolSet, task: u8, number: u8)
@@ -124,6 +157,41 @@ fn out_and_in(
     }
 }
 
+// Two subpools go, one after the other, and come back as one; `without` is seen in between.
+fn both_out_and_in(
+    rt: &impl Abort,
+    elements: &mut Elements,
+    set: &mut SubpoolSet,
+    first: (u8, u8),
+    second: (u8, u8),
+    without: &Seen,
+)
+    requires set { IsSubpoolSet elements.old set.old }
+    requires queues { QueuesStand elements.old set.old }
+    ensures set { IsSubpoolSet elements.new set.new }
+{
+    match set.visible(elements, first.0, first.1) {
+        Some(id) => {
+            let one = set.unplug(elements, id);
+            put_back();
+            match set.visible(elements, second.0, second.1) {
+                Some(id) => {
+                    let other = set.unplug(elements, id);
+                    compare(rt, elements, set, without);
+                    sets_stay();
+                    let both = one.join(elements, other);
+                    set.replug(elements, both);
+                }
+                None => {
+                    set.replug(elements, one);
+                    assert!(rt; false);
+                }
+            }
+        }
+        None => assert!(rt; false),
+    }
+}
+
 // The subpool goes for good.
 fn discard(rt: &impl Abort, elements: &mut Elements, set: &mut SubpoolSet, task: u8, number: u8)
     requires set { IsSubpoolSet elements.old set.old }
@@ -163,9 +231,8 @@ fn the_set_is_the_plain_one(rt: HostRuntime) -> Result<(), Fail> {
     let without = [[0, 1, 0], [0, 2, 0], [0, 1, 0], [0, 0, 0]];
     out_and_in(&rt, &mut elements, &mut set, 4, 2, &without);
     compare(&rt, &elements, &set, &given);
-    for (i, want) in [(0, (1, 1)), (1, (1, 2)), (2, (2, 3)), (3, (0, 0))] {
-        assert_eq!(rt; subpool_at(&elements, &set, i), want);
-    }
+    list_subpools(&rt, &elements, &set, &[(1, 1), (1, 2), (2, 3)]);
+    list_sharers(&rt, &elements, &set, 2, 2, &[2, 4]);
     assert_eq!(rt; elements.spare(), 122);
     discard(&rt, &mut elements, &mut set, 2, 1);
     let left = [[0, 1, 0], [0, 0, 3], [0, 1, 3], [0, 0, 3]];
@@ -177,5 +244,27 @@ fn the_set_is_the_plain_one(rt: HostRuntime) -> Result<(), Fail> {
     compare(&rt, &elements, &set, &[[0; 3]; 4]);
     assert_eq!(rt; elements.spare(), 128);
     assert_eq!(rt; elements.release(), 1);
+    Ok(())
+}
+
+#[test]
+fn two_subpools_come_back_as_one(rt: HostRuntime) -> Result<(), Fail> {
+    let mut elements = Elements::new(rt.alloc());
+    elements.reserve(64)?;
+    let mut set = SubpoolSet::new();
+    create(&rt, &mut elements, &mut set, 2, 1);
+    create(&rt, &mut elements, &mut set, 1, 1);
+    create(&rt, &mut elements, &mut set, 3, 2);
+    share(&rt, &mut elements, &mut set, 4, 1, 1);
+    share(&rt, &mut elements, &mut set, 1, 3, 2);
+    let seen = [[0, 1, 3], [0, 2, 0], [0, 0, 3], [0, 1, 0]];
+    compare(&rt, &elements, &set, &seen);
+    let without = [[0, 0, 0], [0, 2, 0], [0, 0, 0], [0, 0, 0]];
+    both_out_and_in(&rt, &mut elements, &mut set, (3, 2), (4, 1), &without);
+    compare(&rt, &elements, &set, &seen);
+    list_subpools(&rt, &elements, &set, &[(1, 1), (1, 2), (2, 3)]);
+    list_sharers(&rt, &elements, &set, 1, 1, &[4]);
+    list_sharers(&rt, &elements, &set, 3, 2, &[1]);
+    assert_eq!(rt; elements.spare(), 123);
     Ok(())
 }

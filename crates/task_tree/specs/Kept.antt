@@ -7,7 +7,7 @@ use Rattle.row_table.specs.declared.row.Row.{Row}
 use Rattle.row_table.specs.declared.table.RowTable.{RowTable}
 use Rattle.row_table.specs.Rows.{word}
 use Rattle.row_table.specs.RowTable.{row, IsTable}
-use Rattle.task_tree.specs.Tasks.{Parents, Words}
+use Rattle.task_tree.specs.Tasks.{Parents, Words, HasDepths}
 
 -- the row of each task and each quarter
 abbrev pub Rows : Type 0
@@ -30,12 +30,13 @@ pub record AreTasks (f : Rows) : Type 0 where
   pub whole : (t k : ℕ) → k < 4 → IsSome (f t 0) → IsSome (f t k)
   pub first : (t k : ℕ) → IsSome (f t k) → IsSome (f t 0)
 
--- task 1 is there and is the only one without a parent, and parents are there
+-- task 1 is there and is the only one without a parent, parents are there, and there is no cycle
 pub record IsTree (f : Rows) : Type 0 where
   pub tasks : AreTasks f
   pub root : parents_in f 1 ≡ Some 0
   pub alone : (t : ℕ) → parents_in f t ≡ Some 0 → t ≡ 1
   pub parents : (t p : ℕ) → parents_in f t ≡ Some p → p ≢ 0 → IsSome (parents_in f p)
+  pub depths : HasDepths (parents_in f)
 
 pub record IsKept (s : Store) (q : RowTable) (current : ℕ) : Type 0 where
   pub table : IsTable s q
@@ -45,6 +46,7 @@ pub record IsKept (s : Store) (q : RowTable) (current : ℕ) : Type 0 where
 pub record AreParked (s : Store) (q : RowTable) : Type 0 where
   pub table : IsTable s q
   pub tasks : AreTasks (row s q)
+  pub depths : HasDepths (parents_in (row s q))
 
 -- the words of a task's row, whose registers are zero
 abbrev pub zero_words : ℕ → ℕ → ℕ → List ℕ

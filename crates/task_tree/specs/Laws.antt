@@ -23,6 +23,17 @@ abbrev pub RootIsAbove : Type 0
 RootIsAbove = (s : Store) (q : TaskTree) (top : ℕ) → IsTaskTree s q → IsSome (parent s q top) → top ≢ 1
     → ¬ IsBelow (parent s q) top 1
 
+-- a task is not below what is below it: neither is its parent, nor who is above that
+abbrev pub AParentIsNotBelowItsSubtask : Type 0
+AParentIsNotBelowItsSubtask = (s : Store) (q : TaskTree) (task under : ℕ) → IsTaskTree s q → parent s q task ≡ Some under
+    → ¬ IsBelow (parent s q) task under
+    × ((above : ℕ) → IsBelow (parent s q) above under → ¬ IsBelow (parent s q) task above)
+
+-- each task that is there is below task 1: its way up ends there
+abbrev pub EachTaskIsBelowTheFirst : Type 0
+EachTaskIsBelowTheFirst = (s : Store) (q : TaskTree) (task : ℕ) → IsTaskTree s q → IsSome (parent s q task)
+    → IsBelow (parent s q) 1 task
+
 -- what was taken out can be put back beside what was left, and is then what was there
 abbrev pub PutBack : Type 0
 PutBack = (f rest out : Parents) (words rest_words out_words : Words) (top : ℕ)

@@ -48,3 +48,7 @@ tasks = range_with_len 1 64
 -- the tasks that are there, in ascending order
 abbrev pub tasks_in : Parents → List ℕ
 tasks_in f = filter (λ t. is_some (f t)) tasks
+
+-- No task is below its own subtask: each has a depth, which is greater than its parent's.
+abbrev pub HasDepths : Parents → Type 0
+HasDepths f = (depth : ℕ → ℕ) × ((task parent : ℕ) → f task ≡ Some parent → depth parent < depth task)

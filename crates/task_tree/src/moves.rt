@@ -45,6 +45,13 @@ pub(crate) fn move_task(rows: &mut RowTable, elements: &mut Elements, task: u32,
     }
 }
 
+// The words of a new task's row, whose registers are zero.
+fn first_words(task: u32, quarter: u32, parent: u32) -> [u32; 7]
+    ensures { result ≡ zero_words task quarter parent }
+{
+    [task, quarter, parent, 0, 0, 0, 0]
+}
+
 // The rows of a new task, which has zero words.
 pub(crate) fn add_task(rows: &mut RowTable, elements: &mut Elements, task: u32, parent: u32)
     requires table { IsTable elements.old rows.old }
@@ -59,7 +66,7 @@ pub(crate) fn add_task(rows: &mut RowTable, elements: &mut Elements, task: u32, 
     ensures spares { elements.new.spare + 4 ≡ elements.old.spare }
 {
     for quarter in 0..4 {
-        rows.insert(elements, [task, quarter, parent, 0, 0, 0, 0]);
+        rows.insert(elements, first_words(task, quarter, parent));
     }
 }
 

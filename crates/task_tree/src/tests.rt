@@ -3,7 +3,7 @@
 ghost use Rattle.task_tree.specs.TaskTree.{IsTaskTree};
 
 use super::*;
-use laws::{put_back, root_is_above, trees_stand, trees_stay};
+use laws::{a_parent_is_not_below_its_subtask, put_back, root_is_above, trees_stand, trees_stay};
 use std::process::Abort;
 use std::test::Fail;
 use vsm_elements::Elements;
@@ -21,6 +21,14 @@ fn attach(rt: &impl Abort, elements: &mut Elements, tree: &mut TaskTree, under: 
         }
         Err(_) => assert!(rt; false),
     }
+}
+
+fn run(rt: &impl Abort, elements: &Elements, tree: &mut TaskTree, task: u8)
+    requires { IsTaskTree elements.now tree.old }
+    ensures { IsTaskTree elements.now tree.new }
+{
+    assert!(rt; tree.check_run(elements, task).is_ok());
+    tree.run(elements, task);
 }
 
 // Each register of the task gets a word of its own.
@@ -74,6 +82,30 @@ fn out_and_in(
     tree.restore_tasks(elements, parked);
 }
 
+// The current task detaches its subtask, with all below that, which then come back; these are there in between.
+fn detached(
+    rt: &impl Abort,
+    elements: &mut Elements,
+    tree: &mut TaskTree,
+    task: u8,
+    rest: &[(u8, u8)],
+)
+    requires { IsTaskTree elements.old tree.old }
+    ensures { IsTaskTree elements.new tree.new }
+{
+    let caller = tree.current();
+    assert!(rt; task != 1);
+    assert!(rt; tree.check_detach(elements, caller, task).is_ok());
+    a_parent_is_not_below_its_subtask();
+    root_is_above();
+    trees_stand();
+    let parked = tree.park_subtree(elements, task);
+    compare(rt, elements, tree, rest);
+    put_back();
+    tree.restore_tasks(elements, parked);
+    assert!(rt; tree.current() == caller);
+}
+
 // The task ends, with all below it.
 fn end(rt: &impl Abort, elements: &mut Elements, tree: &mut TaskTree, task: u8)
     requires { IsTaskTree elements.old tree.old }
@@ -113,6 +145,11 @@ fn a_subtree_comes_back_as_it_was(rt: HostRuntime) -> Result<(), Fail> {
         &[(1, 0), (2, 1), (4, 2), (6, 1)],
     );
     compare(&rt, &elements, &tree, &all);
+    run(&rt, &elements, &mut tree, 2);
+    let rest = [(1, 0), (2, 1), (4, 2), (6, 1)];
+    detached(&rt, &mut elements, &mut tree, 3, &rest);
+    compare(&rt, &elements, &tree, &all);
+    run(&rt, &elements, &mut tree, 1);
     assert_eq!(rt; elements.spare(), 104);
     assert_eq!(rt; tree.check_end(&elements, 3), Err(TreeFault::HasSubtasks));
     end(&rt, &mut elements, &mut tree, 3);
