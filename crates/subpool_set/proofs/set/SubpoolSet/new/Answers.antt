@@ -1,8 +1,7 @@
 use Rattle.row_table.proofs.RowLemmas.{none_some}
 use Rattle.subpool_set.specs.SubpoolSet.{sight, pool, owned, number_of, owner_of, IsSubpoolSet}
 use Rattle.subpool_set.specs.Kept.{pool_in}
-use Rattle.std.proofs.Common.{ap, ◌∙◌, ℕ, ◌≡◌, None}
-use Rattle.vsm_elements.specs.Store.{Store}
+use Rattle.std.proofs.Common.{ap}
 use Rattle.subpool_set.proofs.set.SubpoolSet.new.Goals as goal
 
 pub returns-clause-queues : goal.returns-clause-queues
