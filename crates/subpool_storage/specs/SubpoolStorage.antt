@@ -40,8 +40,8 @@ pub record StandsIn (s : Store) (q : SubpoolStorage) : Type 0 where
 unfoldable pub Stands : Store → SubpoolStorage → Type 0
 Stands s q = StandsIn s q
 
--- the subpools are these, and no element but theirs changed
-pub record Becomes (s t : Store) (q r : SubpoolStorage) (subpools : Subpools) : Type 0 where
+-- the subpools are m, and no element but theirs changed
+pub record Becomes (s t : Store) (q r : SubpoolStorage) (m : Subpools) : Type 0 where
   pub stands : Stands t r
   pub moves : Moves s t (hold s q) (hold t r)
-  pub subpools : subpools_of t r ≡ subpools
+  pub subpools : subpools_of t r ≡ m

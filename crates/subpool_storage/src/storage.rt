@@ -2,12 +2,13 @@ ghost use Rattle.std.specs.Prelude.{◌≡◌, ◌≢◌, ℕ, ◌+◌, ◌^◌,
 ghost use Rattle.vsm_elements.specs.Store.{Store, at};
 ghost use Rattle.run_set.specs.Runs.{AllIn, NoneIn};
 ghost use Rattle.run_set.specs.Counts.{joins};
+ghost use Rattle.subpool_set.specs.SubpoolSet.{IsPool, number_of, owner_of};
 ghost use Rattle.subpool_storage.specs.Subpools.{no_subpools, is_there, with_pages, with_free, with_own};
 ghost use Rattle.subpool_storage.specs.Subpools.{with_storage_of};
 
 use descriptor_queue::Run;
 use free_queue::Area;
-use subpool_set::{PoolId, Queues, SubpoolSet};
+use subpool_set::{PoolId, SubpoolSet};
 use vsm_elements::Elements;
 use vsm_model::Subpool;
 
@@ -21,6 +22,11 @@ pub struct SubpoolStorage {
     set: SubpoolSet,
 }
 
+#[tactic(auto, unfolding(
+// the subpools, and which elements are theirs
+crate::specs::SubpoolStorage::subpools_of, crate::specs::SubpoolStorage::hold,
+// where they stand
+crate::specs::SubpoolStorage::Stands))]
 impl SubpoolStorage {
     ghost use Rattle.subpool_storage.specs.SubpoolStorage.{subpools_of, hold, Stands, Becomes};
 
@@ -42,6 +48,20 @@ impl SubpoolStorage {
     {
         let id = self.set.visible(elements, task, number)?;
         Some(self.set.owner(elements, id))
+    }
+
+    // The name of a subpool that is there.
+    fn id(&self, elements: &Elements, subpool: Subpool) -> PoolId
+        requires stands { Stands elements.now self.now }
+        requires there { is_there (subpools_of elements.now self.now) subpool ≡ true }
+        ensures pool { IsPool elements.now self.now.set result }
+        ensures number { number_of elements.now result ≡ subpool.number }
+        ensures owner { owner_of elements.now result ≡ subpool.owner }
+    {
+        match self.set.visible(elements, subpool.owner, subpool.number) {
+            Some(id) => id,
+            None => 0,
+        }
     }
 
     /// The doublewords of an area become free storage of the subpool.

@@ -1,0 +1,3 @@
+pub mod SubpoolLemmas
+pub mod QueueLemmas
+pub mod PutLemmas
