@@ -189,13 +189,13 @@ empty_queues t e f p q extents bare free bare' =
     )
 
 -- where the elements of all queues are as they were
-pub kept_apart : (s t : Store) (xs ys : List ℕ) (f g : Pools) → ((n o : ℕ) → g n o ≡ f n o) → ys ≡ xs → AreApart s f xs
+pub kept_apart : (s t : Store) (xs ys : List ℕ) (f g : Pools) → ((n o : ℕ) → g n o ≡ f n o) → ((i : ℕ) → among i ys ≡ among i xs) → AreApart s f xs
     → ((n o : ℕ) (p : Pool) → f n o ≡ Some p → (i : ℕ) → among i (ids_of s p.queues) ≡ true → at t i ≡ at s i) → AreApart t g ys × ((n o : ℕ) (p : Pool) → f n o ≡ Some p → ids_of t p.queues ≡ ids_of s p.queues)
 kept_apart s t xs ys f g same e was kept = (
   record {
     stand = λ n o p k. (both n o p (sym (same n o) ∙ k)).0;
     apart = λ n o m r p x k h d i z. ap (among i) (both m r x (sym (same m r) ∙ h)).1 ∙ was.apart n o m r p x (sym (same n o) ∙ k) (sym (same m r) ∙ h) d i (ap (among i) (sym (both n o p (sym (same n o) ∙ k)).1) ∙ z);
-    beside = λ n o p k i z. ap (among i) (both n o p (sym (same n o) ∙ k)).1 ∙ was.beside n o p (sym (same n o) ∙ k) i (ap (among i) (sym e) ∙ z);
+    beside = λ n o p k i z. ap (among i) (both n o p (sym (same n o) ∙ k)).1 ∙ was.beside n o p (sym (same n o) ∙ k) i (sym (e i) ∙ z);
   },
   λ n o p k. (both n o p k).1,
 ) where

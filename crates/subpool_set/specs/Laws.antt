@@ -28,6 +28,11 @@ abbrev pub SetsStand : Type 0
 SetsStand = (s : Store) (q : SubpoolSet) → IsSubpoolSet s q
     → Owns s (owned s q) × ((t n o : ℕ) → sight s q t n ≡ Some o → sight s q o n ≡ Some o)
 
+-- who sees a subpool is a task from 1 to 64, at a number up to 127
+abbrev pub SightsAreInRange : Type 0
+SightsAreInRange = (s : Store) (q : SubpoolSet) (t n : ℕ) → IsSubpoolSet s q → IsSome (sight s q t n)
+    → (1 ≤ t) × (t ≤ 64) × (n ≤ 127)
+
 -- a subpool that is there has one id, by which its number and owner are told, and its owner sees it
 abbrev pub PoolsAreNamed : Type 0
 PoolsAreNamed = (s : Store) (q : SubpoolSet) (n o : ℕ) (p : Pool) → IsSubpoolSet s q → pool s q n o ≡ Some p

@@ -36,6 +36,7 @@ use Rattle.subpool_storage.specs.declared.storage.SubpoolStorage.{SubpoolStorage
 use Rattle.subpool_storage.specs.Subpools.{Subpools}
 use Rattle.subpool_storage.specs.SubpoolStorage.{page_in, free_in, subpools_of, hold, StandsIn, Stands, Becomes}
 use Rattle.subpool_storage.proofs.SubpoolLemmas.{with_queues, same_subpools}
+use Rattle.subpool_storage.proofs.ViewLemmas.{counts, pages_at, free_at}
 use Rattle.subpool_storage.proofs.QueueLemmas.{Turned, free_turned, extents_turned}
 
 -- a subpool holds no more than all
@@ -84,18 +85,6 @@ module _ (s r : Store) (q : SubpoolSet) (n o id : ℕ) (old new : Queues) (h : I
     pub pools_are : (m l : ℕ) → pool t q m l ≡ pools_with (pool s q) n o (Some after) m l
     pools_are m l = pools m l ∙ with_here m l ∙ ap (λ (z : Option Pool). if same_key o n l m then Some after else z) (stay.2 m l)
 
-    this : pool t q n o ≡ Some after
-    this = pools_are n o ∙ if_true (same_key o n o n) (Some after) (pool s q n o) (same_self o n)
-
-    turned : (m l : ℕ) → same_key n o m l ≡ false → same_key o n l m ≡ false
-    turned m l d = elim (either (same_key o n l m)) [
-      | inl e ↦ (let w : (o ≡ l) × (n ≡ m) = same_parts o n l m e in absurd (not_both (same_key n o m l) (same_by n o m l w.1 w.0) d))
-      | inr e ↦ e
-    ]
-
-    another : (m l : ℕ) → same_key n o m l ≡ false → pool t q m l ≡ pool s q m l
-    another m l d = pools_are m l ∙ if_false (same_key o n l m) (Some after) (pool s q m l) (turned m l d)
-
     -- the elements of other subpools' queues, and of the new ones
     other_same : (m l : ℕ) (x : Pool) → pool s q m l ≡ Some x → same_key n o m l ≡ false → (i : ℕ) → among i (ids_of s x.queues) ≡ true → at t i ≡ at s i
     other_same m l x e d i z =
@@ -106,46 +95,21 @@ module _ (s r : Store) (q : SubpoolSet) (n o id : ℕ) (old new : Queues) (h : I
     new_same : (i : ℕ) → among i (ids_of r new) ≡ true → at t i ≡ at r i
     new_same i z = (stays r t (owned r q) (owned t q) own i (both_live r new stand i z) (false_if (among i (owned r q)) (λ w. not_both (among i (ids_of r new)) z (mid.beside n o after (if_true (same_key o n o n) (Some after) (pool r q n o) (same_self o n)) i w)))).1
 
-    other_kept : (m l : ℕ) (x : Pool) → pool s q m l ≡ Some x → same_key n o m l ≡ false → ids_of t x.queues ≡ ids_of s x.queues
-    other_kept m l x e d = (both_kept s t x.queues (was.stand m l x e) (other_same m l x e d)).1
-
-    new_kept : ids_of t new ≡ ids_of r new
-    new_kept = (both_kept r t new stand new_same).1
-
-    pub counts : (i : ℕ) → times i (queue_ids t q) + times i (ids_of s old) ≡ times i (queue_ids s q) + times i (ids_of r new)
-    counts i = omega (arith, ids_follow s t q q n o (Some after) h was k now pools_are other_kept i, ap (λ (z : Option Pool). times i (ids_at s z)) there, ap (times i) new_kept)
+    pub counted : (i : ℕ) → times i (queue_ids t q) + times i (ids_of s old) ≡ times i (queue_ids s q) + times i (ids_of r new)
+    counted = counts s r t q n o id old new h was there stand k now pools_are other_same new_same
 
     pub moves : Moves s t (λ i. times i (owned s q) + times i (queue_ids s q)) (λ i. times i (owned t q) + times i (queue_ids t q))
     moves = moves-follow s r t (λ i. times i (owned s q) + times i (queue_ids s q)) (λ i. times i (owned s q) + times i (queue_ids t q)) (λ i. times i (owned t q) + times i (queue_ids t q))
         (moves-by s r (λ i. times i (ids_of s old)) (λ i. times i (ids_of r new)) (λ i. times i (owned s q) + times i (queue_ids s q)) (λ i. times i (owned s q) + times i (queue_ids t q))
-        (moves-of s r (ids_of s old) (ids_of r new) leaves) (λ i. omega (arith, part_of s q n o before h (was.stand n o before there) there i)) (λ i. omega (arith, counts i)))
+        (moves-of s r (ids_of s old) (ids_of r new) leaves) (λ i. omega (arith, part_of s q n o before h (was.stand n o before there) there i)) (λ i. omega (arith, counted i)))
         (moves-by r t (λ i. times i (owned r q)) (λ i. times i (owned t q)) (λ i. times i (owned s q) + times i (queue_ids t q)) (λ i. times i (owned t q) + times i (queue_ids t q))
         (moves-of r t (owned r q) (owned t q) own) (λ i. omega (arith, ap (times i) stay.3)) (λ i. omega (arith, ap (times i) stay.3)))
 
-    -- pages and free storage
-    pub pages_at : (m l x : ℕ) → page_in t (pool t q m l) x ≡ (if (m == n) && (l == o) then has_page r new.extents x else page_in s (pool s q m l) x)
-    pages_at m l x = elim (either (same_key m l n o)) [
-      | inl e ↦ (let u : (m ≡ n) × (l ≡ o) = same_parts m l n o e in
-          ap (λ (z : Option Pool). page_in t z x) (ap (λ (z : ℕ). pool t q z l) u.0 ∙ ap (pool t q n) u.1 ∙ this)
-          ∙ (extents_kept r t new.extents stand.extents (λ i z. new_same i (in_left i (Extents.owned r new.extents) (FreeQueue.owned r new.free) z))).2 x
-          ∙ sym (if_true (same_key m l n o) (has_page r new.extents x) (page_in s (pool s q m l) x) e))
-      | inr e ↦ ap (λ (z : Option Pool). page_in t z x) (another m l (sym (same_sym m l n o) ∙ e)) ∙ same (pool s q m l) refl (sym (same_sym m l n o) ∙ e) ∙ sym (if_false (same_key m l n o) (has_page r new.extents x) (page_in s (pool s q m l) x) e)
-    ] where
-      same : (y : Option Pool) → pool s q m l ≡ y → same_key n o m l ≡ false → page_in t y x ≡ page_in s y x
-      same None e d = refl
-      same (Some y) e d = (extents_kept s t y.queues.extents (was.stand m l y e).extents (λ i z. other_same m l y e d i (in_left i (Extents.owned s y.queues.extents) (FreeQueue.owned s y.queues.free) z))).2 x
+    pub pages_now : (m l x : ℕ) → page_in t (pool t q m l) x ≡ (if (m == n) && (l == o) then has_page r new.extents x else page_in s (pool s q m l) x)
+    pages_now = pages_at s r t q n o id old new h was there stand k now pools_are other_same new_same
 
-    pub free_at : (m l x : ℕ) → free_in t (pool t q m l) x ≡ (if (m == n) && (l == o) then is_free r new.free x else free_in s (pool s q m l) x)
-    free_at m l x = elim (either (same_key m l n o)) [
-      | inl e ↦ (let u : (m ≡ n) × (l ≡ o) = same_parts m l n o e in
-          ap (λ (z : Option Pool). free_in t z x) (ap (λ (z : ℕ). pool t q z l) u.0 ∙ ap (pool t q n) u.1 ∙ this)
-          ∙ (queues_kept r t new.free stand.free (λ i z. new_same i (in_right i (Extents.owned r new.extents) (FreeQueue.owned r new.free) z))).2 x
-          ∙ sym (if_true (same_key m l n o) (is_free r new.free x) (free_in s (pool s q m l) x) e))
-      | inr e ↦ ap (λ (z : Option Pool). free_in t z x) (another m l (sym (same_sym m l n o) ∙ e)) ∙ same (pool s q m l) refl (sym (same_sym m l n o) ∙ e) ∙ sym (if_false (same_key m l n o) (is_free r new.free x) (free_in s (pool s q m l) x) e)
-    ] where
-      same : (y : Option Pool) → pool s q m l ≡ y → same_key n o m l ≡ false → free_in t y x ≡ free_in s y x
-      same None e d = refl
-      same (Some y) e d = (queues_kept s t y.queues.free (was.stand m l y e).free (λ i z. other_same m l y e d i (in_right i (Extents.owned s y.queues.extents) (FreeQueue.owned s y.queues.free) z))).2 x
+    pub free_now : (m l x : ℕ) → free_in t (pool t q m l) x ≡ (if (m == n) && (l == o) then is_free r new.free x else free_in s (pool s q m l) x)
+    free_now = free_at s r t q n o id old new h was there stand k now pools_are other_same new_same
 
 -- what becomes of the subpools
 module _ (s r : Store) (q : SubpoolStorage) (p : Subpool) (id : ℕ) (old new : Queues) (pages free : ℕ → Bool) (h : Stands s q) (there : pool s q.set p.number p.owner ≡ Some (record { id = id; queues = old })) (call : Turned s r old new pages free) where
@@ -163,8 +127,8 @@ module _ (s r : Store) (q : SubpoolStorage) (p : Subpool) (id : ℕ) (old new : 
     unfolding Stands subpools_of
     subpools_are = same_subpools (subpools_of t q) (with_queues (subpools_of s q) p pages free)
         (seen s r q.set p.number p.owner id old new h.set h.queues there call.leaves call.stand t k sights pools own put)
-        (λ m x. pages_at s r q.set p.number p.owner id old new h.set h.queues there call.leaves call.stand t k sights pools own put m.number m.owner x ∙ ap (λ (z : Bool). if same_subpool m p then z else page_in s (pool s q.set m.number m.owner) x) (call.pages_are x))
-        (λ m d. free_at s r q.set p.number p.owner id old new h.set h.queues there call.leaves call.stand t k sights pools own put m.number m.owner d ∙ ap (λ (z : Bool). if same_subpool m p then z else free_in s (pool s q.set m.number m.owner) d) (call.free_is d))
+        (λ m x. pages_now s r q.set p.number p.owner id old new h.set h.queues there call.leaves call.stand t k sights pools own put m.number m.owner x ∙ ap (λ (z : Bool). if same_subpool m p then z else page_in s (pool s q.set m.number m.owner) x) (call.pages_are x))
+        (λ m d. free_now s r q.set p.number p.owner id old new h.set h.queues there call.leaves call.stand t k sights pools own put m.number m.owner d ∙ ap (λ (z : Bool). if same_subpool m p then z else free_in s (pool s q.set m.number m.owner) d) (call.free_is d))
 
     pub becomes : (subpools : Subpools) → with_queues (subpools_of s q) p pages free ≡ subpools → Becomes s t q q subpools
     unfolding Stands hold

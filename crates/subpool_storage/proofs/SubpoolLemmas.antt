@@ -11,9 +11,9 @@ use Rattle.subpool_storage.specs.Subpools.{Subpools, with_pages, with_free, with
 -- the subpool has these pages and this free storage
 abbrev pub with_queues : Subpools → Subpool → (ℕ → Bool) → (ℕ → Bool) → Subpools
 with_queues m p pages free = record m {
-      pages = λ q x. if same_subpool q p then pages x else m.pages q x;
-      free = λ q d. if same_subpool q p then free d else m.free q d;
-    }
+  pages = λ q x. if same_subpool q p then pages x else m.pages q x;
+  free = λ q d. if same_subpool q p then free d else m.free q d;
+}
 
 -- equal at every place
 pub same_subpools : (m k : Subpools) → ((t n : ℕ) → m.sight t n ≡ k.sight t n) → ((q : Subpool) (x : ℕ) → m.pages q x ≡ k.pages q x) → ((q : Subpool) (d : ℕ) → m.free q d ≡ k.free q d) → m ≡ k

@@ -37,9 +37,9 @@ with_free m p area free =
 -- The owner sees its subpool from now on, or it sees none of that number.
 abbrev pub with_own : Subpools → Subpool → Bool → Subpools
 with_own m p present = record m {
-      sight = λ task number. if (task == p.owner) && (number == p.number) then (if present then Some p.owner else None)
-          else m.sight task number;
-    }
+  sight = λ task number. if (task == p.owner) && (number == p.number) then (if present then Some p.owner else None)
+      else m.sight task number;
+}
 
 -- The subpool has the pages and the free storage that it has among others.
 abbrev pub with_storage_of : Subpools → Subpools → Subpool → Subpools

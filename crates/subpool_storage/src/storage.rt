@@ -8,6 +8,7 @@ ghost use Rattle.subpool_storage.specs.Subpools.{with_storage_of};
 
 use descriptor_queue::Run;
 use free_queue::Area;
+use subpool_set::laws::new_queues_are_empty;
 use subpool_set::{PoolId, SubpoolSet};
 use vsm_elements::Elements;
 use vsm_model::Subpool;
@@ -156,6 +157,7 @@ impl SubpoolStorage {
             (with_own (subpools_of elements.old self.old) subpool true) }
         ensures spares { elements.new.spare + 1 ≡ elements.old.spare }
     {
+        new_queues_are_empty();
         self.set.create(elements, subpool.owner, subpool.number);
     }
 
@@ -178,7 +180,12 @@ impl SubpoolStorage {
 
     /// Exchanges the pages and the free storage of a subpool with those that it has among `others`, by their heads: no
     /// element of a queue is touched.
-    pub fn exchange_storage(&self, elements: &mut Elements, others: &SubpoolStorage, subpool: Subpool)
+    pub fn exchange_storage(
+        &self,
+        elements: &mut Elements,
+        others: &SubpoolStorage,
+        subpool: Subpool,
+    )
         requires stands { Stands elements.old self.now }
         requires others { Stands elements.old others.now }
         requires there { is_there (subpools_of elements.old self.now) subpool ≡ true }
