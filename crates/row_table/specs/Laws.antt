@@ -1,6 +1,6 @@
 -- Laws of tables of rows.
-use Rattle.std.specs.Prelude.{◌≡◌, ℕ, List, Some}
-use Rattle.vsm_elements.specs.Store.{Store, SameElements}
+use Rattle.std.specs.Prelude.{◌≡◌, ℕ, true, List, Some}
+use Rattle.vsm_elements.specs.Store.{Store, at, among, SameElements}
 use Rattle.vsm_elements.specs.Ownership.{Owns, Leaves, Apart}
 use Rattle.row_table.specs.declared.row.Row.{Row}
 use Rattle.row_table.specs.declared.table.RowTable.{RowTable}
@@ -14,6 +14,18 @@ TablesStand = (s : Store) (q : RowTable) → IsTable s q
     → Owns s (owned s q)
     × ((a b : ℕ) (r : Row) → row s q a b ≡ Some r
     → (word r.words 0 ≡ a) × (word r.words 1 ≡ b) × (words_of s r.id ≡ r.words))
+
+-- an id is a table's just where a row has it
+abbrev pub RowIdsAre : Type 0
+RowIdsAre = (s : Store) (q : RowTable) (i : ℕ) → IsTable s q
+    → (among i (owned s q) ≡ true → (a : ℕ) × (b : ℕ) × (r : Row) × ((row s q a b ≡ Some r) × (r.id ≡ i)))
+    × ((a b : ℕ) (r : Row) → row s q a b ≡ Some r → among r.id (owned s q) ≡ true)
+
+-- a table whose elements are as they were is as it was
+abbrev pub TablesKept : Type 0
+TablesKept = (s t : Store) (q : RowTable) → IsTable s q
+    → ((id : ℕ) → among id (owned s q) ≡ true → at t id ≡ at s id)
+    → IsTable t q × ((a b : ℕ) → row t q a b ≡ row s q a b) × (owned t q ≡ owned s q) × (rows t q ≡ rows s q)
 
 -- a table that stands apart from what a call owns is as it was
 abbrev pub TablesStay : Type 0

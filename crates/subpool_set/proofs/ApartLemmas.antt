@@ -15,7 +15,7 @@ use Rattle.free_queue.specs.FreeQueue
 use Rattle.subpool_set.specs.declared.queues.Queues.{Queues}
 use Rattle.subpool_set.specs.Pools.{Pool, Pools, no_queues, pools_with, pools_given, pool_alone}
 use Rattle.subpool_set.specs.QueueElements.{ids_of, StandApart, AreApart}
-use Rattle.subpool_set.proofs.HeadLemmas.{both_live, both_stay, in_left, in_right, in_either}
+use Rattle.subpool_set.proofs.HeadLemmas.{both_live, both_kept, both_stay, in_left, in_right, in_either}
 
 -- a subpool whose queues are those of another, which was there
 pub record Came (f : Pools) (n o : ℕ) (p : Pool) : Type 0 where
@@ -188,19 +188,19 @@ empty_queues t e f p q extents bare free bare' =
       ap (λ (z : List ℕ). z ++ FreeQueue.owned t (queue_of 0 0)) x.1 ∙ y.1,
     )
 
--- a call that leaves all queues alone
-pub frame_apart : (s t : Store) (had has xs ys : List ℕ) → Leaves s t had has → (f g : Pools) → ((n o : ℕ) → g n o ≡ f n o) → ys ≡ xs → AreApart s f xs
-    → ((n o : ℕ) (p : Pool) → f n o ≡ Some p → Apart had (ids_of s p.queues)) → AreApart t g ys × ((n o : ℕ) (p : Pool) → f n o ≡ Some p → ids_of t p.queues ≡ ids_of s p.queues)
-frame_apart s t had has xs ys call f g same e was apart = (
+-- where the elements of all queues are as they were
+pub kept_apart : (s t : Store) (xs ys : List ℕ) (f g : Pools) → ((n o : ℕ) → g n o ≡ f n o) → ((i : ℕ) → among i ys ≡ among i xs) → AreApart s f xs
+    → ((n o : ℕ) (p : Pool) → f n o ≡ Some p → (i : ℕ) → among i (ids_of s p.queues) ≡ true → at t i ≡ at s i) → AreApart t g ys × ((n o : ℕ) (p : Pool) → f n o ≡ Some p → ids_of t p.queues ≡ ids_of s p.queues)
+kept_apart s t xs ys f g same e was kept = (
   record {
     stand = λ n o p k. (both n o p (sym (same n o) ∙ k)).0;
     apart = λ n o m r p x k h d i z. ap (among i) (both m r x (sym (same m r) ∙ h)).1 ∙ was.apart n o m r p x (sym (same n o) ∙ k) (sym (same m r) ∙ h) d i (ap (among i) (sym (both n o p (sym (same n o) ∙ k)).1) ∙ z);
-    beside = λ n o p k i z. ap (among i) (both n o p (sym (same n o) ∙ k)).1 ∙ was.beside n o p (sym (same n o) ∙ k) i (ap (among i) (sym e) ∙ z);
+    beside = λ n o p k i z. ap (among i) (both n o p (sym (same n o) ∙ k)).1 ∙ was.beside n o p (sym (same n o) ∙ k) i (sym (e i) ∙ z);
   },
   λ n o p k. (both n o p k).1,
 ) where
   both : (n o : ℕ) (p : Pool) → f n o ≡ Some p → StandApart t p.queues × (ids_of t p.queues ≡ ids_of s p.queues)
-  both n o p k = both_stay s t had has p.queues call (was.stand n o p k) (apart n o p k)
+  both n o p k = both_kept s t p.queues (was.stand n o p k) (kept n o p k)
 
 -- a call on the queues of one subpool
 module _ (s t : Store) (f g : Pools) (others : List ℕ) (n o : ℕ) (p : Pool) (queues : Queues) (was : AreApart s f others) (live : (i : ℕ) → among i others ≡ true → IsSome (at s i)) (there : f n o ≡ Some p)

@@ -1,13 +1,14 @@
 -- Laws of sets of subpools.
-use Rattle.std.specs.Prelude.{◌≡◌, ℕ, true, List, [], ◌++◌, Some, None, IsSome}
-use Rattle.vsm_elements.specs.Store.{Store, among}
+use Rattle.std.specs.Prelude.{◌≡◌, ℕ, ◌+◌, ◌≤◌, true, false, List, [], ◌++◌, Option, Some, None, IsSome}
+use Rattle.vsm_elements.specs.Store.{Store, at, among}
+use Rattle.vsm_elements.specs.Owners.{times}
 use Rattle.vsm_elements.specs.Ownership.{Owns, Leaves, Apart}
 use Rattle.descriptor_queue.specs.Extents.{extents, IsExtents}
 use Rattle.descriptor_queue.specs.Extents
 use Rattle.free_queue.specs.FreeQueue.{areas, IsFreeQueue}
 use Rattle.free_queue.specs.FreeQueue
 use Rattle.subpool_set.specs.declared.set.SubpoolSet.{SubpoolSet}
-use Rattle.row_table.specs.Rows.{either_of}
+use Rattle.row_table.specs.Rows.{same_key, either_of}
 use Rattle.subpool_set.specs.Pools.{Pool, Sight, Pools, no_queues, sight_of_pool, sight_without, pools_with, pool_alone}
 use Rattle.subpool_set.specs.Pools.{in_order, pools_after, sharers, sharers_after}
 use Rattle.subpool_set.specs.SubpoolSet.{sight, pool, owned, number_of, owner_of, IsSubpoolSet, IsPool}
@@ -28,10 +29,22 @@ abbrev pub SetsStand : Type 0
 SetsStand = (s : Store) (q : SubpoolSet) → IsSubpoolSet s q
     → Owns s (owned s q) × ((t n o : ℕ) → sight s q t n ≡ Some o → sight s q o n ≡ Some o)
 
+-- who sees a subpool is a task from 1 to 64, at a number up to 127
+abbrev pub SightsAreInRange : Type 0
+SightsAreInRange = (s : Store) (q : SubpoolSet) (t n : ℕ) → IsSubpoolSet s q → IsSome (sight s q t n)
+    → (1 ≤ t) × (t ≤ 64) × (n ≤ 127)
+
 -- a subpool that is there has one id, by which its number and owner are told, and its owner sees it
 abbrev pub PoolsAreNamed : Type 0
 PoolsAreNamed = (s : Store) (q : SubpoolSet) (n o : ℕ) (p : Pool) → IsSubpoolSet s q → pool s q n o ≡ Some p
     → IsPool s q p.id × (number_of s p.id ≡ n) × (owner_of s p.id ≡ o) × (sight s q o n ≡ Some o)
+
+-- a set whose elements are as they were is as it was
+abbrev pub SetsKept : Type 0
+SetsKept = (s t : Store) (q : SubpoolSet) → IsSubpoolSet s q
+    → ((i : ℕ) → among i (owned s q) ≡ true → at t i ≡ at s i)
+    → IsSubpoolSet t q × ((task n : ℕ) → sight t q task n ≡ sight s q task n)
+    × ((n o : ℕ) → pool t q n o ≡ pool s q n o) × (owned t q ≡ owned s q)
 
 -- a set that stands apart from what a call owns, as one on a queue, is as it was: so is each head in it
 abbrev pub SetsStay : Type 0
@@ -39,6 +52,14 @@ SetsStay = (s t : Store) (had has : List ℕ) (q : SubpoolSet) → Leaves s t ha
     → Apart had (owned s q)
     → IsSubpoolSet t q × ((task n : ℕ) → sight t q task n ≡ sight s q task n)
     × ((n o : ℕ) → pool t q n o ≡ pool s q n o) × (owned t q ≡ owned s q)
+
+-- where the elements of the set and of its queues are as they were, the queues stand, and their ids are the same
+abbrev pub QueuesKept : Type 0
+QueuesKept = (s t : Store) (q : SubpoolSet) → IsSubpoolSet s q → QueuesStand s q
+    → ((i : ℕ) → among i (owned s q) ≡ true → at t i ≡ at s i)
+    → ((i : ℕ) → among i (queue_ids s q) ≡ true → at t i ≡ at s i)
+    → QueuesStand t q × (queue_ids t q ≡ queue_ids s q)
+    × ((n o : ℕ) (p : Pool) → pool s q n o ≡ Some p → ids_of t p.queues ≡ ids_of s p.queues)
 
 -- where a call leaves alone what the set and its queues own, the queues stand, and their ids are the same
 abbrev pub QueuesStay : Type 0
@@ -70,6 +91,26 @@ QueueIdsAre = (s : Store) (q : SubpoolSet) (i : ℕ) → IsSubpoolSet s q
     → (n : ℕ) × (o : ℕ) × (p : Pool) × ((pool s q n o ≡ Some p) × (among i (ids_of s p.queues) ≡ true)))
     × ((n o : ℕ) (p : Pool) → pool s q n o ≡ Some p → among i (ids_of s p.queues) ≡ true
     → among i (queue_ids s q) ≡ true)
+
+-- a set and its queues hold each id once at most, and live ones alone
+abbrev pub QueueIdsAreOnce : Type 0
+QueueIdsAreOnce = (s : Store) (q : SubpoolSet) → IsSubpoolSet s q → QueuesStand s q
+    → ((i : ℕ) → times i (owned s q) + times i (queue_ids s q) ≤ 1)
+    × ((i : ℕ) → among i (queue_ids s q) ≡ true → IsSome (at s i))
+
+-- the ids of the queues of a subpool, where one is
+abbrev pub ids_at : Store → Option Pool → List ℕ
+ids_at s None = []
+ids_at s (Some p) = ids_of s p.queues
+
+-- where one subpool comes, goes or gets other queues, and those of all others are as they were, the ids of the queues
+-- are more and fewer by those of that one
+abbrev pub QueueIdsFollow : Type 0
+QueueIdsFollow = (s t : Store) (q r : SubpoolSet) (n o : ℕ) (x : Option Pool)
+    → IsSubpoolSet s q → QueuesStand s q → IsSubpoolSet t r → QueuesStand t r
+    → ((m k : ℕ) → pool t r m k ≡ pools_with (pool s q) n o x m k)
+    → ((m k : ℕ) (p : Pool) → pool s q m k ≡ Some p → same_key n o m k ≡ false → ids_of t p.queues ≡ ids_of s p.queues)
+    → (i : ℕ) → times i (queue_ids t r) + times i (ids_at s (pool s q n o)) ≡ times i (queue_ids s q) + times i (ids_at t x)
 
 -- what was taken out, put back beside what was left, is what was there
 abbrev pub PutBack : Type 0

@@ -1,5 +1,5 @@
 ghost use Rattle.std.specs.Prelude.{◌≡◌, ◌≢◌, ℕ, ◌+◌, ◌<◌, ◌≤◌, ◌++◌, [], Some, None, IsSome, IfSome, IfNone};
-ghost use Rattle.vsm_elements.specs.Store.{Store};
+ghost use Rattle.vsm_elements.specs.Store.{Store, among};
 ghost use Rattle.vsm_elements.specs.Ownership.{Leaves, Apart};
 ghost use Rattle.row_table.specs.Rows.{either_of};
 ghost use Rattle.subpool_set.specs.Pools.{no_queues, sight_with, pools_with, sight_given, pools_given, sight_of_pool};
@@ -132,6 +132,7 @@ impl SubpoolSet {
             (pools_with (pool elements.old self.now) (number_of elements.old id) (owner_of elements.old id)
             (Some (record { id = id; queues = queues }))) (owned elements.old self.now)
             → QueuesStand elements.new self.now }
+        ensures ids { (i : ℕ) → among i (owned elements.new self.now) ≡ among i (owned elements.old self.now) }
         ensures spares { elements.new.spare ≡ elements.old.spare }
     {
         let owner = self.owner(elements, id);
@@ -213,6 +214,25 @@ impl SubpoolSet {
     {
         self.rows
             .remove(elements, u32::from(task), u32::from(number));
+    }
+
+    /// The subpool of this number, which its owner alone sees, is no longer there. The elements of its queues stay.
+    pub fn remove(&mut self, elements: &mut Elements, owner: u8, number: u8)
+        requires set { IsSubpoolSet elements.old self.old }
+        requires there { sight elements.old self.old owner number ≡ Some owner }
+        requires alone { (t : ℕ) → sight elements.old self.old t number ≡ Some owner → t ≡ owner }
+        ensures set { IsSubpoolSet elements.new self.new }
+        ensures sight { (t n : ℕ) → sight elements.new self.new t n
+            ≡ sight_with (sight elements.old self.old) owner number None t n }
+        ensures pools { (n o : ℕ) → pool elements.new self.new n o
+            ≡ pools_with (pool elements.old self.old) number owner None n o }
+        ensures owned { Leaves elements.old elements.new
+            (owned elements.old self.old) (owned elements.new self.new) }
+        ensures queues { QueuesStand elements.old self.old → QueuesStand elements.new self.new }
+        ensures spares { elements.new.spare ≡ elements.old.spare + 1 }
+    {
+        self.rows
+            .remove(elements, u32::from(owner), u32::from(number));
     }
 
     /// The subpool becomes the task's: its giver no longer sees it, and who shares it shares it with its new owner.

@@ -4,10 +4,11 @@ use Rattle.std.proofs.lemmas.Bool.Decides.{eqb_tells}
 use Rattle.vsm_elements.specs.declared.element.Element.{Element}
 use Rattle.vsm_elements.specs.declared.chain.Chain.{Chain}
 use Rattle.vsm_elements.specs.Store.{Store, at}
-use Rattle.vsm_elements.specs.Ownership.{Leaves, Apart}
-use Rattle.vsm_elements.specs.Chain.{links, owned, IsChain, IsChainOf}
-use Rattle.vsm_elements.proofs.ChainLemmas.{Holds-same, links_are, is_chain, live_in}
+use Rattle.vsm_elements.specs.Ownership.{Apart}
+use Rattle.vsm_elements.specs.Chain.{links, owned, IsChain}
+use Rattle.vsm_elements.proofs.ChainLemmas.{live_in}
 use Rattle.vsm_elements.proofs.ChainFrame.{gone}
+use Rattle.vsm_elements.proofs.OwnerLemmas.{chains_kept}
 use Rattle.vsm_elements.specs.Owners.{times, Moves}
 use Rattle.vsm_elements.specs.Laws.{CallsMove, MovesFollow, PartsMove, OthersKept, OwnersKept}
 use Rattle.vsm_elements.proofs.TimesLemmas.{times-some, none-from, some-from, times-once}
@@ -80,9 +81,7 @@ pub chain-once : (s : Store) (c : Chain) → IsChain s c → (i : ℕ) → times
 chain-once s c h i = times-once i (owned s c) h.distinct
 
 pub chain-kept : (s t : Store) (c : Chain) → IsChain s c → ((i : ℕ) → 0 < times i (owned s c) → at t i ≡ at s i) → IsChain t c × (links t c ≡ links s c)
-chain-kept s t c h same = (is_chain t c (links s c) as-of, links_are t c (links s c) as-of) where
-  as-of : IsChainOf t c (links s c)
-  as-of = record { first = h.first; count = h.count; held = Holds-same s t (links s c) 0 h.held (λ i n. same i (times-some i (owned s c) n)); distinct = h.distinct }
+chain-kept s t c h same = chains_kept s t c h (λ i n. same i (times-some i (owned s c) n))
 
 pub apart-from : (xs ys : List ℕ) → ((i : ℕ) → times i xs + times i ys ≤ 1) → Apart xs ys
 apart-from xs ys h i m = none-from i ys (omega (arith, h i, times-some i xs m))

@@ -1,0 +1,9 @@
+use Rattle.std.proofs.Common.{ℕ, ap, arith}
+use Rattle.vsm_elements.specs.Owners.{times}
+use Rattle.subpool_storage.specs.SubpoolStorage.{hold}
+use Rattle.subpool_storage.proofs.LawLemmas.{none_held}
+use Rattle.subpool_storage.proofs.storage.SubpoolStorage.new.Goals as goal
+
+pub returns-clause-owned : goal.returns-clause-owned
+unfolding hold
+returns-clause-owned c s i = omega (arith, ap (times i) (c.new.ensures.owned s), none_held s c.new.result (c.new.ensures.set s) (c.new.ensures.empty s) i)
