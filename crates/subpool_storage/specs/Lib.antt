@@ -1,0 +1,3 @@
+pub mod Subpools
+pub mod SubpoolStorage
+pub mod Laws

@@ -1,0 +1,47 @@
+-- What a contract sees of a `SubpoolStorage`: its subpools as functions, and how often it holds an element.
+--
+-- The words are closed, so that nothing above depends on how the subpools stand in the elements.
+use Rattle.std.specs.Prelude.{◌≡◌, ℕ, ◌+◌, Bool, false, Option, Some, None}
+use Rattle.vsm_elements.specs.Store.{Store}
+use Rattle.vsm_elements.specs.Owners.{times, Moves}
+use Rattle.descriptor_queue.specs.Extents.{has_page}
+use Rattle.free_queue.specs.FreeQueue.{is_free}
+use Rattle.subpool_set.specs.Pools.{Pool}
+use Rattle.subpool_set.specs.SubpoolSet.{sight, pool, owned, queue_ids, IsSubpoolSet, QueuesStand}
+use Rattle.subpool_storage.specs.declared.storage.SubpoolStorage.{SubpoolStorage}
+use Rattle.subpool_storage.specs.Subpools.{Subpools}
+
+abbrev pub page_in : Store → Option Pool → ℕ → Bool
+page_in s None page = false
+page_in s (Some p) page = has_page s p.queues.extents page
+
+abbrev pub free_in : Store → Option Pool → ℕ → Bool
+free_in s None d = false
+free_in s (Some p) d = is_free s p.queues.free d
+
+-- the subpools, with their pages and their free storage
+unfoldable pub subpools_of : Store → SubpoolStorage → Subpools
+subpools_of s q =
+    record {
+      sight = λ task number. sight s q.set task number;
+      pages = λ p page. page_in s (pool s q.set p.number p.owner) page;
+      free = λ p d. free_in s (pool s q.set p.number p.owner) d;
+    }
+
+-- how often it holds an element, in its rows or in a queue
+unfoldable pub hold : Store → SubpoolStorage → ℕ → ℕ
+hold s q i = times i (owned s q.set) + times i (queue_ids s q.set)
+
+-- the subpools and their queues stand in these elements
+pub record StandsIn (s : Store) (q : SubpoolStorage) : Type 0 where
+  pub set : IsSubpoolSet s q.set
+  pub queues : QueuesStand s q.set
+
+unfoldable pub Stands : Store → SubpoolStorage → Type 0
+Stands s q = StandsIn s q
+
+-- the subpools are these, and no element but theirs changed
+pub record Becomes (s t : Store) (q r : SubpoolStorage) (subpools : Subpools) : Type 0 where
+  pub stands : Stands t r
+  pub moves : Moves s t (hold s q) (hold t r)
+  pub subpools : subpools_of t r ≡ subpools

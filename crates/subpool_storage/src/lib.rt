@@ -1,0 +1,7 @@
+//! Subpools with their pages and their free storage: the set of subpools and the queues of each, as one.
+#![tactic(auto)]
+
+pub mod laws;
+mod storage;
+
+pub use storage::SubpoolStorage;

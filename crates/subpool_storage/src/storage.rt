@@ -1,0 +1,186 @@
+ghost use Rattle.std.specs.Prelude.{◌≡◌, ◌≢◌, ℕ, ◌+◌, ◌^◌, ◌<◌, ◌≤◌, true, false, Some, None};
+ghost use Rattle.vsm_elements.specs.Store.{Store, at};
+ghost use Rattle.run_set.specs.Runs.{AllIn, NoneIn};
+ghost use Rattle.run_set.specs.Counts.{joins};
+ghost use Rattle.subpool_storage.specs.Subpools.{no_subpools, is_there, with_pages, with_free, with_own};
+ghost use Rattle.subpool_storage.specs.Subpools.{with_storage_of};
+
+use descriptor_queue::Run;
+use free_queue::Area;
+use subpool_set::{PoolId, Queues, SubpoolSet};
+use vsm_elements::Elements;
+use vsm_model::Subpool;
+
+/// The head of all subpools with their pages and their free storage.
+///
+/// A subpool is named by its number and its owner. The head is kept by value; every changing call takes the elements
+/// first, and takes no memory: what it needs has to be spare. Runs are in pages of 4,096 bytes and areas in doublewords
+/// of 8, below and above the 16 MB line. (z/OS MVS Programming: Assembler Services Guide, "Subpool handling".)
+#[derive(Clone, Copy, Debug, PartialEq, Eq)]
+pub struct SubpoolStorage {
+    set: SubpoolSet,
+}
+
+impl SubpoolStorage {
+    ghost use Rattle.subpool_storage.specs.SubpoolStorage.{subpools_of, hold, Stands, Becomes};
+
+    /// No subpool. It has no element.
+    pub fn new() -> SubpoolStorage
+        ensures stands { (s : Store) → Stands s result }
+        ensures subpools { (s : Store) → subpools_of s result ≡ no_subpools }
+        ensures owned { (s : Store) (i : ℕ) → hold s result i ≡ 0 }
+    {
+        SubpoolStorage {
+            set: SubpoolSet::new(),
+        }
+    }
+
+    /// The owner of the subpool that the task sees at the number.
+    pub fn owner_seen(&self, elements: &Elements, task: u8, number: u8) -> Option<u8>
+        requires { Stands elements.now self.now }
+        ensures { result ≡ (subpools_of elements.now self.now).sight task number }
+    {
+        let id = self.set.visible(elements, task, number)?;
+        Some(self.set.owner(elements, id))
+    }
+
+    /// The doublewords of an area become free storage of the subpool.
+    ///
+    /// It takes one element, less one for each of the two doublewords beside the area that are free.
+    pub fn free_area(&self, elements: &mut Elements, subpool: Subpool, area: Area)
+        requires stands { Stands elements.old self.now }
+        requires there { is_there (subpools_of elements.old self.now) subpool ≡ true }
+        requires range { (0 < area.len) × (area.start + area.len ≤ 2 ^ 29) }
+        requires taken { NoneIn ((subpools_of elements.old self.now).free subpool) area }
+        requires room { 0 < elements.old.spare }
+        ensures becomes { Becomes elements.old elements.new self.now self.now
+            (with_free (subpools_of elements.old self.now) subpool area true) }
+        ensures spares { elements.new.spare + 1
+            ≡ elements.old.spare + joins ((subpools_of elements.old self.now).free subpool) area }
+    {
+        let id = self.id(elements, subpool);
+        let mut queues = self.set.queues(elements, id);
+        queues.free.free(elements, area);
+        self.set.set_queues(elements, id, queues);
+    }
+
+    /// The doublewords of an area are no longer free storage of the subpool.
+    ///
+    /// It takes one element for each of the two doublewords beside the area that are free, less one.
+    pub fn carve_area(&self, elements: &mut Elements, subpool: Subpool, area: Area)
+        requires stands { Stands elements.old self.now }
+        requires there { is_there (subpools_of elements.old self.now) subpool ≡ true }
+        requires range { (0 < area.len) × (area.start + area.len ≤ 2 ^ 29) }
+        requires free { AllIn ((subpools_of elements.old self.now).free subpool) area }
+        requires room { 0 < elements.old.spare }
+        ensures becomes { Becomes elements.old elements.new self.now self.now
+            (with_free (subpools_of elements.old self.now) subpool area false) }
+        ensures spares { elements.new.spare + joins ((subpools_of elements.old self.now).free subpool) area
+            ≡ elements.old.spare + 1 }
+    {
+        let id = self.id(elements, subpool);
+        let mut queues = self.set.queues(elements, id);
+        queues.free.carve(elements, area);
+        self.set.set_queues(elements, id, queues);
+    }
+
+    /// The pages of a run become the subpool's.
+    ///
+    /// It takes one element, less one for each of the two pages beside the run that are the subpool's.
+    pub fn insert_run(&self, elements: &mut Elements, subpool: Subpool, run: Run)
+        requires stands { Stands elements.old self.now }
+        requires there { is_there (subpools_of elements.old self.now) subpool ≡ true }
+        requires range { (0 < run.len) × (run.start + run.len ≤ 2 ^ 20) }
+        requires absent { NoneIn ((subpools_of elements.old self.now).pages subpool) run }
+        requires room { 0 < elements.old.spare }
+        ensures becomes { Becomes elements.old elements.new self.now self.now
+            (with_pages (subpools_of elements.old self.now) subpool run true) }
+        ensures spares { elements.new.spare + 1
+            ≡ elements.old.spare + joins ((subpools_of elements.old self.now).pages subpool) run }
+    {
+        let id = self.id(elements, subpool);
+        let mut queues = self.set.queues(elements, id);
+        queues.extents.insert_run(elements, run);
+        self.set.set_queues(elements, id, queues);
+    }
+
+    /// The pages of a run leave the subpool.
+    ///
+    /// It takes one element for each of the two pages beside the run that are the subpool's, less one.
+    pub fn remove_run(&self, elements: &mut Elements, subpool: Subpool, run: Run)
+        requires stands { Stands elements.old self.now }
+        requires there { is_there (subpools_of elements.old self.now) subpool ≡ true }
+        requires range { (0 < run.len) × (run.start + run.len ≤ 2 ^ 20) }
+        requires present { AllIn ((subpools_of elements.old self.now).pages subpool) run }
+        requires room { 0 < elements.old.spare }
+        ensures becomes { Becomes elements.old elements.new self.now self.now
+            (with_pages (subpools_of elements.old self.now) subpool run false) }
+        ensures spares { elements.new.spare + joins ((subpools_of elements.old self.now).pages subpool) run
+            ≡ elements.old.spare + 1 }
+    {
+        let id = self.id(elements, subpool);
+        let mut queues = self.set.queues(elements, id);
+        queues.extents.remove_run(elements, run);
+        self.set.set_queues(elements, id, queues);
+    }
+
+    /// An empty subpool, which its owner alone sees.
+    ///
+    /// It takes one element.
+    pub fn create(&mut self, elements: &mut Elements, subpool: Subpool)
+        requires stands { Stands elements.old self.old }
+        requires range { (1 ≤ subpool.owner) × (subpool.owner ≤ 64) × (subpool.number ≤ 127) }
+        requires unseen { (subpools_of elements.old self.old).sight subpool.owner subpool.number ≡ None }
+        requires room { 0 < elements.old.spare }
+        ensures becomes { Becomes elements.old elements.new self.old self.new
+            (with_own (subpools_of elements.old self.old) subpool true) }
+        ensures spares { elements.new.spare + 1 ≡ elements.old.spare }
+    {
+        self.set.create(elements, subpool.owner, subpool.number);
+    }
+
+    /// An empty subpool that its owner alone sees is gone.
+    ///
+    /// It gives back one element.
+    pub fn remove(&mut self, elements: &mut Elements, subpool: Subpool)
+        requires stands { Stands elements.old self.old }
+        requires there { is_there (subpools_of elements.old self.old) subpool ≡ true }
+        requires alone { (task : ℕ) → (subpools_of elements.old self.old).sight task subpool.number ≡ Some subpool.owner
+            → task ≡ subpool.owner }
+        requires no_pages { (page : ℕ) → (subpools_of elements.old self.old).pages subpool page ≡ false }
+        requires none_free { (d : ℕ) → (subpools_of elements.old self.old).free subpool d ≡ false }
+        ensures becomes { Becomes elements.old elements.new self.old self.new
+            (with_own (subpools_of elements.old self.old) subpool false) }
+        ensures spares { elements.new.spare ≡ elements.old.spare + 1 }
+    {
+        self.set.remove(elements, subpool.owner, subpool.number);
+    }
+
+    /// Exchanges the pages and the free storage of a subpool with those that it has among `others`, by their heads: no
+    /// element of a queue is touched.
+    pub fn exchange_storage(&self, elements: &mut Elements, others: &SubpoolStorage, subpool: Subpool)
+        requires stands { Stands elements.old self.now }
+        requires others { Stands elements.old others.now }
+        requires there { is_there (subpools_of elements.old self.now) subpool ≡ true }
+        requires there_too { is_there (subpools_of elements.old others.now) subpool ≡ true }
+        requires apart { (i : ℕ) → hold elements.old self.now i + hold elements.old others.now i ≤ 1 }
+        ensures stands { Stands elements.new self.now }
+        ensures others { Stands elements.new others.now }
+        ensures subpools { subpools_of elements.new self.now
+            ≡ with_storage_of (subpools_of elements.old self.now) (subpools_of elements.old others.now) subpool }
+        ensures other_subpools { subpools_of elements.new others.now
+            ≡ with_storage_of (subpools_of elements.old others.now) (subpools_of elements.old self.now) subpool }
+        ensures held { (i : ℕ) → hold elements.new self.now i + hold elements.new others.now i
+            ≡ hold elements.old self.now i + hold elements.old others.now i }
+        ensures kept { (i : ℕ) → hold elements.old self.now i + hold elements.old others.now i ≡ 0
+            → at elements.new i ≡ at elements.old i }
+        ensures spares { elements.new.spare ≡ elements.old.spare }
+    {
+        let id = self.id(elements, subpool);
+        let other = others.id(elements, subpool);
+        let here = self.set.queues(elements, id);
+        let there = others.set.queues(elements, other);
+        self.set.set_queues(elements, id, there);
+        others.set.set_queues(elements, other, here);
+    }
+}
