@@ -13,7 +13,6 @@ use Rattle.storage_changes.specs.declared.record.RegisterRecord.{RegisterRecord}
 use Rattle.storage_changes.specs.declared.record.BytesRecord.{BytesRecord}
 use Rattle.storage_changes.specs.declared.record.Record.{Record}
 use Rattle.storage_changes.specs.declared.record.Record.TheVariants.{Area, Extent, Pages, Own, Queues, Register, Bytes}
-use Rattle.storage_changes.specs.State.{StorageState}
 use Rattle.storage_changes.specs.Walk.{Walk, spare_joined, spare_left}
 
 -- an area of a subpool's free storage
