@@ -5,3 +5,5 @@ pub mod PagesSteps
 pub mod OwnSteps
 pub mod ByteSteps
 pub mod WalkLemmas
+pub mod FirstLemmas
+pub mod MeaningLemmas
