@@ -1,5 +1,7 @@
-ghost use Rattle.std.specs.Prelude.{◌≡◌, if◌then◌else◌, [], ◌∷◌};
-ghost use Rattle.storage_changes.specs.Records.{record_of, word, subpool_in, run_in, register_in, bytes_in};
+ghost use Rattle.std.specs.Prelude.{◌≡◌, ◌+◌, ◌≤◌};
+ghost use Rattle.vsm_model.specs.Bytes.{fullword};
+ghost use Rattle.storage_changes.specs.Records.{record_of, words_of, word, subpool_in, run_in, register_in, bytes_in};
+ghost use Rattle.storage_changes.specs.Records.{four_at};
 
 use run_set::Run;
 use vsm_model::Subpool;
@@ -84,12 +86,13 @@ const REGISTER: u32 = 5;
 
 const BYTES: u32 = 6;
 
-/// No kind of record has both a subpool and a run of its own in each case: what it lacks is written as zeros.
+/// What stands in the words of a record that names no subpool,
 const NO_SUBPOOL: Subpool = Subpool {
     number: 0,
     owner: 0,
 };
 
+/// and in those of one that has no run.
 const NO_RUN: Run = Run { start: 0, len: 0 };
 
 #[tactic(auto, unfolding(crate::specs::Records::record_of))]
@@ -155,7 +158,7 @@ impl Record {
 
 /// The words of a record of a subpool, a run and the value that its places get.
 fn place_words(kind: u32, subpool: Subpool, run: Run, value: bool) -> [u32; 7]
-    ensures { result ≡ kind ∷ subpool.number ∷ subpool.owner ∷ run.start ∷ run.len ∷ (if value then 1 else 0) ∷ 0 ∷ [] }
+    ensures { result ≡ words_of kind subpool run value }
 {
     let value = u32::from(value);
     [
@@ -175,16 +178,28 @@ fn byte_words(r: BytesRecord) -> [u32; 7]
     ensures block { word result 1 ≡ r.block }
     ensures bytes { bytes_in result ≡ r.bytes }
 {
-    let [a, b, c, d, e, f, g, h, i, j, k, l, m, n, o, p] = r.bytes;
     [
         BYTES,
         r.block,
-        u32::from_be_bytes([a, b, c, d]),
-        u32::from_be_bytes([e, f, g, h]),
-        u32::from_be_bytes([i, j, k, l]),
-        u32::from_be_bytes([m, n, o, p]),
+        word_at(r.bytes, 0),
+        word_at(r.bytes, 4),
+        word_at(r.bytes, 8),
+        word_at(r.bytes, 12),
         0,
     ]
+}
+
+/// The word of four bytes, from a place on.
+fn word_at(bytes: [u8; 16], place: usize) -> u32
+    requires { place + 4 ≤ 16 }
+    ensures { fullword result ≡ four_at bytes place }
+{
+    u32::from_be_bytes([
+        bytes[place],
+        bytes[place + 1],
+        bytes[place + 2],
+        bytes[place + 3],
+    ])
 }
 
 fn subpool_of(words: [u32; 7]) -> Subpool
@@ -218,9 +233,10 @@ fn register_of(words: [u32; 7]) -> RegisterRecord
 fn bytes_of(words: [u32; 7]) -> [u8; 16]
     ensures { result ≡ bytes_in words }
 {
-    let [a, b, c, d] = words[2].to_be_bytes();
-    let [e, f, g, h] = words[3].to_be_bytes();
-    let [i, j, k, l] = words[4].to_be_bytes();
-    let [m, n, o, p] = words[5].to_be_bytes();
-    [a, b, c, d, e, f, g, h, i, j, k, l, m, n, o, p]
+    let mut bytes = [0; 16];
+    bytes[..4].copy_from_slice(&words[2].to_be_bytes());
+    bytes[4..8].copy_from_slice(&words[3].to_be_bytes());
+    bytes[8..12].copy_from_slice(&words[4].to_be_bytes());
+    bytes[12..].copy_from_slice(&words[5].to_be_bytes());
+    bytes
 }
