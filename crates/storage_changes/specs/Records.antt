@@ -7,6 +7,7 @@ use Rattle.storage_changes.specs.declared.record.RegisterRecord.{RegisterRecord}
 use Rattle.storage_changes.specs.declared.record.Record.{Record}
 use Rattle.storage_changes.specs.declared.record.Record.TheVariants.{Area, Extent, Pages, Own, Queues, Register, Bytes}
 
+-- the word at a place, or 0 past the last
 abbrev pub word : List ℕ → ℕ → ℕ
 word words i = slice_index_or words i 0
 
