@@ -1,14 +1,17 @@
 -- Which subpool a page is assigned to, and what an area that is taken or freed is on the plain machine.
-use Rattle.std.proofs.Common.{◌≡◌, ℕ, ◌/◌, Bool, true, false, not, ◌&&◌, ◌||◌, if◌then◌else◌, map, Option, Some, None, refl, sym, ap, ◌∙◌, arith}
+use Rattle.std.proofs.Common.{◌≡◌, ℕ, ◌/◌, Bool, true, false, not, ◌&&◌, ◌||◌, if◌then◌else◌, map, Option, Some, None, is_some, refl, sym, ap, ◌∙◌, arith}
 use Rattle.std.specs.List.{range_with_len}
 use Rattle.run_set.specs.declared.run.Run.{Run}
 use Rattle.run_set.specs.Runs.{inside}
 use Rattle.vsm_model.specs.declared.Subpool.{Subpool}
 use Rattle.vsm_model.specs.Subpools.{same_subpool}
+use Rattle.vsm_model.specs.declared.limits.Settings.{Settings}
+use Rattle.vsm_model.specs.Search.{holds}
 use Rattle.subpool_storage.specs.Subpools.{Subpools, with_pages, with_free}
-use Rattle.storage_changes.specs.Meaning.{first_of, all_subpools, subpool_of, is_taken, model_of}
-use Rattle.storage_changes.specs.Laws.{CanBe, PagesAreNamed, NamedPagesAreThere, JoinedPagesAreNamed, LeftPagesAreNobodys, AreasAreTaken, AreasAreFreed}
-use Rattle.storage_changes.proofs.Cases.{cond-in, cond-out, and-both, and-false, same-self, same-is}
+use Rattle.storage_changes.specs.State.{StorageState}
+use Rattle.storage_changes.specs.Meaning.{first_of, all_subpools, subpool_of, is_taken, model_of, IsSound}
+use Rattle.storage_changes.specs.Laws.{CanBe, PagesAreNamed, NamedPagesAreThere, JoinedPagesAreNamed, LeftPagesAreNobodys, AreasAreTaken, AreasAreFreed, FreeStorageIsFree, UnassignedPagesAreNobodys}
+use Rattle.storage_changes.proofs.Cases.{cond-in, cond-out, and-both, and-false, not-not, same-self, same-is}
 use Rattle.storage_changes.proofs.FirstLemmas.{IsIn, in-range, in-map, in-flat_map, first-passes, first-found, first-missed, first-nothing}
 
 -- a subpool is among all that there can be
@@ -103,3 +106,30 @@ areas_are_freed m p area named = λ i. record (model_of m) { taken = λ d. at d 
       ∙ sym (ap (λ (x : Bool). not x && is_taken m.subpools (subpool_of m.subpools (d / 512)) d) e)
   at d false e = taken-outside m.subpools p area true d (subpool_of m.subpools (d / 512)) e
       ∙ sym (ap (λ (x : Bool). not x && is_taken m.subpools (subpool_of m.subpools (d / 512)) d) e)
+
+-- a sound state
+
+module _ (settings : Settings) (m : StorageState) (sound : IsSound settings m) (p : Subpool) (d : ℕ) where
+  -- a doubleword of a page that isn't the subpool's isn't in its free storage
+  not-free : (o : Option Subpool) → subpool_of m.subpools (d / 512) ≡ o → (o ≡ Some p → ⊥) → m.subpools.free p d ≡ false
+  not-free o e other = go (m.subpools.free p d) refl where
+    go : (b : Bool) → m.subpools.free p d ≡ b → m.subpools.free p d ≡ false
+    go true h = absurd (other (sym e ∙ sound.named p (d / 512) (sound.free p d h)))
+    go false h = h
+
+  free-in : (o : Option Subpool) → subpool_of m.subpools (d / 512) ≡ o → (holds (same_subpool p) o && not (is_taken m.subpools o d)) ≡ m.subpools.free p d
+  free-in None e = sym (not-free None e (λ s. cc))
+  free-in (Some q) e = go (same_subpool p q) refl where
+    go : (b : Bool) → same_subpool p q ≡ b → (same_subpool p q && not (not (m.subpools.free q d))) ≡ m.subpools.free p d
+    go true h =
+        ap (λ (x : Bool). x && not (not (m.subpools.free q d))) h ∙ not-not (m.subpools.free q d) ∙ ap (λ (x : Subpool). m.subpools.free x d) (sym (same-is p q h))
+    go false h =
+        ap (λ (x : Bool). x && not (not (m.subpools.free q d))) h
+        ∙ sym (not-free (Some q) e (λ s. (let same : q ≡ p = cc in let k : true ≡ false = sym (same-self p) ∙ ap (λ (x : Subpool). same_subpool p x) (sym same) ∙ h in cc)))
+
+pub free_storage_is_free : FreeStorageIsFree
+free_storage_is_free settings m sound p d = free-in settings m sound p d (subpool_of m.subpools (d / 512)) refl
+
+pub unassigned_pages_are_nobodys : UnassignedPagesAreNobodys
+unassigned_pages_are_nobodys settings m sound page i =
+    sound.rest page ∙ ap (λ (x : Bool). x && not (is_some (subpool_of m.subpools page))) i

@@ -1,14 +1,17 @@
 -- Laws of changes, and of what a state of the storage is on the plain machine.
-use Rattle.std.specs.Prelude.{◌≡◌, ℕ, ◌/◌, ◌≤◌, true, false, if◌then◌else◌, Some, None}
+use Rattle.std.specs.Prelude.{◌≡◌, ℕ, ◌/◌, ◌≤◌, true, false, not, if◌then◌else◌, Some, None, is_some}
 use Rattle.run_set.specs.declared.run.Run.{Run}
 use Rattle.run_set.specs.Runs.{inside}
 use Rattle.vsm_model.specs.declared.Subpool.{Subpool}
+use Rattle.vsm_model.specs.declared.limits.Settings.{Settings}
+use Rattle.vsm_model.specs.Regions.{in_a_region}
+use Rattle.vsm_model.specs.Areas.{is_free}
 use Rattle.vsm_model.specs.Obtaining.{with_taken}
 use Rattle.vsm_model.specs.Releasing.{without_taken}
 use Rattle.subpool_storage.specs.Subpools.{Subpools, with_pages, with_free}
 use Rattle.storage_changes.specs.State.{StorageState}
 use Rattle.storage_changes.specs.Changes.{Change, Fit, overlay, inverse}
-use Rattle.storage_changes.specs.Meaning.{subpool_of, model_of}
+use Rattle.storage_changes.specs.Meaning.{subpool_of, model_of, IsSound}
 
 -- The exchanged change fits, leads back, and its exchange is the change.
 abbrev pub ChangesLeadBack : Type 0
@@ -61,3 +64,13 @@ AreasAreFreed = (m : StorageState) (p : Subpool) (area : Run)
     → ((d : ℕ) → inside d area ≡ true → subpool_of m.subpools (d / 512) ≡ Some p)
     → model_of (record m { subpools = with_free m.subpools p area true })
     ≡ without_taken (model_of m) area.start area.len
+
+-- In a sound state the doublewords that are free on the plain machine are those of the subpool's free storage,
+abbrev pub FreeStorageIsFree : Type 0
+FreeStorageIsFree = (settings : Settings) (m : StorageState) → IsSound settings m
+    → (p : Subpool) (d : ℕ) → is_free (model_of m) p d ≡ m.subpools.free p d
+
+-- and the pages of the regions that it assigns to nobody are the unassigned ones.
+abbrev pub UnassignedPagesAreNobodys : Type 0
+UnassignedPagesAreNobodys = (settings : Settings) (m : StorageState) → IsSound settings m
+    → (page : ℕ) → in_a_region settings page ≡ true → m.unassigned page ≡ not (is_some ((model_of m).pages page))

@@ -2,6 +2,7 @@
 
 ghost use Rattle.storage_changes.specs.Laws.{ChangesLeadBack, PagesAreNamed, NamedPagesAreThere, JoinedPagesAreNamed};
 ghost use Rattle.storage_changes.specs.Laws.{LeftPagesAreNobodys, AreasAreTaken, AreasAreFreed};
+ghost use Rattle.storage_changes.specs.Laws.{FreeStorageIsFree, UnassignedPagesAreNobodys};
 
 /// A change that fits leads to a state at which the exchanged change fits. That one leads back, and its own exchange
 /// gives the change again.
@@ -37,4 +38,14 @@ pub fn areas_are_taken()
 /// An area that joins the free storage of a subpool isn't taken on the plain machine, and nothing else changes there.
 pub fn areas_are_freed()
     ensures { AreasAreFreed }
+{}
+
+/// In a sound state a doubleword is free in a subpool on the plain machine just where it's in its free storage.
+pub fn free_storage_is_free()
+    ensures { FreeStorageIsFree }
+{}
+
+/// In a sound state a page of the regions is unassigned just where the plain machine assigns it to nobody.
+pub fn unassigned_pages_are_nobodys()
+    ensures { UnassignedPagesAreNobodys }
 {}
