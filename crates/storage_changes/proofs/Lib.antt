@@ -1,0 +1,9 @@
+pub mod ByteWords
+pub mod Cases
+pub mod SetSteps
+pub mod PagesSteps
+pub mod OwnSteps
+pub mod ByteSteps
+pub mod WalkLemmas
+pub mod FirstLemmas
+pub mod MeaningLemmas
