@@ -1,44 +1,21 @@
 -- Laws of subpools with their storage.
-use Rattle.std.proofs.Common.{◌≡◌, ℕ, ◌+◌, ◌<◌, ◌≤◌, Bool, true, false, ◌&&◌, ◌==◌, inl, inr, List, [], ◌++◌, Option, Some, None, IsSome, refl, sym, ap, ◌∙◌, arith, subst}
-use Rattle.std.specs.Prelude.{if◌then◌else◌}
-use Rattle.vsm_elements.specs.declared.element.Element.{Element}
+use Rattle.std.proofs.Common.{◌≡◌, ℕ, ◌<◌, ◌≤◌, true, false, ◌==◌, inl, inr, Option, Some, None, IsSome, refl, ap, ◌∙◌, arith}
 use Rattle.vsm_elements.specs.Store.{Store, at, among}
-use Rattle.vsm_elements.specs.Ownership.{Leaves, Apart}
-use Rattle.vsm_elements.specs.Owners.{times, Moves}
-use Rattle.vsm_elements.proofs.ChainFrame.{stays, false_if}
+use Rattle.vsm_elements.specs.Owners.{times}
+use Rattle.vsm_elements.proofs.ChainFrame.{false_if}
 use Rattle.vsm_elements.proofs.TimesLemmas.{times-none, times-some}
-use Rattle.vsm_elements.proofs.MoveLemmas.{moves-of, moves-by, moves-follow}
-use Rattle.run_set.specs.declared.run.Run.{Run}
-use Rattle.run_set.specs.Runs.{inside}
-use Rattle.descriptor_queue.specs.declared.extents.Extents.{Extents}
-use Rattle.free_queue.specs.declared.queue.FreeQueue.{FreeQueue}
-use Rattle.descriptor_queue.specs.Extents.{has_page, IsExtents}
-use Rattle.descriptor_queue.specs.Extents
-use Rattle.descriptor_queue.proofs.PageLemmas.{extents_kept}
-use Rattle.free_queue.specs.FreeQueue.{is_free, IsFreeQueue}
-use Rattle.free_queue.specs.FreeQueue
-use Rattle.free_queue.proofs.QueueLemmas.{queues_kept}
-use Rattle.subpool_set.proofs.KeyLemmas.{same_key}
-use Rattle.subpool_set.proofs.KeyLemmas.{either, not_both, if_true, if_false, same_parts, same_by, same_self, same_sym}
-use Rattle.vsm_model.specs.declared.Subpool.{Subpool}
-use Rattle.vsm_model.specs.Subpools.{same_subpool}
-use Rattle.subpool_set.specs.declared.queues.Queues.{Queues}
+use Rattle.subpool_set.proofs.KeyLemmas.{not_both}
 use Rattle.subpool_set.specs.declared.set.SubpoolSet.{SubpoolSet}
-use Rattle.subpool_set.specs.Pools.{Pool, pools_with}
-use Rattle.subpool_set.specs.QueueElements.{ids_of, StandApart, AreApart}
-use Rattle.subpool_set.specs.SubpoolSet.{sight, pool, owned, queue_ids, number_of, owner_of, IsSubpoolSet, IsPool, QueuesStand}
-use Rattle.subpool_set.specs.Laws.{ids_at}
-use Rattle.subpool_set.proofs.HeadLemmas.{Apart-swap, both_live, both_kept, in_left, in_right}
-use Rattle.subpool_set.proofs.LawLemmas.{sets_stay, queue_calls_keep, pools_are_named, queue_ids_are}
-use Rattle.subpool_set.proofs.CountLemmas.{both_once}
-use Rattle.subpool_set.proofs.FollowLemmas.{ids_follow}
+use Rattle.subpool_set.specs.Pools.{Pool}
+use Rattle.subpool_set.specs.QueueElements.{ids_of}
+use Rattle.subpool_set.specs.SubpoolSet.{sight, pool, owned, queue_ids, IsSubpoolSet}
+use Rattle.subpool_set.proofs.LawLemmas.{pools_are_named, queue_ids_are}
 use Rattle.subpool_storage.specs.declared.storage.SubpoolStorage.{SubpoolStorage}
-use Rattle.subpool_storage.specs.Subpools.{Subpools}
-use Rattle.subpool_storage.specs.SubpoolStorage.{page_in, free_in, subpools_of, hold, StandsIn, Stands, Becomes}
-use Rattle.subpool_storage.proofs.SubpoolLemmas.{with_queues, same_subpools}
-use Rattle.subpool_storage.proofs.QueueLemmas.{Turned, free_turned, extents_turned}
+use Rattle.subpool_storage.specs.SubpoolStorage.{page_in, free_in, subpools_of, hold, Stands}
+use Rattle.subpool_storage.proofs.SubpoolLemmas.{same_subpools}
 use Rattle.vsm_elements.proofs.TimesLemmas.{some-from}
 use Rattle.vsm_elements.proofs.MoveLemmas.{none-or-some}
+use Rattle.vsm_model.specs.declared.Subpool.{Subpool}
 use Rattle.vsm_model.specs.Search.{holds}
 use Rattle.subpool_set.proofs.KeyLemmas.{eqb_refl, none_some}
 use Rattle.subpool_set.proofs.LawLemmas.{sets_stand, sets_kept, queues_kept as kept_queues, sights_are_in_range}
@@ -102,3 +79,11 @@ pub none_held : (s : Store) (q : SubpoolSet) → IsSubpoolSet s q → ((n o : �
 none_held s q h none i = times-none i (queue_ids s q) (false_if (among i (queue_ids s q)) (λ m. bare ((queue_ids_are s q i h).0 m))) where
   bare : (n : ℕ) × (o : ℕ) × (p : Pool) × ((pool s q n o ≡ Some p) × (among i (ids_of s p.queues) ≡ true)) → ⊥
   bare w = none_some (pool s q w.0 w.1) w.2 (none w.0 w.1) w.3.0
+
+-- a subpool that isn't there has neither pages nor free storage
+pub none_there : (s : Store) (q : SubpoolStorage) (p : Subpool) → Stands s q → is_there (subpools_of s q) p ≡ false → ((x : ℕ) → (subpools_of s q).pages p x ≡ false) × ((d : ℕ) → (subpools_of s q).free p d ≡ false)
+none_there s q p h gone =
+    let k = subpools_are_there s q h in (
+      λ x. false_if ((subpools_of s q).pages p x) (λ e. not_both (is_there (subpools_of s q) p) (k.2 p x e) gone),
+      λ d. false_if ((subpools_of s q).free p d) (λ e. not_both (is_there (subpools_of s q) p) (k.3 p d e) gone),
+    )

@@ -1,7 +1,7 @@
 -- A call on one of a subpool's two queues leaves the other.
-use Rattle.std.proofs.Common.{◌≡◌, ℕ, Bool, true, false, not, ◌&&◌, ◌||◌, List, ◌++◌, refl, sym, ap, ◌∙◌, subst}
+use Rattle.std.proofs.Common.{◌≡◌, ℕ, Bool, true, false, not, ◌&&◌, ◌||◌, List, ◌++◌, refl, sym, subst}
 use Rattle.std.specs.Prelude.{if◌then◌else◌}
-use Rattle.vsm_elements.specs.Store.{Store, among}
+use Rattle.vsm_elements.specs.Store.{Store}
 use Rattle.vsm_elements.specs.Ownership.{Leaves, Apart}
 use Rattle.vsm_elements.proofs.ChainFrame.{stays, Leaves-beside, Leaves-behind}
 use Rattle.descriptor_queue.specs.declared.extents.Extents.{Extents}

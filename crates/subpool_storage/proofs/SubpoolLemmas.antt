@@ -1,5 +1,5 @@
 -- Subpools as functions, where one of them gets other pages and other free storage.
-use Rattle.std.proofs.Common.{◌≡◌, ℕ, Bool, true, false, ◌&&◌, ◌==◌, inl, inr, refl, sym, ap, ◌∙◌}
+use Rattle.std.proofs.Common.{◌≡◌, ℕ, Bool, true, false, ◌&&◌, inl, inr, refl, sym, ap, ◌∙◌}
 use Rattle.std.specs.Prelude.{if◌then◌else◌}
 use Rattle.run_set.specs.declared.run.Run.{Run}
 use Rattle.run_set.specs.Runs.{inside}

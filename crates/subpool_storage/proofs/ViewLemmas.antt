@@ -1,17 +1,8 @@
 -- The set once one subpool has other queues: its counts, its pages and its free storage.
-use Rattle.std.proofs.Common.{◌≡◌, ℕ, ◌+◌, ◌<◌, ◌≤◌, Bool, true, false, ◌&&◌, ◌==◌, inl, inr, List, [], ◌++◌, Option, Some, None, IsSome, refl, sym, ap, ◌∙◌, arith, subst}
+use Rattle.std.proofs.Common.{◌≡◌, ℕ, ◌+◌, true, false, ◌&&◌, ◌==◌, inl, inr, Option, Some, None, refl, sym, ap, ◌∙◌, arith}
 use Rattle.std.specs.Prelude.{if◌then◌else◌}
-use Rattle.vsm_elements.specs.declared.element.Element.{Element}
 use Rattle.vsm_elements.specs.Store.{Store, at, among}
-use Rattle.vsm_elements.specs.Ownership.{Leaves, Apart}
-use Rattle.vsm_elements.specs.Owners.{times, Moves}
-use Rattle.vsm_elements.proofs.ChainFrame.{stays, false_if}
-use Rattle.vsm_elements.proofs.TimesLemmas.{times-none, times-some}
-use Rattle.vsm_elements.proofs.MoveLemmas.{moves-of, moves-by, moves-follow}
-use Rattle.run_set.specs.declared.run.Run.{Run}
-use Rattle.run_set.specs.Runs.{inside}
-use Rattle.descriptor_queue.specs.declared.extents.Extents.{Extents}
-use Rattle.free_queue.specs.declared.queue.FreeQueue.{FreeQueue}
+use Rattle.vsm_elements.specs.Owners.{times}
 use Rattle.descriptor_queue.specs.Extents.{has_page, IsExtents}
 use Rattle.descriptor_queue.specs.Extents
 use Rattle.descriptor_queue.proofs.PageLemmas.{extents_kept}
@@ -20,23 +11,15 @@ use Rattle.free_queue.specs.FreeQueue
 use Rattle.free_queue.proofs.QueueLemmas.{queues_kept}
 use Rattle.subpool_set.proofs.KeyLemmas.{same_key}
 use Rattle.subpool_set.proofs.KeyLemmas.{either, not_both, if_true, if_false, same_parts, same_by, same_self, same_sym}
-use Rattle.vsm_model.specs.declared.Subpool.{Subpool}
-use Rattle.vsm_model.specs.Subpools.{same_subpool}
 use Rattle.subpool_set.specs.declared.queues.Queues.{Queues}
 use Rattle.subpool_set.specs.declared.set.SubpoolSet.{SubpoolSet}
 use Rattle.subpool_set.specs.Pools.{Pool, pools_with}
-use Rattle.subpool_set.specs.QueueElements.{ids_of, StandApart, AreApart}
-use Rattle.subpool_set.specs.SubpoolSet.{sight, pool, owned, queue_ids, number_of, owner_of, IsSubpoolSet, IsPool, QueuesStand}
+use Rattle.subpool_set.specs.QueueElements.{ids_of, StandApart}
+use Rattle.subpool_set.specs.SubpoolSet.{pool, queue_ids, IsSubpoolSet, QueuesStand}
 use Rattle.subpool_set.specs.Laws.{ids_at}
-use Rattle.subpool_set.proofs.HeadLemmas.{Apart-swap, both_live, both_kept, in_left, in_right}
-use Rattle.subpool_set.proofs.LawLemmas.{sets_stay, queue_calls_keep, pools_are_named, queue_ids_are}
-use Rattle.subpool_set.proofs.CountLemmas.{both_once}
+use Rattle.subpool_set.proofs.HeadLemmas.{both_kept, in_left, in_right}
 use Rattle.subpool_set.proofs.FollowLemmas.{ids_follow}
-use Rattle.subpool_storage.specs.declared.storage.SubpoolStorage.{SubpoolStorage}
-use Rattle.subpool_storage.specs.Subpools.{Subpools}
-use Rattle.subpool_storage.specs.SubpoolStorage.{page_in, free_in, subpools_of, hold, StandsIn, Stands, Becomes}
-use Rattle.subpool_storage.proofs.SubpoolLemmas.{with_queues, same_subpools}
-use Rattle.subpool_storage.proofs.QueueLemmas.{Turned, free_turned, extents_turned}
+use Rattle.subpool_storage.specs.SubpoolStorage.{page_in, free_in}
 
 -- what a subpool has is kept where the elements of its queues are as they were
 pub page_kept : (s t : Store) (y : Option Pool) → ((p : Pool) → y ≡ Some p → StandApart s p.queues) → ((p : Pool) → y ≡ Some p → (i : ℕ) → among i (ids_of s p.queues) ≡ true → at t i ≡ at s i) → (x : ℕ) → page_in t y x ≡ page_in s y x

@@ -1,9 +1,9 @@
 -- Laws of subpools with their storage.
-use Rattle.std.specs.Prelude.{◌≡◌, ℕ, ◌<◌, ◌≤◌, Some, IsSome, true, ◌^◌}
+use Rattle.std.specs.Prelude.{◌≡◌, ℕ, ◌<◌, ◌≤◌, Some, IsSome, true}
 use Rattle.vsm_elements.specs.Store.{Store, at}
 use Rattle.vsm_model.specs.declared.Subpool.{Subpool}
 use Rattle.subpool_storage.specs.declared.storage.SubpoolStorage.{SubpoolStorage}
-use Rattle.subpool_storage.specs.Subpools.{Subpools, is_there}
+use Rattle.subpool_storage.specs.Subpools.{is_there}
 use Rattle.subpool_storage.specs.SubpoolStorage.{subpools_of, hold, Stands}
 
 -- what stands holds each element once at most, and live ones alone

@@ -2,6 +2,7 @@
 #![tactic(auto)]
 
 pub mod laws;
+mod readers;
 mod storage;
 
 pub use storage::SubpoolStorage;

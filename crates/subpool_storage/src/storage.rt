@@ -20,7 +20,7 @@ use vsm_model::Subpool;
 /// of 8, below and above the 16 MB line. (z/OS MVS Programming: Assembler Services Guide, "Subpool handling".)
 #[derive(Clone, Copy, Debug, PartialEq, Eq)]
 pub struct SubpoolStorage {
-    set: SubpoolSet,
+    pub(crate) set: SubpoolSet,
 }
 
 #[tactic(auto, unfolding(
@@ -52,7 +52,7 @@ impl SubpoolStorage {
     }
 
     // The name of a subpool that is there.
-    fn id(&self, elements: &Elements, subpool: Subpool) -> PoolId
+    pub(crate) fn id(&self, elements: &Elements, subpool: Subpool) -> PoolId
         requires stands { Stands elements.now self.now }
         requires there { is_there (subpools_of elements.now self.now) subpool ≡ true }
         ensures pool { IsPool elements.now self.now.set result }

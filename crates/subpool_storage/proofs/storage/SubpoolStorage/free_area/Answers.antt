@@ -1,14 +1,14 @@
-use Rattle.std.proofs.Common.{◌≡◌, Bool, true, false, Some, ◌∙◌}
+use Rattle.descriptor_queue.specs.Extents.{has_page}
+use Rattle.std.proofs.Common.{◌≡◌, true, Some, ◌∙◌, refl}
 use Rattle.std.specs.Prelude.{if◌then◌else◌}
 use Rattle.run_set.specs.Runs.{inside}
-use Rattle.descriptor_queue.specs.Extents.{has_page}
 use Rattle.free_queue.specs.FreeQueue.{is_free}
 use Rattle.subpool_set.specs.SubpoolSet.{pool}
-use Rattle.subpool_storage.specs.Subpools.{with_free, with_pages}
+use Rattle.subpool_storage.specs.Subpools.{with_free}
 use Rattle.subpool_storage.specs.SubpoolStorage.{subpools_of}
-use Rattle.subpool_storage.proofs.SubpoolLemmas.{as_free, as_pages}
-use Rattle.subpool_storage.proofs.QueueLemmas.{Turned, joined_if, left_if}
-use Rattle.subpool_storage.proofs.PutLemmas.{pool_there, both_stand, free_call, pages_call, turned_set, turned_pool, becomes}
+use Rattle.subpool_storage.proofs.SubpoolLemmas.{as_free}
+use Rattle.subpool_storage.proofs.QueueLemmas.{Turned, joined_if, free_turned}
+use Rattle.subpool_storage.proofs.PutLemmas.{pool_there, both_stand, free_call, turned_set, turned_pool, becomes}
 use Rattle.subpool_storage.proofs.storage.SubpoolStorage.free_area.Goals as goal
 
 pub free-requires-clause-queue : goal.free-requires-clause-queue
@@ -19,14 +19,14 @@ free-requires-clause-queue c =
 pub set_queues-requires-clause-set : goal.set_queues-requires-clause-set
 set_queues-requires-clause-set c =
     let there : pool c.args.elements.now c.args.self.now.set c.args.subpool.number c.args.subpool.owner ≡ Some (record { id = c.id-id.result; queues = c.queues-queues.result }) = pool_there c.args.elements.now c.args.self.now.set c.args.subpool.number c.args.subpool.owner c.id-id.result c.queues-queues.result c.id-id.ensures.number c.id-id.ensures.owner c.queues-queues.ensures in
-    let call : Turned c.args.elements.now c.free.new.elements c.queues-queues.result (record { extents = c.queues-queues.result.extents; free = c.free.new.self }) ((subpools_of c.args.elements.now c.args.self.now).pages c.args.subpool) (λ d. if inside d c.args.area then true else (subpools_of c.args.elements.now c.args.self.now).free c.args.subpool d) = free_call c.args.elements.now c.free.new.elements c.args.self.now c.args.subpool c.id-id.result c.queues-queues.result c.requires.stands there c.free.new.self c.args.area true c.free.ensures.owned c.free.ensures.queue (λ d. c.free.ensures.set d ∙ joined_if (inside d c.args.area) (is_free c.args.elements.now c.queues-queues.result.free d)) in
-    turned_set c.args.elements.now c.free.new.elements c.args.self.now c.args.subpool c.id-id.result c.queues-queues.result (record { extents = c.queues-queues.result.extents; free = c.free.new.self }) ((subpools_of c.args.elements.now c.args.self.now).pages c.args.subpool) (λ d. if inside d c.args.area then true else (subpools_of c.args.elements.now c.args.self.now).free c.args.subpool d) c.requires.stands there call
+    let call : Turned c.args.elements.now c.free.new.elements c.queues-queues.result (record { extents = c.queues-queues.result.extents; free = c.free.new.self }) (has_page c.args.elements.now c.queues-queues.result.extents) (is_free c.free.new.elements c.free.new.self) = free_turned c.args.elements.now c.free.new.elements c.queues-queues.result c.free.new.self (both_stand c.args.elements.now c.args.elements.now c.args.self.now c.args.subpool c.id-id.result c.queues-queues.result c.requires.stands there) c.free.ensures.owned c.free.ensures.queue (is_free c.free.new.elements c.free.new.self) (λ d. refl) in
+    turned_set c.args.elements.now c.free.new.elements c.args.self.now c.args.subpool c.id-id.result c.queues-queues.result (record { extents = c.queues-queues.result.extents; free = c.free.new.self }) (has_page c.args.elements.now c.queues-queues.result.extents) (is_free c.free.new.elements c.free.new.self) c.requires.stands there call
 
 pub set_queues-requires-clause-pool : goal.set_queues-requires-clause-pool
 set_queues-requires-clause-pool c =
     let there : pool c.args.elements.now c.args.self.now.set c.args.subpool.number c.args.subpool.owner ≡ Some (record { id = c.id-id.result; queues = c.queues-queues.result }) = pool_there c.args.elements.now c.args.self.now.set c.args.subpool.number c.args.subpool.owner c.id-id.result c.queues-queues.result c.id-id.ensures.number c.id-id.ensures.owner c.queues-queues.ensures in
-    let call : Turned c.args.elements.now c.free.new.elements c.queues-queues.result (record { extents = c.queues-queues.result.extents; free = c.free.new.self }) ((subpools_of c.args.elements.now c.args.self.now).pages c.args.subpool) (λ d. if inside d c.args.area then true else (subpools_of c.args.elements.now c.args.self.now).free c.args.subpool d) = free_call c.args.elements.now c.free.new.elements c.args.self.now c.args.subpool c.id-id.result c.queues-queues.result c.requires.stands there c.free.new.self c.args.area true c.free.ensures.owned c.free.ensures.queue (λ d. c.free.ensures.set d ∙ joined_if (inside d c.args.area) (is_free c.args.elements.now c.queues-queues.result.free d)) in
-    turned_pool c.args.elements.now c.free.new.elements c.args.self.now c.args.subpool c.id-id.result c.queues-queues.result (record { extents = c.queues-queues.result.extents; free = c.free.new.self }) ((subpools_of c.args.elements.now c.args.self.now).pages c.args.subpool) (λ d. if inside d c.args.area then true else (subpools_of c.args.elements.now c.args.self.now).free c.args.subpool d) c.requires.stands there call
+    let call : Turned c.args.elements.now c.free.new.elements c.queues-queues.result (record { extents = c.queues-queues.result.extents; free = c.free.new.self }) (has_page c.args.elements.now c.queues-queues.result.extents) (is_free c.free.new.elements c.free.new.self) = free_turned c.args.elements.now c.free.new.elements c.queues-queues.result c.free.new.self (both_stand c.args.elements.now c.args.elements.now c.args.self.now c.args.subpool c.id-id.result c.queues-queues.result c.requires.stands there) c.free.ensures.owned c.free.ensures.queue (is_free c.free.new.elements c.free.new.self) (λ d. refl) in
+    turned_pool c.args.elements.now c.free.new.elements c.args.self.now c.args.subpool c.id-id.result c.queues-queues.result (record { extents = c.queues-queues.result.extents; free = c.free.new.self }) (has_page c.args.elements.now c.queues-queues.result.extents) (is_free c.free.new.elements c.free.new.self) c.requires.stands there call
 
 pub returns-clause-becomes : goal.returns-clause-becomes
 returns-clause-becomes c =

@@ -1,4 +1,4 @@
-use Rattle.std.proofs.Common.{ℕ, ap, arith}
+use Rattle.std.proofs.Common.{ap, arith}
 use Rattle.vsm_elements.specs.Owners.{times}
 use Rattle.subpool_storage.specs.SubpoolStorage.{hold}
 use Rattle.subpool_storage.proofs.LawLemmas.{none_held}

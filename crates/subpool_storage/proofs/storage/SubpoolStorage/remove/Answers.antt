@@ -1,5 +1,4 @@
 use Rattle.subpool_storage.proofs.SetLemmas.{remove_becomes}
-use Rattle.subpool_storage.specs.SubpoolStorage.{subpools_of}
 use Rattle.subpool_storage.proofs.storage.SubpoolStorage.remove.Goals as goal
 
 pub returns-clause-becomes : goal.returns-clause-becomes

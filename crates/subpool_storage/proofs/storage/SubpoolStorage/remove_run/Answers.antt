@@ -1,14 +1,14 @@
-use Rattle.std.proofs.Common.{◌≡◌, Bool, true, false, Some, ◌∙◌}
+use Rattle.free_queue.specs.FreeQueue.{is_free}
+use Rattle.std.proofs.Common.{◌≡◌, false, Some, ◌∙◌, refl}
 use Rattle.std.specs.Prelude.{if◌then◌else◌}
 use Rattle.run_set.specs.Runs.{inside}
 use Rattle.descriptor_queue.specs.Extents.{has_page}
-use Rattle.free_queue.specs.FreeQueue.{is_free}
 use Rattle.subpool_set.specs.SubpoolSet.{pool}
-use Rattle.subpool_storage.specs.Subpools.{with_free, with_pages}
+use Rattle.subpool_storage.specs.Subpools.{with_pages}
 use Rattle.subpool_storage.specs.SubpoolStorage.{subpools_of}
-use Rattle.subpool_storage.proofs.SubpoolLemmas.{as_free, as_pages}
-use Rattle.subpool_storage.proofs.QueueLemmas.{Turned, joined_if, left_if}
-use Rattle.subpool_storage.proofs.PutLemmas.{pool_there, both_stand, free_call, pages_call, turned_set, turned_pool, becomes}
+use Rattle.subpool_storage.proofs.SubpoolLemmas.{as_pages}
+use Rattle.subpool_storage.proofs.QueueLemmas.{Turned, left_if, extents_turned}
+use Rattle.subpool_storage.proofs.PutLemmas.{pool_there, both_stand, pages_call, turned_set, turned_pool, becomes}
 use Rattle.subpool_storage.proofs.storage.SubpoolStorage.remove_run.Goals as goal
 
 pub remove_run-requires-clause-queue : goal.remove_run-requires-clause-queue
@@ -19,14 +19,14 @@ remove_run-requires-clause-queue c =
 pub set_queues-requires-clause-set : goal.set_queues-requires-clause-set
 set_queues-requires-clause-set c =
     let there : pool c.args.elements.now c.args.self.now.set c.args.subpool.number c.args.subpool.owner ≡ Some (record { id = c.id-id.result; queues = c.queues-queues.result }) = pool_there c.args.elements.now c.args.self.now.set c.args.subpool.number c.args.subpool.owner c.id-id.result c.queues-queues.result c.id-id.ensures.number c.id-id.ensures.owner c.queues-queues.ensures in
-    let call : Turned c.args.elements.now c.remove_run.new.elements c.queues-queues.result (record { extents = c.remove_run.new.self; free = c.queues-queues.result.free }) (λ x. if inside x c.args.run then false else (subpools_of c.args.elements.now c.args.self.now).pages c.args.subpool x) ((subpools_of c.args.elements.now c.args.self.now).free c.args.subpool) = pages_call c.args.elements.now c.remove_run.new.elements c.args.self.now c.args.subpool c.id-id.result c.queues-queues.result c.requires.stands there c.remove_run.new.self c.args.run false c.remove_run.ensures.owned c.remove_run.ensures.queue (λ d. c.remove_run.ensures.set d ∙ left_if (inside d c.args.run) (has_page c.args.elements.now c.queues-queues.result.extents d)) in
-    turned_set c.args.elements.now c.remove_run.new.elements c.args.self.now c.args.subpool c.id-id.result c.queues-queues.result (record { extents = c.remove_run.new.self; free = c.queues-queues.result.free }) (λ x. if inside x c.args.run then false else (subpools_of c.args.elements.now c.args.self.now).pages c.args.subpool x) ((subpools_of c.args.elements.now c.args.self.now).free c.args.subpool) c.requires.stands there call
+    let call : Turned c.args.elements.now c.remove_run.new.elements c.queues-queues.result (record { extents = c.remove_run.new.self; free = c.queues-queues.result.free }) (has_page c.remove_run.new.elements c.remove_run.new.self) (is_free c.args.elements.now c.queues-queues.result.free) = extents_turned c.args.elements.now c.remove_run.new.elements c.queues-queues.result c.remove_run.new.self (both_stand c.args.elements.now c.args.elements.now c.args.self.now c.args.subpool c.id-id.result c.queues-queues.result c.requires.stands there) c.remove_run.ensures.owned c.remove_run.ensures.queue (has_page c.remove_run.new.elements c.remove_run.new.self) (λ d. refl) in
+    turned_set c.args.elements.now c.remove_run.new.elements c.args.self.now c.args.subpool c.id-id.result c.queues-queues.result (record { extents = c.remove_run.new.self; free = c.queues-queues.result.free }) (has_page c.remove_run.new.elements c.remove_run.new.self) (is_free c.args.elements.now c.queues-queues.result.free) c.requires.stands there call
 
 pub set_queues-requires-clause-pool : goal.set_queues-requires-clause-pool
 set_queues-requires-clause-pool c =
     let there : pool c.args.elements.now c.args.self.now.set c.args.subpool.number c.args.subpool.owner ≡ Some (record { id = c.id-id.result; queues = c.queues-queues.result }) = pool_there c.args.elements.now c.args.self.now.set c.args.subpool.number c.args.subpool.owner c.id-id.result c.queues-queues.result c.id-id.ensures.number c.id-id.ensures.owner c.queues-queues.ensures in
-    let call : Turned c.args.elements.now c.remove_run.new.elements c.queues-queues.result (record { extents = c.remove_run.new.self; free = c.queues-queues.result.free }) (λ x. if inside x c.args.run then false else (subpools_of c.args.elements.now c.args.self.now).pages c.args.subpool x) ((subpools_of c.args.elements.now c.args.self.now).free c.args.subpool) = pages_call c.args.elements.now c.remove_run.new.elements c.args.self.now c.args.subpool c.id-id.result c.queues-queues.result c.requires.stands there c.remove_run.new.self c.args.run false c.remove_run.ensures.owned c.remove_run.ensures.queue (λ d. c.remove_run.ensures.set d ∙ left_if (inside d c.args.run) (has_page c.args.elements.now c.queues-queues.result.extents d)) in
-    turned_pool c.args.elements.now c.remove_run.new.elements c.args.self.now c.args.subpool c.id-id.result c.queues-queues.result (record { extents = c.remove_run.new.self; free = c.queues-queues.result.free }) (λ x. if inside x c.args.run then false else (subpools_of c.args.elements.now c.args.self.now).pages c.args.subpool x) ((subpools_of c.args.elements.now c.args.self.now).free c.args.subpool) c.requires.stands there call
+    let call : Turned c.args.elements.now c.remove_run.new.elements c.queues-queues.result (record { extents = c.remove_run.new.self; free = c.queues-queues.result.free }) (has_page c.remove_run.new.elements c.remove_run.new.self) (is_free c.args.elements.now c.queues-queues.result.free) = extents_turned c.args.elements.now c.remove_run.new.elements c.queues-queues.result c.remove_run.new.self (both_stand c.args.elements.now c.args.elements.now c.args.self.now c.args.subpool c.id-id.result c.queues-queues.result c.requires.stands there) c.remove_run.ensures.owned c.remove_run.ensures.queue (has_page c.remove_run.new.elements c.remove_run.new.self) (λ d. refl) in
+    turned_pool c.args.elements.now c.remove_run.new.elements c.args.self.now c.args.subpool c.id-id.result c.queues-queues.result (record { extents = c.remove_run.new.self; free = c.queues-queues.result.free }) (has_page c.remove_run.new.elements c.remove_run.new.self) (is_free c.args.elements.now c.queues-queues.result.free) c.requires.stands there call
 
 pub returns-clause-becomes : goal.returns-clause-becomes
 returns-clause-becomes c =

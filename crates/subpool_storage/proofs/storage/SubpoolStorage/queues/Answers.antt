@@ -1,0 +1,28 @@
+use Rattle.std.proofs.Common.{◌≡◌, Bool, false, Some, sym, ap, ◌∙◌}
+use Rattle.run_set.specs.Runs.{contains}
+use Rattle.subpool_set.specs.SubpoolSet.{pool}
+use Rattle.subpool_storage.specs.Subpools.{is_there}
+use Rattle.subpool_storage.specs.SubpoolStorage.{subpools_of}
+use Rattle.subpool_storage.proofs.LawLemmas.{none_there}
+use Rattle.subpool_storage.proofs.PutLemmas.{pool_there, both_stand}
+use Rattle.subpool_storage.proofs.storage.SubpoolStorage.queues.Goals as goal
+
+pub returns-then-has_subpool-clause-extents : goal.returns-then-has_subpool-clause-extents
+returns-then-has_subpool-clause-extents c =
+    let there : pool c.args.elements.now c.args.self.now.set c.args.subpool.number c.args.subpool.owner ≡ Some (record { id = c.id-id.result; queues = c.queues.result }) = pool_there c.args.elements.now c.args.self.now.set c.args.subpool.number c.args.subpool.owner c.id-id.result c.queues.result c.id-id.ensures.number c.id-id.ensures.owner c.queues.ensures in
+    (both_stand c.args.elements.now c.args.elements.now c.args.self.now c.args.subpool c.id-id.result c.queues.result c.requires there).extents
+
+pub returns-then-has_subpool-clause-free : goal.returns-then-has_subpool-clause-free
+returns-then-has_subpool-clause-free c =
+    let there : pool c.args.elements.now c.args.self.now.set c.args.subpool.number c.args.subpool.owner ≡ Some (record { id = c.id-id.result; queues = c.queues.result }) = pool_there c.args.elements.now c.args.self.now.set c.args.subpool.number c.args.subpool.owner c.id-id.result c.queues.result c.id-id.ensures.number c.id-id.ensures.owner c.queues.ensures in
+    (both_stand c.args.elements.now c.args.elements.now c.args.self.now c.args.subpool c.id-id.result c.queues.result c.requires there).free
+
+pub returns-clause-pages : goal.returns-clause-pages
+returns-clause-pages c p =
+    let gone : is_there (subpools_of c.args.elements.now c.args.self.now) c.args.subpool ≡ false = sym c.has_subpool.ensures ∙ c.if-has_subpool.false in
+    ap (contains p) (c.new.ensures.empty c.args.elements.now) ∙ sym ((none_there c.args.elements.now c.args.self.now c.args.subpool c.requires gone).0 p)
+
+pub returns-clause-areas : goal.returns-clause-areas
+returns-clause-areas c d =
+    let gone : is_there (subpools_of c.args.elements.now c.args.self.now) c.args.subpool ≡ false = sym c.has_subpool.ensures ∙ c.if-has_subpool.false in
+    ap (contains d) (c.new-2.ensures.empty c.args.elements.now) ∙ sym ((none_there c.args.elements.now c.args.self.now c.args.subpool c.requires gone).1 d)

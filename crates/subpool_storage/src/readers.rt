@@ -1,0 +1,106 @@
+ghost use Rattle.std.specs.Prelude.{◌≡◌, ℕ, ◌+◌, ◌^◌, ◌<◌, ◌≤◌, Some, IfSome, IfNone};
+ghost use Rattle.run_set.specs.Runs.{IsCover};
+ghost use Rattle.run_set.specs.Fits.{Fits, IsLeastFit, IsLongest};
+ghost use Rattle.descriptor_queue.specs.Extents.{has_page as extents_have, IsExtents};
+ghost use Rattle.free_queue.specs.FreeQueue.{is_free, IsFreeQueue};
+ghost use Rattle.subpool_storage.specs.Subpools.{is_there};
+ghost use Rattle.subpool_storage.specs.SubpoolStorage.{subpools_of, Stands};
+
+use crate::storage::SubpoolStorage;
+use descriptor_queue::{Extents, Page};
+use free_queue::{Area, Cover, FreeQueue};
+use subpool_set::Queues;
+use vsm_elements::Elements;
+use vsm_model::Subpool;
+
+// What is asked of the pages and of the free storage of one subpool. A subpool that isn't there has none.
+#[tactic(auto, unfolding(
+// the subpools, and where they stand
+crate::specs::SubpoolStorage::subpools_of, crate::specs::SubpoolStorage::Stands))]
+impl SubpoolStorage {
+    /// Whether the subpool is there: its owner sees it.
+    pub fn has_subpool(&self, elements: &Elements, subpool: Subpool) -> bool
+        requires { Stands elements.now self.now }
+        ensures { result ≡ is_there (subpools_of elements.now self.now) subpool }
+    {
+        match self.owner_seen(elements, subpool.owner, subpool.number) {
+            Some(owner) => owner == subpool.owner,
+            None => false,
+        }
+    }
+
+    // The queues of the subpool; empty ones where it isn't there.
+    fn queues(&self, elements: &Elements, subpool: Subpool) -> Queues
+        requires { Stands elements.now self.now }
+        ensures extents { IsExtents elements.now result.extents }
+        ensures free { IsFreeQueue elements.now result.free }
+        ensures pages { (p : ℕ) → extents_have elements.now result.extents p
+            ≡ (subpools_of elements.now self.now).pages subpool p }
+        ensures areas { (d : ℕ) → is_free elements.now result.free d
+            ≡ (subpools_of elements.now self.now).free subpool d }
+    {
+        if self.has_subpool(elements, subpool) {
+            let id = self.id(elements, subpool);
+            return self.set.queues(elements, id);
+        }
+        Queues {
+            extents: Extents::new(),
+            free: FreeQueue::new(),
+        }
+    }
+
+    /// Whether the page is the subpool's.
+    pub fn has_page(&self, elements: &Elements, subpool: Subpool, page: Page) -> bool
+        requires { Stands elements.now self.now }
+        ensures { result ≡ (subpools_of elements.now self.now).pages subpool page }
+    {
+        self.queues(elements, subpool)
+            .extents
+            .contains(elements, page)
+    }
+
+    /// Whether all, none or a part of the area is free storage of the subpool.
+    pub fn covers(&self, elements: &Elements, subpool: Subpool, area: Area) -> Cover
+        requires stands { Stands elements.now self.now }
+        requires range { (0 < area.len) × (area.start + area.len ≤ 2 ^ 29) }
+        ensures { IsCover ((subpools_of elements.now self.now).free subpool) area result }
+    {
+        self.queues(elements, subpool).free.covers(elements, area)
+    }
+
+    /// The least doubleword on the boundary from which `len` doublewords of the region are free storage of the
+    /// subpool.
+    pub fn least_fit(
+        &self,
+        elements: &Elements,
+        subpool: Subpool,
+        len: u32,
+        boundary: u32,
+        region: Area,
+    ) -> Option<u32>
+        requires stands { Stands elements.now self.now }
+        requires asked { (0 < len) × (len ≤ 2 ^ 29) × (0 < boundary) × (boundary ≤ 512) }
+        requires region { region.start + region.len ≤ 2 ^ 29 }
+        ensures none { IfNone result ((a : ℕ)
+            → ¬ Fits ((subpools_of elements.now self.now).free subpool) region a len boundary) }
+        ensures least { IfSome result (λ a. IsLeastFit
+            ((subpools_of elements.now self.now).free subpool) region a len boundary) }
+    {
+        self.queues(elements, subpool)
+            .free
+            .least_fit(elements, len, boundary, region)
+    }
+
+    /// The greatest number of doublewords that are free storage of the subpool in the region from a doubleword on the
+    /// boundary; 0 where there is none.
+    pub fn longest(&self, elements: &Elements, subpool: Subpool, boundary: u32, region: Area) -> u32
+        requires stands { Stands elements.now self.now }
+        requires asked { (0 < boundary) × (boundary ≤ 512) }
+        requires region { region.start + region.len ≤ 2 ^ 29 }
+        ensures { IsLongest ((subpools_of elements.now self.now).free subpool) region result boundary }
+    {
+        self.queues(elements, subpool)
+            .free
+            .longest(elements, boundary, region)
+    }
+}
