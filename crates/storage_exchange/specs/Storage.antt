@@ -1,8 +1,7 @@
 -- What a storage in elements and frames is as a state, and whose its elements are. No other module names the words of
 -- the structures that it is made of.
-use Rattle.std.specs.Prelude.{◌≡◌, ℕ, ◌+◌, ◌-◌, ◌*◌, ◌/◌, ◌%◌, ◌≤◌, nat_lt, Bool, List, Option, None, if◌then◌else◌}
-use Rattle.vsm_elements.specs.Store.{Store}
-use Rattle.vsm_elements.specs.Owners.{times, Moves}
+use Rattle.std.specs.Prelude.{ℕ, ◌+◌, ◌-◌, ◌/◌, ◌%◌, ◌≤◌, nat_lt, List, Option, None, if◌then◌else◌}
+use Rattle.vsm_elements.specs.Owners.{times}
 use Rattle.descriptor_queue.specs.Pages.{is_unassigned, IsPages}
 use Rattle.descriptor_queue.specs.Pages
 use Rattle.raw_region.specs.Frames.{PageFrame}
@@ -69,7 +68,7 @@ abbrev pub hold_with : Storage → SubpoolStorage → ℕ → ℕ
 hold_with p parked i = hold p i + SubpoolStorage.hold p.elements parked i
 
 -- the storage stands, and parked subpools beside it, and no element has two owners
-pub record StandsWith (p : Storage) (parked : SubpoolStorage) : Type 0 where
+pub record StandsWith (p : Storage) (others : SubpoolStorage) : Type 0 where
   pub storage : Stand p
-  pub parked : SubpoolStorage.Stands p.elements parked
-  pub once : (i : ℕ) → hold_with p parked i ≤ 1
+  pub parked : SubpoolStorage.Stands p.elements others
+  pub once : (i : ℕ) → hold_with p others i ≤ 1
