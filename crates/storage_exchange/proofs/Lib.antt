@@ -1,0 +1,7 @@
+pub mod StructureLemmas
+pub mod WalkLemmas
+pub mod CallLemmas
+pub mod SubpoolLemmas
+pub mod TaskLemmas
+pub mod PageLemmas
+pub mod ByteLemmas

@@ -1,0 +1,31 @@
+use Rattle.std.proofs.Common.{sym}
+use Rattle.storage_exchange.proofs.SubpoolLemmas.{exchanges-as}
+use Rattle.storage_exchange.proofs.storage.Storage.exchange_record.Goals as goal
+
+pub returns-in-Area-clause-exchanges : goal.returns-in-Area-clause-exchanges
+returns-in-Area-clause-exchanges c = exchanges-as c.args.self.now _ c.args.given.now c.args.given.now c.args.parked.now c.args.parked.now _ c.args.change (sym c.in-Area.is)
+    (c.exchange_area.ensures c.args.given.now c.args.parked.now c.requires.stands)
+
+pub returns-in-Extent-clause-exchanges : goal.returns-in-Extent-clause-exchanges
+returns-in-Extent-clause-exchanges c = exchanges-as c.args.self.now _ c.args.given.now c.args.given.now c.args.parked.now c.args.parked.now _ c.args.change (sym c.in-Extent.is)
+    (c.exchange_extent.ensures c.args.given.now c.args.parked.now c.requires.stands)
+
+pub returns-in-Pages-clause-exchanges : goal.returns-in-Pages-clause-exchanges
+returns-in-Pages-clause-exchanges c = exchanges-as c.args.self.now _ c.args.given.now c.exchange_pages.new.given c.args.parked.now c.args.parked.now _ c.args.change (sym c.in-Pages.is)
+    (c.exchange_pages.ensures c.args.parked.now c.requires.stands)
+
+pub returns-in-Own-clause-exchanges : goal.returns-in-Own-clause-exchanges
+returns-in-Own-clause-exchanges c = exchanges-as c.args.self.now _ c.args.given.now c.args.given.now c.args.parked.now c.args.parked.now _ c.args.change (sym c.in-Own.is)
+    (c.exchange_own.ensures c.args.given.now c.args.parked.now c.requires.stands)
+
+pub returns-in-Queues-clause-exchanges : goal.returns-in-Queues-clause-exchanges
+returns-in-Queues-clause-exchanges c = exchanges-as c.args.self.now _ c.args.given.now c.args.given.now c.args.parked.now c.args.parked.now _ c.args.change (sym c.in-Queues.is)
+    (c.exchange_queues.ensures c.args.given.now)
+
+pub returns-in-Register-clause-exchanges : goal.returns-in-Register-clause-exchanges
+returns-in-Register-clause-exchanges c = exchanges-as c.args.self.now _ c.args.given.now c.args.given.now c.args.parked.now c.args.parked.now _ c.args.change (sym c.in-Register.is)
+    (c.exchange_register.ensures.exchanges c.args.given.now c.args.parked.now c.requires.stands)
+
+pub returns-in-Bytes-clause-exchanges : goal.returns-in-Bytes-clause-exchanges
+returns-in-Bytes-clause-exchanges c = exchanges-as c.args.self.now _ c.args.given.now c.args.given.now c.args.parked.now c.args.parked.now _ c.args.change (sym c.in-Bytes.is)
+    (c.exchange_bytes.ensures.exchanges c.args.given.now c.args.parked.now c.requires.stands)

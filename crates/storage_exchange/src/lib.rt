@@ -1,0 +1,7 @@
+//! The storage in elements and frames, and the exchange of one record of a change with it: a function for each kind.
+#![tactic(auto)]
+
+mod exchange;
+mod storage;
+
+pub use storage::Storage;
