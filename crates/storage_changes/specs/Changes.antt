@@ -1,0 +1,45 @@
+-- A change of the storage, and what it leads to.
+use Rattle.std.specs.Prelude.{◌≡◌, ℕ, ◌/◌, true, List, [], Option, None, IsSome}
+use Rattle.subpool_storage.specs.Subpools.{Subpools}
+use Rattle.storage_changes.specs.declared.record.Record.{Record}
+use Rattle.storage_changes.specs.State.{StorageState}
+use Rattle.storage_changes.specs.Walk.{Walk}
+use Rattle.storage_changes.specs.Steps.{walk}
+use Rattle.storage_changes.specs.Turned.{back_onto}
+use Rattle.storage_changes.specs.Fits.{FitInTurn}
+
+-- the records in their order, how many blank elements it has, the bytes of the frames that it brings, by their
+-- addresses, and the subpools that it has parked
+pub record Change : Type 0 where
+  pub records : List Record
+  pub blanks : ℕ
+  pub frames : ℕ → Option ℕ
+  pub parked : Subpools
+
+-- before the first record
+abbrev pub outset : StorageState → Change → Walk
+outset m d = record { state = m; brought = d.frames; given = λ a. None; parked = d.parked; spare = d.blanks }
+
+-- behind the last record
+abbrev pub arrival : StorageState → Change → Walk
+arrival m d = walk (outset m d) d.records
+
+-- Each record fits where it is applied, and the frames are those of unassigned pages, which come to be assigned.
+pub record Fit (m : StorageState) (d : Change) : Type 0 where
+  pub in_turn : FitInTurn (outset m d) d.records
+  pub fresh : (a : ℕ) → IsSome (d.frames a) → m.unassigned (a / 4096) ≡ true
+  pub brought : (a : ℕ) → (arrival m d).brought a ≡ None
+
+-- the state that the change leads to
+abbrev pub overlay : StorageState → Change → StorageState
+overlay m d = (arrival m d).state
+
+-- the change that leads back: the records with what their places had, the last one first, the elements that are left,
+-- the frames that were given, and what is parked then
+abbrev pub inverse : StorageState → Change → Change
+inverse m d = record {
+  records = back_onto (outset m d) [] d.records;
+  blanks = (arrival m d).spare;
+  frames = (arrival m d).given;
+  parked = (arrival m d).parked;
+}

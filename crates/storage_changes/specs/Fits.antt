@@ -1,0 +1,89 @@
+-- When a record fits: its places have the other value, what it needs is there, and an element is left before and after
+-- each call on a queue.
+use Rattle.std.specs.Prelude.{◌≡◌, ℕ, ◌+◌, ◌/◌, ◌^◌, ◌<◌, ◌≤◌, Bool, true, false, not, List, [], ◌∷◌, length}
+use Rattle.std.specs.Prelude.{Option, Some, None, IsSome, if◌then◌else◌}
+use Rattle.run_set.specs.Runs.{inside}
+use Rattle.subpool_storage.specs.Subpools.{is_there}
+use Rattle.storage_changes.specs.declared.record.AreaRecord.{AreaRecord}
+use Rattle.storage_changes.specs.declared.record.ExtentRecord.{ExtentRecord}
+use Rattle.storage_changes.specs.declared.record.PagesRecord.{PagesRecord}
+use Rattle.storage_changes.specs.declared.record.OwnRecord.{OwnRecord}
+use Rattle.storage_changes.specs.declared.record.QueuesRecord.{QueuesRecord}
+use Rattle.storage_changes.specs.declared.record.RegisterRecord.{RegisterRecord}
+use Rattle.storage_changes.specs.declared.record.BytesRecord.{BytesRecord}
+use Rattle.storage_changes.specs.declared.record.Record.{Record}
+use Rattle.storage_changes.specs.declared.record.Record.TheVariants.{Area, Extent, Pages, Own, Queues, Register, Bytes}
+use Rattle.storage_changes.specs.Walk.{Walk}
+use Rattle.storage_changes.specs.Steps.{area_spare, extent_spare, pages_spare, own_step, step}
+
+pub record AreaFits (w : Walk) (r : AreaRecord) : Type 0 where
+  pub there : is_there w.state.subpools r.subpool ≡ true
+  pub some : 0 < r.area.len
+  pub high : r.area.start + r.area.len ≤ 2 ^ 29
+  pub other : (d : ℕ) → inside d r.area ≡ true → w.state.subpools.free r.subpool d ≡ not r.free
+  pub room : 0 < w.spare
+  pub room_after : 0 < area_spare w r
+
+pub record ExtentFits (w : Walk) (r : ExtentRecord) : Type 0 where
+  pub there : is_there w.state.subpools r.subpool ≡ true
+  pub some : 0 < r.run.len
+  pub high : r.run.start + r.run.len ≤ 2 ^ 20
+  pub other : (page : ℕ) → inside page r.run ≡ true → w.state.subpools.pages r.subpool page ≡ not r.present
+  pub room : 0 < w.spare
+  pub room_after : 0 < extent_spare w r
+
+-- where the frame of a page is: with the change that brings it, or in the storage that gives it
+pub record FrameIs (assigned : Bool) (brought bytes given : Option ℕ) : Type 0 where
+  pub there : IsSome (if assigned then brought else bytes)
+  pub not_with_other : (if assigned then bytes else brought) ≡ None
+  pub not_given : given ≡ None
+
+pub record PagesFits (w : Walk) (r : PagesRecord) : Type 0 where
+  pub some : 0 < r.run.len
+  pub high : r.run.start + r.run.len ≤ 2 ^ 20
+  pub other : (page : ℕ) → inside page r.run ≡ true → w.state.unassigned page ≡ r.assigned
+  pub frame : (a : ℕ) → inside (a / 4096) r.run ≡ true → FrameIs r.assigned (w.brought a) (w.state.bytes a) (w.given a)
+  pub room : 0 < w.spare
+  pub room_after : 0 < pages_spare w r
+
+-- The owner is a task from 1 to 64, and nobody else sees its subpool, which is empty.
+pub record OwnFits (w : Walk) (r : OwnRecord) : Type 0 where
+  pub owner : (1 ≤ r.subpool.owner) × (r.subpool.owner ≤ 64)
+  pub number : r.subpool.number ≤ 127
+  pub other :
+      w.state.subpools.sight r.subpool.owner r.subpool.number ≡ (if r.present then None else Some r.subpool.owner)
+  pub alone :
+      (task : ℕ) → w.state.subpools.sight task r.subpool.number ≡ Some r.subpool.owner → task ≡ r.subpool.owner
+  pub no_pages : (page : ℕ) → w.state.subpools.pages r.subpool page ≡ false
+  pub none_free : (d : ℕ) → w.state.subpools.free r.subpool d ≡ false
+  pub room : 0 < w.spare
+  pub room_after : 0 < (own_step w r).spare
+
+-- the subpool is there, and parked under the same name
+pub record QueuesFits (w : Walk) (r : QueuesRecord) : Type 0 where
+  pub there : is_there w.state.subpools r.subpool ≡ true
+  pub parked : is_there w.parked r.subpool ≡ true
+
+pub record RegisterFits (w : Walk) (r : RegisterRecord) : Type 0 where
+  pub task : IsSome (w.state.tasks.parents r.task)
+  pub register : r.register < 16
+
+-- there are sixteen bytes, and each of their addresses has one
+pub record BytesFits (w : Walk) (r : BytesRecord) : Type 0 where
+  pub sixteen : length r.bytes ≡ 16
+  pub there : (a : ℕ) → a / 16 ≡ r.block → IsSome (w.state.bytes a)
+
+-- each kind, and records in their order
+
+abbrev pub Fits : Walk → Record → Type 0
+Fits w (Area r) = AreaFits w r
+Fits w (Extent r) = ExtentFits w r
+Fits w (Pages r) = PagesFits w r
+Fits w (Own r) = OwnFits w r
+Fits w (Queues r) = QueuesFits w r
+Fits w (Register r) = RegisterFits w r
+Fits w (Bytes r) = BytesFits w r
+
+abbrev pub FitInTurn : Walk → List Record → Type 0
+FitInTurn w [] = Unit {0}
+FitInTurn w (r ∷ rs) = Fits w r × FitInTurn (step w r) rs

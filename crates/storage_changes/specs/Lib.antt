@@ -1,0 +1,9 @@
+pub mod State
+pub mod Records
+pub mod Walk
+pub mod Steps
+pub mod Turned
+pub mod Fits
+pub mod Changes
+pub mod Meaning
+pub mod Laws

@@ -1,0 +1,37 @@
+-- How a record stands in the seven words of an element: its kind, its places and their other value.
+use Rattle.std.specs.Prelude.{ℕ, List, [], ◌++◌, ◌%◌, ◌==◌, slice_index_or, if◌then◌else◌}
+use Rattle.run_set.specs.declared.run.Run.{Run}
+use Rattle.vsm_model.specs.declared.Subpool.{Subpool}
+use Rattle.vsm_model.specs.Bytes.{fullword}
+use Rattle.storage_changes.specs.declared.record.RegisterRecord.{RegisterRecord}
+use Rattle.storage_changes.specs.declared.record.Record.{Record}
+use Rattle.storage_changes.specs.declared.record.Record.TheVariants.{Area, Extent, Pages, Own, Queues, Register, Bytes}
+
+abbrev pub word : List ℕ → ℕ → ℕ
+word words i = slice_index_or words i 0
+
+-- the subpool that the second and the third word name, and the run in the fourth and the fifth
+abbrev pub subpool_in : List ℕ → Subpool
+subpool_in words = record { number = word words 1 % 256; owner = word words 2 % 256 }
+
+abbrev pub run_in : List ℕ → Run
+run_in words = record { start = word words 3; len = word words 4 }
+
+-- the register of a task that the second and the third word name, and the word in the fourth
+abbrev pub register_in : List ℕ → RegisterRecord
+register_in words = record { task = word words 1 % 256; register = word words 2 % 256; word = word words 3 }
+
+-- the sixteen bytes of four words
+abbrev pub bytes_in : List ℕ → List ℕ
+bytes_in words = fullword (word words 2) ++ fullword (word words 3) ++ fullword (word words 4) ++ fullword (word words 5)
+
+unfoldable pub record_of : List ℕ → Record
+record_of words =
+    if word words 0 == 0 then Area (record { subpool = subpool_in words; area = run_in words; free = word words 5 == 1 })
+    else if word words 0 == 1 then
+        Extent (record { subpool = subpool_in words; run = run_in words; present = word words 5 == 1 })
+    else if word words 0 == 2 then Pages (record { run = run_in words; assigned = word words 5 == 1 })
+    else if word words 0 == 3 then Own (record { subpool = subpool_in words; present = word words 5 == 1 })
+    else if word words 0 == 4 then Queues (record { subpool = subpool_in words })
+    else if word words 0 == 5 then Register (register_in words)
+    else Bytes (record { block = word words 1; bytes = bytes_in words })

@@ -1,0 +1,118 @@
+-- What a record of each kind does to the state, and what it takes and gives.
+use Rattle.std.specs.Prelude.{ℕ, ◌+◌, ◌-◌, ◌/◌, ◌%◌, not, ◌&&◌, ◌==◌, List, [], ◌∷◌, Some, None}
+use Rattle.std.specs.Prelude.{slice_index_or, if◌then◌else◌}
+use Rattle.run_set.specs.Runs.{inside}
+use Rattle.run_set.specs.Counts.{joins}
+use Rattle.subpool_storage.specs.Subpools.{with_pages, with_free, with_own, with_storage_of}
+use Rattle.storage_changes.specs.declared.record.AreaRecord.{AreaRecord}
+use Rattle.storage_changes.specs.declared.record.ExtentRecord.{ExtentRecord}
+use Rattle.storage_changes.specs.declared.record.PagesRecord.{PagesRecord}
+use Rattle.storage_changes.specs.declared.record.OwnRecord.{OwnRecord}
+use Rattle.storage_changes.specs.declared.record.QueuesRecord.{QueuesRecord}
+use Rattle.storage_changes.specs.declared.record.RegisterRecord.{RegisterRecord}
+use Rattle.storage_changes.specs.declared.record.BytesRecord.{BytesRecord}
+use Rattle.storage_changes.specs.declared.record.Record.{Record}
+use Rattle.storage_changes.specs.declared.record.Record.TheVariants.{Area, Extent, Pages, Own, Queues, Register, Bytes}
+use Rattle.storage_changes.specs.State.{StorageState}
+use Rattle.storage_changes.specs.Walk.{Walk, spare_joined, spare_left}
+
+-- an area of a subpool's free storage
+
+abbrev pub area_spare : Walk → AreaRecord → ℕ
+area_spare w r = if r.free then spare_joined w.spare (joins (w.state.subpools.free r.subpool) r.area)
+    else spare_left w.spare (joins (w.state.subpools.free r.subpool) r.area)
+
+abbrev pub area_step : Walk → AreaRecord → Walk
+area_step w r =
+    record w {
+      state = record w.state { subpools = with_free w.state.subpools r.subpool r.area r.free };
+      spare = area_spare w r;
+    }
+
+-- a run of pages that a subpool has
+
+abbrev pub extent_spare : Walk → ExtentRecord → ℕ
+extent_spare w r = if r.present then spare_joined w.spare (joins (w.state.subpools.pages r.subpool) r.run)
+    else spare_left w.spare (joins (w.state.subpools.pages r.subpool) r.run)
+
+abbrev pub extent_step : Walk → ExtentRecord → Walk
+extent_step w r =
+    record w {
+      state = record w.state { subpools = with_pages w.state.subpools r.subpool r.run r.present };
+      spare = extent_spare w r;
+    }
+
+-- A run of pages that is assigned, with the frames that the change brings, or unassigned, with its frames given to the
+-- change.
+
+abbrev pub pages_spare : Walk → PagesRecord → ℕ
+pages_spare w r = if r.assigned then spare_left w.spare (joins w.state.unassigned r.run)
+    else spare_joined w.spare (joins w.state.unassigned r.run)
+
+abbrev pub pages_step : Walk → PagesRecord → Walk
+pages_step w r =
+    record w {
+      state = record w.state {
+        unassigned = λ page. if inside page r.run then not r.assigned else w.state.unassigned page;
+        bytes = λ a. if inside (a / 4096) r.run then (if r.assigned then w.brought a else None) else w.state.bytes a;
+      };
+      brought = λ a. if inside (a / 4096) r.run then None else w.brought a;
+      given = λ a. if inside (a / 4096) r.run then (if r.assigned then None else w.state.bytes a) else w.given a;
+      spare = pages_spare w r;
+    }
+
+-- an empty subpool of an owner
+
+abbrev pub own_step : Walk → OwnRecord → Walk
+own_step w r =
+    record w {
+      state = record w.state { subpools = with_own w.state.subpools r.subpool r.present };
+      spare = if r.present then w.spare - 1 else w.spare + 1;
+    }
+
+-- the pages and the free storage of a subpool, which changes places with what is parked under its name
+
+abbrev pub queues_step : Walk → QueuesRecord → Walk
+queues_step w r =
+    record w {
+      state = record w.state { subpools = with_storage_of w.state.subpools w.parked r.subpool };
+      parked = with_storage_of w.parked w.state.subpools r.subpool;
+    }
+
+-- a register of a task
+
+abbrev pub register_step : Walk → RegisterRecord → Walk
+register_step w r =
+    record w {
+      state = record w.state {
+        tasks = record w.state.tasks {
+          words = λ task register. if (task == r.task) && (register == r.register) then r.word
+              else w.state.tasks.words task register;
+        };
+      };
+    }
+
+-- sixteen bytes from an address that sixteen divides
+
+abbrev pub bytes_step : Walk → BytesRecord → Walk
+bytes_step w r =
+    record w {
+      state = record w.state {
+        bytes = λ a. if a / 16 == r.block then Some (slice_index_or r.bytes (a % 16) 0) else w.state.bytes a;
+      };
+    }
+
+-- each kind, and records in their order
+
+abbrev pub step : Walk → Record → Walk
+step w (Area r) = area_step w r
+step w (Extent r) = extent_step w r
+step w (Pages r) = pages_step w r
+step w (Own r) = own_step w r
+step w (Queues r) = queues_step w r
+step w (Register r) = register_step w r
+step w (Bytes r) = bytes_step w r
+
+abbrev pub walk : Walk → List Record → Walk
+walk w [] = w
+walk w (r ∷ rs) = walk (step w r) rs

@@ -1,0 +1,27 @@
+-- A record with the value that its places had.
+use Rattle.std.specs.Prelude.{ℕ, zero, suc, ◌*◌, not, List, [], ◌∷◌, Option}
+use Rattle.vsm_model.specs.Bytes.{byte_or_zero}
+use Rattle.storage_changes.specs.declared.record.Record.{Record}
+use Rattle.storage_changes.specs.declared.record.Record.TheVariants.{Area, Extent, Pages, Own, Queues, Register, Bytes}
+use Rattle.storage_changes.specs.Walk.{Walk}
+use Rattle.storage_changes.specs.State.{StorageState}
+use Rattle.storage_changes.specs.Steps.{step}
+
+-- the count bytes from the address on, 0 where there is none
+abbrev pub read : (ℕ → Option ℕ) → ℕ → ℕ → List ℕ
+read bytes a zero = []
+read bytes a (suc count) = byte_or_zero (bytes a) ∷ read bytes (suc a) count
+
+abbrev pub turned : StorageState → Record → Record
+turned m (Area r) = Area (record r { free = not r.free })
+turned m (Extent r) = Extent (record r { present = not r.present })
+turned m (Pages r) = Pages (record r { assigned = not r.assigned })
+turned m (Own r) = Own (record r { present = not r.present })
+turned m (Queues r) = Queues r
+turned m (Register r) = Register (record r { word = m.tasks.words r.task r.register })
+turned m (Bytes r) = Bytes (record r { bytes = read m.bytes (16 * r.block) 16 })
+
+-- the records that lead back, the last one first, before `done`
+abbrev pub back_onto : Walk → List Record → List Record → List Record
+back_onto w done [] = done
+back_onto w done (r ∷ rs) = back_onto (step w r) (turned w.state r ∷ done) rs

@@ -1,0 +1,10 @@
+//! What a change of the storage means: records that are exchanged with the storage in turn, blank elements and
+//! frames; and that the exchanged change leads back.
+#![tactic(auto)]
+
+pub mod laws;
+mod record;
+
+pub use record::{
+    AreaRecord, BytesRecord, ExtentRecord, OwnRecord, PagesRecord, QueuesRecord, Record, RegisterRecord,
+};

@@ -1,0 +1,179 @@
+ghost use Rattle.std.specs.Prelude.{◌≡◌, if◌then◌else◌, [], ◌∷◌};
+ghost use Rattle.storage_changes.specs.Records.{record_of, word, subpool_in, run_in, register_in, bytes_in};
+
+use run_set::Run;
+use vsm_model::Subpool;
+
+/// The doublewords of an area become free storage of a subpool, or taken.
+#[derive(Clone, Copy, Debug, PartialEq, Eq)]
+pub struct AreaRecord {
+    pub subpool: Subpool,
+    /// In doublewords of 8 bytes.
+    pub area: Run,
+    pub free: bool,
+}
+
+/// The pages of a run become a subpool's, or leave it.
+#[derive(Clone, Copy, Debug, PartialEq, Eq)]
+pub struct ExtentRecord {
+    pub subpool: Subpool,
+    /// In pages of 4,096 bytes.
+    pub run: Run,
+    pub present: bool,
+}
+
+/// The pages of a run are assigned, with the frames that the change brings, or become unassigned and leave it theirs.
+#[derive(Clone, Copy, Debug, PartialEq, Eq)]
+pub struct PagesRecord {
+    /// In pages of 4,096 bytes.
+    pub run: Run,
+    pub assigned: bool,
+}
+
+/// An empty subpool is there, which its owner alone sees, or it is gone.
+#[derive(Clone, Copy, Debug, PartialEq, Eq)]
+pub struct OwnRecord {
+    pub subpool: Subpool,
+    pub present: bool,
+}
+
+/// The pages and the free storage of a subpool change places with what the change has parked under its name.
+#[derive(Clone, Copy, Debug, PartialEq, Eq)]
+pub struct QueuesRecord {
+    pub subpool: Subpool,
+}
+
+/// A register of a task gets a word.
+#[derive(Clone, Copy, Debug, PartialEq, Eq)]
+pub struct RegisterRecord {
+    pub task: u8,
+    pub register: u8,
+    pub word: u32,
+}
+
+/// The sixteen bytes of a block get these values. Block `b` has the addresses from `16 * b`.
+#[derive(Clone, Copy, Debug, PartialEq, Eq)]
+pub struct BytesRecord {
+    pub block: u32,
+    pub bytes: [u8; 16],
+}
+
+/// Places of the storage that change together, with their other value.
+#[derive(Clone, Copy, Debug, PartialEq, Eq)]
+pub enum Record {
+    Area(AreaRecord),
+    Extent(ExtentRecord),
+    Pages(PagesRecord),
+    Own(OwnRecord),
+    Queues(QueuesRecord),
+    Register(RegisterRecord),
+    Bytes(BytesRecord),
+}
+
+const AREA: u32 = 0;
+const EXTENT: u32 = 1;
+const PAGES: u32 = 2;
+const OWN: u32 = 3;
+const QUEUES: u32 = 4;
+const REGISTER: u32 = 5;
+const BYTES: u32 = 6;
+
+/// No kind of record has both a subpool and a run of its own in each case: what it lacks is written as zeros.
+const NO_SUBPOOL: Subpool = Subpool {
+    number: 0,
+    owner: 0,
+};
+const NO_RUN: Run = Run {
+    start: 0,
+    len: 0,
+};
+
+#[tactic(auto, unfolding(crate::specs::Records::record_of))]
+impl Record {
+    /// The record as the seven words of an element.
+    pub fn words(self) -> [u32; 7]
+        ensures { record_of result ≡ self }
+    {
+        match self {
+            Record::Area(r) => place_words(AREA, r.subpool, r.area, r.free),
+            Record::Extent(r) => place_words(EXTENT, r.subpool, r.run, r.present),
+            Record::Pages(r) => place_words(PAGES, NO_SUBPOOL, r.run, r.assigned),
+            Record::Own(r) => place_words(OWN, r.subpool, NO_RUN, r.present),
+            Record::Queues(r) => place_words(QUEUES, r.subpool, NO_RUN, false),
+            Record::Register(r) => [REGISTER, u32::from(r.task), u32::from(r.register), r.word, 0, 0, 0],
+            Record::Bytes(r) => byte_words(r),
+        }
+    }
+
+    /// The record that stands in the seven words of an element. Words of no kind are taken for bytes.
+    pub fn from_words(words: [u32; 7]) -> Record
+        ensures { result ≡ record_of words }
+    {
+        let subpool = subpool_of(words);
+        let run = run_of(words);
+        let value = words[5] == 1;
+        match words[0] {
+            AREA => Record::Area(AreaRecord { subpool, area: run, free: value }),
+            EXTENT => Record::Extent(ExtentRecord { subpool, run, present: value }),
+            PAGES => Record::Pages(PagesRecord { run, assigned: value }),
+            OWN => Record::Own(OwnRecord { subpool, present: value }),
+            QUEUES => Record::Queues(QueuesRecord { subpool }),
+            REGISTER => Record::Register(register_of(words)),
+            _ => Record::Bytes(BytesRecord { block: words[1], bytes: bytes_of(words) }),
+        }
+    }
+}
+
+/// The words of a record of a subpool, a run and the value that its places get.
+fn place_words(kind: u32, subpool: Subpool, run: Run, value: bool) -> [u32; 7]
+    ensures { result ≡ kind ∷ subpool.number ∷ subpool.owner ∷ run.start ∷ run.len ∷ (if value then 1 else 0) ∷ 0 ∷ [] }
+{
+    let value = u32::from(value);
+    [kind, u32::from(subpool.number), u32::from(subpool.owner), run.start, run.len, value, 0]
+}
+
+/// The words of a record of bytes: four bytes in a word, the first of them the highest.
+fn byte_words(r: BytesRecord) -> [u32; 7]
+    ensures kind { word result 0 ≡ 6 }
+    ensures block { word result 1 ≡ r.block }
+    ensures bytes { bytes_in result ≡ r.bytes }
+{
+    let [a, b, c, d, e, f, g, h, i, j, k, l, m, n, o, p] = r.bytes;
+    [
+        BYTES,
+        r.block,
+        u32::from_be_bytes([a, b, c, d]),
+        u32::from_be_bytes([e, f, g, h]),
+        u32::from_be_bytes([i, j, k, l]),
+        u32::from_be_bytes([m, n, o, p]),
+        0,
+    ]
+}
+
+fn subpool_of(words: [u32; 7]) -> Subpool
+    ensures { result ≡ subpool_in words }
+{
+    Subpool { number: (words[1] % 256) as u8, owner: (words[2] % 256) as u8 }
+}
+
+fn run_of(words: [u32; 7]) -> Run
+    ensures { result ≡ run_in words }
+{
+    Run { start: words[3], len: words[4] }
+}
+
+fn register_of(words: [u32; 7]) -> RegisterRecord
+    ensures { result ≡ register_in words }
+{
+    RegisterRecord { task: (words[1] % 256) as u8, register: (words[2] % 256) as u8, word: words[3] }
+}
+
+fn bytes_of(words: [u32; 7]) -> [u8; 16]
+    ensures { result ≡ bytes_in words }
+{
+    let [a, b, c, d] = words[2].to_be_bytes();
+    let [e, f, g, h] = words[3].to_be_bytes();
+    let [i, j, k, l] = words[4].to_be_bytes();
+    let [m, n, o, p] = words[5].to_be_bytes();
+    [a, b, c, d, e, f, g, h, i, j, k, l, m, n, o, p]
+}

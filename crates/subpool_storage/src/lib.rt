@@ -1,0 +1,2 @@
+//! Subpools with their pages and their free storage.
+#![tactic(auto)]
