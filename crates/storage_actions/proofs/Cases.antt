@@ -1,0 +1,44 @@
+-- Cases of tests, optional values, subpools and runs.
+use Rattle.std.proofs.Common.{◌≡◌, ℕ, zero, suc, ◌+◌, ◌<◌, ◌≤◌, Bool, true, false, not, ◌&&◌, nat_le, nat_lt, ◌==◌, if◌then◌else◌, Option, Some, None, is_some, IsSome, refl, sym, ◌∙◌, ap, arith, inl, inr, true≢false}
+use Rattle.std.proofs.lemmas.Bool.{and_parts, and_from, and_left, eqb-true, eq-eqb, leb-true, ltb-true, le-leb, lt-ltb, cond-true, cond-false, false_from_ne_true}
+use Rattle.run_set.specs.declared.run.Run.{Run}
+use Rattle.run_set.specs.Runs.{inside}
+use Rattle.vsm_model.specs.declared.Subpool.{Subpool}
+use Rattle.vsm_model.specs.Search.{holds}
+use Rattle.vsm_model.specs.Subpools.{same_subpool}
+
+pub none_some : {A : Type 0} (y : A) → ◌≡◌ {A = Option A} None (Some y) → ⊥
+none_some y e = cc
+
+pub none_from : {A : Type 0} (o : Option A) → is_some o ≡ false → o ≡ None
+none_from None e = refl
+none_from (Some x) e = absurd (true≢false e)
+
+pub is_none_some : {A : Type 0} (o : Option A) → o ≡ None → IsSome o → ⊥
+is_none_some None e h = cc
+is_none_some (Some x) e h = cc
+
+pub same_self : (p : Subpool) → same_subpool p p ≡ true
+same_self p = and_from (p.number == p.number) (p.owner == p.owner) (eq-eqb p.number p.number refl) (eq-eqb p.owner p.owner refl)
+
+pub same_is : (q p : Subpool) → same_subpool q p ≡ true → q ≡ p
+same_is q p h =
+    let parts = and_parts (q.number == p.number) (q.owner == p.owner) h in
+    let number : q.number ≡ p.number = eqb-true q.number p.number parts.0 in
+    let owner : q.owner ≡ p.owner = eqb-true q.owner p.owner parts.1 in
+    λ i. record { number = number i; owner = owner i }
+
+-- where a test for a subpool and another test meet
+pub at_self : (p : Subpool) (b : Bool) → b ≡ true → (same_subpool p p && b) ≡ true
+at_self p b e = and_from (same_subpool p p) b (same_self p) e
+
+pub inside_in : (start len k : ℕ) → inside k (record { start = start; len = len }) ≡ true → (start ≤ k) × (k < start + len)
+inside_in start len k e =
+    let parts = and_parts (nat_le start k) (nat_lt k (start + len)) e in
+    (leb-true start k parts.0, ltb-true k (start + len) parts.1)
+
+pub in_inside : (start len k : ℕ) → start ≤ k → k < start + len → inside k (record { start = start; len = len }) ≡ true
+in_inside start len k low high = and_from (nat_le start k) (nat_lt k (start + len)) (le-leb start k low) (lt-ltb k (start + len) high)
+
+pub not_inside : (start len k : ℕ) → ((start ≤ k) → (k < start + len) → ⊥) → inside k (record { start = start; len = len }) ≡ false
+not_inside start len k h = false_from_ne_true (inside k (record { start = start; len = len })) (λ e. let at = inside_in start len k e in h at.0 at.1)

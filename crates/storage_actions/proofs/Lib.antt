@@ -1,0 +1,7 @@
+mod Cases
+mod Named
+mod Goes
+mod Rows
+mod Records
+mod Owned
+mod Taking
