@@ -1,6 +1,6 @@
 -- Cases of tests, optional values, subpools and runs.
-use Rattle.std.proofs.Common.{◌≡◌, ℕ, zero, suc, ◌+◌, ◌<◌, ◌≤◌, Bool, true, false, not, ◌&&◌, nat_le, nat_lt, ◌==◌, if◌then◌else◌, Option, Some, None, is_some, IsSome, refl, sym, ◌∙◌, ap, arith, inl, inr, true≢false}
-use Rattle.std.proofs.lemmas.Bool.{and_parts, and_from, and_left, eqb-true, eq-eqb, leb-true, ltb-true, le-leb, lt-ltb, cond-true, cond-false, false_from_ne_true}
+use Rattle.std.proofs.Common.{◌≡◌, ℕ, zero, suc, ◌+◌, ◌<◌, ◌≤◌, Bool, true, false, not, ◌&&◌, ◌||◌, nat_le, nat_lt, ◌==◌, if◌then◌else◌, Option, Some, None, is_some, IsSome, refl, sym, ◌∙◌, ap, arith, inl, inr, true≢false}
+use Rattle.std.proofs.lemmas.Bool.{and_parts, and_from, and_left, eqb-true, eq-eqb, leb-true, ltb-true, le-leb, lt-ltb, cases_lt, false_from_ne_true}
 use Rattle.run_set.specs.declared.run.Run.{Run}
 use Rattle.run_set.specs.Runs.{inside}
 use Rattle.vsm_model.specs.declared.Subpool.{Subpool}
@@ -42,3 +42,15 @@ in_inside start len k low high = and_from (nat_le start k) (nat_lt k (start + le
 
 pub not_inside : (start len k : ℕ) → ((start ≤ k) → (k < start + len) → ⊥) → inside k (record { start = start; len = len }) ≡ false
 not_inside start len k h = false_from_ne_true (inside k (record { start = start; len = len })) (λ e. let at = inside_in start len k e in h at.0 at.1)
+
+-- a number that isn't in a run, and not before it, is behind it
+pub outside : (start len k : ℕ) → inside k (record { start = start; len = len }) ≡ false → start ≤ k → start + len ≤ k
+outside start len k e low =
+    elim (cases_lt k (start + len)) [
+      | inl high ↦ absurd (true≢false (sym (in_inside start len k low high) ∙ e))
+      | inr behind ↦ behind
+    ]
+
+pub or_none : (b c : Bool) → c ≡ false → (b || c) ≡ b
+or_none true c e = refl
+or_none false c e = e

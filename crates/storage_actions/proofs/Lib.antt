@@ -5,3 +5,4 @@ mod Rows
 mod Records
 mod Owned
 mod Taking
+mod Fresh

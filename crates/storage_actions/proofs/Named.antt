@@ -14,10 +14,10 @@ first_same f g xs same = ap (λ h. first_of h xs) (λ i x. same x i)
 
 pub first_passes : {A : Type 0} (f : A → Bool) (xs : List A) (x : A) → first_of f xs ≡ Some x → f x ≡ true
 first_passes f [] x e = cc
-first_passes f (y ∷ ys) x e = go (f y) refl e where
-  go : (b : Bool) → f y ≡ b → (if b then Some y else first_of f ys) ≡ Some x → f x ≡ true
-  go true p h = let is : y ≡ x = cc in subst (λ z. f z ≡ true) is p
-  go false p h = first_passes f ys x h
+first_passes f (y ∷ ys) x e = go (f y) refl e (λ h. first_passes f ys x h) where
+  go : (b : Bool) → f y ≡ b → (if b then Some y else first_of f ys) ≡ Some x → (first_of f ys ≡ Some x → f x ≡ true) → f x ≡ true
+  go true p h next = let is : y ≡ x = cc in subst (λ z. f z ≡ true) is p
+  go false p h next = next h
 
 pub first_none : {A : Type 0} (f : A → Bool) (xs : List A) → ((x : A) → f x ≡ false) → first_of f xs ≡ None
 first_none f [] none = refl
@@ -26,17 +26,18 @@ first_none f (y ∷ ys) none = ap (λ b. if b then Some y else first_of f ys) (n
 -- there is one in a list that is joined to others
 first_left : {A : Type 0} (f : A → Bool) (xs ys : List A) → is_some (first_of f xs) ≡ true → is_some (first_of f (xs ++ ys)) ≡ true
 first_left f [] ys h = cc
-first_left f (x ∷ xs) ys h = go (f x) h where
-  go : (b : Bool) → is_some (if b then Some x else first_of f xs) ≡ true → is_some (if b then Some x else first_of f (xs ++ ys)) ≡ true
-  go true k = refl
-  go false k = first_left f xs ys k
+first_left f (x ∷ xs) ys h = go (f x) h (λ k. first_left f xs ys k) where
+  go : (b : Bool) → is_some (if b then Some x else first_of f xs) ≡ true
+      → (is_some (first_of f xs) ≡ true → is_some (first_of f (xs ++ ys)) ≡ true) → is_some (if b then Some x else first_of f (xs ++ ys)) ≡ true
+  go true k next = refl
+  go false k next = next k
 
 first_right : {A : Type 0} (f : A → Bool) (xs ys : List A) → is_some (first_of f ys) ≡ true → is_some (first_of f (xs ++ ys)) ≡ true
 first_right f [] ys h = h
-first_right f (x ∷ xs) ys h = go (f x) where
-  go : (b : Bool) → is_some (if b then Some x else first_of f (xs ++ ys)) ≡ true
-  go true = refl
-  go false = first_right f xs ys h
+first_right f (x ∷ xs) ys h = go (f x) (first_right f xs ys h) where
+  go : (b : Bool) → is_some (first_of f (xs ++ ys)) ≡ true → is_some (if b then Some x else first_of f (xs ++ ys)) ≡ true
+  go true next = refl
+  go false next = next
 
 first_here : {A : Type 0} (f : A → Bool) (x : A) (xs : List A) → f x ≡ true → is_some (first_of f (x ∷ xs)) ≡ true
 first_here f x xs h = ap (λ b. is_some (if b then Some x else first_of f xs)) h
