@@ -54,3 +54,8 @@ outside start len k e low =
 pub or_none : (b c : Bool) → c ≡ false → (b || c) ≡ b
 or_none true c e = refl
 or_none false c e = e
+
+-- an optional subpool is this one
+pub belongs_is : (p : Subpool) (o : Option Subpool) → holds (same_subpool p) o ≡ true → o ≡ Some p
+belongs_is p None e = absurd (true≢false (sym e))
+belongs_is p (Some q) e = ap Some (sym (same_is p q e))

@@ -6,3 +6,5 @@ mod Records
 mod Owned
 mod Taking
 mod Fresh
+mod Emptied
+mod GivingBack

@@ -1,7 +1,7 @@
 -- What a record of each kind leads to.
 use Rattle.std.proofs.Common.{◌≡◌, ℕ, zero, suc, ◌+◌, ◌-◌, ◌<◌, ◌≤◌, Bool, true, false, not, ◌&&◌, ◌==◌, if◌then◌else◌, List, [], ◌∷◌, Option, Some, None, IsSome, refl, sym, ◌∙◌, ap, arith, subst}
 use Rattle.std.specs.Prelude.{◌^◌, ◌/◌}
-use Rattle.std.proofs.lemmas.Bool.{cond-true, cond-false, and_right}
+use Rattle.std.proofs.lemmas.Bool.{cond-true, cond-false, and_left, and_right}
 use Rattle.run_set.specs.declared.run.Run.{Run}
 use Rattle.run_set.specs.Runs.{inside}
 use Rattle.run_set.specs.Counts.{joins}
@@ -19,7 +19,7 @@ use Rattle.storage_changes.specs.Walk.{Walk, spare_joined, spare_left}
 use Rattle.storage_changes.specs.Steps.{area_spare, extent_spare, pages_spare}
 use Rattle.storage_changes.specs.Fits.{AreaFits, FrameIs}
 use Rattle.storage_actions.specs.Actions.{run_of, area_records, own_records, assigned_records, returned_records}
-use Rattle.storage_actions.proofs.Cases.{not_inside}
+use Rattle.storage_actions.proofs.Cases.{at_self, not_inside}
 use Rattle.storage_actions.proofs.Goes.{at, Goes, goes_step, goes_on, goes_nowhere, goes_to}
 
 -- a run has two neighbours at most
@@ -38,6 +38,18 @@ unassigned_less false left spare n few less = omega (arith, few, less)
 -- a state with other free storage
 abbrev pub freed : StorageState → Subpool → ℕ → ℕ → Bool → StorageState
 freed m p start count free = record m { subpools = with_free m.subpools p (run_of start count) free }
+
+module _ (m : StorageState) (p : Subpool) (start count : ℕ) (free : Bool) where
+  pub freed_in : (k : ℕ) → inside k (run_of start count) ≡ true → (freed m p start count free).subpools.free p k ≡ free
+  freed_in k own = cond-true (same_subpool p p && inside k (run_of start count)) free (m.subpools.free p k) (at_self p (inside k (run_of start count)) own)
+
+  pub freed_out : (q : Subpool) (k : ℕ) → inside k (run_of start count) ≡ false → (freed m p start count free).subpools.free q k ≡ m.subpools.free q k
+  freed_out q k other =
+      cond-false (same_subpool q p && inside k (run_of start count)) free (m.subpools.free q k) (and_right (same_subpool q p) (inside k (run_of start count)) other)
+
+  pub freed_other : (q : Subpool) (k : ℕ) → same_subpool q p ≡ false → (freed m p start count free).subpools.free q k ≡ m.subpools.free q k
+  freed_other q k other =
+      cond-false (same_subpool q p && inside k (run_of start count)) free (m.subpools.free q k) (and_left (same_subpool q p) (inside k (run_of start count)) other)
 
 -- an area without a doubleword is no change
 nothing_freed : (m : StorageState) (p : Subpool) (start : ℕ) (free : Bool) → m ≡ freed m p start 0 free
