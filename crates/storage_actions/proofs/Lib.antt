@@ -8,3 +8,4 @@ mod Taking
 mod Fresh
 mod Emptied
 mod GivingBack
+mod Writing

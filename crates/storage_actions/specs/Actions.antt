@@ -63,11 +63,16 @@ give_back_records p d count page (suc n) =
 abbrev pub bytes_with : (ℕ → Option ℕ) → ℕ → List ℕ → ℕ → Option ℕ
 bytes_with old address bytes a = if among address (length bytes) a then slice_get bytes (a - address) else old a
 
--- Each block of sixteen bytes that they touch has its other ones as they were.
+-- how many blocks of sixteen bytes so many bytes from the address on touch
+abbrev pub blocks_for : ℕ → ℕ → ℕ
+blocks_for address zero = 0
+blocks_for address (suc n) = (address + n) / 16 + 1 - address / 16
+
+-- Each of them has its other bytes as they were.
 abbrev pub write_records : StorageState → ℕ → List ℕ → List Record
 write_records m address bytes =
     map (λ block. Bytes (record { block = block; bytes = read (bytes_with m.bytes address bytes) (16 * block) 16 }))
-    (range_with_len (address / 16) ((address + length bytes + 15) / 16 - address / 16))
+    (range_with_len (address / 16) (blocks_for address (length bytes)))
 
 -- registers of the current task, with their words
 abbrev pub register_records : StorageState → List (ℕ × ℕ) → List Record

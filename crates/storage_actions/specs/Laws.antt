@@ -55,7 +55,7 @@ GivingBackLeads =
 abbrev pub WritingLeads : Type 0
 WritingLeads =
     (settings : Settings) (m : StorageState) (address : ℕ) (bytes : List ℕ) →
-    IsSound settings m → All (λ byte. byte < 256) bytes → are_there (model_of m) address (length bytes) ≡ true →
+    IsSound settings m → are_there (model_of m) address (length bytes) ≡ true →
     IsWellFormed settings (with_bytes (model_of m) address bytes) →
     Leads settings m (change_of (write_records m address bytes) 0 (run_of 0 0)) (with_bytes (model_of m) address bytes)
 
