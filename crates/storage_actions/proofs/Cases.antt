@@ -1,11 +1,11 @@
 -- Cases of tests, optional values, subpools and runs.
-use Rattle.std.proofs.Common.{◌≡◌, ℕ, zero, suc, ◌+◌, ◌<◌, ◌≤◌, Bool, true, false, not, ◌&&◌, ◌||◌, nat_le, nat_lt, ◌==◌, if◌then◌else◌, Option, Some, None, is_some, IsSome, refl, sym, ◌∙◌, ap, arith, inl, inr, true≢false}
-use Rattle.std.proofs.lemmas.Bool.{and_parts, and_from, and_left, eqb-true, eq-eqb, leb-true, ltb-true, le-leb, lt-ltb, cases_lt, false_from_ne_true}
-use Rattle.run_set.specs.declared.run.Run.{Run}
+use Rattle.std.proofs.Common.{◌≡◌, ℕ, ◌+◌, ◌<◌, ◌≤◌, Bool, true, false, ◌&&◌, ◌||◌, nat_le, nat_lt, Option, Some, None, is_some, IsSome, refl, sym, ◌∙◌, ap, inl, inr, true≢false}
+use Rattle.std.proofs.lemmas.Bool.{and_parts, and_from, leb-true, ltb-true, le-leb, lt-ltb, cases_lt, false_from_ne_true}
 use Rattle.run_set.specs.Runs.{inside}
 use Rattle.vsm_model.specs.declared.Subpool.{Subpool}
 use Rattle.vsm_model.specs.Search.{holds}
 use Rattle.vsm_model.specs.Subpools.{same_subpool}
+use Rattle.storage_changes.proofs.Cases.{same-self, same-is}
 
 pub none_some : {A : Type 0} (y : A) → ◌≡◌ {A = Option A} None (Some y) → ⊥
 none_some y e = cc
@@ -18,19 +18,9 @@ pub is_none_some : {A : Type 0} (o : Option A) → o ≡ None → IsSome o → �
 is_none_some None e h = cc
 is_none_some (Some x) e h = cc
 
-pub same_self : (p : Subpool) → same_subpool p p ≡ true
-same_self p = and_from (p.number == p.number) (p.owner == p.owner) (eq-eqb p.number p.number refl) (eq-eqb p.owner p.owner refl)
-
-pub same_is : (q p : Subpool) → same_subpool q p ≡ true → q ≡ p
-same_is q p h =
-    let parts = and_parts (q.number == p.number) (q.owner == p.owner) h in
-    let number : q.number ≡ p.number = eqb-true q.number p.number parts.0 in
-    let owner : q.owner ≡ p.owner = eqb-true q.owner p.owner parts.1 in
-    λ i. record { number = number i; owner = owner i }
-
 -- where a test for a subpool and another test meet
 pub at_self : (p : Subpool) (b : Bool) → b ≡ true → (same_subpool p p && b) ≡ true
-at_self p b e = and_from (same_subpool p p) b (same_self p) e
+at_self p b e = and_from (same_subpool p p) b (same-self p) e
 
 pub inside_in : (start len k : ℕ) → inside k (record { start = start; len = len }) ≡ true → (start ≤ k) × (k < start + len)
 inside_in start len k e =
@@ -58,4 +48,4 @@ or_none false c e = e
 -- an optional subpool is this one
 pub belongs_is : (p : Subpool) (o : Option Subpool) → holds (same_subpool p) o ≡ true → o ≡ Some p
 belongs_is p None e = absurd (true≢false (sym e))
-belongs_is p (Some q) e = ap Some (sym (same_is p q e))
+belongs_is p (Some q) e = ap Some (sym (same-is p q e))

@@ -1,7 +1,7 @@
 -- What holds of the pages that an area empties, and what the storage is without them.
-use Rattle.std.proofs.Common.{◌≡◌, ℕ, zero, suc, ◌+◌, ◌-◌, ◌<◌, ◌≤◌, Bool, true, false, not, ◌&&◌, ◌||◌, ◌==◌, if◌then◌else◌, List, [], ◌∷◌, ◌++◌, Option, Some, None, IsSome, is_some, refl, sym, ◌∙◌, ap, arith, subst, inl, inr, true≢false}
-use Rattle.std.specs.Prelude.{◌^◌, ◌/◌, ◌*◌}
-use Rattle.std.proofs.lemmas.Bool.{cond-true, cond-false, and_right, and_left, and_parts, and_from, cases_Bool, eqb-true, false_from_ne_true, not_from_true, true_from_ne_false, not-true, not-false}
+use Rattle.std.proofs.Common.{◌≡◌, ℕ, Bool, true, false, not, ◌&&◌, if◌then◌else◌, Option, Some, None, is_some, refl, sym, ◌∙◌, ap, arith, subst, true≢false}
+use Rattle.std.specs.Prelude.{◌/◌, ◌*◌}
+use Rattle.std.proofs.lemmas.Bool.{cond-true, cond-false, and_right, and_parts, and_from, false_from_ne_true, true_from_ne_false, not-true, not-false}
 use Rattle.run_set.specs.declared.run.Run.{Run}
 use Rattle.run_set.specs.Runs.{inside}
 use Rattle.vsm_model.specs.declared.Subpool.{Subpool}
@@ -11,19 +11,15 @@ use Rattle.vsm_model.specs.Search.{holds}
 use Rattle.vsm_model.specs.Subpools.{same_subpool}
 use Rattle.vsm_model.specs.Releasing.{is_idle, without_taken, without_area}
 use Rattle.vsm_model.proofs.Least.{all_pass_at}
-use Rattle.subpool_storage.specs.Subpools.{Subpools, is_there}
 use Rattle.storage_changes.specs.State.{StorageState}
-use Rattle.storage_changes.specs.Fits.{FrameIs}
 use Rattle.storage_changes.specs.Meaning.{model_of, subpool_of, is_taken, IsSound}
-use Rattle.storage_actions.specs.Actions.{run_of, area_records, returned_records, give_back_records, register_records}
-use Rattle.storage_actions.specs.Leads.{change_of, AreIdle}
-use Rattle.storage_actions.specs.Laws.{GivingBackLeads}
-use Rattle.storage_actions.proofs.Cases.{at_self, same_is, same_self, inside_in, in_inside, not_inside, outside, belongs_is, none_from, none_some}
-use Rattle.storage_actions.proofs.Named.{named_has, page_is_free, named_same}
-use Rattle.storage_actions.proofs.Goes.{at, Goes, goes_on, goes_to}
-use Rattle.storage_actions.proofs.Owned.{has_pages}
-use Rattle.storage_actions.proofs.Rows.{with_rows, Stands, rows_go, task_is_there, leads_with_rows, none_fresh, none_brought}
-use Rattle.storage_actions.proofs.Records.{freed, paged, assigned, brought_then, given_then, area_goes, returned_go}
+use Rattle.storage_changes.proofs.MeaningLemmas.{named_pages_are_there, left_pages_are_nobodys}
+use Rattle.storage_actions.specs.Actions.{run_of}
+use Rattle.storage_actions.specs.Leads.{AreIdle}
+use Rattle.storage_changes.proofs.Cases.{same-is, same-self}
+use Rattle.storage_actions.proofs.Cases.{belongs_is}
+use Rattle.storage_actions.proofs.Goes.{at}
+use Rattle.storage_actions.proofs.Rows.{Stands}
 
 abbrev pub without_pages : StorageState → Subpool → Run → (Subpool → ℕ → Bool) → StorageState
 without_pages m p run f =
@@ -52,7 +48,7 @@ module _ (settings : Settings) (m : StorageState) (p : Subpool) (d count page n 
       (and_parts (holds (same_subpool p) (subpool_of m.subpools j)) (is_idle (without_taken (model_of m) d count).taken j) (sym (idle j) ∙ own)).0
 
   pub had : (j : ℕ) → inside j run ≡ true → m.subpools.pages p j ≡ true
-  had j own = named_has m.subpools p j (its j own)
+  had j own = (named_pages_are_there m.subpools j).0 p (its j own)
 
   -- has no doubleword that is taken but by the area,
   is_idle_at : (left : ℕ → Bool) (j k : ℕ) → is_idle left j ≡ true → k / 512 ≡ j → left k ≡ false
@@ -87,7 +83,7 @@ module _ (settings : Settings) (m : StorageState) (p : Subpool) (d count page n 
     pages_in q k true same own = cond-true (inside k run) false (m.subpools.pages q k) own
     pages_in q k false other own =
         false_from_ne_true (m.subpools.pages q k)
-        (λ e. true≢false (sym (same_self p) ∙ ap (λ r. same_subpool r p) (sound.apart p q k (had k own) e) ∙ other))
+        (λ e. true≢false (sym (same-self p) ∙ ap (λ r. same_subpool r p) (sound.apart p q k (had k own) e) ∙ other))
 
     pages_out : (q : Subpool) (k : ℕ) → inside k run ≡ false → after.subpools.pages q k ≡ m.subpools.pages q k
     pages_out q k other = cond-false (same_subpool q p && inside k run) false (m.subpools.pages q k) (and_right (same_subpool q p) (inside k run) other)
@@ -96,19 +92,18 @@ module _ (settings : Settings) (m : StorageState) (p : Subpool) (d count page n 
     pages_were q k true e = absurd (true≢false (sym e))
     pages_were q k false e = e
 
+    named_lead : (k : ℕ) → subpool_of after.subpools k ≡ (if inside k run then None else subpool_of m.subpools k)
+    named_lead k = left_pages_are_nobodys m.subpools p run sound.apart had k
+
     named_in : (k : ℕ) → inside k run ≡ true → subpool_of after.subpools k ≡ None
-    named_in k own = page_is_free after.subpools k (λ q. pages_in q k (same_subpool q p) refl own)
+    named_in k own = named_lead k ∙ cond-true (inside k run) None (subpool_of m.subpools k) own
 
     named_out : (k : ℕ) → inside k run ≡ false → subpool_of after.subpools k ≡ subpool_of m.subpools k
-    named_out k other = named_same after.subpools m.subpools k (λ q. pages_out q k other)
-
-    named_lead : (k : ℕ) (b : Bool) → inside k run ≡ b → subpool_of after.subpools k ≡ (if b then None else subpool_of m.subpools k)
-    named_lead k true own = named_in k own
-    named_lead k false other = named_out k other
+    named_out k other = named_lead k ∙ cond-false (inside k run) None (subpool_of m.subpools k) other
 
     free_kept : (q : Subpool) (k : ℕ) (b : Bool) → same_subpool q p ≡ b → inside k area ≡ false → inside (k / 512) run ≡ false → f q k ≡ m.subpools.free q k
     free_kept q k true same beside other =
-        let is = same_is q p same in
+        let is = same-is q p same in
         ap (λ r. f r k) is ∙ kept k beside other ∙ ap (λ r. m.subpools.free r k) (sym is)
     free_kept q k false not_same beside other = others q k not_same
 
@@ -128,7 +123,7 @@ module _ (settings : Settings) (m : StorageState) (p : Subpool) (d count page n 
 
     pub back_leads : model_of after ≡ without_area (model_of m) p d count
     back_leads = λ i. record (model_of m) {
-      pages = λ k. (named_lead k (inside k run) refl ∙ ap (λ b. if b then None else subpool_of m.subpools k) (idle k)) i;
+      pages = λ k. (named_lead k ∙ ap (λ b. if b then None else subpool_of m.subpools k) (idle k)) i;
       taken = λ k. taken_lead k (inside (k / 512) run) refl i;
       bytes = λ a. ap (λ b. if b then None else m.bytes a) (idle (a / 4096)) i;
     }
@@ -145,15 +140,15 @@ module _ (settings : Settings) (m : StorageState) (p : Subpool) (d count page n 
     rest_at k false other = sound.rest k ∙ ap (λ o. in_a_region settings k && not (is_some o)) (sym (named_out k other))
 
     free_in : (q : Subpool) (k : ℕ) (b : Bool) → same_subpool q p ≡ b → inside (k / 512) run ≡ true → f q k ≡ true → ⊥
-    free_in q k true same own e = true≢false (sym e ∙ ap (λ r. f r k) (same_is q p same) ∙ gone k own)
+    free_in q k true same own e = true≢false (sym e ∙ ap (λ r. f r k) (same-is q p same) ∙ gone k own)
     free_in q k false other own e =
-        true≢false (sym (same_self p)
+        true≢false (sym (same-self p)
         ∙ ap (λ r. same_subpool r p) (sound.apart p q (k / 512) (had (k / 512) own) (sound.free q k (sym (others q k other) ∙ e)))
         ∙ other)
 
     free_out : (q : Subpool) (k : ℕ) (b c : Bool) → same_subpool q p ≡ b → inside k area ≡ c → inside (k / 512) run ≡ false → f q k ≡ true → m.subpools.pages q (k / 512) ≡ true
     free_out q k false c not_same place other e = sound.free q k (sym (others q k not_same) ∙ e)
-    free_out q k true true same own other e = ap (λ r. m.subpools.pages r (k / 512)) (same_is q p same) ∙ (held k own).0
+    free_out q k true true same own other e = ap (λ r. m.subpools.pages r (k / 512)) (same-is q p same) ∙ (held k own).0
     free_out q k true false same beside other e = sound.free q k (sym (free_kept q k true same beside other) ∙ e)
 
     free_at : (q : Subpool) (k : ℕ) (b : Bool) → inside (k / 512) run ≡ b → f q k ≡ true → after.subpools.pages q (k / 512) ≡ true

@@ -1,29 +1,30 @@
 -- An area that is taken at the first byte of unassigned pages.
-use Rattle.std.proofs.Common.{◌≡◌, ℕ, zero, suc, ◌+◌, ◌-◌, ◌<◌, ◌≤◌, Bool, true, false, not, ◌&&◌, ◌||◌, ◌==◌, if◌then◌else◌, List, [], ◌∷◌, ◌++◌, Option, Some, None, IsSome, is_some, refl, sym, ◌∙◌, ap, arith, subst, inl, inr, true≢false}
+use Rattle.std.proofs.Common.{◌≡◌, ℕ, ◌+◌, ◌-◌, ◌<◌, ◌≤◌, Bool, true, false, not, ◌&&◌, ◌||◌, if◌then◌else◌, ◌++◌, Option, Some, None, is_some, refl, sym, ◌∙◌, ap, arith, subst, true≢false}
 use Rattle.std.specs.Prelude.{◌^◌, ◌/◌, ◌*◌}
-use Rattle.std.proofs.lemmas.Bool.{cond-true, cond-false, and_right, and_left, and_parts, cases_Bool, eqb-true, false_from_ne_true, not_from_true, true_from_ne_false, not-true}
+use Rattle.std.proofs.lemmas.Bool.{cond-true, cond-false, and_right, and_parts, false_from_ne_true, not-true}
 use Rattle.run_set.specs.Runs.{inside}
 use Rattle.vsm_model.specs.declared.Subpool.{Subpool}
 use Rattle.vsm_model.specs.declared.limits.Settings.{Settings}
 use Rattle.vsm_model.specs.Regions.{pages_for, in_a_region}
-use Rattle.vsm_model.specs.Search.{holds}
 use Rattle.vsm_model.specs.Subpools.{same_subpool}
 use Rattle.vsm_model.specs.Obtaining.{with_taken, with_pages}
-use Rattle.subpool_storage.specs.Subpools.{Subpools, is_there}
+use Rattle.subpool_storage.specs.Subpools.{is_there}
 use Rattle.storage_changes.specs.State.{StorageState}
 use Rattle.storage_changes.specs.Fits.{FrameIs}
 use Rattle.storage_changes.specs.Meaning.{model_of, subpool_of, is_taken, IsSound}
+use Rattle.storage_changes.specs.Laws.{CanBe}
+use Rattle.storage_changes.proofs.MeaningLemmas.{joined_pages_are_named}
 use Rattle.storage_actions.specs.Actions.{run_of, own_records, area_records, assigned_records, take_fresh_records, register_records}
-use Rattle.storage_actions.specs.Leads.{change_of, CanOwn, with_new}
+use Rattle.storage_actions.specs.Leads.{change_of, with_new}
 use Rattle.storage_actions.specs.Laws.{TakingFreshLeads}
-use Rattle.storage_actions.proofs.Cases.{at_self, same_is, inside_in, in_inside, not_inside, outside, or_none, none_from, none_some}
-use Rattle.storage_actions.proofs.Named.{page_is_named, named_same}
+use Rattle.storage_changes.proofs.Cases.{same-is}
+use Rattle.storage_actions.proofs.Cases.{at_self, inside_in, in_inside, not_inside, outside, or_none, none_from, none_some}
 use Rattle.storage_actions.proofs.Goes.{at, Goes, goes_on}
 use Rattle.storage_actions.proofs.Owned.{place_of, made_is_there, owned_leads, own_records_go}
-use Rattle.storage_actions.proofs.Rows.{with_rows, Stands, stands_of, rows_go, task_is_there, leads_with_rows, none_fresh, none_brought}
+use Rattle.storage_actions.proofs.Rows.{with_rows, Stands, rows_go, task_is_there, leads_with_rows}
 use Rattle.storage_actions.proofs.Records.{freed, owned, paged, assigned, brought_then, given_then, area_goes, assigned_go}
 
-module _ (settings : Settings) (m : StorageState) (p : Subpool) (is_new : Bool) (page count : ℕ) (sound : IsSound settings m) (more : 0 < count) (place : (p.number ≤ 127) × (1 ≤ p.owner) × (p.owner ≤ 64))
+module _ (settings : Settings) (m : StorageState) (p : Subpool) (is_new : Bool) (page count : ℕ) (sound : IsSound settings m) (more : 0 < count) (place : CanBe p)
     (rest : (k : ℕ) → inside k (run_of page (pages_for count)) ≡ true → m.unassigned k ≡ true) where
   abbrev n : ℕ
   n = pages_for count
@@ -69,18 +70,17 @@ module _ (settings : Settings) (m : StorageState) (p : Subpool) (is_new : Bool) 
   only_it : (q : Subpool) (k : ℕ) → inside k (run_of page n) ≡ true → all.subpools.pages q k ≡ true → q ≡ p
   only_it q k own e = go (same_subpool q p) refl e where
     go : (b : Bool) → same_subpool q p ≡ b → (if b && inside k (run_of page n) then true else m.subpools.pages q k) ≡ true → q ≡ p
-    go true same h = same_is q p same
+    go true same h = same-is q p same
     go false other h = absurd (true≢false (sym h ∙ not_had q k own))
 
+  pages_lead : (k : ℕ) → subpool_of all.subpools k ≡ (if inside k (run_of page n) then Some p else subpool_of m.subpools k)
+  pages_lead k = joined_pages_are_named m.subpools p (run_of page n) place not_had k
+
   named_in : (k : ℕ) → inside k (run_of page n) ≡ true → subpool_of all.subpools k ≡ Some p
-  named_in k own = page_is_named all.subpools p k place.0 place.1 place.2 (pages_in k own) (λ q e. only_it q k own e)
+  named_in k own = pages_lead k ∙ cond-true (inside k (run_of page n)) (Some p) (subpool_of m.subpools k) own
 
   named_out : (k : ℕ) → inside k (run_of page n) ≡ false → subpool_of all.subpools k ≡ subpool_of m.subpools k
-  named_out k other = named_same all.subpools m.subpools k (λ q. pages_out q k other)
-
-  pages_lead : (k : ℕ) (b : Bool) → inside k (run_of page n) ≡ b → subpool_of all.subpools k ≡ (if b then Some p else subpool_of m.subpools k)
-  pages_lead k true own = named_in k own
-  pages_lead k false other = named_out k other
+  named_out k other = pages_lead k ∙ cond-false (inside k (run_of page n)) (Some p) (subpool_of m.subpools k) other
 
   bytes_lead : (a : ℕ) (b : Bool) → (if b then (if b then Some 0 else None) else m.bytes a) ≡ (if b then Some 0 else m.bytes a)
   bytes_lead a true = refl
@@ -153,7 +153,7 @@ module _ (settings : Settings) (m : StorageState) (p : Subpool) (is_new : Bool) 
 
   freed_is : (q : Subpool) (d : ℕ) (b : Bool) → same_subpool q p ≡ b → inside (d / 512) (run_of page n) ≡ true
       → (if b && inside d (run_of (512 * page + count) (512 * n - count)) then true else m.subpools.free q d) ≡ true → q ≡ p
-  freed_is q d true same own e = same_is q p same
+  freed_is q d true same own e = same-is q p same
   freed_is q d false other own e = absurd (true≢false (sym e ∙ not_free q d own))
 
   free_at : (q : Subpool) (d : ℕ) (b : Bool) → inside (d / 512) (run_of page n) ≡ b → all.subpools.free q d ≡ true → all.subpools.pages q (d / 512) ≡ true
@@ -195,17 +195,17 @@ module _ (settings : Settings) (m : StorageState) (p : Subpool) (is_new : Bool) 
     none_left a true = refl
     none_left a false = refl
 
-module _ (settings : Settings) (m : StorageState) (p : Subpool) (page count : ℕ) (sound : IsSound settings m) (more : 0 < count) (place : (p.number ≤ 127) × (1 ≤ p.owner) × (p.owner ≤ 64))
+module _ (settings : Settings) (m : StorageState) (p : Subpool) (page count : ℕ) (sound : IsSound settings m) (more : 0 < count) (place : CanBe p)
     (rest : (k : ℕ) → inside k (run_of page (pages_for count)) ≡ true → m.unassigned k ≡ true) where
   fresh_leads : (is_new : Bool) → model_of (all settings m p is_new page count sound more place rest)
       ≡ with_taken (with_pages (with_new (model_of m) p is_new) p page (pages_for count)) (512 * page) count
   fresh_leads true = λ i. record (owned_leads m p true i) {
-    pages = λ k. pages_lead settings m p true page count sound more place rest k (inside k (run_of page (pages_for count))) refl i;
+    pages = λ k. pages_lead settings m p true page count sound more place rest k i;
     taken = λ d. taken_lead settings m p true page count sound more place rest d (inside (d / 512) (run_of page (pages_for count))) refl i;
     bytes = λ a. bytes_lead settings m p true page count sound more place rest a (inside (a / 4096) (run_of page (pages_for count))) i;
   }
   fresh_leads false = λ i. record (owned_leads m p false i) {
-    pages = λ k. pages_lead settings m p false page count sound more place rest k (inside k (run_of page (pages_for count))) refl i;
+    pages = λ k. pages_lead settings m p false page count sound more place rest k i;
     taken = λ d. taken_lead settings m p false page count sound more place rest d (inside (d / 512) (run_of page (pages_for count))) refl i;
     bytes = λ a. bytes_lead settings m p false page count sound more place rest a (inside (a / 4096) (run_of page (pages_for count))) i;
   }

@@ -1,30 +1,26 @@
 -- An area that is given back, with each page that it empties.
-use Rattle.std.proofs.Common.{◌≡◌, ℕ, zero, suc, ◌+◌, ◌-◌, ◌<◌, ◌≤◌, Bool, true, false, not, ◌&&◌, ◌⊎◌, ◌==◌, if◌then◌else◌, List, [], ◌∷◌, ◌++◌, Option, Some, None, IsSome, is_some, refl, sym, ◌∙◌, ap, arith, subst, inl, inr, true≢false}
+use Rattle.std.proofs.Common.{◌≡◌, ℕ, zero, suc, ◌+◌, ◌-◌, ◌<◌, ◌≤◌, Bool, true, false, not, ◌&&◌, ◌⊎◌, if◌then◌else◌, ◌++◌, Option, None, is_some, refl, sym, ◌∙◌, ap, arith, inl, inr, true≢false}
 use Rattle.std.specs.Prelude.{◌^◌, ◌/◌, ◌*◌}
-use Rattle.std.proofs.lemmas.Bool.{cases_lt, cond-true, cond-false, and_right, and_left, and_parts, and_from, cases_Bool, eqb-true, false_from_ne_true, not_from_true, true_from_ne_false, not-true, not-false}
-use Rattle.run_set.specs.declared.run.Run.{Run}
+use Rattle.std.proofs.lemmas.Bool.{cases_lt, cond-false, and_right}
 use Rattle.run_set.specs.Runs.{inside}
 use Rattle.vsm_model.specs.declared.Subpool.{Subpool}
 use Rattle.vsm_model.specs.declared.limits.Settings.{Settings}
 use Rattle.vsm_model.specs.Regions.{in_a_region}
-use Rattle.vsm_model.specs.Search.{holds}
 use Rattle.vsm_model.specs.Subpools.{same_subpool}
-use Rattle.vsm_model.specs.Releasing.{is_idle, without_taken, without_area}
-use Rattle.vsm_model.proofs.Least.{all_pass_at}
-use Rattle.subpool_storage.specs.Subpools.{Subpools, is_there}
+use Rattle.vsm_model.specs.Releasing.{without_area}
+use Rattle.subpool_storage.specs.Subpools.{is_there}
 use Rattle.storage_changes.specs.State.{StorageState}
 use Rattle.storage_changes.specs.Fits.{FrameIs}
-use Rattle.storage_changes.specs.Meaning.{model_of, subpool_of, is_taken, IsSound}
+use Rattle.storage_changes.specs.Meaning.{model_of, subpool_of, IsSound}
 use Rattle.storage_actions.specs.Actions.{run_of, area_records, returned_records, give_back_records, register_records}
 use Rattle.storage_actions.specs.Leads.{change_of, AreIdle}
 use Rattle.storage_actions.specs.Laws.{GivingBackLeads}
-use Rattle.storage_actions.proofs.Cases.{at_self, same_is, same_self, inside_in, in_inside, not_inside, outside, belongs_is, none_from, none_some}
-use Rattle.storage_actions.proofs.Named.{named_has, page_is_free, named_same}
+use Rattle.storage_actions.proofs.Cases.{inside_in, in_inside, not_inside, outside}
 use Rattle.storage_actions.proofs.Goes.{at, Goes, goes_on, goes_to}
 use Rattle.storage_actions.proofs.Emptied.{without_pages, its, had, free_beside, touched, back_leads, stands}
 use Rattle.storage_actions.proofs.Owned.{has_pages}
-use Rattle.storage_actions.proofs.Rows.{with_rows, Stands, rows_go, task_is_there, leads_with_rows, none_fresh, none_brought}
-use Rattle.storage_actions.proofs.Records.{freed, freed_in, freed_out, freed_other, paged, assigned, brought_then, given_then, area_goes, returned_go}
+use Rattle.storage_actions.proofs.Rows.{with_rows, rows_go, task_is_there, leads_with_rows, none_fresh, none_brought}
+use Rattle.storage_actions.proofs.Records.{freed, freed_in, freed_out, freed_other, paged, brought_then, given_then, area_goes, returned_go}
 
 module _ (settings : Settings) (m : StorageState) (p : Subpool) (d count page n : ℕ) (sound : IsSound settings m)
     (held : (k : ℕ) → inside k (run_of d count) ≡ true → (m.subpools.pages p (k / 512) ≡ true) × (m.subpools.free p k ≡ false))
@@ -34,20 +30,20 @@ module _ (settings : Settings) (m : StorageState) (p : Subpool) (d count page n 
 
   -- what of the area lies before the pages, of the pages before the area, of the area behind the pages, and of the pages
   -- behind the area
-  abbrev m1 : StorageState
-  m1 = freed m p d (512 * page - d) true
+  abbrev freed_before : StorageState
+  freed_before = freed m p d (512 * page - d) true
 
-  abbrev m2 : StorageState
-  m2 = freed m1 p (512 * page) (d - 512 * page) false
+  abbrev taken_before : StorageState
+  taken_before = freed freed_before p (512 * page) (d - 512 * page) false
 
-  abbrev m3 : StorageState
-  m3 = freed m2 p past (d + count - past) true
+  abbrev freed_behind : StorageState
+  freed_behind = freed taken_before p past (d + count - past) true
 
-  abbrev m4 : StorageState
-  m4 = freed m3 p (d + count) (past - (d + count)) false
+  abbrev taken_behind : StorageState
+  taken_behind = freed freed_behind p (d + count) (past - (d + count)) false
 
   abbrev pub f : Subpool → ℕ → Bool
-  f = m4.subpools.free
+  f = taken_behind.subpools.free
 
   first : (d < 512 * page + 512) × (512 * page < d + count)
   first =
@@ -66,23 +62,23 @@ module _ (settings : Settings) (m : StorageState) (p : Subpool) (d count page n 
 
   pub others : (q : Subpool) (k : ℕ) → same_subpool q p ≡ false → f q k ≡ m.subpools.free q k
   others q k other =
-      freed_other m3 p (d + count) (past - (d + count)) false q k other
-      ∙ freed_other m2 p past (d + count - past) true q k other
-      ∙ freed_other m1 p (512 * page) (d - 512 * page) false q k other
+      freed_other freed_behind p (d + count) (past - (d + count)) false q k other
+      ∙ freed_other taken_before p past (d + count - past) true q k other
+      ∙ freed_other freed_before p (512 * page) (d - 512 * page) false q k other
       ∙ freed_other m p d (512 * page - d) true q k other
 
   -- what none of the records touches
-  before_pages : (k : ℕ) → (k < d) ⊎ (512 * page ≤ k) → m1.subpools.free p k ≡ m.subpools.free p k
+  before_pages : (k : ℕ) → (k < d) ⊎ (512 * page ≤ k) → freed_before.subpools.free p k ≡ m.subpools.free p k
   before_pages k away = freed_out m p d (512 * page - d) true p k (not_inside d (512 * page - d) k (λ low less. omega (arith, low, less, away)))
 
-  before_area : (k : ℕ) → (k < 512 * page) ⊎ (d ≤ k) → m2.subpools.free p k ≡ m1.subpools.free p k
-  before_area k away = freed_out m1 p (512 * page) (d - 512 * page) false p k (not_inside (512 * page) (d - 512 * page) k (λ low less. omega (arith, low, less, away)))
+  before_area : (k : ℕ) → (k < 512 * page) ⊎ (d ≤ k) → taken_before.subpools.free p k ≡ freed_before.subpools.free p k
+  before_area k away = freed_out freed_before p (512 * page) (d - 512 * page) false p k (not_inside (512 * page) (d - 512 * page) k (λ low less. omega (arith, low, less, away)))
 
-  behind_pages : (k : ℕ) → (k < past) ⊎ (d + count ≤ k) → m3.subpools.free p k ≡ m2.subpools.free p k
-  behind_pages k away = freed_out m2 p past (d + count - past) true p k (not_inside past (d + count - past) k (λ low less. omega (arith, low, less, away)))
+  behind_pages : (k : ℕ) → (k < past) ⊎ (d + count ≤ k) → freed_behind.subpools.free p k ≡ taken_before.subpools.free p k
+  behind_pages k away = freed_out taken_before p past (d + count - past) true p k (not_inside past (d + count - past) k (λ low less. omega (arith, low, less, away)))
 
-  behind_area : (k : ℕ) → (k < d + count) ⊎ (past ≤ k) → m4.subpools.free p k ≡ m3.subpools.free p k
-  behind_area k away = freed_out m3 p (d + count) (past - (d + count)) false p k (not_inside (d + count) (past - (d + count)) k (λ low less. omega (arith, low, less, away)))
+  behind_area : (k : ℕ) → (k < d + count) ⊎ (past ≤ k) → taken_behind.subpools.free p k ≡ freed_behind.subpools.free p k
+  behind_area k away = freed_out freed_behind p (d + count) (past - (d + count)) false p k (not_inside (d + count) (past - (d + count)) k (λ low less. omega (arith, low, less, away)))
 
   -- the free storage behind the records
   pub given : (k : ℕ) → inside k (run_of d count) ≡ true → inside (k / 512) (run_of page (suc n)) ≡ false → f p k ≡ true
@@ -94,7 +90,7 @@ module _ (settings : Settings) (m : StorageState) (p : Subpool) (d count page n 
             ∙ freed_in m p d (512 * page - d) true k (in_inside d (512 * page - d) k at.0 (omega (arith, below)))
         | inr low ↦
             let high : past ≤ k = (let over = outside page (suc n) (k / 512) other (omega (arith, low)) in omega (arith, over)) in
-            behind_area k (inl at.1) ∙ freed_in m2 p past (d + count - past) true k (in_inside past (d + count - past) k high (omega (arith, at.1)))
+            behind_area k (inl at.1) ∙ freed_in taken_before p past (d + count - past) true k (in_inside past (d + count - past) k high (omega (arith, at.1)))
       ]
 
   pub gone : (k : ℕ) → inside (k / 512) (run_of page (suc n)) ≡ true → f p k ≡ false
@@ -105,12 +101,12 @@ module _ (settings : Settings) (m : StorageState) (p : Subpool) (d count page n 
       elim (cases_lt k d) [
         | inl below ↦
             behind_area k (inl (omega (arith, below))) ∙ behind_pages k (inl less)
-            ∙ freed_in m1 p (512 * page) (d - 512 * page) false k (in_inside (512 * page) (d - 512 * page) k low (omega (arith, below)))
+            ∙ freed_in freed_before p (512 * page) (d - 512 * page) false k (in_inside (512 * page) (d - 512 * page) k low (omega (arith, below)))
         | inr from ↦ elim (cases_lt k (d + count)) [
           | inl within ↦
               behind_area k (inl within) ∙ behind_pages k (inl less) ∙ before_area k (inr from) ∙ before_pages k (inr low)
               ∙ (held k (in_inside d count k from within)).1
-          | inr above ↦ freed_in m3 p (d + count) (past - (d + count)) false k (in_inside (d + count) (past - (d + count)) k above (omega (arith, less)))
+          | inr above ↦ freed_in freed_behind p (d + count) (past - (d + count)) false k (in_inside (d + count) (past - (d + count)) k above (omega (arith, less)))
         ]
       ]
 
@@ -139,25 +135,25 @@ module _ (settings : Settings) (m : StorageState) (p : Subpool) (d count page n 
   was_free : (k : ℕ) → inside (k / 512) (run_of page (suc n)) ≡ true → inside k (run_of d count) ≡ false → m.subpools.free p k ≡ true
   was_free k own other = free_beside settings m p d count page (suc n) sound held idle k own other
 
-  other1 : (k : ℕ) → inside k (run_of d (512 * page - d)) ≡ true → m.subpools.free p k ≡ false
-  other1 k own =
+  were_taken_before : (k : ℕ) → inside k (run_of d (512 * page - d)) ≡ true → m.subpools.free p k ≡ false
+  were_taken_before k own =
       let at = inside_in d (512 * page - d) k own in
       (held k (in_inside d count k at.0 (omega (arith, at.0, at.1, first.1)))).1
 
-  other2 : (k : ℕ) → inside k (run_of (512 * page) (d - 512 * page)) ≡ true → m1.subpools.free p k ≡ true
-  other2 k own =
+  were_free_before : (k : ℕ) → inside k (run_of (512 * page) (d - 512 * page)) ≡ true → freed_before.subpools.free p k ≡ true
+  were_free_before k own =
       let at = inside_in (512 * page) (d - 512 * page) k own in
       let less : k < d = omega (arith, at.0, at.1) in
       before_pages k (inl less) ∙ was_free k (in_run k at.0 (omega (arith, less, final.0))) (not_inside d count k (λ low high. omega (arith, low, less)))
 
-  other3 : (k : ℕ) → inside k (run_of past (d + count - past)) ≡ true → m2.subpools.free p k ≡ false
-  other3 k own =
+  were_taken_behind : (k : ℕ) → inside k (run_of past (d + count - past)) ≡ true → taken_before.subpools.free p k ≡ false
+  were_taken_behind k own =
       let at = inside_in past (d + count - past) k own in
       before_area k (inr (omega (arith, at.0, final.0))) ∙ before_pages k (inr (omega (arith, at.0)))
       ∙ (held k (in_inside d count k (omega (arith, at.0, final.0)) (omega (arith, at.0, at.1)))).1
 
-  other4 : (k : ℕ) → inside k (run_of (d + count) (past - (d + count))) ≡ true → m3.subpools.free p k ≡ true
-  other4 k own =
+  were_free_behind : (k : ℕ) → inside k (run_of (d + count) (past - (d + count))) ≡ true → freed_behind.subpools.free p k ≡ true
+  were_free_behind k own =
       let at = inside_in (d + count) (past - (d + count)) k own in
       let less : k < past = omega (arith, at.0, at.1) in
       let low : 512 * page ≤ k = omega (arith, at.0, first.1) in
@@ -183,31 +179,31 @@ module _ (settings : Settings) (m : StorageState) (p : Subpool) (d count page n 
   areas_go :
       (b : ℕ → Option ℕ) → Goes (at m b nothing 7)
       (area_records p d (512 * page - d) true ++ area_records p (512 * page) (d - 512 * page) false ++ area_records p past (d + count - past) true
-      ++ area_records p (d + count) (past - (d + count)) false) m4 b nothing 3
+      ++ area_records p (d + count) (past - (d + count)) false) taken_behind b nothing 3
   areas_go b =
-      let r1 = area_records p d (512 * page - d) true in
-      let r2 = area_records p (512 * page) (d - 512 * page) false in
-      let r3 = area_records p past (d + count - past) true in
-      let r4 = area_records p (d + count) (past - (d + count)) false in
+      let freeing_before = area_records p d (512 * page - d) true in
+      let taking_before = area_records p (512 * page) (d - 512 * page) false in
+      let freeing_behind = area_records p past (d + count - past) true in
+      let taking_behind = area_records p (d + count) (past - (d + count)) false in
       let w = at m b nothing 7 in
-      goes_on w (r1 ++ r2 ++ r3) r4 m3 m4 b nothing b nothing 4 3
-      (goes_on w (r1 ++ r2) r3 m2 m3 b nothing b nothing 5 4
-      (goes_on w r1 r2 m1 m2 b nothing b nothing 6 5
-      (area_goes m b nothing 7 6 p d (512 * page - d) true there (omega (arith, high, most)) other1 (omega arith) (omega arith))
-      (λ s less. area_goes m1 b nothing s 5 p (512 * page) (d - 512 * page) false there (omega (arith, high, most)) other2 (omega arith) (omega (arith, less))))
-      (λ s less. area_goes m2 b nothing s 4 p past (d + count - past) true there (omega (arith, high, most)) other3 (omega arith) (omega (arith, less))))
-      (λ s less. area_goes m3 b nothing s 3 p (d + count) (past - (d + count)) false there (omega (arith, high, most)) other4 (omega arith) (omega (arith, less)))
+      goes_on w (freeing_before ++ taking_before ++ freeing_behind) taking_behind freed_behind taken_behind b nothing b nothing 4 3
+      (goes_on w (freeing_before ++ taking_before) freeing_behind taken_before freed_behind b nothing b nothing 5 4
+      (goes_on w freeing_before taking_before freed_before taken_before b nothing b nothing 6 5
+      (area_goes m b nothing 7 6 p d (512 * page - d) true there (omega (arith, high, most)) were_taken_before (omega arith) (omega arith))
+      (λ s less. area_goes freed_before b nothing s 5 p (512 * page) (d - 512 * page) false there (omega (arith, high, most)) were_free_before (omega arith) (omega (arith, less))))
+      (λ s less. area_goes taken_before b nothing s 4 p past (d + count - past) true there (omega (arith, high, most)) were_taken_behind (omega arith) (omega (arith, less))))
+      (λ s less. area_goes freed_behind b nothing s 3 p (d + count) (past - (d + count)) false there (omega (arith, high, most)) were_free_behind (omega arith) (omega (arith, less)))
 
   pub emptying_goes :
       (b : ℕ → Option ℕ) → ((a : ℕ) → b a ≡ None) → Goes (at m b nothing 7) (give_back_records p d count page (suc n)) (without_pages m p (run_of page (suc n)) f)
-      (brought_then b page (suc n)) (given_then (paged m4 p page (suc n) false) nothing page (suc n) false) 1
+      (brought_then b page (suc n)) (given_then (paged taken_behind p page (suc n) false) nothing page (suc n) false) 1
   emptying_goes b none =
       goes_on (at m b nothing 7)
       (area_records p d (512 * page - d) true ++ area_records p (512 * page) (d - 512 * page) false ++ area_records p past (d + count - past) true
       ++ area_records p (d + count) (past - (d + count)) false)
-      (returned_records p page (suc n)) m4 (without_pages m p (run_of page (suc n)) f) b nothing (brought_then b page (suc n))
-      (given_then (paged m4 p page (suc n) false) nothing page (suc n) false) 3 1 (areas_go b)
-      (λ s less. returned_go m4 b nothing s 1 p page n there most were_assigned (had settings m p d count page (suc n) sound held idle) (frame b none) (omega arith) (omega (arith, less)))
+      (returned_records p page (suc n)) taken_behind (without_pages m p (run_of page (suc n)) f) b nothing (brought_then b page (suc n))
+      (given_then (paged taken_behind p page (suc n) false) nothing page (suc n) false) 3 1 (areas_go b)
+      (λ s less. returned_go taken_behind b nothing s 1 p page n there most were_assigned (had settings m p d count page (suc n) sound held idle) (frame b none) (omega arith) (omega (arith, less)))
 
   pub none_left : (b : ℕ → Option ℕ) → ((a : ℕ) → b a ≡ None) → (a : ℕ) → brought_then b page (suc n) a ≡ None
   none_left b none a = go (inside (a / 4096) (run_of page (suc n))) (b a) (none a) where
@@ -268,7 +264,7 @@ giving_back_leads settings m p d count page (suc k) rows sound are more high mos
     let free = f settings m p d count page k sound held idle high most in
     let n = without_pages m p (run_of page (suc k)) free in
     let c = brought_then change.frames page (suc k) in
-    let h = given_then (paged (m4 settings m p d count page k sound held idle high most) p page (suc k) false) none page (suc k) false in
+    let h = given_then (paged (taken_behind settings m p d count page k sound held idle high most) p page (suc k) false) none page (suc k) false in
     leads_with_rows settings m n (records ++ register_records m rows) 7 (run_of 0 0) c h 1 rows (without_area (model_of m) p d count)
     (goes_on (at m change.frames none 7) records (register_records m rows) n (with_rows n rows) c h c h 1 1
     (emptying_goes settings m p d count page k sound held idle high most change.frames none_brought)

@@ -1,5 +1,4 @@
 mod Cases
-mod Named
 mod Goes
 mod Rows
 mod Records

@@ -1,13 +1,14 @@
 -- Subpools that are there, and one that is new.
-use Rattle.std.proofs.Common.{◌≡◌, ℕ, ◌+◌, ◌<◌, ◌≤◌, Bool, true, false, ◌&&◌, ◌||◌, ◌==◌, if◌then◌else◌, Option, Some, None, refl, sym, ◌∙◌, ap, arith, subst, true≢false}
+use Rattle.std.proofs.Common.{◌≡◌, ℕ, ◌+◌, ◌≤◌, Bool, true, false, ◌&&◌, ◌||◌, ◌==◌, if◌then◌else◌, Option, Some, None, refl, sym, ◌∙◌, ap, arith, true≢false}
 use Rattle.std.specs.Prelude.{◌/◌}
 use Rattle.std.proofs.lemmas.Bool.{and_from, cond-true, eqb-true, eq-eqb, false_from_ne_true}
 use Rattle.vsm_model.specs.declared.Subpool.{Subpool}
 use Rattle.vsm_model.specs.declared.limits.Settings.{Settings}
 use Rattle.vsm_model.specs.Search.{holds}
-use Rattle.subpool_storage.specs.Subpools.{Subpools, is_there}
+use Rattle.subpool_storage.specs.Subpools.{is_there}
 use Rattle.storage_changes.specs.State.{StorageState}
 use Rattle.storage_changes.specs.Meaning.{model_of, IsSound}
+use Rattle.storage_changes.specs.Laws.{CanBe}
 use Rattle.storage_actions.specs.Actions.{own_records}
 use Rattle.storage_actions.specs.Leads.{CanOwn, with_new}
 use Rattle.storage_actions.proofs.Goes.{at, Goes, goes_nowhere}
@@ -19,7 +20,7 @@ module _ (settings : Settings) (m : StorageState) (sound : IsSound settings m) (
   has_pages page e = sound.well_formed.pages.has_subpool page p (sound.named p page e)
 
   -- what is there has a number of private storage and a task for its owner
-  pub there_is_named : is_there m.subpools p ≡ true → (p.number ≤ 127) × (1 ≤ p.owner) × (p.owner ≤ 64)
+  pub there_is_named : is_there m.subpools p ≡ true → CanBe p
   there_is_named there =
       let owner = sound.well_formed.tasks.numbered p.owner (sound.well_formed.sight.owner_is_task p.number p.owner there) in
       (sound.well_formed.sight.is_private p.number p.owner there, owner.0, owner.1)
@@ -39,7 +40,7 @@ module _ (settings : Settings) (m : StorageState) (sound : IsSound settings m) (
     new_is_alone task e = absurd (not_there (sound.well_formed.sight.seen_is_there task p.number p.owner e))
 
   -- what an action's subpool is
-  pub place_of : (is_new : Bool) → CanOwn m p is_new → (p.number ≤ 127) × (1 ≤ p.owner) × (p.owner ≤ 64)
+  pub place_of : (is_new : Bool) → CanOwn m p is_new → CanBe p
   place_of true own =
       let current = sound.well_formed.tasks.numbered m.tasks.current sound.well_formed.tasks.current_is_task in
       (own.1, omega (arith, own.0, current.0), omega (arith, own.0, current.1))

@@ -1,5 +1,5 @@
 -- What a record of each kind leads to.
-use Rattle.std.proofs.Common.{◌≡◌, ℕ, zero, suc, ◌+◌, ◌-◌, ◌<◌, ◌≤◌, Bool, true, false, not, ◌&&◌, ◌==◌, if◌then◌else◌, List, [], ◌∷◌, Option, Some, None, IsSome, refl, sym, ◌∙◌, ap, arith, subst}
+use Rattle.std.proofs.Common.{◌≡◌, ℕ, zero, suc, ◌+◌, ◌-◌, ◌<◌, ◌≤◌, Bool, true, false, not, ◌&&◌, if◌then◌else◌, [], ◌∷◌, Option, Some, None, refl, sym, arith}
 use Rattle.std.specs.Prelude.{◌^◌, ◌/◌}
 use Rattle.std.proofs.lemmas.Bool.{cond-true, cond-false, and_left, and_right}
 use Rattle.run_set.specs.declared.run.Run.{Run}
@@ -12,12 +12,11 @@ use Rattle.subpool_storage.specs.Subpools.{Subpools, is_there, with_pages, with_
 use Rattle.storage_changes.specs.declared.record.AreaRecord.{AreaRecord}
 use Rattle.storage_changes.specs.declared.record.ExtentRecord.{ExtentRecord}
 use Rattle.storage_changes.specs.declared.record.PagesRecord.{PagesRecord}
-use Rattle.storage_changes.specs.declared.record.Record.{Record}
 use Rattle.storage_changes.specs.declared.record.Record.TheVariants.{Area, Extent, Pages, Own}
 use Rattle.storage_changes.specs.State.{StorageState}
-use Rattle.storage_changes.specs.Walk.{Walk, spare_joined, spare_left}
+use Rattle.storage_changes.specs.Walk.{spare_joined, spare_left}
 use Rattle.storage_changes.specs.Steps.{area_spare, extent_spare, pages_spare}
-use Rattle.storage_changes.specs.Fits.{AreaFits, FrameIs}
+use Rattle.storage_changes.specs.Fits.{FrameIs}
 use Rattle.storage_actions.specs.Actions.{run_of, area_records, own_records, assigned_records, returned_records}
 use Rattle.storage_actions.proofs.Cases.{at_self, not_inside}
 use Rattle.storage_actions.proofs.Goes.{at, Goes, goes_step, goes_on, goes_nowhere, goes_to}

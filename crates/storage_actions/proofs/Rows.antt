@@ -1,6 +1,6 @@
 -- Registers that are set, and what a change whose last records set them leads to.
-use Rattle.std.proofs.Common.{◌≡◌, ℕ, zero, suc, ◌+◌, ◌<◌, ◌≤◌, Bool, true, false, not, ◌&&◌, ◌==◌, nat_lt, if◌then◌else◌, List, [], ◌∷◌, length, Option, Some, None, IsSome, is_some, refl, sym, ◌∙◌, ap, arith, subst}
-use Rattle.std.specs.Prelude.{All, ◌/◌}
+use Rattle.std.proofs.Common.{◌≡◌, ℕ, suc, ◌≤◌, Bool, true, false, not, ◌&&◌, ◌==◌, if◌then◌else◌, List, [], ◌∷◌, Option, Some, None, IsSome, is_some, refl, sym, ◌∙◌, ap, arith, subst}
+use Rattle.std.specs.Prelude.{◌/◌}
 use Rattle.std.proofs.lemmas.Bool.{cond-false}
 use Rattle.run_set.specs.declared.run.Run.{Run}
 use Rattle.run_set.specs.Runs.{inside}
@@ -12,9 +12,8 @@ use Rattle.vsm_model.specs.Registers.{with_registers}
 use Rattle.vsm_model.specs.WellFormed.{IsWellFormed}
 use Rattle.subpool_storage.specs.Subpools.{Subpools}
 use Rattle.storage_changes.specs.declared.record.Record.{Record}
-use Rattle.storage_changes.specs.declared.record.Record.TheVariants.{Register}
 use Rattle.storage_changes.specs.State.{StorageState}
-use Rattle.storage_changes.specs.Changes.{Change, Fit, outset, overlay}
+use Rattle.storage_changes.specs.Changes.{outset, overlay}
 use Rattle.storage_changes.specs.Meaning.{model_of, subpool_of, IsSound}
 use Rattle.storage_actions.specs.Actions.{register_records, run_of}
 use Rattle.storage_actions.specs.Leads.{change_of, Leads, AreRegisters}

@@ -1,22 +1,21 @@
 -- An area of free storage that is taken.
-use Rattle.std.proofs.Common.{◌≡◌, ℕ, zero, suc, ◌+◌, ◌-◌, ◌<◌, ◌≤◌, Bool, true, false, not, ◌&&◌, ◌||◌, ◌==◌, if◌then◌else◌, List, [], ◌∷◌, ◌++◌, Option, Some, None, IsSome, refl, sym, ◌∙◌, ap, arith, subst, inl, inr, true≢false}
-use Rattle.std.specs.Prelude.{◌^◌, ◌/◌}
-use Rattle.std.proofs.lemmas.Bool.{cond-true, cond-false, and_right, cases_Bool}
+use Rattle.std.proofs.Common.{◌≡◌, ℕ, Bool, true, false, ◌&&◌, if◌then◌else◌, ◌++◌, Some, None, sym, ◌∙◌, arith, true≢false}
+use Rattle.std.specs.Prelude.{◌/◌}
 use Rattle.run_set.specs.Runs.{inside}
 use Rattle.vsm_model.specs.declared.Subpool.{Subpool}
 use Rattle.vsm_model.specs.declared.limits.Settings.{Settings}
 use Rattle.vsm_model.specs.Subpools.{same_subpool}
 use Rattle.vsm_model.specs.Obtaining.{with_taken}
-use Rattle.subpool_storage.specs.Subpools.{Subpools, is_there}
 use Rattle.storage_changes.specs.State.{StorageState}
-use Rattle.storage_changes.specs.Meaning.{model_of, subpool_of, is_taken, IsSound}
+use Rattle.storage_changes.specs.Meaning.{model_of, subpool_of, IsSound}
+use Rattle.storage_changes.proofs.MeaningLemmas.{areas_are_taken}
 use Rattle.storage_actions.specs.Actions.{run_of, take_records, register_records}
-use Rattle.storage_actions.specs.Leads.{change_of, CanOwn}
+use Rattle.storage_actions.specs.Leads.{change_of}
 use Rattle.storage_actions.specs.Laws.{TakingLeads}
-use Rattle.storage_actions.proofs.Cases.{at_self, in_inside}
+use Rattle.storage_actions.proofs.Cases.{in_inside}
 use Rattle.storage_actions.proofs.Goes.{at, goes_on}
 use Rattle.storage_actions.proofs.Owned.{new_has_none_free}
-use Rattle.storage_actions.proofs.Rows.{with_rows, Stands, stands_of, rows_go, task_is_there, leads_with_rows, none_fresh, none_brought}
+use Rattle.storage_actions.proofs.Rows.{with_rows, Stands, rows_go, task_is_there, leads_with_rows, none_fresh, none_brought}
 use Rattle.storage_actions.proofs.Records.{freed, area_goes}
 
 module _ (settings : Settings) (m : StorageState) (p : Subpool) (d count : ℕ) (sound : IsSound settings m) (free : (k : ℕ) → inside k (run_of d count) ≡ true → m.subpools.free p k ≡ true) where
@@ -27,22 +26,8 @@ module _ (settings : Settings) (m : StorageState) (p : Subpool) (d count : ℕ) 
   here : (k : ℕ) → inside k (run_of d count) ≡ true → subpool_of m.subpools (k / 512) ≡ Some p
   here k own = sound.named p (k / 512) (sound.free p k (free k own))
 
-  taken_in : (k : ℕ) → inside k (run_of d count) ≡ true → is_taken n.subpools (subpool_of m.subpools (k / 512)) k ≡ true
-  taken_in k own =
-      ap (λ o. is_taken n.subpools o k) (here k own)
-      ∙ ap not (cond-true (same_subpool p p && inside k (run_of d count)) false (m.subpools.free p k) (at_self p (inside k (run_of d count)) own))
-
-  taken_out : (k : ℕ) (o : Option Subpool) → inside k (run_of d count) ≡ false → is_taken n.subpools o k ≡ is_taken m.subpools o k
-  taken_out k None other = refl
-  taken_out k (Some q) other =
-      ap not (cond-false (same_subpool q p && inside k (run_of d count)) false (m.subpools.free q k) (and_right (same_subpool q p) (inside k (run_of d count)) other))
-
-  taken_at : (k : ℕ) (b : Bool) → inside k (run_of d count) ≡ b → is_taken n.subpools (subpool_of m.subpools (k / 512)) k ≡ (b || is_taken m.subpools (subpool_of m.subpools (k / 512)) k)
-  taken_at k true own = taken_in k own
-  taken_at k false other = taken_out k (subpool_of m.subpools (k / 512)) other
-
   taken_leads : model_of n ≡ with_taken (model_of m) d count
-  taken_leads = λ i. record (model_of m) { taken = λ k. taken_at k (inside k (run_of d count)) refl i }
+  taken_leads = areas_are_taken m p (run_of d count) here
 
   freed_in_page : (q : Subpool) (k : ℕ) (b : Bool) → (if b then false else m.subpools.free q k) ≡ true → m.subpools.pages q (k / 512) ≡ true
   freed_in_page q k true e = absurd (true≢false (sym e))

@@ -1,13 +1,12 @@
 -- Bytes that are written.
-use Rattle.std.proofs.Common.{◌≡◌, ℕ, zero, suc, ◌+◌, ◌-◌, ◌<◌, ◌≤◌, ◌⊎◌, Bool, true, false, not, ◌&&◌, ◌==◌, if◌then◌else◌, List, [], ◌∷◌, ◌++◌, map, length, Option, Some, None, IsSome, is_some, refl, sym, ◌∙◌, ap, arith, subst, inl, inr, true≢false}
-use Rattle.std.specs.Prelude.{◌^◌, ◌/◌, ◌*◌, ◌%◌, slice_get, slice_index_or}
+use Rattle.std.proofs.Common.{◌≡◌, ℕ, zero, suc, ◌+◌, ◌-◌, ◌<◌, ◌≤◌, Bool, true, false, ◌==◌, if◌then◌else◌, List, [], ◌∷◌, map, length, Option, Some, None, IsSome, is_some, refl, sym, ◌∙◌, ap, arith, inl, inr, true≢false}
+use Rattle.std.specs.Prelude.{◌/◌, ◌*◌, ◌%◌, slice_get, slice_index_or}
 use Rattle.std.specs.List.{range_with_len}
-use Rattle.std.proofs.lemmas.Bool.{cases_lt, cond-true, cond-false, eqb-true, eqb-false, eq-eqb, ne_eqb, false_from_ne_true}
+use Rattle.std.proofs.lemmas.Bool.{cases_lt, cond-true, cond-false, eqb-true, eq-eqb}
 use Rattle.run_set.specs.Runs.{inside}
 use Rattle.vsm_model.specs.declared.limits.Settings.{Settings}
 use Rattle.vsm_model.specs.Bytes.{byte_or_zero, are_there, with_bytes}
 use Rattle.vsm_model.proofs.Least.{all_pass_at}
-use Rattle.storage_changes.specs.declared.record.BytesRecord.{BytesRecord}
 use Rattle.storage_changes.specs.declared.record.Record.{Record}
 use Rattle.storage_changes.specs.declared.record.Record.TheVariants.{Bytes}
 use Rattle.storage_changes.specs.State.{StorageState}
@@ -17,7 +16,7 @@ use Rattle.storage_changes.proofs.ByteSteps.{read-length, read-at}
 use Rattle.storage_actions.specs.Actions.{run_of, bytes_with, blocks_for, write_records}
 use Rattle.storage_actions.specs.Leads.{change_of}
 use Rattle.storage_actions.specs.Laws.{WritingLeads}
-use Rattle.storage_actions.proofs.Cases.{inside_in, in_inside, not_inside, outside}
+use Rattle.storage_actions.proofs.Cases.{inside_in, in_inside, not_inside}
 use Rattle.storage_actions.proofs.Goes.{at, Goes, goes_nowhere, goes_to}
 use Rattle.storage_actions.proofs.Rows.{stands_of, leads_with_rows, none_fresh, none_brought}
 
@@ -43,8 +42,8 @@ module _ (f : ℕ → Option ℕ) where
 
   none_written : (m : StorageState) (block : ℕ) → m ≡ written m block 0
   none_written m block = λ i. record m {
-        bytes = λ x. sym (cond-false (inside (x / 16) (run_of block 0)) (f x) (m.bytes x) (not_inside block 0 (x / 16) (λ low high. omega (arith, low, high)))) i;
-      }
+    bytes = λ x. sym (cond-false (inside (x / 16) (run_of block 0)) (f x) (m.bytes x) (not_inside block 0 (x / 16) (λ low high. omega (arith, low, high)))) i;
+  }
 
   -- one block, and then the others
   one_more :
@@ -84,14 +83,17 @@ module _ (f : ℕ → Option ℕ) where
   blocks_go m b g s left block zero had some less = goes_to (at m b g s) [] m (written m block 0) b g left (none_written m block) (goes_nowhere m b g s left less)
   blocks_go m b g s left block (suc n) had some less =
       let wider : (x : ℕ) → inside (x / 16) (run_of (block + 1) n) ≡ true → inside (x / 16) (run_of block (suc n)) ≡ true = λ x own.
-              let at = inside_in (block + 1) n (x / 16) own in in_inside block (suc n) (x / 16) (omega (arith, at.0)) (omega (arith, at.1)) in
+      let at = inside_in (block + 1) n (x / 16) own in in_inside block (suc n) (x / 16) (omega (arith, at.0)) (omega (arith, at.1)) in
       let next = blocks_go (put m block) b g s left (block + 1) n (λ x own. put_some m block x (had x (wider x own))) (λ x own. some x (wider x own)) less in
       goes_to (at m b g s) (map block_record (range_with_len block (suc n))) (written (put m block) (block + 1) n) (written m block (suc n)) b g left (blocks_written m block n some)
       (record {
-        fits = (record {
-          sixteen = read-length f (16 * block) 16;
-          there = λ a is. had a (in_inside block (suc n) (a / 16) (omega (arith, is)) (omega (arith, is)));
-        }, next.fits);
+        fits = (
+          record {
+            sixteen = read-length f (16 * block) 16;
+            there = λ a is. had a (in_inside block (suc n) (a / 16) (omega (arith, is)) (omega (arith, is)));
+          },
+          next.fits,
+        );
         there = next.there;
         spare = next.spare;
       })

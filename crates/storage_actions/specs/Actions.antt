@@ -1,6 +1,6 @@
 -- The records of a change that takes an area, gives one back, writes bytes or sets registers.
-use Rattle.std.specs.Prelude.{ℕ, zero, suc, ◌+◌, ◌-◌, ◌*◌, ◌/◌, Bool, true, false, if◌then◌else◌, Option, List, [], ◌∷◌, ◌++◌}
-use Rattle.std.specs.Prelude.{map, length, slice_get}
+use Rattle.std.specs.Prelude.{ℕ, zero, suc, ◌+◌, ◌-◌, ◌*◌, ◌/◌, Bool, true, false, if◌then◌else◌, Option}
+use Rattle.std.specs.Prelude.{List, [], ◌∷◌, ◌++◌, map, length, slice_get}
 use Rattle.std.specs.List.{range_with_len}
 use Rattle.run_set.specs.declared.run.Run.{Run}
 use Rattle.vsm_model.specs.declared.Subpool.{Subpool}
@@ -48,8 +48,9 @@ take_fresh_records p page count =
     assigned_records p page (pages_for count)
     ++ area_records p (512 * page + count) (512 * pages_for count - count) true
 
--- They are given back, and so many pages from this one on, which have no other taken doubleword, leave the subpool: what
--- of the area lies beside these pages becomes free, and what of the pages lies beside the area, which is free, taken.
+-- They are given back, and so many pages from this one on, which have no other taken doubleword, leave the subpool:
+-- what of the area lies beside these pages becomes free, and what of the pages lies beside the area, which is free,
+-- taken.
 abbrev pub give_back_records : Subpool → ℕ → ℕ → ℕ → ℕ → List Record
 give_back_records p d count page zero = area_records p d count true
 give_back_records p d count page (suc n) =

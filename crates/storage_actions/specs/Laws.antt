@@ -1,9 +1,8 @@
 -- Each action's records lead to its effect on the plain machine.
-use Rattle.std.specs.Prelude.{◌≡◌, ℕ, ◌+◌, ◌*◌, ◌/◌, ◌^◌, ◌<◌, ◌≤◌, Bool, true, false, Option, Some, None, List, length, All, ◌++◌, []}
+use Rattle.std.specs.Prelude.{◌≡◌, ℕ, ◌+◌, ◌*◌, ◌/◌, ◌^◌, ◌<◌, ◌≤◌, Bool, true, false, List, length, ◌++◌}
 use Rattle.vsm_model.specs.declared.Subpool.{Subpool}
 use Rattle.vsm_model.specs.declared.limits.Settings.{Settings}
 use Rattle.vsm_model.specs.Regions.{among, pages_for}
-use Rattle.vsm_model.specs.State.{State}
 use Rattle.vsm_model.specs.Obtaining.{with_taken, with_pages}
 use Rattle.vsm_model.specs.Releasing.{without_area}
 use Rattle.vsm_model.specs.Bytes.{with_bytes, are_there}
@@ -22,7 +21,8 @@ TakingLeads =
     IsSound settings m → CanOwn m p is_new → AreRegisters rows → 0 < count → d + count ≤ 2 ^ 29 →
     ((k : ℕ) → among d count k ≡ true → m.subpools.free p k ≡ true) →
     IsWellFormed settings (with_registers (with_taken (with_new (model_of m) p is_new) d count) rows) →
-    Leads settings m (change_of (own_records p is_new ++ take_records p d count ++ register_records m rows) 3 (run_of 0 0))
+    Leads settings m
+    (change_of (own_records p is_new ++ take_records p d count ++ register_records m rows) 3 (run_of 0 0))
     (with_registers (with_taken (with_new (model_of m) p is_new) d count) rows)
 
 -- or one at the first byte of unassigned pages;
