@@ -1,0 +1,10 @@
+mod Cases
+mod Goes
+mod Rows
+mod Records
+mod Owned
+mod Taking
+mod Fresh
+mod Emptied
+mod GivingBack
+mod Writing

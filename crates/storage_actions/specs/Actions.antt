@@ -1,0 +1,81 @@
+-- The records of a change that takes an area, gives one back, writes bytes or sets registers.
+use Rattle.std.specs.Prelude.{ℕ, zero, suc, ◌+◌, ◌-◌, ◌*◌, ◌/◌, Bool, true, false, if◌then◌else◌, Option}
+use Rattle.std.specs.Prelude.{List, [], ◌∷◌, ◌++◌, map, length, slice_get}
+use Rattle.std.specs.List.{range_with_len}
+use Rattle.run_set.specs.declared.run.Run.{Run}
+use Rattle.vsm_model.specs.declared.Subpool.{Subpool}
+use Rattle.vsm_model.specs.Regions.{among, pages_for}
+use Rattle.storage_changes.specs.declared.record.Record.{Record}
+use Rattle.storage_changes.specs.declared.record.Record.TheVariants.{Area, Extent, Pages, Own, Register, Bytes}
+use Rattle.storage_changes.specs.State.{StorageState}
+use Rattle.storage_changes.specs.Turned.{read}
+
+abbrev pub run_of : ℕ → ℕ → Run
+run_of start len = record { start = start; len = len }
+
+-- the doublewords of an area become free in the subpool, or taken; an area without a doubleword needs no record
+abbrev pub area_records : Subpool → ℕ → ℕ → Bool → List Record
+area_records p start zero free = []
+area_records p start (suc n) free = Area (record { subpool = p; area = run_of start (suc n); free = free }) ∷ []
+
+-- a subpool that is made first, if it is new
+abbrev pub own_records : Subpool → Bool → List Record
+own_records p true = Own (record { subpool = p; present = true }) ∷ []
+own_records p false = []
+
+-- the pages are assigned, and become the subpool's
+abbrev pub assigned_records : Subpool → ℕ → ℕ → List Record
+assigned_records p page count =
+    Pages (record { run = run_of page count; assigned = true })
+    ∷ Extent (record { subpool = p; run = run_of page count; present = true })
+    ∷ []
+
+-- the pages leave the subpool, and become unassigned
+abbrev pub returned_records : Subpool → ℕ → ℕ → List Record
+returned_records p page zero = []
+returned_records p page (suc n) =
+    Extent (record { subpool = p; run = run_of page (suc n); present = false })
+    ∷ Pages (record { run = run_of page (suc n); assigned = false })
+    ∷ []
+
+-- The count doublewords from d on, which are free in the subpool, are taken.
+abbrev pub take_records : Subpool → ℕ → ℕ → List Record
+take_records p d count = area_records p d count false
+
+-- They are taken at the first byte of new pages, whose doublewords behind them become free.
+abbrev pub take_fresh_records : Subpool → ℕ → ℕ → List Record
+take_fresh_records p page count =
+    assigned_records p page (pages_for count)
+    ++ area_records p (512 * page + count) (512 * pages_for count - count) true
+
+-- They are given back, and so many pages from this one on, which have no other taken doubleword, leave the subpool:
+-- what of the area lies beside these pages becomes free, and what of the pages lies beside the area, which is free,
+-- taken.
+abbrev pub give_back_records : Subpool → ℕ → ℕ → ℕ → ℕ → List Record
+give_back_records p d count page zero = area_records p d count true
+give_back_records p d count page (suc n) =
+    area_records p d (512 * page - d) true
+    ++ area_records p (512 * page) (d - 512 * page) false
+    ++ area_records p (512 * (page + suc n)) (d + count - 512 * (page + suc n)) true
+    ++ area_records p (d + count) (512 * (page + suc n) - (d + count)) false
+    ++ returned_records p page (suc n)
+
+-- the bytes once these stand from the address on
+abbrev pub bytes_with : (ℕ → Option ℕ) → ℕ → List ℕ → ℕ → Option ℕ
+bytes_with old address bytes a = if among address (length bytes) a then slice_get bytes (a - address) else old a
+
+-- how many blocks of sixteen bytes so many bytes from the address on touch
+abbrev pub blocks_for : ℕ → ℕ → ℕ
+blocks_for address zero = 0
+blocks_for address (suc n) = (address + n) / 16 + 1 - address / 16
+
+-- Each of them has its other bytes as they were.
+abbrev pub write_records : StorageState → ℕ → List ℕ → List Record
+write_records m address bytes =
+    map (λ block. Bytes (record { block = block; bytes = read (bytes_with m.bytes address bytes) (16 * block) 16 }))
+    (range_with_len (address / 16) (blocks_for address (length bytes)))
+
+-- registers of the current task, with their words
+abbrev pub register_records : StorageState → List (ℕ × ℕ) → List Record
+register_records m rows =
+    map (λ row. Register (record { task = m.tasks.current; register = row.0; word = row.1 })) rows

@@ -1,0 +1,51 @@
+-- What a change of records comes to on the plain machine.
+use Rattle.std.specs.Prelude.{◌≡◌, ℕ, ◌/◌, ◌<◌, ◌≤◌, ◌&&◌, true, false, Bool, if◌then◌else◌, Some, None, List, All}
+use Rattle.run_set.specs.declared.run.Run.{Run}
+use Rattle.run_set.specs.Runs.{inside}
+use Rattle.vsm_model.specs.declared.Subpool.{Subpool}
+use Rattle.vsm_model.specs.declared.limits.Settings.{Settings}
+use Rattle.vsm_model.specs.Search.{holds}
+use Rattle.vsm_model.specs.State.{State}
+use Rattle.vsm_model.specs.Subpools.{same_subpool, with_subpool}
+use Rattle.vsm_model.specs.Releasing.{is_idle, without_taken}
+use Rattle.subpool_storage.specs.Subpools.{no_subpools, is_there}
+use Rattle.storage_changes.specs.declared.record.Record.{Record}
+use Rattle.storage_changes.specs.State.{StorageState}
+use Rattle.storage_changes.specs.Changes.{Change, Fit, overlay}
+use Rattle.storage_changes.specs.Meaning.{model_of, IsSound}
+
+-- what these records mean, with blank elements, and frames of zeros for the pages of a run
+abbrev pub change_of : List Record → ℕ → Run → Change
+change_of records blanks fresh =
+    record {
+      records = records;
+      blanks = blanks;
+      frames = λ a. if inside (a / 4096) fresh then Some 0 else None;
+      parked = no_subpools;
+    }
+
+-- The change fits, and leads to a sound storage that is this state on the plain machine.
+pub record Leads (settings : Settings) (m : StorageState) (d : Change) (s : State) : Type 0 where
+  pub fits : Fit m d
+  pub sound : IsSound settings (overlay m d)
+  pub leads : model_of (overlay m d) ≡ s
+
+-- the state once the subpool is made, if it is new
+abbrev pub with_new : State → Subpool → Bool → State
+with_new s p is_new = if is_new then with_subpool s p.number p.owner else s
+
+-- a new subpool is the current task's, which sees none of its number; another is there
+abbrev pub CanOwn : StorageState → Subpool → Bool → Type 0
+CanOwn m p true =
+    (p.owner ≡ m.tasks.current) × (p.number ≤ 127) × (m.subpools.sight p.owner p.number ≡ None)
+CanOwn m p false = is_there m.subpools p ≡ true
+
+-- the registers are from 0 to 15
+abbrev pub AreRegisters : List (ℕ × ℕ) → Type 0
+AreRegisters rows = All (λ row. row.0 < 16) rows
+
+-- These are just the pages of the subpool that have no taken doubleword once the area isn't taken any more.
+abbrev pub AreIdle : State → Subpool → ℕ → ℕ → Run → Type 0
+AreIdle s p d count run =
+    (page : ℕ) → inside page run
+    ≡ (holds (same_subpool p) (s.pages page) && is_idle (without_taken s d count).taken page)

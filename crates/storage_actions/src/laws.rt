@@ -1,0 +1,38 @@
+//! Each action's records fit, and lead to its effect. Each law is the contract of a function that does nothing: of any
+//! sound storage, from which the action's records lead to a well-formed state of the plain machine.
+
+ghost use Rattle.storage_actions.specs.Laws.{
+  GivingBackLeads,
+  SettingLeads,
+  TakingFreshLeads,
+  TakingLeads,
+  WritingLeads,
+};
+
+/// An area of the subpool's free storage is taken, and registers are set: three blank elements are enough.
+pub fn taking_leads()
+    ensures { TakingLeads }
+{}
+
+/// An area is taken at the first byte of unassigned pages, which become the subpool's with bytes of zeros; the subpool
+/// is made first, if it is new; and registers are set. Five blank elements are enough, and a frame of zeros for each
+/// page.
+pub fn taking_fresh_leads()
+    ensures { TakingFreshLeads }
+{}
+
+/// An area of taken doublewords of the subpool is given back, with the pages that it empties, which lie in one run; and
+/// registers are set. Seven blank elements are enough.
+pub fn giving_back_leads()
+    ensures { GivingBackLeads }
+{}
+
+/// Bytes are written, where each address has one. It takes no element.
+pub fn writing_leads()
+    ensures { WritingLeads }
+{}
+
+/// Registers of the current task are set. It takes no element.
+pub fn setting_leads()
+    ensures { SettingLeads }
+{}
