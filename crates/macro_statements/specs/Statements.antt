@@ -63,7 +63,9 @@ operands_in behind.Remarks text = []
 -- What a first line has from the operands on, where its operation has operands.
 abbrev pub from_operands : List ℕ → List ℕ
 from_operands card =
-    operands_in (behind_of (operation_of (word (from_operation card)))) (after_blanks (after_word (from_operation card)))
+    operands_in
+    (behind_of (operation_of (word (from_operation card))))
+    (after_blanks (after_word (from_operation card)))
 
 -- Column 1 isn't blank, and no name with a blank behind it stands there (High Level Assembler Language Reference, "Name
 -- entries").

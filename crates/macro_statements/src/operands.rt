@@ -197,8 +197,8 @@ fn take_all<'a>(row: &Row, text: &'a [u8], said: &mut [Option<Said<'a>>]) -> Opt
     }
 }
 
-/// Reads the operands of a statement, each once, into the places of their entries, of which nothing was read before, and
-/// lends these places; or tells the first fault.
+/// Reads the operands of a statement, each once, into the places of their entries, of which nothing was read before,
+/// and lends these places; or tells the first fault.
 pub(crate) fn read<'s, 'a>(
     row: &Row,
     text: Option<&'a [u8]>,
