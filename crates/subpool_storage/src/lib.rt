@@ -1,6 +1,7 @@
 //! Subpools with their pages and their free storage: the set of subpools and the queues of each, as one.
 #![tactic(auto)]
 
+mod discard;
 pub mod laws;
 mod readers;
 mod storage;

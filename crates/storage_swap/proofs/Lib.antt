@@ -1,0 +1,10 @@
+mod Below
+mod KeptLemmas
+mod FirstLemmas
+mod LoopLemmas
+mod FrameLemmas
+mod SwapLemmas
+mod DiscardLemmas
+mod ReserveLemmas
+mod SettingsLemmas
+mod FreshLemmas

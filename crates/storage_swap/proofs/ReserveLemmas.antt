@@ -1,0 +1,192 @@
+-- A change is made of what is spare.
+use Rattle.std.proofs.Common.{◌≡◌, ℕ, zero, suc, ◌+◌, ◌/◌, ◌%◌, ◌<◌, ◌≤◌, Bool, true, false, if◌then◌else◌, List, [], length, map, get_or, replicate, Option, Some, None, IsSome, IsTrue, inl, inr, refl, sym, ap, ◌∙◌, arith, subst}
+use Rattle.vsm_elements.specs.Store.{Store, at}
+use Rattle.vsm_elements.specs.Chain.{Link, links, owned, ids, IsChain}
+use Rattle.vsm_elements.specs.Ownership.{Leaves}
+use Rattle.vsm_elements.specs.declared.chain.Chain.{Chain}
+use Rattle.vsm_elements.specs.Owners.{times, Moves}
+use Rattle.vsm_elements.proofs.MoveLemmas.{none-or-some, moves-of, moves-follow, moves-by, moves-none, rest-same, once-after, chain-live, chain-once, chain-kept}
+use Rattle.run_set.specs.declared.run.Run.{Run}
+use Rattle.run_set.specs.Runs.{inside}
+use Rattle.run_set.proofs.RunLemmas.{inside_true}
+use Rattle.raw_region.specs.Frames.{PageFrame, zeros}
+use Rattle.raw_region.specs.Pages.{Pages as Tables, byte_of, bytes_at, byte_at, has_table, HaveTables, SamePages, SameTables}
+use Rattle.raw_region.specs.Parked.{held_at}
+use Rattle.raw_region.proofs.ForCallers.{byte_at-same_pages}
+use Rattle.subpool_storage.specs.declared.storage.SubpoolStorage.{SubpoolStorage as TheParked}
+use Rattle.subpool_storage.specs.Subpools.{no_subpools}
+use Rattle.subpool_storage.specs.SubpoolStorage.{subpools_of, Stands}
+use Rattle.subpool_storage.specs.SubpoolStorage
+use Rattle.storage_changes.specs.declared.record.Record.{Record}
+use Rattle.storage_changes.specs.State.{StorageState}
+use Rattle.storage_changes.specs.Changes.{Change}
+use Rattle.storage_changes.proofs.Cases.{state-same}
+use Rattle.storage_exchange.specs.declared.storage.Storage.{Storage}
+use Rattle.storage_exchange.specs.Storage.{hold, state_of, byte_held, Stand}
+use Rattle.storage_swap.specs.declared.change.Change.{Change as TheChange}
+use Rattle.storage_swap.specs.Beside.{record_at, records_of}
+use Rattle.storage_swap.specs.Swap.{change_holds}
+use Rattle.storage_swap.specs.Reserve.{IsFrameless, change_of, Grown, Reserves}
+use Rattle.storage_swap.proofs.FrameLemmas.{none-some}
+use Rattle.storage_swap.proofs.KeptLemmas.{over, holds-live, same-hold, same-stands, same-state, region-stands}
+
+abbrev no_ids : ℕ → ℕ
+no_ids i = 0
+
+get_or-zeros : (n k : ℕ) → get_or {A = ℕ} (replicate n 0) k 0 ≡ 0
+get_or-zeros zero k = refl
+get_or-zeros (suc n) zero = refl
+get_or-zeros (suc n) (suc k) = get_or-zeros n k
+
+byte-zeros : (k : ℕ) → byte_of (Some zeros) k ≡ Some 0
+unfolding zeros
+byte-zeros k = ap Some (get_or-zeros 4096 k)
+
+-- each address of the run's pages has a zero
+byte-fresh : (frames : List PageFrame) (fresh : Run) → ((page : ℕ) → held_at frames page ≡ (if inside page fresh then Some zeros else None))
+    → (a : ℕ) → byte_held frames a ≡ (if inside (a / 4096) fresh then Some 0 else None)
+byte-fresh frames fresh held a = ap (λ (b : Option (List ℕ)). byte_of b (a % 4096)) (held (a / 4096)) ∙ go (inside (a / 4096) fresh) where
+  go : (b : Bool) → byte_of (if b then Some zeros else None) (a % 4096) ≡ (if b then Some 0 else None)
+  go true = byte-zeros (a % 4096)
+  go false = refl
+
+-- over other elements, where a call on something else leaves the storage, and over another region with the same pages
+module _ (p : Storage) (e : Store) (region : Tables) (k : Stand p) (one : (i : ℕ) → hold p i ≤ 1) (g : ℕ → ℕ) (m : Moves p.elements e no_ids g) (pages : SamePages p.region region) where
+  abbrev u : Storage
+  u = record p { elements = e; region = region }
+
+  own : (i : ℕ) → 0 < hold p i → at e i ≡ at p.elements i
+  own = rest-same p.elements e no_ids g m (hold p) (λ i. omega (arith, one i)) (holds-live p k)
+
+  pub moved-state : state_of u ≡ state_of p
+  moved-state =
+      let s : state_of (over p e) ≡ state_of p = same-state p e k own in
+      state-same (state_of u) (state_of p) (ap (λ (z : StorageState). z.tasks) s) (ap (λ (z : StorageState). z.subpools) s) (λ page. ap (λ (z : StorageState). z.unassigned page) s)
+      (λ a. ap (λ (b : Bool). if b then None else byte_at region a) (ap (λ (z : StorageState). z.unassigned (a / 4096)) s)
+      ∙ ap (λ (o : Option ℕ). if (state_of p).unassigned (a / 4096) then None else o) (byte_at-same_pages p.region region pages a))
+
+  pub moved-stands : Stand u
+  moved-stands = region-stands (over p e) region (same-stands p e k own)
+
+  pub moved-hold : (i : ℕ) → hold u i ≡ hold p i
+  moved-hold = same-hold p e k own
+
+  pub moved-frameless : IsFrameless p → IsFrameless u
+  moved-frameless b page h = pages page ∙ b page (sym (ap (λ (z : StorageState). z.unassigned page) moved-state) ∙ h)
+
+module _ (p : Storage) (records : List Record) (blanks : ℕ) (fresh : Run) (k : Stand p) (one : (i : ℕ) → hold p i ≤ 1) (frameless : IsFrameless p) (tables : HaveTables p.region fresh.start fresh.len)
+    (e : Store) (chain : Chain) (stand : IsChain e chain) (is : records_of e chain ≡ records) (f : Leaves p.elements e [] (owned e chain))
+    (end : Store) (spares : Chain) (stand' : IsChain end spares) (count : spares.count ≡ blanks) (g : Leaves e end [] (owned end spares))
+    (region : Tables) (frames : List PageFrame) (held : (page : ℕ) → held_at frames page ≡ (if inside page fresh then Some zeros else None)) (pages : SamePages p.region region) (same : SameTables p.region region)
+    (long : length frames ≡ fresh.len) (out : region.out ≡ p.region.out + fresh.len)
+    (parked : TheParked) (parked-stands : (s : Store) → Stands s parked) (parked-is : (s : Store) → subpools_of s parked ≡ no_subpools) (parked-hold : (s : Store) (i : ℕ) → SubpoolStorage.hold s parked i ≡ 0) where
+  abbrev c : TheChange
+  c = record { records = chain; blanks = spares; frames = frames; parked = parked }
+
+  abbrev t : Storage
+  t = record p { elements = end; region = region }
+
+  abbrev chain-ids : ℕ → ℕ
+  chain-ids i = times i (owned e chain)
+
+  abbrev spare-ids : ℕ → ℕ
+  spare-ids i = times i (owned end spares)
+
+  first : Moves p.elements e no_ids chain-ids
+  first = moves-of p.elements e [] (owned e chain) f
+
+  second : Moves e end no_ids spare-ids
+  second = moves-of e end [] (owned end spares) g
+
+  same-first : (i : ℕ) → 0 < hold p i → at e i ≡ at p.elements i
+  same-first = rest-same p.elements e no_ids chain-ids first (hold p) (λ i. omega (arith, one i)) (holds-live p k)
+
+  once-first : (i : ℕ) → chain-ids i + hold p i ≤ 1
+  once-first = once-after p.elements e no_ids chain-ids first (hold p) (λ i. omega (arith, one i)) (holds-live p k) (chain-once e chain stand)
+
+  hold-mid : (i : ℕ) → hold (over p e) i ≡ hold p i
+  hold-mid = same-hold p e k same-first
+
+  live-mid : (i : ℕ) → 0 < chain-ids i + hold p i → IsSome (at e i)
+  live-mid i h = elim (none-or-some (chain-ids i)) [
+    | inl z ↦ holds-live (over p e) (same-stands p e k same-first) i (omega (arith, h, z, hold-mid i))
+    | inr z ↦ chain-live e chain stand i z
+  ]
+
+  once-second : (i : ℕ) → spare-ids i + (chain-ids i + hold p i) ≤ 1
+  once-second = once-after e end no_ids spare-ids second (λ i. chain-ids i + hold p i) (λ i. omega (arith, once-first i)) live-mid (chain-once end spares stand')
+
+  chain-stays : IsChain end chain × (links end chain ≡ links e chain)
+  chain-stays = chain-kept e end chain stand (λ i h. rest-same e end no_ids spare-ids second chain-ids (λ j. omega (arith, once-first j)) (chain-live e chain stand) i h)
+
+  ids-stay : (i : ℕ) → times i (owned end chain) ≡ chain-ids i
+  ids-stay i = ap (λ (ns : List Link). times i (ids ns)) chain-stays.1
+
+  moved : Moves p.elements end no_ids (change_holds end c)
+  moved = moves-follow p.elements e end no_ids chain-ids (change_holds end c) first (moves-by e end no_ids spare-ids chain-ids (change_holds end c) second (λ i. omega arith) (λ i. omega (arith, ids-stay i, parked-hold end i)))
+
+  hold-end : (i : ℕ) → hold t i ≡ hold p i
+  hold-end = moved-hold p end region k one (change_holds end c) moved pages
+
+  have-places : (page : ℕ) → IsSome (held_at frames page) → IsTrue (has_table region page)
+  have-places page h = go (inside page fresh) refl where
+    go : (b : Bool) → inside page fresh ≡ b → IsTrue (has_table region page)
+    go true i = let b : (fresh.start ≤ page) × (page < fresh.start + fresh.len) = inside_true page fresh i in let P : Bool → Type 0 = λ z. IsTrue z in subst P (sym (same.tables page)) (tables page b.0 b.1)
+    go false o = absurd (none-some (held_at frames page) (held page ∙ ap (λ (b : Bool). if b then Some zeros else None) o) h)
+
+  pub reserves : Reserves p (change_of records blanks fresh) c t
+  reserves = record {
+    ready = record {
+      stands = record {
+        storage = moved-stands p end region k one (change_holds end c) moved pages;
+        parked = parked-stands end;
+        once = λ i. omega (arith, hold-end i, one i, parked-hold end i);
+      };
+      records = chain-stays.0;
+      blanks = stand';
+      once = λ i. omega (arith, hold-end i, once-second i, ids-stay i, parked-hold end i);
+      frameless = moved-frameless p end region k one (change_holds end c) moved pages frameless;
+      out = omega (arith, out, long);
+      places = have-places;
+    };
+    shows = moved-state p end region k one (change_holds end c) moved pages;
+    meaning = λ i. record { records = (ap (map record_at) chain-stays.1 ∙ is) i; blanks = count i; frames = λ a. byte-fresh frames fresh held a i; parked = parked-is end i };
+    held = hold-end;
+    moves = moved;
+    tables = record { tables = λ page h. (let P : Bool → Type 0 = λ z. IsTrue z in subst P (sym (same.tables page)) h); segments = same.segments };
+    out = omega (arith, out, long);
+  }
+
+-- the growth before it
+module _ (p m : Storage) (k : Stand p) (one : (i : ℕ) → hold p i ≤ 1) (g : Grown p m) where
+  still : Moves p.elements m.elements no_ids no_ids
+  still = moves-none p.elements m.elements no_ids g.elements
+
+  pub grown-stands : Stand m
+  grown-stands = let P : Storage → Type 0 = λ z. Stand z in subst P (sym g.same) (moved-stands p m.elements m.region k one no_ids still g.pages)
+
+  pub grown-state : state_of m ≡ state_of p
+  grown-state = ap state_of g.same ∙ moved-state p m.elements m.region k one no_ids still g.pages
+
+  grown-hold : (i : ℕ) → hold m i ≡ hold p i
+  grown-hold i = ap (λ (z : Storage). hold z i) g.same ∙ moved-hold p m.elements m.region k one no_ids still g.pages i
+
+  pub grown-once : (i : ℕ) → hold m i ≤ 1
+  grown-once i = omega (arith, grown-hold i, one i)
+
+  pub grown-frameless : IsFrameless p → IsFrameless m
+  grown-frameless b = let P : Storage → Type 0 = λ z. IsFrameless z in subst P (sym g.same) (moved-frameless p m.elements m.region k one no_ids still g.pages b)
+
+  pub grown-unassigned : (fresh : Run) → ((page : ℕ) → inside page fresh ≡ true → (state_of p).unassigned page ≡ true) → (page : ℕ) → inside page fresh ≡ true → (state_of m).unassigned page ≡ true
+  grown-unassigned fresh h page i = ap (λ (z : StorageState). z.unassigned page) grown-state ∙ h page i
+
+  pub grown-reserves : (d : Change) (c : TheChange) (t : Storage) → Reserves m d c t → Reserves p d c t
+  grown-reserves d c t r = record {
+    ready = r.ready;
+    shows = r.shows ∙ grown-state;
+    meaning = r.meaning;
+    held = λ i. r.held i ∙ grown-hold i;
+    moves = moves-follow p.elements m.elements t.elements no_ids no_ids (change_holds t.elements c) still r.moves;
+    tables = record { tables = λ page h. r.tables.tables page (g.tables.tables page h); segments = λ page. r.tables.segments page ∙ g.tables.segments page };
+    out = omega (arith, r.out, g.out);
+  }

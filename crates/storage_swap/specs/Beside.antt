@@ -1,0 +1,61 @@
+-- A chain of records beside the storage and parked subpools, and the exchange of its records.
+use Rattle.std.specs.Prelude.{◌≡◌, ℕ, ◌+◌, ◌≤◌, List, [], ◌∷◌, map, length}
+use Rattle.vsm_elements.specs.Store.{Store}
+use Rattle.vsm_elements.specs.Owners.{times, Moves}
+use Rattle.vsm_elements.specs.Chain.{Link, links, owned, IsChain}
+use Rattle.vsm_elements.specs.declared.chain.Chain.{Chain}
+use Rattle.raw_region.specs.Frames.{PageFrame}
+use Rattle.raw_region.specs.Pages.{SameTables}
+use Rattle.subpool_storage.specs.declared.storage.SubpoolStorage.{SubpoolStorage}
+use Rattle.storage_changes.specs.declared.record.Record.{Record}
+use Rattle.storage_changes.specs.Records.{record_of}
+use Rattle.storage_changes.specs.Steps.{step, walk}
+use Rattle.storage_changes.specs.Turned.{turned, back_onto}
+use Rattle.storage_changes.specs.Fits.{Fits, FitInTurn}
+use Rattle.storage_exchange.specs.declared.storage.Storage.{Storage}
+use Rattle.storage_exchange.specs.Storage.{hold_with, state_of, walk_of, StandsWith}
+use Rattle.storage_exchange.specs.Exchange.{HavePlaces}
+
+abbrev pub record_at : Link → Record
+record_at n = record_of n.words
+
+-- the records of a change, in their order
+abbrev pub records_of : Store → Chain → List Record
+records_of s c = map record_at (links s c)
+
+-- how often the storage, parked subpools and a chain hold an element
+abbrev pub hold_beside : Storage → SubpoolStorage → Chain → ℕ → ℕ
+hold_beside p q c i = hold_with p q i + times i (owned p.elements c)
+
+-- the storage stands with the parked subpools, and the chain beside them
+pub record Beside (p : Storage) (q : SubpoolStorage) (c : Chain) : Type 0 where
+  pub stands : StandsWith p q
+  pub chain : IsChain p.elements c
+  pub once : (i : ℕ) → hold_beside p q c i ≤ 1
+
+-- the first record changed sides with the storage, and nothing else
+pub record SwapsFirst (p t : Storage) (given given' : List PageFrame) (q q' : SubpoolStorage) (c : Chain) (r : Record)
+    (rs : List Record) : Type 0 where
+  pub beside : Beside t q' c
+  pub moves : Moves p.elements t.elements (hold_beside p q c) (hold_beside t q' c)
+  pub records : records_of t.elements c ≡ turned (state_of p) r ∷ rs
+  pub same_ids : owned t.elements c ≡ owned p.elements c
+  pub steps :
+      (kept : ℕ) → kept ≤ p.elements.spare → Fits (walk_of p given q kept) r
+      → (kept ≤ t.elements.spare) × (walk_of t given' q' kept ≡ step (walk_of p given q kept) r)
+  pub out : t.region.out + length given ≡ p.region.out + length given'
+  pub tables : SameTables p.region t.region
+  pub places : HavePlaces p given → HavePlaces t given'
+
+-- all records did, in their order
+pub record SwapsAll (p t : Storage) (given given' : List PageFrame) (q q' : SubpoolStorage) (c c' : Chain) : Type 0 where
+  pub beside : Beside t q' c'
+  pub moves : Moves p.elements t.elements (hold_beside p q c) (hold_beside t q' c')
+  pub steps :
+      (kept : ℕ) → kept ≤ p.elements.spare → FitInTurn (walk_of p given q kept) (records_of p.elements c)
+      → (kept ≤ t.elements.spare)
+      × (walk_of t given' q' kept ≡ walk (walk_of p given q kept) (records_of p.elements c))
+      × (records_of t.elements c' ≡ back_onto (walk_of p given q kept) [] (records_of p.elements c))
+  pub out : t.region.out + length given ≡ p.region.out + length given'
+  pub tables : SameTables p.region t.region
+  pub places : HavePlaces p given → HavePlaces t given'

@@ -1,0 +1,4 @@
+pub mod Beside
+pub mod Swap
+pub mod Reserve
+pub mod Fresh

@@ -1,0 +1,72 @@
+-- A change beside the storage, and its exchange.
+use Rattle.std.specs.Prelude.{◌≡◌, ℕ, ◌+◌, ◌≤◌, true, length, None}
+use Rattle.vsm_elements.specs.Store.{Store}
+use Rattle.vsm_elements.specs.Owners.{times, Moves}
+use Rattle.vsm_elements.specs.Chain.{owned, IsChain}
+use Rattle.vsm_elements.specs.declared.chain.Chain.{Chain}
+use Rattle.raw_region.specs.Pages.{bytes_at, has_table, SamePages, SameTables}
+use Rattle.subpool_storage.specs.declared.storage.SubpoolStorage.{SubpoolStorage}
+use Rattle.subpool_storage.specs.SubpoolStorage.{subpools_of}
+use Rattle.subpool_storage.specs.SubpoolStorage
+use Rattle.storage_changes.specs.Changes.{Change, overlay, inverse}
+use Rattle.storage_exchange.specs.declared.storage.Storage.{Storage}
+use Rattle.storage_exchange.specs.Storage.{hold, state_of, byte_held, StandsWith}
+use Rattle.storage_exchange.specs.Exchange.{HavePlaces}
+use Rattle.storage_swap.specs.declared.change.Change.{Change as TheChange}
+use Rattle.storage_swap.specs.Beside.{records_of}
+
+-- what a change means: its records, how many blank elements it has, the bytes of the frames that it brings, and the
+-- subpools that it has parked
+abbrev pub means : Store → TheChange → Change
+means s c =
+    record {
+      records = records_of s c.records;
+      blanks = c.blanks.count;
+      frames = byte_held c.frames;
+      parked = subpools_of s c.parked;
+    }
+
+-- how often chains of records and of blank elements and parked subpools hold an element
+abbrev pub held_by : Store → Chain → Chain → SubpoolStorage → ℕ → ℕ
+held_by s records blanks parked i =
+    times i (owned s records) + times i (owned s blanks) + SubpoolStorage.hold s parked i
+
+-- how often a change holds an element
+abbrev pub change_holds : Store → TheChange → ℕ → ℕ
+change_holds s c i = held_by s c.records c.blanks c.parked i
+
+-- the storage and a change of it together
+abbrev pub both_hold : Storage → TheChange → ℕ → ℕ
+both_hold p c i = hold p i + change_holds p.elements c i
+
+-- A change beside the storage: both stand, no element has two owners, an unassigned page has no frame, and the change's
+-- frames are out and can stand in the tables.
+pub record Ready (p : Storage) (c : TheChange) : Type 0 where
+  pub stands : StandsWith p c.parked
+  pub records : IsChain p.elements c.records
+  pub blanks : IsChain p.elements c.blanks
+  pub once : (i : ℕ) → both_hold p c i ≤ 1
+  pub frameless : (page : ℕ) → (state_of p).unassigned page ≡ true → bytes_at p.region page ≡ None
+  pub out : length c.frames ≤ p.region.out
+  pub places : HavePlaces p c.frames
+
+-- The storage is what the change means, and the change the one that leads back. Elements and frames went from the one to
+-- the other, and nothing else changed.
+pub record Swaps (p : Storage) (c : TheChange) (t : Storage) (d : TheChange) : Type 0 where
+  pub before : Ready p c
+  pub after : Ready t d
+  pub shows : state_of t ≡ overlay (state_of p) (means p.elements c)
+  pub turned : means t.elements d ≡ inverse (state_of p) (means p.elements c)
+  pub moves : Moves p.elements t.elements (both_hold p c) (both_hold t d)
+  pub spare : t.elements.spare ≡ p.elements.spare
+  pub out : t.region.out + length c.frames ≡ p.region.out + length d.frames
+  pub tables : SameTables p.region t.region
+
+-- The change's elements are spare and its frames too, and nothing else changed.
+pub record Discards (p : Storage) (c : TheChange) (t : Storage) : Type 0 where
+  pub before : Ready p c
+  pub same : t ≡ record p { elements = t.elements; region = t.region }
+  pub moves : Moves p.elements t.elements (change_holds p.elements c) (λ i. 0)
+  pub pages : SamePages p.region t.region
+  pub tables : SameTables p.region t.region
+  pub out : t.region.out + length c.frames ≡ p.region.out

@@ -1,0 +1,81 @@
+ghost use Rattle.std.specs.Prelude.{ℕ, ◌≤◌};
+ghost use Rattle.vsm_elements.specs.Chain.{IsChain};
+ghost use Rattle.vsm_elements.specs.Owners.{Moves};
+ghost use Rattle.subpool_storage.specs.SubpoolStorage.{Stands};
+ghost use Rattle.storage_changes.specs.Changes.{Fit};
+ghost use Rattle.storage_exchange.specs.Storage.{state_of};
+ghost use Rattle.storage_swap.specs.Swap.{held_by, means, Ready, Swaps, Discards};
+
+use crate::records::{fill, swap_records};
+use raw_region::Parked;
+use std::mem;
+use storage_exchange::Storage;
+use subpool_storage::SubpoolStorage;
+use vsm_elements::{Chain, Elements};
+
+/// What is exchanged with the storage: records, blank elements for their exchange, the frames of pages that come to be
+/// assigned, and subpools that are parked with their queues.
+///
+/// It is let go by [`Change::discard`] alone: its elements stay live until then.
+#[derive(Drop)]
+pub struct Change {
+    pub(crate) records: Chain,
+    pub(crate) blanks: Chain,
+    pub(crate) frames: Parked,
+    pub(crate) parked: SubpoolStorage,
+}
+
+impl Change {
+    /// Exchanges the change with the storage, and leaves the one that leads back.
+    ///
+    /// It takes no memory: no block of elements and no frame is made, and no frame is copied. So many elements are spare
+    /// as before.
+    pub fn swap(&mut self, storage: &mut Storage)
+        requires ready { Ready storage.old self.old }
+        requires fits { Fit (state_of storage.old) (means storage.old.elements self.old) }
+        ensures { Swaps storage.old self.old storage.new self.new }
+    {
+        let kept = storage.elements.spare();
+        let blanks = mem::replace(&mut self.blanks, Chain::new());
+        blanks.discard(&mut storage.elements);
+        let frames = mem::replace(&mut self.frames, Parked::empty());
+        storage.region.restore(frames);
+        swap_records(
+            storage,
+            &mut self.frames,
+            &mut self.parked,
+            &mut self.records,
+        );
+        self.blanks = fill(&mut storage.elements, kept);
+    }
+
+    /// Gives back every element and every frame of the change, those of the subpools that it has parked among them.
+    ///
+    /// The bytes of the frames are gone. The storage stays as it is.
+    pub fn discard(self, storage: &mut Storage)
+        requires { Ready storage.old self }
+        ensures { Discards storage.old self storage.new }
+    {
+        let Change {
+            records,
+            blanks,
+            frames,
+            parked,
+        } = self;
+        discard_elements(&mut storage.elements, records, blanks, parked);
+        storage.region.discard(frames);
+    }
+}
+
+// The elements of both chains and of the parked subpools are spare.
+fn discard_elements(elements: &mut Elements, records: Chain, blanks: Chain, parked: SubpoolStorage)
+    requires records { IsChain elements.old records }
+    requires blanks { IsChain elements.old blanks }
+    requires parked { Stands elements.old parked }
+    requires once { (i : ℕ) → held_by elements.old records blanks parked i ≤ 1 }
+    ensures { Moves elements.old elements.new (held_by elements.old records blanks parked) (λ i. 0) }
+{
+    records.discard(elements);
+    blanks.discard(elements);
+    parked.discard(elements);
+}

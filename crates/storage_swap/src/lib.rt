@@ -1,0 +1,14 @@
+//! Changes of the storage in place: a change is exchanged with the storage record by record, and is then the one that
+//! leads back.
+#![tactic(auto)]
+
+mod beginning;
+mod change;
+mod ending;
+pub mod laws;
+mod records;
+mod reserve;
+
+pub use beginning::fresh;
+pub use change::Change;
+pub use ending::{Released, release};

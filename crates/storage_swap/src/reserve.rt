@@ -1,0 +1,145 @@
+//! Changes that are made of spare elements and spare frames. The growth of both comes first, and is all that takes
+//! memory.
+
+ghost use Rattle.std.specs.Prelude.{◌≡◌, ℕ, ◌+◌, ◌^◌, ◌<◌, ◌≤◌, true, None, Some, List, [], length, IsTrue, IsOk};
+ghost use Rattle.std.specs.Prelude.{OnOk, IfOk, IfErr, if◌then◌else◌};
+ghost use Rattle.vsm_elements.specs.Chain.{owned, IsChain};
+ghost use Rattle.vsm_elements.specs.Ownership.{Leaves};
+ghost use Rattle.run_set.specs.Runs.{inside};
+ghost use Rattle.raw_region.specs.Frames.{zeros};
+ghost use Rattle.raw_region.specs.Pages.{bytes_at, has_segment, HaveTables, SamePages, SameTables};
+ghost use Rattle.raw_region.specs.Parked.{held_at};
+ghost use Rattle.storage_exchange.specs.Storage.{hold, state_of, Stand};
+ghost use Rattle.storage_swap.specs.Beside.{records_of};
+ghost use Rattle.storage_swap.specs.Reserve.{IsFrameless, change_of, Grown, Reserves};
+
+use crate::change::Change;
+use crate::records::fill;
+use raw_region::{Parked, Region};
+use run_set::Run;
+use std::alloc::AllocError;
+use storage_changes::Record;
+use storage_exchange::Storage;
+use subpool_storage::SubpoolStorage;
+use vsm_elements::{Chain, Elements};
+
+impl Change {
+    /// A change of these records, with so many blank elements, and with frames of zeros for the pages of a run. The
+    /// state of the storage stays as it is.
+    ///
+    /// Each call on a queue takes one blank element at most, and one has to be left: so one more than the calls is
+    /// enough. The run is in pages of 4,096 bytes, and each of them has to be unassigned.
+    ///
+    /// It answers an error where memory is refused. What was made before that stays, as spare elements, spare frames and
+    /// tables. Where so many elements and frames are spare and the tables are there, it takes no memory.
+    pub fn reserve(
+        storage: &mut Storage,
+        records: &[Record],
+        blanks: u32,
+        fresh: Run,
+    ) -> Result<Change, AllocError>
+        requires stands { Stand storage.old }
+        requires once { (i : ℕ) → hold storage.old i ≤ 1 }
+        requires frameless { IsFrameless storage.old }
+        requires size { length records.now + blanks ≤ 2 ^ 31 }
+        requires range { fresh.start + fresh.len ≤ 2 ^ 20 }
+        requires segments { (page : ℕ) → inside page fresh ≡ true → IsTrue (has_segment storage.old.region page) }
+        requires unassigned { (page : ℕ) → inside page fresh ≡ true → (state_of storage.old).unassigned page ≡ true }
+        ensures ok { IfOk result (λ c. Reserves storage.old (change_of records.now blanks fresh) c storage.new) }
+        ensures grown { IfErr result (λ _. Grown storage.old storage.new) }
+        ensures needless { length records.now + blanks ≤ storage.old.elements.spare
+            → fresh.len ≤ storage.old.region.spare → HaveTables storage.old.region fresh.start fresh.len
+            → IsOk result }
+    {
+        grow(storage, records.len() as u32 + blanks, fresh)?;
+        Ok(make(storage, records, blanks, fresh))
+    }
+}
+
+// So many elements are spare, and a frame and a table for each page of the run.
+fn grow(storage: &mut Storage, elements: u32, fresh: Run) -> Result<(), AllocError>
+    requires segments { (page : ℕ) → inside page fresh ≡ true → IsTrue (has_segment storage.old.region page) }
+    ensures grown { Grown storage.old storage.new }
+    ensures elements { OnOk result (elements ≤ storage.new.elements.spare) }
+    ensures frames { OnOk result (fresh.len ≤ storage.new.region.spare) }
+    ensures tables { OnOk result (HaveTables storage.new.region fresh.start fresh.len) }
+    ensures needless { elements ≤ storage.old.elements.spare → fresh.len ≤ storage.old.region.spare
+        → HaveTables storage.old.region fresh.start fresh.len → IsOk result }
+{
+    storage.elements.reserve(elements)?;
+    storage.region.reserve_frames(fresh.len)?;
+    storage.region.reserve_segments(fresh.start, fresh.len)?;
+    Ok(())
+}
+
+// The change, of what is spare.
+fn make(storage: &mut Storage, records: &[Record], blanks: u32, fresh: Run) -> Change
+    requires stands { Stand storage.old }
+    requires once { (i : ℕ) → hold storage.old i ≤ 1 }
+    requires frameless { IsFrameless storage.old }
+    requires size { length records.now + blanks ≤ storage.old.elements.spare }
+    requires range { fresh.start + fresh.len ≤ 2 ^ 20 }
+    requires frames { fresh.len ≤ storage.old.region.spare }
+    requires tables { HaveTables storage.old.region fresh.start fresh.len }
+    requires unassigned { (page : ℕ) → inside page fresh ≡ true → (state_of storage.old).unassigned page ≡ true }
+    ensures { Reserves storage.old (change_of records.now blanks fresh) result storage.new }
+{
+    let chain = take_records(&mut storage.elements, records);
+    let blanks = take_blanks(&mut storage.elements, blanks);
+    let frames = take_frames(&mut storage.region, fresh);
+    Change {
+        records: chain,
+        blanks,
+        frames,
+        parked: SubpoolStorage::new(),
+    }
+}
+
+// The records as a chain.
+fn take_records(elements: &mut Elements, records: &[Record]) -> Chain
+    requires room { length records.now ≤ elements.old.spare }
+    ensures chain { IsChain elements.new result }
+    ensures records { records_of elements.new result ≡ records.now }
+    ensures owned { Leaves elements.old elements.new [] (owned elements.new result) }
+    ensures spare { elements.new.spare + length records.now ≡ elements.old.spare }
+{
+    let mut chain = Chain::new();
+    let mut rest = records.len();
+    while rest > 0 {
+        rest -= 1;
+        chain.insert(elements, 0, 0, records[rest].words());
+    }
+    chain
+}
+
+// So many blank elements.
+fn take_blanks(elements: &mut Elements, n: u32) -> Chain
+    requires room { n ≤ elements.old.spare }
+    ensures chain { IsChain elements.new result }
+    ensures owned { Leaves elements.old elements.new [] (owned elements.new result) }
+    ensures count { result.count ≡ n }
+{
+    let keep = elements.spare() - n;
+    fill(elements, keep)
+}
+
+// Frames of zeros for the pages of a run. The pages themselves stay as they are.
+fn take_frames(region: &mut Region, run: Run) -> Parked
+    requires range { run.start + run.len ≤ 2 ^ 20 }
+    requires tables { HaveTables region.old run.start run.len }
+    requires frameless { (page : ℕ) → inside page run ≡ true → bytes_at region.old page ≡ None }
+    requires room { run.len ≤ region.old.spare }
+    ensures frames { (page : ℕ) → held_at result page ≡ (if inside page run then Some zeros else None) }
+    ensures pages { SamePages region.old region.new }
+    ensures tables { SameTables region.old region.new }
+    ensures count { length result ≡ run.len }
+    ensures out { region.new.out ≡ region.old.out + run.len }
+{
+    let end = run.start + run.len;
+    let mut page = run.start;
+    while page < end {
+        region.assign(page);
+        page += 1;
+    }
+    region.park(run.start, run.len)
+}

@@ -1,0 +1,16 @@
+use Rattle.std.proofs.Common.{◌≡◌, ℕ, ◌+◌, ◌++◌, [], refl, sym}
+use Rattle.vsm_elements.specs.Owners.{times}
+use Rattle.vsm_elements.proofs.TimesLemmas.{times-append}
+use Rattle.vsm_elements.proofs.MoveLemmas.{moves-of, moves-like}
+use Rattle.subpool_set.specs.SubpoolSet.{owned, queue_ids}
+use Rattle.subpool_storage.specs.SubpoolStorage.{hold}
+use Rattle.subpool_storage.proofs.storage.SubpoolStorage.discard.Goals as goal
+
+pub returns : goal.returns
+unfolding hold
+returns c =
+    let s = c.args.elements.now in
+    let t = c.discard.new.elements in
+    let q = c.args.self.set in
+    moves-like s t (λ i. times i (owned s q ++ queue_ids s q)) (λ i. 0) (λ i. times i (owned s q) + times i (queue_ids s q)) (λ i. 0)
+    (moves-of s t (owned s q ++ queue_ids s q) [] c.discard.ensures) (λ i. sym (times-append i (owned s q) (queue_ids s q))) (λ i. refl)
