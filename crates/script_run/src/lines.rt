@@ -116,8 +116,8 @@ impl Session {
             → (more : List Marked) × IsTold settings answers more (told_text result)
             × Took settings (given ++ 10 ∷ []) (answers ++ more) self.new }
     {
-        let fed = self.reader.next(columns(self.kept.as_slice(), self.length));
-        let told = tell(&mut self.bench, &fed);
+        let line = columns(self.kept.as_slice(), self.length);
+        let told = tell(&mut self.bench, &self.reader.next(line));
         self.kept.clear();
         self.length = 0;
         self.lines += 1;
