@@ -25,7 +25,8 @@ RootIsAbove = (s : Store) (q : TaskTree) (top : ℕ) → IsTaskTree s q → IsSo
 
 -- a task is not below what is below it: neither is its parent, nor who is above that
 abbrev pub AParentIsNotBelowItsSubtask : Type 0
-AParentIsNotBelowItsSubtask = (s : Store) (q : TaskTree) (task under : ℕ) → IsTaskTree s q → parent s q task ≡ Some under
+AParentIsNotBelowItsSubtask = (s : Store) (q : TaskTree) (task under : ℕ) → IsTaskTree s q
+    → parent s q task ≡ Some under
     → ¬ IsBelow (parent s q) task under
     × ((above : ℕ) → IsBelow (parent s q) above under → ¬ IsBelow (parent s q) task above)
 
