@@ -7,3 +7,6 @@ mod readers;
 mod storage;
 
 pub use storage::SubpoolStorage;
+
+#[cfg(test)]
+mod tests;

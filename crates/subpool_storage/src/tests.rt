@@ -1,0 +1,250 @@
+//! Subpools made, filled, emptied and removed: each call does what it may, and every element is given back.
+
+ghost use Rattle.std.specs.Prelude.{◌≡◌, ℕ, ◌+◌, ◌≤◌};
+ghost use Rattle.subpool_storage.specs.SubpoolStorage.{hold, Stands};
+
+use super::*;
+use descriptor_queue::Run;
+use free_queue::{Area, Cover};
+use std::process::Abort;
+use std::test::Fail;
+use vsm_elements::Elements;
+use vsm_model::Subpool;
+
+const FIRST: Subpool = Subpool {
+    number: 1,
+    owner: 1,
+};
+
+const SECOND: Subpool = Subpool {
+    number: 2,
+    owner: 3,
+};
+
+fn create(rt: &impl Abort, elements: &mut Elements, storage: &mut SubpoolStorage, subpool: Subpool)
+    requires { Stands elements.old storage.old }
+    ensures { Stands elements.new storage.new }
+{
+    assert!(rt; subpool.owner >= 1 && subpool.owner <= 64 && subpool.number <= 127);
+    assert!(rt; elements.spare() > 0);
+    assert!(rt;
+        storage
+            .owner_seen(elements, subpool.owner, subpool.number)
+            .is_none()
+    );
+    storage.create(elements, subpool);
+}
+
+// The page becomes the subpool's, and its doublewords free storage.
+fn fill(
+    rt: &impl Abort,
+    elements: &mut Elements,
+    storage: &SubpoolStorage,
+    subpool: Subpool,
+    page: u32,
+)
+    requires { Stands elements.old storage.now }
+    ensures { Stands elements.new storage.now }
+{
+    assert!(rt; page < 1_048_576);
+    assert!(rt; storage.has_subpool(elements, subpool));
+    assert!(rt; !storage.has_page(elements, subpool, page));
+    assert!(rt; elements.spare() > 0);
+    storage.insert_run(
+        elements,
+        subpool,
+        Run {
+            start: page,
+            len: 1,
+        },
+    );
+    assert!(rt; storage.has_page(elements, subpool, page));
+    free(
+        rt,
+        elements,
+        storage,
+        subpool,
+        Area {
+            start: 512 * page,
+            len: 512,
+        },
+    );
+}
+
+fn free(
+    rt: &impl Abort,
+    elements: &mut Elements,
+    storage: &SubpoolStorage,
+    subpool: Subpool,
+    area: Area,
+)
+    requires { Stands elements.old storage.now }
+    ensures { Stands elements.new storage.now }
+{
+    assert!(rt; area.len > 0 && area.len <= 512 && area.start <= 536_870_400);
+    assert!(rt; storage.has_subpool(elements, subpool));
+    match storage.covers(elements, subpool, area) {
+        Cover::None => {}
+        _ => assert!(rt; false),
+    }
+    assert!(rt; elements.spare() > 0);
+    storage.free_area(elements, subpool, area);
+}
+
+fn carve(
+    rt: &impl Abort,
+    elements: &mut Elements,
+    storage: &SubpoolStorage,
+    subpool: Subpool,
+    area: Area,
+)
+    requires { Stands elements.old storage.now }
+    ensures { Stands elements.new storage.now }
+{
+    assert!(rt; area.len > 0 && area.len <= 512 && area.start <= 536_870_400);
+    assert!(rt; storage.has_subpool(elements, subpool));
+    match storage.covers(elements, subpool, area) {
+        Cover::All => {}
+        _ => assert!(rt; false),
+    }
+    assert!(rt; elements.spare() > 0);
+    storage.carve_area(elements, subpool, area);
+}
+
+// The page, whose doublewords are free storage, leaves the subpool.
+fn empty(
+    rt: &impl Abort,
+    elements: &mut Elements,
+    storage: &SubpoolStorage,
+    subpool: Subpool,
+    page: u32,
+)
+    requires { Stands elements.old storage.now }
+    ensures { Stands elements.new storage.now }
+{
+    assert!(rt; page < 1_048_576);
+    carve(
+        rt,
+        elements,
+        storage,
+        subpool,
+        Area {
+            start: 512 * page,
+            len: 512,
+        },
+    );
+    assert!(rt; storage.has_subpool(elements, subpool));
+    assert!(rt; storage.has_page(elements, subpool, page));
+    assert!(rt; elements.spare() > 0);
+    storage.remove_run(
+        elements,
+        subpool,
+        Run {
+            start: page,
+            len: 1,
+        },
+    );
+    assert!(rt; !storage.has_page(elements, subpool, page));
+}
+
+#[test]
+fn pages_and_areas_come_and_go(rt: HostRuntime) -> Result<(), Fail> {
+    let mut elements = Elements::new(rt.alloc());
+    elements.reserve(64)?;
+    let mut storage = SubpoolStorage::new();
+    create(&rt, &mut elements, &mut storage, FIRST);
+    create(&rt, &mut elements, &mut storage, SECOND);
+    assert_eq!(rt; elements.spare(), 126);
+    fill(&rt, &mut elements, &storage, FIRST, 5);
+    fill(&rt, &mut elements, &storage, SECOND, 7);
+    fill(&rt, &mut elements, &storage, FIRST, 6);
+    assert_eq!(rt; elements.spare(), 122);
+    let region = Area {
+        start: 0,
+        len: 10_000,
+    };
+    assert_eq!(rt; storage.longest(&elements, FIRST, 512, region), 1024);
+    carve(
+        &rt,
+        &mut elements,
+        &storage,
+        FIRST,
+        Area {
+            start: 2600,
+            len: 100,
+        },
+    );
+    assert_eq!(rt; elements.spare(), 121);
+    assert_eq!(rt;
+        storage.least_fit(&elements, FIRST, 41, 1, region),
+        Some(2700)
+    );
+    assert_eq!(rt;
+        storage.least_fit(&elements, FIRST, 40, 1, region),
+        Some(2560)
+    );
+    assert_eq!(rt;
+        storage.least_fit(&elements, SECOND, 1, 1, region),
+        Some(3584)
+    );
+    assert_eq!(rt; storage.longest(&elements, FIRST, 512, region), 512);
+    free(
+        &rt,
+        &mut elements,
+        &storage,
+        FIRST,
+        Area {
+            start: 2600,
+            len: 100,
+        },
+    );
+    empty(&rt, &mut elements, &storage, FIRST, 5);
+    empty(&rt, &mut elements, &storage, SECOND, 7);
+    empty(&rt, &mut elements, &storage, FIRST, 6);
+    assert_eq!(rt; elements.spare(), 126);
+    assert_eq!(rt; storage.owner_seen(&elements, 3, 2), Some(3));
+    assert_eq!(rt; storage.owner_seen(&elements, 1, 2), None);
+    Ok(())
+}
+
+// A subpool is made, has a page whose doublewords are free storage, is emptied and removed.
+fn live(rt: &impl Abort, elements: &mut Elements, subpool: Subpool, page: u32) {
+    assert!(rt; subpool.owner >= 1 && subpool.owner <= 64 && subpool.number <= 127);
+    assert!(rt; page < 1_048_576 && elements.spare() > 0);
+    let mut storage = SubpoolStorage::new();
+    storage.create(elements, subpool);
+    let run = Run {
+        start: page,
+        len: 1,
+    };
+    assert!(rt; storage.has_subpool(elements, subpool) && elements.spare() > 0);
+    assert!(rt; !storage.has_page(elements, subpool, page));
+    storage.insert_run(elements, subpool, run);
+    let area = Area {
+        start: 512 * page,
+        len: 512,
+    };
+    assert!(rt; storage.has_subpool(elements, subpool) && elements.spare() > 0);
+    assert!(rt; storage.covers(elements, subpool, area) == Cover::None);
+    storage.free_area(elements, subpool, area);
+    assert!(rt; storage.has_subpool(elements, subpool) && elements.spare() > 0);
+    assert!(rt; storage.covers(elements, subpool, area) == Cover::All);
+    storage.carve_area(elements, subpool, area);
+    assert!(rt; storage.has_subpool(elements, subpool) && elements.spare() > 0);
+    assert!(rt; storage.has_page(elements, subpool, page));
+    storage.remove_run(elements, subpool, run);
+    assert!(rt; storage.has_subpool(elements, subpool));
+    storage.remove(elements, subpool);
+    assert!(rt; !storage.has_subpool(elements, subpool));
+}
+
+#[test]
+fn every_element_is_given_back(rt: HostRuntime) -> Result<(), Fail> {
+    let mut elements = Elements::new(rt.alloc());
+    elements.reserve(64)?;
+    live(&rt, &mut elements, FIRST, 9);
+    live(&rt, &mut elements, SECOND, 1_048_575);
+    assert_eq!(rt; elements.spare(), 128);
+    assert_eq!(rt; elements.release(), 1);
+    Ok(())
+}
