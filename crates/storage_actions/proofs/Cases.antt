@@ -1,9 +1,12 @@
 -- Cases of tests, optional values, subpools and runs.
-use Rattle.std.proofs.Common.{◌≡◌, ℕ, ◌+◌, ◌<◌, ◌≤◌, Bool, true, false, ◌&&◌, ◌||◌, nat_le, nat_lt, Option, Some, None, is_some, IsSome, refl, sym, ◌∙◌, ap, inl, inr, true≢false}
-use Rattle.std.proofs.lemmas.Bool.{and_parts, and_from, leb-true, ltb-true, le-leb, lt-ltb, cases_lt, false_from_ne_true}
+use Rattle.std.proofs.Common.{◌≡◌, ℕ, ◌+◌, ◌<◌, ◌≤◌, Bool, true, false, not, ◌&&◌, ◌||◌, nat_le, nat_lt, Option, Some, None, is_some, IsSome, refl, sym, ◌∙◌, ap, arith, inl, inr, true≢false}
+use Rattle.std.proofs.lemmas.Bool.{and_parts, and_from, leb-true, ltb-true, le-leb, lt-ltb, cases_lt, false_from_ne_true, not-true}
+use Rattle.std.specs.Prelude.{◌/◌, ◌*◌}
 use Rattle.run_set.specs.Runs.{inside}
 use Rattle.vsm_model.specs.declared.Subpool.{Subpool}
 use Rattle.vsm_model.specs.Search.{holds}
+use Rattle.vsm_model.specs.Releasing.{is_idle}
+use Rattle.vsm_model.proofs.Least.{all_pass_at, all_pass_from}
 use Rattle.vsm_model.specs.Subpools.{same_subpool}
 use Rattle.storage_changes.proofs.Cases.{same-self, same-is}
 
@@ -49,3 +52,17 @@ or_none false c e = e
 pub belongs_is : (p : Subpool) (o : Option Subpool) → holds (same_subpool p) o ≡ true → o ≡ Some p
 belongs_is p None e = absurd (true≢false (sym e))
 belongs_is p (Some q) e = ap Some (sym (same-is p q e))
+
+-- no doubleword of an idle page is taken, and a page is idle where none is
+pub is_idle_at : (taken : ℕ → Bool) (j k : ℕ) → is_idle taken j ≡ true → k / 512 ≡ j → taken k ≡ false
+unfolding is_idle
+is_idle_at taken j k e at = not-true (taken k) (all_pass_at (λ k. not (taken k)) (j * 512) 512 k e (omega (arith, at)) (omega (arith, at)))
+
+pub idle_from : (taken : ℕ → Bool) (j : ℕ) → ((k : ℕ) → k / 512 ≡ j → taken k ≡ false) → is_idle taken j ≡ true
+unfolding is_idle
+idle_from taken j none = all_pass_from (λ k. not (taken k)) (j * 512) 512 (λ k low high. ap not (none k (omega (arith, low, high))))
+
+pub same_answers : (x y : Bool) → (x ≡ true → y ≡ true) → (y ≡ true → x ≡ true) → x ≡ y
+same_answers true y f g = sym (f refl)
+same_answers false true f g = g refl
+same_answers false false f g = refl

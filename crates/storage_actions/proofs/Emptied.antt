@@ -1,7 +1,7 @@
 -- What holds of the pages that an area empties, and what the storage is without them.
-use Rattle.std.proofs.Common.{◌≡◌, ℕ, Bool, true, false, not, ◌&&◌, if◌then◌else◌, Option, Some, None, is_some, refl, sym, ◌∙◌, ap, arith, subst, true≢false}
-use Rattle.std.specs.Prelude.{◌/◌, ◌*◌}
-use Rattle.std.proofs.lemmas.Bool.{cond-true, cond-false, and_right, and_parts, and_from, false_from_ne_true, true_from_ne_false, not-true, not-false}
+use Rattle.std.proofs.Common.{◌≡◌, ℕ, Bool, true, false, not, ◌&&◌, if◌then◌else◌, Option, Some, None, is_some, refl, sym, ◌∙◌, ap, subst, true≢false}
+use Rattle.std.specs.Prelude.{◌/◌}
+use Rattle.std.proofs.lemmas.Bool.{cond-true, cond-false, and_right, and_parts, and_from, false_from_ne_true, true_from_ne_false, not-false}
 use Rattle.run_set.specs.declared.run.Run.{Run}
 use Rattle.run_set.specs.Runs.{inside}
 use Rattle.vsm_model.specs.declared.Subpool.{Subpool}
@@ -10,14 +10,13 @@ use Rattle.vsm_model.specs.Regions.{in_a_region}
 use Rattle.vsm_model.specs.Search.{holds}
 use Rattle.vsm_model.specs.Subpools.{same_subpool}
 use Rattle.vsm_model.specs.Releasing.{is_idle, without_taken, without_area}
-use Rattle.vsm_model.proofs.Least.{all_pass_at}
 use Rattle.storage_changes.specs.State.{StorageState}
 use Rattle.storage_changes.specs.Meaning.{model_of, subpool_of, is_taken, IsSound}
 use Rattle.storage_changes.proofs.MeaningLemmas.{named_pages_are_there, left_pages_are_nobodys}
 use Rattle.storage_actions.specs.Actions.{run_of}
 use Rattle.storage_actions.specs.Leads.{AreIdle}
 use Rattle.storage_changes.proofs.Cases.{same-is, same-self}
-use Rattle.storage_actions.proofs.Cases.{belongs_is}
+use Rattle.storage_actions.proofs.Cases.{belongs_is, is_idle_at}
 use Rattle.storage_actions.proofs.Goes.{at}
 use Rattle.storage_actions.proofs.Rows.{Stands}
 
@@ -51,10 +50,6 @@ module _ (settings : Settings) (m : StorageState) (p : Subpool) (d count page n 
   had j own = (named_pages_are_there m.subpools j).0 p (its j own)
 
   -- has no doubleword that is taken but by the area,
-  is_idle_at : (left : ℕ → Bool) (j k : ℕ) → is_idle left j ≡ true → k / 512 ≡ j → left k ≡ false
-  unfolding is_idle
-  is_idle_at left j k e at = not-true (left k) (all_pass_at (λ k. not (left k)) (j * 512) 512 k e (omega (arith, at)) (omega (arith, at)))
-
   not_kept : (k : ℕ) → inside (k / 512) run ≡ true → (not (inside k area) && taken k) ≡ false
   not_kept k own =
       is_idle_at (without_taken (model_of m) d count).taken (k / 512) k

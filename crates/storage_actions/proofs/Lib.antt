@@ -1,10 +1,11 @@
 mod Cases
 mod Goes
-mod Rows
+pub mod Rows
 mod Records
 mod Owned
-mod Taking
-mod Fresh
+pub mod Taking
+pub mod Fresh
 mod Emptied
-mod GivingBack
-mod Writing
+pub mod GivingBack
+pub mod Idle
+pub mod Writing

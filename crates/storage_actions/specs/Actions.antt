@@ -5,6 +5,8 @@ use Rattle.std.specs.List.{range_with_len}
 use Rattle.run_set.specs.declared.run.Run.{Run}
 use Rattle.vsm_model.specs.declared.Subpool.{Subpool}
 use Rattle.vsm_model.specs.Regions.{among, pages_for}
+use Rattle.vsm_model.specs.Search.{all_pass}
+use Rattle.subpool_storage.specs.Subpools.{Subpools}
 use Rattle.storage_changes.specs.declared.record.Record.{Record}
 use Rattle.storage_changes.specs.declared.record.Record.TheVariants.{Area, Extent, Pages, Own, Register, Bytes}
 use Rattle.storage_changes.specs.State.{StorageState}
@@ -59,6 +61,20 @@ give_back_records p d count page (suc n) =
     ++ area_records p (512 * (page + suc n)) (d + count - 512 * (page + suc n)) true
     ++ area_records p (d + count) (512 * (page + suc n) - (d + count)) false
     ++ returned_records p page (suc n)
+
+-- the first page that an area from d on empties: it keeps the one that it begins in where some doubleword before it is
+-- taken there,
+abbrev pub first_emptied : Subpools → Subpool → ℕ → ℕ
+first_emptied m p d = if all_pass (m.free p) (512 * (d / 512)) (d - 512 * (d / 512)) then d / 512 else d / 512 + 1
+
+-- the page past the last one, if the area ends at this doubleword,
+abbrev pub past_emptied : Subpools → Subpool → ℕ → ℕ
+past_emptied m p end =
+    if all_pass (m.free p) end (512 * pages_for end - end) then pages_for end else pages_for end - 1
+
+-- and the run of them
+abbrev pub emptied_pages : Subpools → Subpool → ℕ → ℕ → Run
+emptied_pages m p d count = run_of (first_emptied m p d) (past_emptied m p (d + count) - first_emptied m p d)
 
 -- the bytes once these stand from the address on
 abbrev pub bytes_with : (ℕ → Option ℕ) → ℕ → List ℕ → ℕ → Option ℕ

@@ -10,7 +10,8 @@ use Rattle.vsm_model.specs.Registers.{with_registers}
 use Rattle.vsm_model.specs.WellFormed.{IsWellFormed}
 use Rattle.storage_changes.specs.State.{StorageState}
 use Rattle.storage_changes.specs.Meaning.{model_of, IsSound}
-use Rattle.storage_actions.specs.Actions.{run_of, own_records, take_records, take_fresh_records, give_back_records}
+use Rattle.storage_actions.specs.Actions.{run_of, own_records, take_records, take_fresh_records}
+use Rattle.storage_actions.specs.Actions.{give_back_records, emptied_pages}
 use Rattle.storage_actions.specs.Actions.{write_records, register_records}
 use Rattle.storage_actions.specs.Leads.{change_of, Leads, with_new, CanOwn, AreRegisters, AreIdle}
 
@@ -50,6 +51,15 @@ GivingBackLeads =
     IsWellFormed settings (with_registers (without_area (model_of m) p d count) rows) →
     Leads settings m (change_of (give_back_records p d count page n ++ register_records m rows) 7 (run_of 0 0))
     (with_registers (without_area (model_of m) p d count) rows)
+
+-- these pages are a run, which its first and its last page alone have to be looked at for;
+abbrev pub EmptiedPagesAreARun : Type 0
+EmptiedPagesAreARun =
+    (settings : Settings) (m : StorageState) (p : Subpool) (d count : ℕ) →
+    IsSound settings m → 0 < count → d + count ≤ 2 ^ 29 →
+    ((k : ℕ) → among d count k ≡ true → (m.subpools.pages p (k / 512) ≡ true) × (m.subpools.free p k ≡ false)) →
+    AreIdle (model_of m) p d count (emptied_pages m.subpools p d count)
+    × ((emptied_pages m.subpools p d count).start + (emptied_pages m.subpools p d count).len ≤ 2 ^ 20)
 
 -- bytes are written where there are some;
 abbrev pub WritingLeads : Type 0

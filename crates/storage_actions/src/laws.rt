@@ -1,7 +1,8 @@
 //! Each action's records fit, and lead to its effect. Each law is the contract of a function that does nothing: of any
-//! sound storage, from which the action's records lead to a well-formed state of the plain machine.
+//! sound storage, where the action's effect on the plain machine is a well-formed state.
 
 ghost use Rattle.storage_actions.specs.Laws.{
+  EmptiedPagesAreARun,
   GivingBackLeads,
   SettingLeads,
   TakingFreshLeads,
@@ -25,6 +26,12 @@ pub fn taking_fresh_leads()
 /// registers are set. Seven blank elements are enough.
 pub fn giving_back_leads()
     ensures { GivingBackLeads }
+{}
+
+/// The pages that it empties are a run: those that it has whole, and the first and the last one that it touches where
+/// their other doublewords are free.
+pub fn emptied_pages_are_a_run()
+    ensures { EmptiedPagesAreARun }
 {}
 
 /// Bytes are written, where each address has one. It takes no element.
