@@ -5,7 +5,7 @@ use Rattle.std.proofs.lemmas.Bool.{ltb-true, lt-ltb}
 use Rattle.std.proofs.lemmas.List.{append-nil}
 use Rattle.vsm_elements.specs.Chain.{Link}
 use Rattle.row_table.specs.declared.row.Row.{Row}
-use Rattle.row_table.specs.Rows.{word, same_key, comes_before, is_under, row_in, Single}
+use Rattle.row_table.specs.Rows.{word, comes_before, is_under, row_in, Single}
 use Rattle.row_table.specs.Kept.{link_of, nearer, IsNext}
 use Rattle.row_table.proofs.PlaceLemmas.{parts, take_link}
 use Rattle.row_table.proofs.RowLemmas.{either, not_both, if_true, if_false, none_some, and_parts, eqb_same, eqb_refl, same_parts, same_self, same_sym, of, first, second, none_here, none_parts, none_by, row_put}

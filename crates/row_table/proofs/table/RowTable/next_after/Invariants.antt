@@ -1,4 +1,4 @@
-use Rattle.std.proofs.Common.{◌≡◌, ◌-◌, take}
+use Rattle.std.proofs.Common.{◌-◌, take}
 use Rattle.vsm_elements.specs.Chain.{links}
 use Rattle.row_table.specs.Rows.{row_in}
 use Rattle.row_table.specs.Kept.{StandsAt, IsNext}

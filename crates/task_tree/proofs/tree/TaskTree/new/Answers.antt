@@ -1,4 +1,4 @@
-use Rattle.std.proofs.Common.{rules, ap, is_some}
+use Rattle.std.proofs.Common.{ap, is_some}
 use Rattle.row_table.specs.RowTable.{row}
 use Rattle.task_tree.specs.TaskTree.{IsTaskTree}
 use Rattle.task_tree.proofs.AttachLemmas.{first_tree, first_parents}
