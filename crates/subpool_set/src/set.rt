@@ -1,7 +1,8 @@
 ghost use Rattle.std.specs.Prelude.{◌≡◌, ◌≢◌, ℕ, ◌+◌, ◌<◌, ◌≤◌, ◌++◌, [], Some, None, IsSome, IfSome, IfNone};
 ghost use Rattle.std.specs.Prelude.{option_map, slice_get, ◌&&◌, ◌==◌, not};
-ghost use Rattle.vsm_elements.specs.Store.{Store, among};
+ghost use Rattle.vsm_elements.specs.Store.{Store};
 ghost use Rattle.vsm_elements.specs.Ownership.{Leaves, Apart};
+ghost use Rattle.vsm_elements.specs.Store.{among};
 ghost use Rattle.row_table.specs.Rows.{either_of};
 ghost use Rattle.subpool_set.specs.Pools.{no_queues, sight_with, pools_with, sight_given, pools_given, sight_of_pool};
 ghost use Rattle.subpool_set.specs.Pools.{sight_without, pool_alone, sees, sharers, in_order};

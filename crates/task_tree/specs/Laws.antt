@@ -2,7 +2,8 @@
 use Rattle.std.specs.Prelude.{◌≡◌, ◌≢◌, ℕ, ◌<◌, ◌≤◌, ◌⊎◌, List, Some, None, IsSome, is_some, if◌then◌else◌}
 use Rattle.row_table.specs.Rows.{either_of}
 use Rattle.task_tree.specs.Tasks.{Parents, Words, IsBelow, IsTaken, IsLeft}
-use Rattle.vsm_elements.specs.Store.{Store}
+use Rattle.std.specs.Prelude.{true}
+use Rattle.vsm_elements.specs.Store.{Store, at, among}
 use Rattle.vsm_elements.specs.Ownership.{Owns, Leaves, Apart}
 use Rattle.task_tree.specs.declared.tree.TaskTree.{TaskTree}
 use Rattle.task_tree.specs.declared.parked.ParkedTasks.{ParkedTasks}
@@ -32,6 +33,20 @@ PutBack = (f rest out : Parents) (words rest_words out_words : Words) (top : ℕ
     × ((t p : ℕ) → out t ≡ Some p → IsSome (either_of (out p) (rest p)))
     × ((t : ℕ) → either_of (out t) (rest t) ≡ f t)
     × ((t r : ℕ) → r < 16 → (if is_some (out t) then out_words t r else rest_words t r) ≡ words t r)
+
+-- a tree whose elements are as they were is as it was
+abbrev pub TreesKept : Type 0
+TreesKept = (s t : Store) (q : TaskTree) → IsTaskTree s q
+    → ((id : ℕ) → among id (owned s q) ≡ true → at t id ≡ at s id)
+    → IsTaskTree t q × ((task : ℕ) → parent t q task ≡ parent s q task)
+    × ((task r : ℕ) → word t q task r ≡ word s q task r) × (owned t q ≡ owned s q)
+
+-- and so are parked tasks
+abbrev pub ParkedKept : Type 0
+ParkedKept = (s t : Store) (p : ParkedTasks) → IsParkedTasks s p
+    → ((id : ℕ) → among id (parked_owned s p) ≡ true → at t id ≡ at s id)
+    → IsParkedTasks t p × ((task : ℕ) → parked_parent t p task ≡ parked_parent s p task)
+    × ((task r : ℕ) → parked_word t p task r ≡ parked_word s p task r) × (parked_owned t p ≡ parked_owned s p)
 
 -- a tree that stands apart from what a call owns is as it was
 abbrev pub TreesStay : Type 0
