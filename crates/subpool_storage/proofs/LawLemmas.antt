@@ -1,5 +1,5 @@
 -- Laws of subpools with their storage.
-use Rattle.std.proofs.Common.{◌≡◌, ℕ, ◌<◌, ◌≤◌, true, false, ◌==◌, inl, inr, Option, Some, None, IsSome, refl, ap, ◌∙◌, arith}
+use Rattle.std.proofs.Common.{◌≡◌, ℕ, ◌+◌, ◌<◌, ◌≤◌, true, false, ◌==◌, inl, inr, Option, Some, None, IsSome, refl, ap, ◌∙◌, arith}
 use Rattle.vsm_elements.specs.Store.{Store, at, among}
 use Rattle.vsm_elements.specs.Owners.{times}
 use Rattle.vsm_elements.proofs.ChainFrame.{false_if}
@@ -11,16 +11,16 @@ use Rattle.subpool_set.specs.QueueElements.{ids_of}
 use Rattle.subpool_set.specs.SubpoolSet.{sight, pool, owned, queue_ids, IsSubpoolSet}
 use Rattle.subpool_set.proofs.LawLemmas.{pools_are_named, queue_ids_are}
 use Rattle.subpool_storage.specs.declared.storage.SubpoolStorage.{SubpoolStorage}
-use Rattle.subpool_storage.specs.SubpoolStorage.{page_in, free_in, subpools_of, hold, Stands}
+use Rattle.subpool_storage.specs.SubpoolStorage.{page_in, free_in, subpools_of, hold, Stands, Becomes}
 use Rattle.subpool_storage.proofs.SubpoolLemmas.{same_subpools}
 use Rattle.vsm_elements.proofs.TimesLemmas.{some-from}
-use Rattle.vsm_elements.proofs.MoveLemmas.{none-or-some}
+use Rattle.vsm_elements.proofs.MoveLemmas.{none-or-some, others-kept}
 use Rattle.vsm_model.specs.declared.Subpool.{Subpool}
 use Rattle.vsm_model.specs.Search.{holds}
 use Rattle.subpool_set.proofs.KeyLemmas.{eqb_refl, none_some}
 use Rattle.subpool_set.proofs.LawLemmas.{sets_stand, sets_kept, queues_kept as kept_queues, sights_are_in_range}
 use Rattle.subpool_set.proofs.CountLemmas.{ids_once}
-use Rattle.subpool_storage.specs.Subpools.{is_there}
+use Rattle.subpool_storage.specs.Subpools.{Subpools, is_there}
 use Rattle.subpool_storage.specs.Laws.{StorageOwns, SubpoolsAreThere, StorageStays}
 use Rattle.subpool_storage.proofs.ViewLemmas.{page_kept, free_kept}
 
@@ -87,3 +87,10 @@ none_there s q p h gone =
       λ x. false_if ((subpools_of s q).pages p x) (λ e. not_both (is_there (subpools_of s q) p) (k.2 p x e) gone),
       λ d. false_if ((subpools_of s q).free p d) (λ e. not_both (is_there (subpools_of s q) p) (k.3 p d e) gone),
     )
+
+-- a call on one storage leaves another that holds none of its elements
+pub beside_after : (s t : Store) (q r other : SubpoolStorage) (m : Subpools) → Stands s other → ((i : ℕ) → hold s q i + hold s other i ≤ 1) → Becomes s t q r m → Stands t other × ((i : ℕ) → hold t r i + hold t other i ≤ 1)
+beside_after s t q r other m h once b =
+    let k = others-kept s t (hold s q) (hold t r) (hold s other) b.moves once (hold_live s other h) (hold_once t r b.stands) in
+    let stay = storage_stays s t other h k.0 in
+    (stay.0, λ i. omega (arith, k.1 i, stay.2 i))

@@ -248,3 +248,57 @@ fn every_element_is_given_back(rt: HostRuntime) -> Result<(), Fail> {
     assert_eq!(rt; elements.release(), 1);
     Ok(())
 }
+
+// What the subpool has in one goes over to the other, and comes back.
+fn there_and_back(
+    rt: &impl Abort,
+    elements: &mut Elements,
+    one: &SubpoolStorage,
+    other: &SubpoolStorage,
+    subpool: Subpool,
+    page: u32,
+)
+    requires stands { Stands elements.old one.now }
+    requires other { Stands elements.old other.now }
+    requires apart { (i : ℕ) → hold elements.old one.now i + hold elements.old other.now i ≤ 1 }
+{
+    assert!(rt; one.has_subpool(elements, subpool) && other.has_subpool(elements, subpool));
+    one.exchange_storage(elements, other, subpool);
+    assert!(rt; !one.has_page(elements, subpool, page) && other.has_page(elements, subpool, page));
+    let region = Area {
+        start: 0,
+        len: 10_000,
+    };
+    assert_eq!(rt; one.longest(elements, subpool, 1, region), 0);
+    assert_eq!(rt; other.longest(elements, subpool, 1, region), 512);
+    assert!(rt; one.has_subpool(elements, subpool) && other.has_subpool(elements, subpool));
+    other.exchange_storage(elements, one, subpool);
+    assert!(rt; one.has_page(elements, subpool, page) && !other.has_page(elements, subpool, page));
+}
+
+fn beside(
+    rt: &impl Abort,
+    elements: &mut Elements,
+    one: &SubpoolStorage,
+    subpool: Subpool,
+    page: u32,
+)
+    requires { Stands elements.old one.now }
+{
+    assert!(rt; subpool.owner >= 1 && subpool.owner <= 64 && subpool.number <= 127);
+    assert!(rt; elements.spare() > 0);
+    let mut other = SubpoolStorage::new();
+    other.create(elements, subpool);
+    there_and_back(rt, elements, one, &other, subpool, page);
+}
+
+#[test]
+fn what_a_subpool_has_goes_over_and_comes_back(rt: HostRuntime) -> Result<(), Fail> {
+    let mut elements = Elements::new(rt.alloc());
+    elements.reserve(64)?;
+    let mut storage = SubpoolStorage::new();
+    create(&rt, &mut elements, &mut storage, FIRST);
+    fill(&rt, &mut elements, &storage, FIRST, 5);
+    beside(&rt, &mut elements, &storage, FIRST, 5);
+    Ok(())
+}

@@ -52,6 +52,13 @@ TreesKept = (s t : Store) (q : TaskTree) → IsTaskTree s q
     → IsTaskTree t q × ((task : ℕ) → parent t q task ≡ parent s q task)
     × ((task r : ℕ) → word t q task r ≡ word s q task r) × (owned t q ≡ owned s q)
 
+-- and so are parked tasks
+abbrev pub ParkedKept : Type 0
+ParkedKept = (s t : Store) (p : ParkedTasks) → IsParkedTasks s p
+    → ((id : ℕ) → among id (parked_owned s p) ≡ true → at t id ≡ at s id)
+    → IsParkedTasks t p × ((task : ℕ) → parked_parent t p task ≡ parked_parent s p task)
+    × ((task r : ℕ) → parked_word t p task r ≡ parked_word s p task r) × (parked_owned t p ≡ parked_owned s p)
+
 -- a tree that stands apart from what a call owns is as it was
 abbrev pub TreesStay : Type 0
 TreesStay = (s t : Store) (had has : List ℕ) (q : TaskTree) → Leaves s t had has → IsTaskTree s q
