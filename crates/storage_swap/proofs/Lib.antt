@@ -8,3 +8,4 @@ mod DiscardLemmas
 mod ReserveLemmas
 mod SettingsLemmas
 mod FreshLemmas
+mod BackLemmas

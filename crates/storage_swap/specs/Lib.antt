@@ -2,3 +2,4 @@ pub mod Beside
 pub mod Swap
 pub mod Reserve
 pub mod Fresh
+pub mod Laws
