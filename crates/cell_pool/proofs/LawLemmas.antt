@@ -89,6 +89,14 @@ get_last xs x k e = ap (slice_get (xs ++ x ∷ [])) e ∙ at_seam xs where
   at_seam [] = refl
   at_seam (z ∷ zs) = at_seam zs
 
+pub last_is : (p : Pool) (h : IsExtended p) (k : ℕ) (x : Extent) → length p.extents ≡ k + 1 → slice_get p.extents k ≡ Some x → h.last ≡ x
+last_is p h k x long there =
+    let size : length p.extents ≡ length (h.rest.extents ++ h.last ∷ []) = ap (λ (z : Pool). length z.extents) h.is in
+    let e : k ≡ length h.rest.extents = omega (arith, size, length-append h.rest.extents (h.last ∷ [])) in
+    some_is h.last x (sym (get_last h.rest.extents h.last k e) ∙ ap (λ (z : Pool). slice_get z.extents k) (sym h.is) ∙ there) where
+      some_is : (a b : Extent) → Some a ≡ Some b → a ≡ b
+      some_is a b q = cc
+
 pub last_cells : (p : Pool) → IsExtended p → (k : ℕ) (x : Extent) → length p.extents ≡ k + 1 → slice_get p.extents k ≡ Some x → x.count ≤ length p.cells
 last_cells p h k x long there =
     let size : length p.extents ≡ length (h.rest.extents ++ h.last ∷ []) = ap (λ (z : Pool). length z.extents) h.is in

@@ -7,7 +7,7 @@ use Rattle.std.proofs.lemmas.List.{get_or-drop}
 use Rattle.std.proofs.lemmas.Nat.{div-mul-add, mod-mul-add, div-add-mod'}
 use Rattle.std.proofs.lemmas.List.Folds.{list_any_more, list_any_at}
 use Rattle.std.proofs.lemmas.Option.{get_or_from_slice_get, slice_get_within}
-use Rattle.vsm_elements.specs.Store.{Store, among}
+use Rattle.vsm_elements.specs.Store.{Store, among, Distinct}
 use Rattle.vsm_elements.specs.Chain.{links, head_or, last_or, IsChain}
 use Rattle.vsm_elements.proofs.ChainLemmas.{among-append, not_both}
 use Rattle.vsm_elements.specs.declared.chain.Chain.{Chain}
@@ -87,18 +87,58 @@ in_range size start from (suc count) address h = go (λ k. in_range size start (
       let f : (j : ℕ) × (j < (from + 1) + count) × (address ≡ start + j * size) = rest (behind (address == start + from * size) (among address (map (λ (k : ℕ). start + k * size) (range_with_len (from + 1) count))) e h) in
       (f.0, omega (arith, f.1), f.2)
 
+-- the cells of an extent are different
+later_range : (size start from count address : ℕ) → among address (map (λ (k : ℕ). start + k * size) (range_with_len from count)) ≡ true → (j : ℕ) × (from ≤ j) × (address ≡ start + j * size)
+later_range size start from zero address h = absurd (not_both false h refl)
+later_range size start from (suc count) address h = go (λ k. later_range size start (from + 1) count address k) (address == start + from * size) refl where
+  behind : (a b : Bool) → a ≡ false → (a || b) ≡ true → b ≡ true
+  behind true b x y = absurd (not_both true refl x)
+  behind false b x y = y
+
+  go : (among address (map (λ (k : ℕ). start + k * size) (range_with_len (from + 1) count)) ≡ true → (j : ℕ) × (from + 1 ≤ j) × (address ≡ start + j * size))
+      → (b : Bool) → (address == start + from * size) ≡ b → (j : ℕ) × (from ≤ j) × (address ≡ start + j * size)
+  go rest true e = (from, omega arith, eqb_same address (start + from * size) e)
+  go rest false e =
+      let f : (j : ℕ) × (from + 1 ≤ j) × (address ≡ start + j * size) = rest (behind (address == start + from * size) (among address (map (λ (k : ℕ). start + k * size) (range_with_len (from + 1) count))) e h) in
+      (f.0, omega (arith, f.1), f.2)
+
 reach : (size start address q r : ℕ) → q * size + r ≡ address - start → start ≤ address → r ≡ 0 → address ≡ start + (0 + q) * size
 reach size start address q r whole low even = let k : 0 + q ≡ q = omega arith in let e : address ≡ start + q * size = omega arith in e ∙ ap (λ (z : ℕ). start + z * size) (sym k)
 
-back_div : (size start address j : ℕ) → 0 < size → address ≡ start + j * size → (address - start) / size ≡ j
+pub back_div : (size start address j : ℕ) → 0 < size → address ≡ start + j * size → (address - start) / size ≡ j
 back_div size start address j s e = let k : address - start ≡ j * size + 0 = omega arith in ap (λ (z : ℕ). z / size) k ∙ div-mul-add j size 0 s
 
 back_mod : (size start address j : ℕ) → 0 < size → address ≡ start + j * size → (address - start) % size ≡ 0
 back_mod size start address j s e = let k : address - start ≡ j * size + 0 = omega arith in ap (λ (z : ℕ). z % size) k ∙ mod-mul-add j size 0 s
 
-none_true : (b : Bool) → (b ≡ true → ⊥) → b ≡ false
+pub none_true : (b : Bool) → (b ≡ true → ⊥) → b ≡ false
 none_true true h = absurd (h refl)
 none_true false h = refl
+
+distinct_range : (size start from count : ℕ) → 0 < size → Distinct (map (λ (k : ℕ). start + k * size) (range_with_len from count))
+distinct_range size start from zero s = record {}
+distinct_range size start from (suc count) s = (
+  none_true (among (start + from * size) (map (λ (k : ℕ). start + k * size) (range_with_len (from + 1) count))) (λ h.
+      let f : (j : ℕ) × (from + 1 ≤ j) × (start + from * size ≡ start + j * size) = later_range size start (from + 1) count (start + from * size) h in
+      absurd (omega (arith, f.1, back_div size start (start + from * size) from s refl, back_div size start (start + from * size) f.0 s f.2))),
+  distinct_range size start (from + 1) count s,
+)
+
+pub distinct_cells : (size start count : ℕ) → 0 < size → Distinct (cells_from size start count)
+unfolding cells_from
+distinct_cells size start count s = distinct_range size start 0 count s
+
+-- what a cell of an extent is
+pub cell_in : (size start count address : ℕ) → 0 < size → among address (cells_from size start count) ≡ true
+    → (j : ℕ) × (j < count) × (address ≡ start + j * size) × ((address - start) / size ≡ j)
+unfolding cells_from
+cell_in size start count address s h =
+    let f : (j : ℕ) × (j < 0 + count) × (address ≡ start + j * size) = in_range size start 0 count address h in
+    (f.0, omega (arith, f.1), f.2, back_div size start address f.0 s f.2)
+
+pub cell_there : (size start count j : ℕ) → 0 < size → j < count → among (start + j * size) (cells_from size start count) ≡ true
+unfolding cells_from
+cell_there size start count j s l = let k : 0 + j ≡ j = omega arith in at_range size start 0 count (start + j * size) s j l (ap (λ (z : ℕ). start + z * size) (sym k))
 
 -- an address in front of the extent, one between two cells, and one that may be a cell
 

@@ -69,6 +69,10 @@ meets start len p = list_any (overlaps p.settings.size start len) p.extents
 abbrev pub Meets : (List ℕ → Option Pool) → ℕ → ℕ → Type 0
 Meets pools start len = (name : List ℕ) × (p : Pool) × (pools name ≡ Some p) × (meets start len p ≡ true)
 
+-- How many elements the marks of an extent of so many cells take: one bit to a cell, which tells whether it's free.
+abbrev pub mark_items : ℕ → ℕ
+mark_items count = count / 224 + 1
+
 -- What the calls do to a pool.
 
 -- its first cell is handed out

@@ -16,7 +16,7 @@ fn build(rt: &impl Abort, elements: &mut Elements, pools: &mut CellPools, text: 
     let mut name = Name::new();
     assert!(rt; name.try_push_str(text).is_ok());
     assert!(rt; pools.find(elements, &name).is_none());
-    assert!(rt; elements.spare() >= 9);
+    assert!(rt; elements.spare() >= 10);
     assert!(rt; start <= 8192);
     let settings = Settings {
         subpool: start / 4096,
