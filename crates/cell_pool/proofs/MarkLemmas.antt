@@ -6,9 +6,9 @@ use Rattle.vsm_elements.specs.Store.{among}
 use Rattle.vsm_elements.proofs.ChainLemmas.{among-append, not_both}
 use Rattle.cell_pool.specs.declared.marks.Mark.{Mark}
 use Rattle.cell_pool.specs.declared.settings.Extent.{Extent}
-use Rattle.cell_pool.specs.Pools.{cells_from, cells_of, mark_items}
+use Rattle.cell_pool.specs.Pools.{AreApart, cells_from, cells_of, mark_items}
 use Rattle.cell_pool.specs.Kept.{extent_of}
-use Rattle.cell_pool.specs.Marks.{all_marks, mark_at, mark_of, AreApart}
+use Rattle.cell_pool.specs.Marks.{all_marks, mark_at, mark_of}
 use Rattle.cell_pool.proofs.WalkLemmas.{cell_in, none_true, slice_get-drop}
 
 pub if_true : {A : Type 0} → (b : Bool) (x y : A) → b ≡ true → (if b then x else y) ≡ x

@@ -9,7 +9,7 @@ use Rattle.vsm_elements.specs.Store.{among, Distinct}
 use Rattle.list_table.specs.Entries.{word}
 use Rattle.cell_pool.specs.declared.marks.Mark.{Mark}
 use Rattle.cell_pool.specs.declared.settings.Extent.{Extent}
-use Rattle.cell_pool.specs.Pools.{Pool, cells_from, cells_of, mark_items}
+use Rattle.cell_pool.specs.Pools.{Pool, AreApart, cells_from, cells_of, mark_items}
 
 -- how many items the marks of extents take
 abbrev pub all_marks : List Extent → ℕ
@@ -35,13 +35,6 @@ is_set words bit = bit_at (word words (bit / 32)) (bit % 32) == 1
 -- the mark in these items is set
 abbrev pub is_marked : List (List ℕ) → Mark → Bool
 is_marked items m = is_set (slice_index_or items m.item []) m.bit
-
--- no cell of an extent is one of a later extent
-abbrev pub AreApart : ℕ → List Extent → Type 0
-AreApart size [] = Unit {0}
-AreApart size (x ∷ xs) =
-    ((address : ℕ) → among address (cells_from size x.start x.count) ≡ true → among address (cells_of size xs) ≡ false)
-    × AreApart size xs
 
 -- The free cells are cells of the extents, each once, and the marks tell which of the extents' cells they are.
 pub record IsMarked (p : Pool) (items : List (List ℕ)) : Type 0 where

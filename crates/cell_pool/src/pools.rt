@@ -34,7 +34,7 @@ pub(crate) struct Place {
 }
 
 impl CellPools {
-    ghost use Rattle.cell_pool.specs.CellPools.{pool, pools, by_id, owned, IsCellPools, IsParked};
+    ghost use Rattle.cell_pool.specs.CellPools.{pool, pools, by_id, owned, cell_pools_of, IsCellPools, IsParked};
     ghost use Rattle.cell_pool.specs.CellPools.{parked_pool, parked_by_id, parked_owned};
 
     /// No cell pool. It has no element.
@@ -42,12 +42,15 @@ impl CellPools {
     // what a name and an id show
     crate::specs::CellPools::pool, crate::specs::CellPools::by_id,
     // whose the elements are
-    crate::specs::CellPools::owned, crate::specs::CellPools::IsCellPools))]
+    crate::specs::CellPools::owned, crate::specs::CellPools::IsCellPools,
+    // what a head is
+    crate::specs::CellPools::cell_pools_of))]
     pub fn new() -> CellPools
         ensures pools { (s : Store) → IsCellPools s result }
         ensures empty { (s : Store) (n : List ℕ) → pool s result n ≡ None }
         ensures ids { (s : Store) (i : ℕ) → by_id s result i ≡ None }
         ensures owned { (s : Store) → owned s result ≡ [] }
+        ensures head { result ≡ cell_pools_of 0 0 }
     {
         CellPools {
             table: ListTable::new(),
