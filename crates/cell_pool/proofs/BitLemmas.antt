@@ -14,23 +14,6 @@ use Rattle.cell_pool.specs.Marks.{is_set, is_marked}
 abbrev Items : Type 0
 Items = List (List ℕ)
 
--- a word of seven is replaced
-module _ (words : List ℕ) (bit value : ℕ) (long : bit / 32 < length words) where
-  pub this_bit : (free : Bool) → (bit_at value (bit % 32) == 1) ≡ free → is_set (set words (bit / 32) value) bit ≡ free
-  this_bit free h = ap (λ (z : ℕ). bit_at z (bit % 32) == 1) (get_or-set_same words (bit / 32) value 0 long) ∙ h
-
-  pub other_bit : (b : ℕ) → b ≢ bit → ((i : ℕ) → i < 32 → i ≢ bit % 32 → bit_at value i ≡ bit_at (word words (bit / 32)) i) → is_set (set words (bit / 32) value) b ≡ is_set words b
-  other_bit b apart kept =
-      elim (cases_eq (b / 32) (bit / 32)) [
-        | inl same ↦
-            let differ : b % 32 ≢ bit % 32 = λ e. apart (omega (arith, same, e)) in
-            ap (λ (z : ℕ). bit_at (get_or (set words (bit / 32) value) z 0) (b % 32) == 1) same
-            ∙ ap (λ (z : ℕ). bit_at z (b % 32) == 1) (get_or-set_same words (bit / 32) value 0 long)
-            ∙ ap (λ (z : ℕ). z == 1) (kept (b % 32) (omega arith) differ)
-            ∙ ap (λ (z : ℕ). bit_at (word words z) (b % 32) == 1) (sym same)
-        | inr differ ↦ ap (λ (z : ℕ). bit_at z (b % 32) == 1) (get_or-set_other words (bit / 32) (b / 32) value 0 differ)
-      ]
-
 -- an item of marks is replaced
 module _ (items new : Items) (low place : ℕ) (words : List ℕ) (long : low + place < length items)
     (are : new ≡ take (low + place) items ++ words ∷ drop ((low + place) + 1) items) where

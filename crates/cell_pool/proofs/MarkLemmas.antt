@@ -133,12 +133,6 @@ module _ (size : ℕ) (s : 0 < size) where
         among-append address (cells_from size x.start x.count) (cells_of size xs)
         ∙ or_right (among address (cells_from size x.start x.count)) (among address (cells_of size xs)) (rest (sym (later_mark x xs address e) ∙ h))
 
-  pub mark_there : (xs : List Extent) (address : ℕ) → among address (cells_of size xs) ≡ true → (m : Mark) × (mark_of size xs address ≡ Some m)
-  mark_there xs address h = go (mark_of size xs address) refl where
-    go : (o : Option Mark) → mark_of size xs address ≡ o → (m : Mark) × (mark_of size xs address ≡ Some m)
-    go None e = absurd (not_both (among address (cells_of size xs)) h (mark_none xs address e))
-    go (Some m) e = (m, e)
-
   -- an extent more
   pub mark_more : (xs : List Extent) (y : Extent) (address : ℕ) (m : Mark) → mark_of size xs address ≡ Some m
       → mark_of size (xs ++ y ∷ []) address ≡ Some (record { item = mark_items y.count + m.item; bit = m.bit })
@@ -245,9 +239,3 @@ module _ (size : ℕ) (xs : List Extent) (address k : ℕ) (x : Extent) (here : 
   step_on e =
       ap (λ (z : List Extent). mark_of size z address) (drop_extent xs k x here)
       ∙ if_false (among address (cells_from size x.start x.count)) (Some (mark_at (all_marks (drop (k + 1) xs)) ((address - x.start) / size))) (mark_of size (drop (k + 1) xs) address) e
-
-pub no_marks : (xs : List Extent) (k : ℕ) → length xs ≤ k → drop k xs ≡ []
-no_marks [] zero l = refl
-no_marks [] (suc k) l = refl
-no_marks (x ∷ xs) zero l = absurd (omega arith)
-no_marks (x ∷ xs) (suc k) l = no_marks xs k (omega arith)

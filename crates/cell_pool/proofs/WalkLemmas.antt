@@ -33,9 +33,6 @@ module _ (test : List ℕ → Bool) (items : Items) (from k : ℕ) (words : List
   pub walk_more : list_any test (take k (drop from items)) ≡ false → test words ≡ false → list_any test (take (k + 1) (drop from items)) ≡ false
   walk_more before miss = list_any_more test (drop from items) k [] inside ∙ or_false (list_any test (take k (drop from items))) (test (get_or (drop from items) k [])) before (ap test is ∙ miss)
 
-  pub walk_all : test words ≡ true → list_any test (drop from items) ≡ true
-  walk_all hit = list_any_at test (drop from items) k [] inside (ap test is ∙ hit)
-
 pub any_prefix : (test : List ℕ → Bool) (items : Items) (n k : ℕ) (words : List ℕ) → k < n → slice_get items k ≡ Some words → test words ≡ true → list_any test (take n items) ≡ true
 any_prefix test [] n k words l h hit = absurd (omega (arith, slice_get_within [] k words h))
 any_prefix test (x ∷ items) zero k words l h hit = absurd (omega arith)
@@ -136,10 +133,6 @@ cell_in size start count address s h =
     let f : (j : ℕ) × (j < 0 + count) × (address ≡ start + j * size) = in_range size start 0 count address h in
     (f.0, omega (arith, f.1), f.2, back_div size start address f.0 s f.2)
 
-pub cell_there : (size start count j : ℕ) → 0 < size → j < count → among (start + j * size) (cells_from size start count) ≡ true
-unfolding cells_from
-cell_there size start count j s l = let k : 0 + j ≡ j = omega arith in at_range size start 0 count (start + j * size) s j l (ap (λ (z : ℕ). start + z * size) (sym k))
-
 -- an address in front of the extent, one between two cells, and one that may be a cell
 
 pub cell_low : (size start count address : ℕ) → address < start → among address (cells_from size start count) ≡ false
@@ -162,16 +155,6 @@ cell_even size start count address s low even = (
 
 -- items as extents and as cells
 
-pub any_cell : (size address : ℕ) (items : Items) → list_any (λ (ws : List ℕ). among address (cells_from size (extent_of ws).start (extent_of ws).count)) items ≡ among address (cells_of size (map extent_of items))
-any_cell size address [] = refl
-any_cell size address (ws ∷ items) =
-    ap (λ (z : Bool). among address (cells_from size (extent_of ws).start (extent_of ws).count) || z) (any_cell size address items)
-    ∙ sym (among-append address (cells_from size (extent_of ws).start (extent_of ws).count) (cells_of size (map extent_of items)))
-
-pub any_free : (address : ℕ) (items : Items) → list_any (λ (ws : List ℕ). address == cell_of ws) items ≡ among address (map cell_of items)
-any_free address [] = refl
-any_free address (ws ∷ items) = ap (λ (z : Bool). (address == cell_of ws) || z) (any_free address items)
-
 pub any_overlap : (size start len : ℕ) (items : Items) → list_any (λ (ws : List ℕ). overlaps size start len (extent_of ws)) items ≡ list_any (overlaps size start len) (map extent_of items)
 any_overlap size start len [] = refl
 any_overlap size start len (ws ∷ items) = ap (λ (z : Bool). overlaps size start len (extent_of ws) || z) (any_overlap size start len items)
@@ -193,6 +176,3 @@ module _ (s : Store) (list : Chain) (chain : IsChain s list) (test : List ℕ �
 
   pub step_hit : (n : ℕ) → k < n → test words ≡ true → list_any test (take n (drop from (items_of (links s list)))) ≡ true
   step_hit n l hit = any_prefix test (drop from (items_of (links s list))) n k words l (slice_get-drop (items_of (links s list)) from k ∙ here) hit
-
-  pub step_all : test words ≡ true → list_any test (drop from (items_of (links s list))) ≡ true
-  step_all = walk_all test (items_of (links s list)) from k words here
