@@ -40,7 +40,8 @@ RetractsBack = (p : Pool) (start count : ℕ) → retracted count (extended star
 
 -- pools that are taken out and put back are what they were, under each name and each id
 abbrev pub ParkedPoolsComeBack : Type 0
-ParkedPoolsComeBack = (test : Pool → Bool) (found : Option Pool) → either_of (only test found) (all_but test found) ≡ found
+ParkedPoolsComeBack = (test : Pool → Bool) (found : Option Pool)
+    → either_of (only test found) (all_but test found) ≡ found
 
 -- each pool's free cells are cells of its extents
 abbrev pub PoolsHaveCells : Type 0

@@ -3,7 +3,8 @@
 ghost use Rattle.std.specs.Prelude.{◌≡◌, ℕ, ◌+◌, ◌-◌, ◌*◌, ◌≤◌, ◌<◌, ◌^◌, length, List};
 ghost use Rattle.std.specs.Prelude.{Some, IsSome, IfSome, option_map, slice_get, true, false};
 ghost use Rattle.vsm_elements.specs.Ownership.{Leaves};
-ghost use Rattle.cell_pool.specs.Pools.{at_id, without_first, with_first, extended, retracted, IsExtended, uses, meets, mark_items};
+ghost use Rattle.cell_pool.specs.Pools.{at_id, without_first, with_first, extended, retracted, IsExtended};
+ghost use Rattle.cell_pool.specs.Pools.{uses, meets, mark_items};
 
 use crate::lists::{TEXTS, append_cells, insert, item, remove};
 use crate::marks::{insert_marks, mark_items, note};
@@ -82,8 +83,8 @@ impl CellPools {
         self.table.write(elements, row);
     }
 
-    /// An extent more, behind all others, which overlaps none of them. Its cells stand in ascending order behind the free
-    /// ones.
+    /// An extent more, behind all others, which overlaps none of them. Its cells stand in ascending order behind
+    /// the free ones.
     ///
     /// It takes an element for the extent, one for each cell, and `count / 224 + 1` for the marks of the cells.
     pub fn extend(&mut self, elements: &mut Elements, id: CellId, start: u32, count: u32)

@@ -269,8 +269,8 @@ impl CellPools {
         ensures pool { by_id elements.now self.now id ≡ Some (pool_of (entry_of elements.now result)) }
         ensures room { 5 + word result.words 3 ≤ result.list.count }
         ensures marks { word result.words 4
-            + all_marks (map extent_of (take (word result.words 4) (drop 5 (items_of (links elements.now result.list)))))
-            ≡ word result.words 3 }
+            + all_marks (map extent_of (take (word result.words 4)
+            (drop 5 (items_of (links elements.now result.list))))) ≡ word result.words 3 }
         ensures sound { IsSound (entry_of elements.now result) }
         ensures owned { (t : Store) (has : List ℕ) → Leaves elements.now t
             (owned_but elements.now self.now.table result.index ++ list_ids elements.now result.list) has

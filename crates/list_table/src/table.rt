@@ -1,4 +1,5 @@
-ghost use Rattle.std.specs.Prelude.{◌≡◌, ℕ, ◌+◌, ◌<◌, ◌++◌, ◌∷◌, [], length, Some, slice_get, List, IfSome, drop, slice_index_or};
+ghost use Rattle.std.specs.Prelude.{◌≡◌, ℕ, ◌+◌, ◌<◌, ◌++◌, ◌∷◌, [], length, Some, slice_get, List, IfSome, drop};
+ghost use Rattle.std.specs.Prelude.{slice_index_or};
 ghost use Rattle.vsm_elements.specs.Store.{Store};
 ghost use Rattle.vsm_elements.specs.Ownership.{Leaves, Apart};
 ghost use Rattle.list_table.specs.Kept.{head_in};
