@@ -1,8 +1,8 @@
 -- How cell pools stand in a table of lists. No public clause cites this module.
 --
 -- A row's words are the subpool, the cell size, the primary count, how many items the extents and the marks take, and
--- how many extents there are. Its list has three items of the name, one of the header and one of its end with the side and
--- the secondary count, then the extents, then the marks, then the free cells.
+-- how many extents there are. Its list has three items of the name, one of the header and one of its end with the side
+-- and the secondary count, then the extents, then the marks, then the free cells.
 use Rattle.std.specs.Prelude.{◌≡◌, ℕ, zero, suc, ◌+◌, ◌≤◌, ◌<◌, List, [], ◌∷◌, length, take, drop, map, slice_index_or}
 use Rattle.vsm_elements.specs.Store.{Store}
 use Rattle.list_table.specs.Entries.{Entry, word}
