@@ -1,5 +1,5 @@
 -- Laws of cell pools.
-use Rattle.std.proofs.Common.{◌≡◌, ℕ, ◌-◌, ◌+◌, ◌*◌, ◌<◌, ◌≤◌, List, [], ◌∷◌, ◌++◌, length, take, Some, None, Option, Bool, true, false, refl, sym, ap, ◌∙◌, arith, length-append}
+use Rattle.std.proofs.Common.{◌≡◌, ℕ, ◌-◌, ◌+◌, ◌*◌, ◌<◌, ◌≤◌, List, [], ◌∷◌, ◌++◌, length, take, Some, None, Bool, true, false, refl, sym, ap, ◌∙◌, arith, length-append}
 use Rattle.std.proofs.lemmas.Slice.Eq.{bytes_eq-Decides}
 use Rattle.std.proofs.Math.Seq.{take-append_seam}
 use Rattle.std.proofs.lemmas.List.FromFn.{length-range_with_len}
@@ -12,7 +12,7 @@ use Rattle.list_table.specs.ListTable
 use Rattle.list_table.proofs.TableLemmas.{tables_own, tables_stay, growth_keeps_tables}
 use Rattle.cell_pool.specs.declared.pools.CellPools.{CellPools}
 use Rattle.cell_pool.specs.declared.settings.Extent.{Extent}
-use Rattle.cell_pool.specs.Pools.{Pool, Single, is_named, is_of, pool_in, id_in, cells_from, IsExtended, HasCells, first_with, only, all_but, either_of}
+use Rattle.cell_pool.specs.Pools.{Pool, Single, is_named, is_of, pool_in, id_in, cells_from, IsExtended, HasCells, first_with, either_of}
 use Rattle.cell_pool.specs.Kept.{pool_of, pools_of, IsSound, AllSound, IsKept}
 use Rattle.cell_pool.specs.CellPools.{pool, by_id, owned, IsCellPools}
 use Rattle.cell_pool.specs.Laws.{PoolsAreOne, PoolsOwn, AreSame, PoolsStay, GrowthKeepsPools, RetractsBack, ParkedPoolsComeBack, PoolsHaveCells}

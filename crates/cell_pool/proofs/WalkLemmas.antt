@@ -5,16 +5,16 @@ use Rattle.std.specs.List.{range_with_len, list_any}
 use Rattle.std.specs.Bool.{Decides}
 use Rattle.std.proofs.lemmas.List.{get_or-drop}
 use Rattle.std.proofs.lemmas.Nat.{div-mul-add, mod-mul-add, div-add-mod'}
-use Rattle.std.proofs.lemmas.List.Folds.{list_any_more, list_any_at}
+use Rattle.std.proofs.lemmas.List.Folds.{list_any_more}
 use Rattle.std.proofs.lemmas.Option.{get_or_from_slice_get, slice_get_within}
 use Rattle.vsm_elements.specs.Store.{Store, among, Distinct}
 use Rattle.vsm_elements.specs.Chain.{links, head_or, last_or, IsChain}
-use Rattle.vsm_elements.proofs.ChainLemmas.{among-append, not_both}
+use Rattle.vsm_elements.proofs.ChainLemmas.{not_both}
 use Rattle.vsm_elements.specs.declared.chain.Chain.{Chain}
 use Rattle.list_table.specs.Kept.{items_of}
 use Rattle.list_table.proofs.ListLemmas.{or_false}
-use Rattle.cell_pool.specs.Pools.{cells_from, cells_of, overlaps}
-use Rattle.cell_pool.specs.Kept.{extent_of, cell_of}
+use Rattle.cell_pool.specs.Pools.{cells_from, overlaps}
+use Rattle.cell_pool.specs.Kept.{extent_of}
 use Rattle.cell_pool.proofs.ItemLemmas.{step_before, count_is, item_at}
 use Rattle.cell_pool.proofs.PoolLemmas.{eqb_same, eqb_refl}
 

@@ -2,7 +2,7 @@
 --
 -- The marks of an extent stand in items of seven words, those of the latest extent first. An item has the marks of 224
 -- cells, 32 to a word. No public clause cites this module.
-use Rattle.std.specs.Prelude.{◌≡◌, ℕ, ◌+◌, ◌-◌, ◌/◌, ◌%◌, Bool, true, false, ◌==◌, if◌then◌else◌}
+use Rattle.std.specs.Prelude.{◌≡◌, ℕ, ◌+◌, ◌-◌, ◌/◌, ◌%◌, Bool, true, ◌==◌, if◌then◌else◌}
 use Rattle.std.specs.Prelude.{List, [], ◌∷◌, length, take, drop, Option, Some, None, slice_index_or}
 use Rattle.std.specs.Int.{bit_at}
 use Rattle.vsm_elements.specs.Store.{among, Distinct}
