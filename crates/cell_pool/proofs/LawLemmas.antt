@@ -1,9 +1,9 @@
 -- Laws of cell pools.
-use Rattle.std.proofs.Common.{◌≡◌, ℕ, ◌-◌, ◌+◌, ◌*◌, ◌<◌, ◌≤◌, List, [], ◌∷◌, ◌++◌, length, take, Some, refl, sym, ap, ◌∙◌, arith, length-append}
+use Rattle.std.proofs.Common.{◌≡◌, ℕ, ◌-◌, ◌+◌, ◌*◌, ◌<◌, ◌≤◌, List, [], ◌∷◌, ◌++◌, length, take, Some, None, Bool, true, false, refl, sym, ap, ◌∙◌, arith, length-append}
 use Rattle.std.proofs.lemmas.Slice.Eq.{bytes_eq-Decides}
 use Rattle.std.proofs.Math.Seq.{take-append_seam}
 use Rattle.std.proofs.lemmas.List.FromFn.{length-range_with_len}
-use Rattle.std.specs.Prelude.{map, slice_get}
+use Rattle.std.specs.Prelude.{map, slice_get, if◌then◌else◌}
 use Rattle.std.specs.List.{range_with_len}
 use Rattle.vsm_elements.specs.Store.{Store}
 use Rattle.list_table.specs.Entries.{Entry}
@@ -12,10 +12,10 @@ use Rattle.list_table.specs.ListTable
 use Rattle.list_table.proofs.TableLemmas.{tables_own, tables_stay, growth_keeps_tables}
 use Rattle.cell_pool.specs.declared.pools.CellPools.{CellPools}
 use Rattle.cell_pool.specs.declared.settings.Extent.{Extent}
-use Rattle.cell_pool.specs.Pools.{Pool, Single, is_named, is_of, pool_in, id_in, cells_from, IsExtended}
-use Rattle.cell_pool.specs.Kept.{pools_of, AllSound, IsKept}
+use Rattle.cell_pool.specs.Pools.{Pool, Single, is_named, is_of, pool_in, id_in, cells_from, IsExtended, HasCells, first_with, either_of}
+use Rattle.cell_pool.specs.Kept.{pool_of, pools_of, IsSound, AllSound, IsKept}
 use Rattle.cell_pool.specs.CellPools.{pool, by_id, owned, IsCellPools}
-use Rattle.cell_pool.specs.Laws.{PoolsAreOne, PoolsOwn, AreSame, PoolsStay, GrowthKeepsPools, RetractsBack}
+use Rattle.cell_pool.specs.Laws.{PoolsAreOne, PoolsOwn, AreSame, PoolsStay, GrowthKeepsPools, RetractsBack, ParkedPoolsComeBack, PoolsHaveCells}
 use Rattle.std.proofs.Common.{subst}
 use Rattle.cell_pool.proofs.PoolLemmas.{found_passes, found_other, one_named, one_of, name_refl, eqb_refl, eqb_same}
 use Rattle.cell_pool.proofs.ParkLemmas.{pools_distinct}
@@ -89,6 +89,14 @@ get_last xs x k e = ap (slice_get (xs ++ x ∷ [])) e ∙ at_seam xs where
   at_seam [] = refl
   at_seam (z ∷ zs) = at_seam zs
 
+pub last_is : (p : Pool) (h : IsExtended p) (k : ℕ) (x : Extent) → length p.extents ≡ k + 1 → slice_get p.extents k ≡ Some x → h.last ≡ x
+last_is p h k x long there =
+    let size : length p.extents ≡ length (h.rest.extents ++ h.last ∷ []) = ap (λ (z : Pool). length z.extents) h.is in
+    let e : k ≡ length h.rest.extents = omega (arith, size, length-append h.rest.extents (h.last ∷ [])) in
+    some_is h.last x (sym (get_last h.rest.extents h.last k e) ∙ ap (λ (z : Pool). slice_get z.extents k) (sym h.is) ∙ there) where
+      some_is : (a b : Extent) → Some a ≡ Some b → a ≡ b
+      some_is a b q = cc
+
 pub last_cells : (p : Pool) → IsExtended p → (k : ℕ) (x : Extent) → length p.extents ≡ k + 1 → slice_get p.extents k ≡ Some x → x.count ≤ length p.cells
 last_cells p h k x long there =
     let size : length p.extents ≡ length (h.rest.extents ++ h.last ∷ []) = ap (λ (z : Pool). length z.extents) h.is in
@@ -98,3 +106,29 @@ last_cells p h k x long there =
     omega (arith, cells, length-append h.rest.cells (cells_from h.rest.settings.size h.last.start h.last.count), length-cells_from h.rest.settings.size h.last.start h.last.count, ap (λ (z : Extent). z.count) is) where
       some_is : (a b : Extent) → Some a ≡ Some b → a ≡ b
       some_is a b q = cc
+
+pub parked_pools_come_back : ParkedPoolsComeBack
+parked_pools_come_back test None = refl
+parked_pools_come_back test (Some p) = go (test p) refl where
+  go : (b : Bool) → test p ≡ b → either_of (if test p then Some p else None) (if test p then None else Some p) ≡ Some p
+  go true e = ap (λ (z : Bool). either_of (if z then Some p else None) (if z then None else Some p)) e
+  go false e = ap (λ (z : Bool). either_of (if z then Some p else None) (if z then None else Some p)) e
+
+found_sound : (test : Pool → Bool) (es : List Entry) (p : Pool) → AllSound es → first_with test (pools_of es) ≡ Some p → (e : Entry) × IsSound e × (pool_of e ≡ p)
+found_sound test [] p all h = absurd (none_some h) where
+  none_some : None ≡ Some p → ⊥
+  none_some e = cc
+found_sound test (e ∷ es) p all h = go (λ k. found_sound test es p all.1 k) (test (pool_of e)) refl where
+  some_is : (a b : Pool) → Some a ≡ Some b → a ≡ b
+  some_is a b q = cc
+
+  go : (first_with test (pools_of es) ≡ Some p → (d : Entry) × IsSound d × (pool_of d ≡ p)) → (b : Bool) → test (pool_of e) ≡ b → (d : Entry) × IsSound d × (pool_of d ≡ p)
+  go rest true f = (e, all.0, some_is (pool_of e) p (sym (ap (λ (z : Bool). if z then Some (pool_of e) else first_with test (pools_of es)) f) ∙ h))
+  go rest false f = rest (sym (ap (λ (z : Bool). if z then Some (pool_of e) else first_with test (pools_of es)) f) ∙ h)
+
+pub pools_have_cells : PoolsHaveCells
+unfolding by_id IsCellPools
+pools_have_cells s q i p kept h =
+    let f : (e : Entry) × IsSound e × (pool_of e ≡ p) = found_sound (is_of i) (entries s q.table) p kept.sound h in
+    let P : Pool → Type 0 = HasCells in
+    subst P f.2 (record { once = f.1.marked.distinct; inside = f.1.marked.within; apart = f.1.marked.apart })

@@ -5,16 +5,16 @@ use Rattle.std.specs.List.{range_with_len, list_any}
 use Rattle.std.specs.Bool.{Decides}
 use Rattle.std.proofs.lemmas.List.{get_or-drop}
 use Rattle.std.proofs.lemmas.Nat.{div-mul-add, mod-mul-add, div-add-mod'}
-use Rattle.std.proofs.lemmas.List.Folds.{list_any_more, list_any_at}
+use Rattle.std.proofs.lemmas.List.Folds.{list_any_more}
 use Rattle.std.proofs.lemmas.Option.{get_or_from_slice_get, slice_get_within}
-use Rattle.vsm_elements.specs.Store.{Store, among}
+use Rattle.vsm_elements.specs.Store.{Store, among, Distinct}
 use Rattle.vsm_elements.specs.Chain.{links, head_or, last_or, IsChain}
-use Rattle.vsm_elements.proofs.ChainLemmas.{among-append, not_both}
+use Rattle.vsm_elements.proofs.ChainLemmas.{not_both}
 use Rattle.vsm_elements.specs.declared.chain.Chain.{Chain}
 use Rattle.list_table.specs.Kept.{items_of}
 use Rattle.list_table.proofs.ListLemmas.{or_false}
-use Rattle.cell_pool.specs.Pools.{cells_from, cells_of, overlaps}
-use Rattle.cell_pool.specs.Kept.{extent_of, cell_of}
+use Rattle.cell_pool.specs.Pools.{cells_from, overlaps}
+use Rattle.cell_pool.specs.Kept.{extent_of}
 use Rattle.cell_pool.proofs.ItemLemmas.{step_before, count_is, item_at}
 use Rattle.cell_pool.proofs.PoolLemmas.{eqb_same, eqb_refl}
 
@@ -32,9 +32,6 @@ module _ (test : List ℕ → Bool) (items : Items) (from k : ℕ) (words : List
 
   pub walk_more : list_any test (take k (drop from items)) ≡ false → test words ≡ false → list_any test (take (k + 1) (drop from items)) ≡ false
   walk_more before miss = list_any_more test (drop from items) k [] inside ∙ or_false (list_any test (take k (drop from items))) (test (get_or (drop from items) k [])) before (ap test is ∙ miss)
-
-  pub walk_all : test words ≡ true → list_any test (drop from items) ≡ true
-  walk_all hit = list_any_at test (drop from items) k [] inside (ap test is ∙ hit)
 
 pub any_prefix : (test : List ℕ → Bool) (items : Items) (n k : ℕ) (words : List ℕ) → k < n → slice_get items k ≡ Some words → test words ≡ true → list_any test (take n items) ≡ true
 any_prefix test [] n k words l h hit = absurd (omega (arith, slice_get_within [] k words h))
@@ -87,18 +84,54 @@ in_range size start from (suc count) address h = go (λ k. in_range size start (
       let f : (j : ℕ) × (j < (from + 1) + count) × (address ≡ start + j * size) = rest (behind (address == start + from * size) (among address (map (λ (k : ℕ). start + k * size) (range_with_len (from + 1) count))) e h) in
       (f.0, omega (arith, f.1), f.2)
 
+-- the cells of an extent are different
+later_range : (size start from count address : ℕ) → among address (map (λ (k : ℕ). start + k * size) (range_with_len from count)) ≡ true → (j : ℕ) × (from ≤ j) × (address ≡ start + j * size)
+later_range size start from zero address h = absurd (not_both false h refl)
+later_range size start from (suc count) address h = go (λ k. later_range size start (from + 1) count address k) (address == start + from * size) refl where
+  behind : (a b : Bool) → a ≡ false → (a || b) ≡ true → b ≡ true
+  behind true b x y = absurd (not_both true refl x)
+  behind false b x y = y
+
+  go : (among address (map (λ (k : ℕ). start + k * size) (range_with_len (from + 1) count)) ≡ true → (j : ℕ) × (from + 1 ≤ j) × (address ≡ start + j * size))
+      → (b : Bool) → (address == start + from * size) ≡ b → (j : ℕ) × (from ≤ j) × (address ≡ start + j * size)
+  go rest true e = (from, omega arith, eqb_same address (start + from * size) e)
+  go rest false e =
+      let f : (j : ℕ) × (from + 1 ≤ j) × (address ≡ start + j * size) = rest (behind (address == start + from * size) (among address (map (λ (k : ℕ). start + k * size) (range_with_len (from + 1) count))) e h) in
+      (f.0, omega (arith, f.1), f.2)
+
 reach : (size start address q r : ℕ) → q * size + r ≡ address - start → start ≤ address → r ≡ 0 → address ≡ start + (0 + q) * size
 reach size start address q r whole low even = let k : 0 + q ≡ q = omega arith in let e : address ≡ start + q * size = omega arith in e ∙ ap (λ (z : ℕ). start + z * size) (sym k)
 
-back_div : (size start address j : ℕ) → 0 < size → address ≡ start + j * size → (address - start) / size ≡ j
+pub back_div : (size start address j : ℕ) → 0 < size → address ≡ start + j * size → (address - start) / size ≡ j
 back_div size start address j s e = let k : address - start ≡ j * size + 0 = omega arith in ap (λ (z : ℕ). z / size) k ∙ div-mul-add j size 0 s
 
 back_mod : (size start address j : ℕ) → 0 < size → address ≡ start + j * size → (address - start) % size ≡ 0
 back_mod size start address j s e = let k : address - start ≡ j * size + 0 = omega arith in ap (λ (z : ℕ). z % size) k ∙ mod-mul-add j size 0 s
 
-none_true : (b : Bool) → (b ≡ true → ⊥) → b ≡ false
+pub none_true : (b : Bool) → (b ≡ true → ⊥) → b ≡ false
 none_true true h = absurd (h refl)
 none_true false h = refl
+
+distinct_range : (size start from count : ℕ) → 0 < size → Distinct (map (λ (k : ℕ). start + k * size) (range_with_len from count))
+distinct_range size start from zero s = record {}
+distinct_range size start from (suc count) s = (
+  none_true (among (start + from * size) (map (λ (k : ℕ). start + k * size) (range_with_len (from + 1) count))) (λ h.
+      let f : (j : ℕ) × (from + 1 ≤ j) × (start + from * size ≡ start + j * size) = later_range size start (from + 1) count (start + from * size) h in
+      absurd (omega (arith, f.1, back_div size start (start + from * size) from s refl, back_div size start (start + from * size) f.0 s f.2))),
+  distinct_range size start (from + 1) count s,
+)
+
+pub distinct_cells : (size start count : ℕ) → 0 < size → Distinct (cells_from size start count)
+unfolding cells_from
+distinct_cells size start count s = distinct_range size start 0 count s
+
+-- what a cell of an extent is
+pub cell_in : (size start count address : ℕ) → 0 < size → among address (cells_from size start count) ≡ true
+    → (j : ℕ) × (j < count) × (address ≡ start + j * size) × ((address - start) / size ≡ j)
+unfolding cells_from
+cell_in size start count address s h =
+    let f : (j : ℕ) × (j < 0 + count) × (address ≡ start + j * size) = in_range size start 0 count address h in
+    (f.0, omega (arith, f.1), f.2, back_div size start address f.0 s f.2)
 
 -- an address in front of the extent, one between two cells, and one that may be a cell
 
@@ -122,16 +155,6 @@ cell_even size start count address s low even = (
 
 -- items as extents and as cells
 
-pub any_cell : (size address : ℕ) (items : Items) → list_any (λ (ws : List ℕ). among address (cells_from size (extent_of ws).start (extent_of ws).count)) items ≡ among address (cells_of size (map extent_of items))
-any_cell size address [] = refl
-any_cell size address (ws ∷ items) =
-    ap (λ (z : Bool). among address (cells_from size (extent_of ws).start (extent_of ws).count) || z) (any_cell size address items)
-    ∙ sym (among-append address (cells_from size (extent_of ws).start (extent_of ws).count) (cells_of size (map extent_of items)))
-
-pub any_free : (address : ℕ) (items : Items) → list_any (λ (ws : List ℕ). address == cell_of ws) items ≡ among address (map cell_of items)
-any_free address [] = refl
-any_free address (ws ∷ items) = ap (λ (z : Bool). (address == cell_of ws) || z) (any_free address items)
-
 pub any_overlap : (size start len : ℕ) (items : Items) → list_any (λ (ws : List ℕ). overlaps size start len (extent_of ws)) items ≡ list_any (overlaps size start len) (map extent_of items)
 any_overlap size start len [] = refl
 any_overlap size start len (ws ∷ items) = ap (λ (z : Bool). overlaps size start len (extent_of ws) || z) (any_overlap size start len items)
@@ -153,6 +176,3 @@ module _ (s : Store) (list : Chain) (chain : IsChain s list) (test : List ℕ �
 
   pub step_hit : (n : ℕ) → k < n → test words ≡ true → list_any test (take n (drop from (items_of (links s list)))) ≡ true
   step_hit n l hit = any_prefix test (drop from (items_of (links s list))) n k words l (slice_get-drop (items_of (links s list)) from k ∙ here) hit
-
-  pub step_all : test words ≡ true → list_any test (drop from (items_of (links s list))) ≡ true
-  step_all = walk_all test (items_of (links s list)) from k words here

@@ -1,9 +1,9 @@
 -- How cell pools stand in a table of lists. No public clause cites this module.
 --
--- A row's words are the subpool, the cell size, the primary and the secondary count, and how many extents there are.
--- Its list has three items of the name, one of the header and one of its end with the side, then the extents, then the
--- free cells.
-use Rattle.std.specs.Prelude.{◌≡◌, ℕ, ◌+◌, ◌≤◌, ◌<◌, List, [], ◌∷◌, length, take, drop, map, slice_index_or}
+-- A row's words are the subpool, the cell size, the primary count, how many items the extents and the marks take, and
+-- how many extents there are. Its list has three items of the name, one of the header and one of its end with the side
+-- and the secondary count, then the extents, then the marks, then the free cells.
+use Rattle.std.specs.Prelude.{◌≡◌, ℕ, zero, suc, ◌+◌, ◌≤◌, ◌<◌, List, [], ◌∷◌, length, take, drop, map, slice_index_or}
 use Rattle.vsm_elements.specs.Store.{Store}
 use Rattle.list_table.specs.Entries.{Entry, word}
 use Rattle.list_table.specs.ListTable.{entries, IsTable}
@@ -13,6 +13,7 @@ use Rattle.cell_pool.specs.declared.settings.Settings.{Settings}
 use Rattle.cell_pool.specs.declared.settings.Extent.{Extent}
 use Rattle.cell_pool.specs.Names.{packed, spelled, side_in, header_in}
 use Rattle.cell_pool.specs.Pools.{Pool, Single, cells_from}
+use Rattle.cell_pool.specs.Marks.{all_marks, IsMarked}
 
 abbrev pub item : List (List ℕ) → ℕ → List ℕ
 item items k = slice_index_or items k []
@@ -32,7 +33,7 @@ settings_in ws form = record {
   subpool = word ws 0;
   size = word ws 1;
   primary = word ws 2;
-  secondary = word ws 3;
+  secondary = word form 3;
   side = side_in form;
 }
 
@@ -51,16 +52,18 @@ made_of id ws label front form extents cells = record {
 unfoldable pub pool_of : Entry → Pool
 pool_of e =
     made_of e.id e.words (label_of e.items) (item e.items 3) (item e.items 4)
-    (map extent_of (take (word e.words 4) (drop 5 e.items))) (map cell_of (drop (word e.words 4) (drop 5 e.items)))
+    (map extent_of (take (word e.words 4) (drop 5 e.items))) (map cell_of (drop (word e.words 3) (drop 5 e.items)))
 
 abbrev pub pools_of : List Entry → List Pool
 pools_of es = map pool_of es
 
--- the row has its texts and its extents, cells of some size, and just the words of its name
+-- the row has its texts, its extents and their marks, cells of some size, and just the words of its name
 pub record IsSound (e : Entry) : Type 0 where
-  pub room : 5 + word e.words 4 ≤ length e.items
+  pub room : 5 + word e.words 3 ≤ length e.items
+  pub long : word e.words 4 + all_marks (pool_of e).extents ≡ word e.words 3
   pub size : 0 < word e.words 1
   pub named : label_of e.items ≡ packed (pool_of e).name
+  pub marked : IsMarked (pool_of e) (drop (5 + word e.words 4) e.items)
 
 abbrev pub AllSound : List Entry → Type 0
 AllSound [] = Unit {0}
@@ -70,6 +73,15 @@ pub record IsKept (s : Store) (q : ListTable) : Type 0 where
   pub table : IsTable s q
   pub single : Single (pools_of (entries s q))
   pub sound : AllSound (entries s q)
+
+-- the item of marks that are all set
+abbrev pub set_item : List ℕ
+set_item = 0xFFFF_FFFF ∷ 0xFFFF_FFFF ∷ 0xFFFF_FFFF ∷ 0xFFFF_FFFF ∷ 0xFFFF_FFFF ∷ 0xFFFF_FFFF ∷ 0xFFFF_FFFF ∷ []
+
+-- and so many of these
+abbrev pub set_items : ℕ → List (List ℕ)
+set_items zero = []
+set_items (suc n) = set_item ∷ set_items n
 
 -- the item of a free cell
 abbrev pub cell_item : ℕ → List ℕ

@@ -1,9 +1,9 @@
 -- Laws of cell pools.
-use Rattle.std.specs.Prelude.{◌≡◌, ℕ, List, Some}
+use Rattle.std.specs.Prelude.{◌≡◌, ℕ, Bool, List, Option, Some}
 use Rattle.vsm_elements.specs.Store.{Store, SameElements}
 use Rattle.vsm_elements.specs.Ownership.{Owns, Leaves, Apart}
 use Rattle.cell_pool.specs.declared.pools.CellPools.{CellPools}
-use Rattle.cell_pool.specs.Pools.{Pool, extended, retracted}
+use Rattle.cell_pool.specs.Pools.{Pool, HasCells, extended, retracted, only, all_but, either_of}
 use Rattle.cell_pool.specs.CellPools.{pool, by_id, owned, IsCellPools}
 
 -- the pool of a name is the pool of its id, and the other way round
@@ -37,3 +37,12 @@ GrowthKeepsPools = (s t : Store) (q : CellPools) → SameElements s t → IsCell
 -- an extent that was added last is what is taken back
 abbrev pub RetractsBack : Type 0
 RetractsBack = (p : Pool) (start count : ℕ) → retracted count (extended start count p) ≡ p
+
+-- pools that are taken out and put back are what they were, under each name and each id
+abbrev pub ParkedPoolsComeBack : Type 0
+ParkedPoolsComeBack = (test : Pool → Bool) (found : Option Pool)
+    → either_of (only test found) (all_but test found) ≡ found
+
+-- each pool's free cells are cells of its extents
+abbrev pub PoolsHaveCells : Type 0
+PoolsHaveCells = (s : Store) (q : CellPools) (i : ℕ) (p : Pool) → IsCellPools s q → by_id s q i ≡ Some p → HasCells p

@@ -1,9 +1,9 @@
 -- Cell pools as plain values, and what the calls do to them.
-use Rattle.std.specs.Prelude.{◌≡◌, ℕ, ◌+◌, ◌-◌, ◌*◌, ◌/◌, Bool, true, ◌&&◌, ◌==◌, not, nat_lt, if◌then◌else◌}
+use Rattle.std.specs.Prelude.{◌≡◌, ℕ, ◌+◌, ◌-◌, ◌*◌, ◌/◌, Bool, true, false, ◌&&◌, ◌==◌, not, nat_lt, if◌then◌else◌}
 use Rattle.std.specs.Prelude.{List, [], ◌∷◌, ◌++◌, length, take, drop, map, flat_map, Option, Some, None}
 use Rattle.std.specs.List.{range_with_len, list_any}
 use Rattle.std.specs.Str.{bytes_eq}
-use Rattle.vsm_elements.specs.Store.{among}
+use Rattle.vsm_elements.specs.Store.{among, Distinct}
 use Rattle.cell_pool.specs.declared.settings.Settings.{Settings}
 use Rattle.cell_pool.specs.declared.settings.Extent.{Extent}
 
@@ -49,6 +49,19 @@ cells_from size start count = map (λ k. start + k * size) (range_with_len 0 cou
 abbrev pub cells_of : ℕ → List Extent → List ℕ
 cells_of size extents = flat_map (λ x. cells_from size x.start x.count) extents
 
+-- no cell of an extent is one of a later extent
+abbrev pub AreApart : ℕ → List Extent → Type 0
+AreApart size [] = Unit {0}
+AreApart size (x ∷ xs) =
+    ((address : ℕ) → among address (cells_from size x.start x.count) ≡ true → among address (cells_of size xs) ≡ false)
+    × AreApart size xs
+
+-- The free cells are cells of the extents, each once, and the extents have no cell in common.
+pub record HasCells (p : Pool) : Type 0 where
+  pub once : Distinct p.cells
+  pub inside : (address : ℕ) → among address p.cells ≡ true → among address (cells_of p.settings.size p.extents) ≡ true
+  pub apart : AreApart p.settings.size p.extents
+
 -- a cell of the pool that isn't free
 abbrev pub uses : Pool → ℕ → Bool
 uses p address = among address (cells_of p.settings.size p.extents) && not (among address p.cells)
@@ -68,6 +81,10 @@ meets start len p = list_any (overlaps p.settings.size start len) p.extents
 -- the area overlaps an extent of some pool
 abbrev pub Meets : (List ℕ → Option Pool) → ℕ → ℕ → Type 0
 Meets pools start len = (name : List ℕ) × (p : Pool) × (pools name ≡ Some p) × (meets start len p ≡ true)
+
+-- How many elements the marks of an extent of so many cells take: one bit to a cell, which tells whether it's free.
+abbrev pub mark_items : ℕ → ℕ
+mark_items count = count / 224 + 1
 
 -- What the calls do to a pool.
 

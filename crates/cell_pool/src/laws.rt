@@ -1,6 +1,7 @@
 //! Laws of cell pools. Each is the contract of a function that does nothing.
 
 ghost use Rattle.cell_pool.specs.Laws.{PoolsAreOne, PoolsOwn, PoolsStay, GrowthKeepsPools, RetractsBack};
+ghost use Rattle.cell_pool.specs.Laws.{ParkedPoolsComeBack, PoolsHaveCells};
 
 /// The pool of a name is the pool of its id, and the other way round.
 pub fn pools_are_one()
@@ -25,4 +26,14 @@ pub fn growth_keeps_pools()
 /// To retract an extent undoes that it was added.
 pub fn retracts_back()
     ensures { RetractsBack }
+{}
+
+/// To put back what was taken out undoes the taking, whichever pools it were.
+pub fn parked_pools_come_back()
+    ensures { ParkedPoolsComeBack }
+{}
+
+/// The free cells of a pool are cells of its extents, each once, and no two extents have a cell in common.
+pub fn pools_have_cells()
+    ensures { PoolsHaveCells }
 {}

@@ -1,12 +1,15 @@
-ghost use Rattle.std.specs.Prelude.{◌≡◌, ℕ, ◌+◌, ◌≤◌, ◌<◌, ◌++◌, ◌∷◌, [], length, take, List, Option};
+ghost use Rattle.std.specs.Prelude.{◌≡◌, ℕ, ◌+◌, ◌≤◌, ◌<◌, ◌++◌, ◌∷◌, [], length, take, drop, map, List, Option};
 ghost use Rattle.std.specs.Prelude.{Some, None, IsSome, IfSome, option_map, slice_get, if◌then◌else◌, ◌==◌};
 ghost use Rattle.std.specs.Str.{bytes_eq};
 ghost use Rattle.vsm_elements.specs.Store.{Store};
+ghost use Rattle.vsm_elements.specs.Chain.{links};
 ghost use Rattle.vsm_elements.specs.Ownership.{Leaves, Apart};
 ghost use Rattle.list_table.specs.ListTable.{entries, earlier, later, entry_of, owned_but, list_ids, IsPlace, IsOpen};
 ghost use Rattle.list_table.specs.Entries.{word};
+ghost use Rattle.list_table.specs.Kept.{items_of};
 ghost use Rattle.cell_pool.specs.Pools.{Pool, only, all_but, either_of, is_of, lies_in, id_in};
-ghost use Rattle.cell_pool.specs.Kept.{pool_of, pools_of, IsSound};
+ghost use Rattle.cell_pool.specs.Kept.{pool_of, pools_of, extent_of, IsSound};
+ghost use Rattle.cell_pool.specs.Marks.{all_marks};
 
 use crate::label::{form_of, label_of_name};
 use crate::lists::{label, put_texts};
@@ -31,7 +34,7 @@ pub(crate) struct Place {
 }
 
 impl CellPools {
-    ghost use Rattle.cell_pool.specs.CellPools.{pool, pools, by_id, owned, IsCellPools, IsParked};
+    ghost use Rattle.cell_pool.specs.CellPools.{pool, pools, by_id, owned, cell_pools_of, IsCellPools, IsParked};
     ghost use Rattle.cell_pool.specs.CellPools.{parked_pool, parked_by_id, parked_owned};
 
     /// No cell pool. It has no element.
@@ -39,12 +42,15 @@ impl CellPools {
     // what a name and an id show
     crate::specs::CellPools::pool, crate::specs::CellPools::by_id,
     // whose the elements are
-    crate::specs::CellPools::owned, crate::specs::CellPools::IsCellPools))]
+    crate::specs::CellPools::owned, crate::specs::CellPools::IsCellPools,
+    // what a head is
+    crate::specs::CellPools::cell_pools_of))]
     pub fn new() -> CellPools
         ensures pools { (s : Store) → IsCellPools s result }
         ensures empty { (s : Store) (n : List ℕ) → pool s result n ≡ None }
         ensures ids { (s : Store) (i : ℕ) → by_id s result i ≡ None }
         ensures owned { (s : Store) → owned s result ≡ [] }
+        ensures head { result ≡ cell_pools_of 0 0 }
     {
         CellPools {
             table: ListTable::new(),
@@ -134,9 +140,8 @@ impl CellPools {
             side,
         } = settings;
         let named = label_of_name(name);
-        let form = form_of(side, &header);
-        self.table
-            .push(elements, [subpool, size, primary, secondary, 0]);
+        let form = form_of(side, secondary, &header);
+        self.table.push(elements, [subpool, size, primary, 0, 0]);
         let mut row = self.table.row(elements, 0, 0);
         let mut list = row.list;
         put_texts(&mut list, elements, named, form);
@@ -262,7 +267,10 @@ impl CellPools {
             ≡ earlier elements.now self.now.table result.index
             ++ entry_of elements.now result ∷ later elements.now self.now.table result.index }
         ensures pool { by_id elements.now self.now id ≡ Some (pool_of (entry_of elements.now result)) }
-        ensures room { 5 + word result.words 4 ≤ result.list.count }
+        ensures room { 5 + word result.words 3 ≤ result.list.count }
+        ensures marks { word result.words 4
+            + all_marks (map extent_of (take (word result.words 4)
+            (drop 5 (items_of (links elements.now result.list))))) ≡ word result.words 3 }
         ensures sound { IsSound (entry_of elements.now result) }
         ensures owned { (t : Store) (has : List ℕ) → Leaves elements.now t
             (owned_but elements.now self.now.table result.index ++ list_ids elements.now result.list) has

@@ -5,9 +5,10 @@ ghost use Rattle.cell_pool.specs.Names.{side_in};
 ghost use Rattle.cell_pool.specs.Pools.{uses, Meets};
 
 use crate::lists::{TEXTS, item};
+use crate::marks::{is_marked, mark_of};
 use crate::pools::{CellPools, Place};
 use crate::settings::{CellId, Extent, Settings, Side};
-use crate::walks::{is_cell, is_free, meets};
+use crate::walks::meets;
 use vsm_elements::Elements;
 
 // The side that a word says.
@@ -27,9 +28,10 @@ impl CellPools {
         ensures { IfSome (by_id elements.now self.now id) (λ p. result ≡ uses p address) }
     {
         let row = self.row(elements, id);
-        let extents = row.words[4];
-        is_cell(row.list, elements, extents, row.words[1], address)
-            && !is_free(row.list, elements, TEXTS + extents, address)
+        match mark_of(row.list, elements, row.words, address) {
+            Some(mark) => !is_marked(row.list, elements, TEXTS + row.words[4], mark),
+            None => false,
+        }
     }
 
     /// Whether the area of so many bytes from an address on overlaps an extent of some pool, up to the end of the last
@@ -69,7 +71,7 @@ impl CellPools {
             subpool: row.words[0],
             size: row.words[1],
             primary: row.words[2],
-            secondary: row.words[3],
+            secondary: form[3],
             side,
         }
     }
@@ -98,7 +100,7 @@ impl CellPools {
         ensures { IfSome (by_id elements.now self.now id) (λ p. result ≡ slice_get p.cells i) }
     {
         let row = self.row(elements, id);
-        let front = TEXTS + row.words[4];
+        let front = TEXTS + row.words[3];
         if i >= row.list.count - front {
             return None;
         }

@@ -16,7 +16,7 @@ fn build(rt: &impl Abort, elements: &mut Elements, pools: &mut CellPools, text: 
     let mut name = Name::new();
     assert!(rt; name.try_push_str(text).is_ok());
     assert!(rt; pools.find(elements, &name).is_none());
-    assert!(rt; elements.spare() >= 9);
+    assert!(rt; elements.spare() >= 10);
     assert!(rt; start <= 8192);
     let settings = Settings {
         subpool: start / 4096,
@@ -61,13 +61,19 @@ fn free(rt: &impl Abort, elements: &mut Elements, pools: &mut CellPools, text: &
     assert!(rt; !pools.in_use(elements, id, cell));
 }
 
-// The two pools of subpool 1 go and come back.
+// The two pools of subpool 1 go and come back, and that of subpool 2 stays as it is.
 fn park_and_restore(rt: &impl Abort, elements: &mut Elements, pools: &mut CellPools)
     requires { IsCellPools elements.old pools.old }
     ensures { IsCellPools elements.new pools.new }
 {
     let parked = pools.park_pools(elements, 1);
     assert_eq!(rt; pools.count(elements), 1);
+    let id = find(rt, elements, pools, "B");
+    assert_eq!(rt; pools.settings(elements, id).subpool, 2);
+    assert_eq!(rt; pools.first_free(elements, id), Some(8208));
+    assert_eq!(rt; pools.cell_at(elements, id, 1), None);
+    assert!(rt; pools.in_use(elements, id, 8192));
+    assert!(rt; !pools.holds(elements, 4096, 32));
     pools.restore_pools(elements, parked);
     assert_eq!(rt; pools.count(elements), 3);
 }

@@ -12,21 +12,6 @@ use crate::lists::{TEXTS, before};
 use crate::settings::Extent;
 use vsm_elements::{Chain, Elements};
 
-// Whether the address is one of the cells of an extent.
-fn is_cell_of(size: u32, extent: Extent, address: u32) -> bool
-    requires { 0 < size }
-    ensures { result ≡ among address (cells_from size extent.start extent.count) }
-{
-    if address < extent.start {
-        return false;
-    }
-    let past = address - extent.start;
-    if past % size != 0 {
-        return false;
-    }
-    past / size < extent.count
-}
-
 // Whether an area of so many bytes and an extent have an address in common.
 fn overlaps(size: u32, start: u32, len: u32, extent: Extent) -> bool
     ensures { result ≡ overlaps size start len extent }
@@ -35,53 +20,6 @@ fn overlaps(size: u32, start: u32, len: u32, extent: Extent) -> bool
     let rounded = 8 * ((bytes + 7) / 8);
     u64::from(start) < u64::from(extent.start) + rounded
         && u64::from(extent.start) < u64::from(start) + u64::from(len)
-}
-
-// Whether the address is a cell of one of the extents.
-pub(crate) fn is_cell(
-    list: Chain,
-    elements: &Elements,
-    extents: u32,
-    size: u32,
-    address: u32,
-) -> bool
-    requires chain { IsChain elements.now list }
-    requires within { 5 + extents ≤ list.count }
-    requires size { 0 < size }
-    ensures { result
-        ≡ among address (cells_of size (map extent_of (take extents (drop 5 (items_of (links elements.now list)))))) }
-{
-    let mut id = before(list, elements, TEXTS);
-    for k in 0..extents {
-        id = list.next(elements, TEXTS + k, id);
-        let words = list.words(elements, TEXTS + k, id);
-        let extent = Extent {
-            start: words[0],
-            count: words[1],
-        };
-        if is_cell_of(size, extent, address) {
-            return true;
-        }
-    }
-    false
-}
-
-// Whether the address is a free cell; these are the items from place `front` on.
-pub(crate) fn is_free(list: Chain, elements: &Elements, front: u32, address: u32) -> bool
-    requires chain { IsChain elements.now list }
-    requires within { front ≤ list.count }
-    ensures { result ≡ among address (map cell_of (drop front (items_of (links elements.now list)))) }
-{
-    let mut id = before(list, elements, front);
-    let count = list.count - front;
-    for k in 0..count {
-        id = list.next(elements, front + k, id);
-        let words = list.words(elements, front + k, id);
-        if address == words[0] {
-            return true;
-        }
-    }
-    false
 }
 
 // Whether an area of so many bytes overlaps one of the extents.

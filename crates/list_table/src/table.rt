@@ -1,4 +1,5 @@
 ghost use Rattle.std.specs.Prelude.{◌≡◌, ℕ, ◌+◌, ◌<◌, ◌++◌, ◌∷◌, [], length, Some, slice_get, List, IfSome, drop};
+ghost use Rattle.std.specs.Prelude.{slice_index_or};
 ghost use Rattle.vsm_elements.specs.Store.{Store};
 ghost use Rattle.vsm_elements.specs.Ownership.{Leaves, Apart};
 ghost use Rattle.list_table.specs.Kept.{head_in};
@@ -44,10 +45,12 @@ fn list_head(words: [u32; 7]) -> Chain
 // what the rows are
 crate::specs::ListTable::entries, crate::specs::ListTable::IsPlace,
 // whose the elements are
-crate::specs::ListTable::owned, crate::specs::ListTable::IsTable))]
+crate::specs::ListTable::owned, crate::specs::ListTable::IsTable,
+// what a head is
+crate::specs::ListTable::table_of))]
 impl ListTable {
     ghost use Rattle.list_table.specs.ListTable.{entries, earlier, later, owned, owned_but, entry_of, list_ids};
-    ghost use Rattle.list_table.specs.ListTable.{IsTable, IsPlace, IsOpen};
+    ghost use Rattle.list_table.specs.ListTable.{IsTable, IsPlace, IsOpen, table_of};
 
     /// The table without rows. It has no element.
     pub fn new() -> ListTable
@@ -55,9 +58,29 @@ impl ListTable {
         ensures empty { (s : Store) → entries s result ≡ [] }
         ensures owned { (s : Store) → owned s result ≡ [] }
         ensures front { (s : Store) → IsPlace s result 0 0 }
+        ensures head { result ≡ table_of 0 0 }
     {
         ListTable {
             chain: Chain::new(),
+        }
+    }
+
+    /// The table as two words, to be kept in an element.
+    pub fn head(self) -> [u32; 2]
+        ensures { table_of (slice_index_or result 0 0) (slice_index_or result 1 0) ≡ self }
+    {
+        [self.chain.first, self.chain.count]
+    }
+
+    /// The table whose head was kept in these words.
+    pub fn from_head(head: [u32; 2]) -> ListTable
+        ensures { result ≡ table_of (slice_index_or head 0 0) (slice_index_or head 1 0) }
+    {
+        ListTable {
+            chain: Chain {
+                first: head[0],
+                count: head[1],
+            },
         }
     }
 

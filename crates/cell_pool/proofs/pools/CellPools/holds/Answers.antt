@@ -7,7 +7,7 @@ use Rattle.cell_pool.specs.Pools.{Pool, is_named, meets}
 use Rattle.cell_pool.specs.Kept.{pool_of, pools_of, IsSound, AllSound}
 use Rattle.cell_pool.specs.CellPools.{pool, IsCellPools}
 use Rattle.cell_pool.proofs.ItemLemmas.{length-items}
-use Rattle.cell_pool.proofs.ShapeLemmas.{met}
+use Rattle.cell_pool.proofs.ShapeLemmas.{has_room, met}
 use Rattle.cell_pool.proofs.PoolLemmas.{none_more, none_all, before_is, sound_at, found_other, one_named, name_refl, none_found}
 use Rattle.cell_pool.proofs.pools.CellPools.holds.Goals as goal
 
@@ -24,7 +24,7 @@ unfolding IsCellPools
 meets-requires-clause-within c =
     let P : List Entry → Type 0 = AllSound in
     let sound : IsSound (entry_of c.args.elements.now c.row-row.result) = sound_at _ _ _ (subst P c.row-row.ensures.parts c.requires.sound) in
-    omega (arith, sound.room, length-items (links c.args.elements.now c.row-row.result.list), c.row-row.ensures.open.list.count)
+    omega (arith, sound.room, sound.long, length-items (links c.args.elements.now c.row-row.result.list), c.row-row.ensures.open.list.count)
 
 pub returns-then-meets : goal.returns-then-meets
 unfolding pool IsCellPools
@@ -33,7 +33,7 @@ returns-then-meets c =
     let sound : IsSound (entry_of c.args.elements.now c.row-row.result) = sound_at _ _ _ (subst P c.row-row.ensures.parts c.requires.sound) in
     let p : Pool = pool_of (entry_of c.args.elements.now c.row-row.result) in
     let ps : List Pool = pools_of (entries c.args.elements.now c.args.self.now.table) in
-    let hit : meets c.args.start c.args.len p ≡ true = sym (met (entry_of c.args.elements.now c.row-row.result) sound.room c.args.start c.args.len c.meets.result c.meets.ensures) ∙ c.if-meets.true in
+    let hit : meets c.args.start c.args.len p ≡ true = sym (met (entry_of c.args.elements.now c.row-row.result) (has_room (entry_of c.args.elements.now c.row-row.result) sound) c.args.start c.args.len c.meets.result c.meets.ensures) ∙ c.if-meets.true in
     let found = before_is (meets c.args.start c.args.len) (entries c.args.elements.now c.args.self.now.table) c.loop-place.place.index (entry_of c.args.elements.now c.row-row.result) c.row-row.ensures.entry c.loop-place.invariant.earlier hit in
     ((λ t. (p.name, p, found_other (meets c.args.start c.args.len) (is_named p.name) ps p found (one_named p.name ps c.requires.single) (name_refl p.name), hit)), (λ m. refl))
 
@@ -44,7 +44,7 @@ loop-place-preserved c =
     let sound : IsSound (entry_of c.args.elements.now c.row-row.result) = sound_at _ _ _ (subst P c.row-row.ensures.parts c.requires.sound) in
     record {
       place = c.row-row.ensures.next;
-      earlier = none_more (meets c.args.start c.args.len) (entries c.args.elements.now c.args.self.now.table) c.loop-place.place.index (entry_of c.args.elements.now c.row-row.result) c.row-row.ensures.entry c.loop-place.invariant.earlier (sym (met (entry_of c.args.elements.now c.row-row.result) sound.room c.args.start c.args.len c.meets.result c.meets.ensures) ∙ c.if-meets.false);
+      earlier = none_more (meets c.args.start c.args.len) (entries c.args.elements.now c.args.self.now.table) c.loop-place.place.index (entry_of c.args.elements.now c.row-row.result) c.row-row.ensures.entry c.loop-place.invariant.earlier (sym (met (entry_of c.args.elements.now c.row-row.result) (has_room (entry_of c.args.elements.now c.row-row.result) sound) c.args.start c.args.len c.meets.result c.meets.ensures) ∙ c.if-meets.false);
     }
 
 pub returns : goal.returns

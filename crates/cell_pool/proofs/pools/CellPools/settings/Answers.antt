@@ -15,6 +15,6 @@ item-form-requires-clause-within c = omega (arith, c.row-row.ensures.room)
 
 pub returns : goal.returns
 returns c =
-    let P : Option Pool → Type 0 = λ z. IfSome z (λ (p : Pool). ◌≡◌ {A = Settings} (record { subpool = word c.row-row.result.words 0; size = word c.row-row.result.words 1; primary = word c.row-row.result.words 2; secondary = word c.row-row.result.words 3; side = c.side_of-side.result }) p.settings) in
-    subst P (sym c.row-row.ensures.pool) (ap (λ (z : Side). record { subpool = word c.row-row.result.words 0; size = word c.row-row.result.words 1; primary = word c.row-row.result.words 2; secondary = word c.row-row.result.words 3; side = z }) c.side_of-side.ensures
+    let P : Option Pool → Type 0 = λ z. IfSome z (λ (p : Pool). ◌≡◌ {A = Settings} (record { subpool = word c.row-row.result.words 0; size = word c.row-row.result.words 1; primary = word c.row-row.result.words 2; secondary = word c.item-form.result 3; side = c.side_of-side.result }) p.settings) in
+    subst P (sym c.row-row.ensures.pool) (ap (λ (z : Side). record { subpool = word c.row-row.result.words 0; size = word c.row-row.result.words 1; primary = word c.row-row.result.words 2; secondary = word c.item-form.result 3; side = z }) c.side_of-side.ensures
     ∙ ap (settings_in c.row-row.result.words) (sym (get_or_from_slice_get (entry_of c.args.elements.now c.row-row.result).items 4 c.item-form.result [] c.item-form.ensures)) ∙ sym (pool_settings (entry_of c.args.elements.now c.row-row.result)))
