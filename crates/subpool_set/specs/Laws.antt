@@ -109,8 +109,10 @@ abbrev pub QueueIdsFollow : Type 0
 QueueIdsFollow = (s t : Store) (q r : SubpoolSet) (n o : ℕ) (x : Option Pool)
     → IsSubpoolSet s q → QueuesStand s q → IsSubpoolSet t r → QueuesStand t r
     → ((m k : ℕ) → pool t r m k ≡ pools_with (pool s q) n o x m k)
-    → ((m k : ℕ) (p : Pool) → pool s q m k ≡ Some p → same_key n o m k ≡ false → ids_of t p.queues ≡ ids_of s p.queues)
-    → (i : ℕ) → times i (queue_ids t r) + times i (ids_at s (pool s q n o)) ≡ times i (queue_ids s q) + times i (ids_at t x)
+    → ((m k : ℕ) (p : Pool) → pool s q m k ≡ Some p → same_key n o m k ≡ false
+    → ids_of t p.queues ≡ ids_of s p.queues)
+    → (i : ℕ)
+    → times i (queue_ids t r) + times i (ids_at s (pool s q n o)) ≡ times i (queue_ids s q) + times i (ids_at t x)
 
 -- what was taken out, put back beside what was left, is what was there
 abbrev pub PutBack : Type 0

@@ -1,5 +1,5 @@
 -- Laws of subpools with their storage.
-use Rattle.std.proofs.Common.{◌≡◌, ℕ, ◌+◌, ◌<◌, ◌≤◌, true, false, ◌==◌, inl, inr, Option, Some, None, IsSome, refl, ap, ◌∙◌, arith}
+use Rattle.std.proofs.Common.{◌≡◌, ℕ, ◌+◌, ◌<◌, ◌≤◌, true, false, ◌==◌, ◌⊎◌, inl, inr, Option, Some, None, IsSome, refl, ap, ◌∙◌, arith}
 use Rattle.vsm_elements.specs.Store.{Store, at, among}
 use Rattle.vsm_elements.specs.Owners.{times}
 use Rattle.vsm_elements.proofs.ChainFrame.{false_if}
@@ -94,3 +94,13 @@ beside_after s t q r other m h once b =
     let k = others-kept s t (hold s q) (hold t r) (hold s other) b.moves once (hold_live s other h) (hold_once t r b.stands) in
     let stay = storage_stays s t other h k.0 in
     (stay.0, λ i. omega (arith, k.1 i, stay.2 i))
+
+-- a subpool that no task can see has no page
+pub out_of_range : (s : Store) (q : SubpoolStorage) (n o x : ℕ) → Stands s q → (128 ≤ n) ⊎ (65 ≤ o) → (subpools_of s q).pages (record { number = n; owner = o }) x ≡ false
+out_of_range s q n o x h far = false_if ((subpools_of s q).pages (record { number = n; owner = o }) x) (λ e.
+    (let k = subpools_are_there s q h in
+    let r : (1 ≤ o) × (o ≤ 64) × (n ≤ 127) = k.0 o n (seen ((subpools_of s q).sight o n) (k.2 (record { number = n; owner = o }) x e)) in
+    elim far [ inl w ↦ absurd (omega (arith, w, r.2)) | inr w ↦ absurd (omega (arith, w, r.1)) ])) where
+      seen : (y : Option ℕ) → holds (λ owner. owner == o) y ≡ true → IsSome y
+      seen None e = absurd (not_both false e refl)
+      seen (Some z) e = refl

@@ -1,4 +1,4 @@
-ghost use Rattle.std.specs.Prelude.{◌≡◌, ℕ, ◌+◌, ◌^◌, ◌<◌, ◌≤◌, Some, IfSome, IfNone};
+ghost use Rattle.std.specs.Prelude.{◌≡◌, ℕ, ◌+◌, ◌^◌, ◌<◌, ◌≤◌, true, false, IfSome, IfNone};
 ghost use Rattle.run_set.specs.Runs.{IsCover};
 ghost use Rattle.run_set.specs.Fits.{Fits, IsLeastFit, IsLongest};
 ghost use Rattle.descriptor_queue.specs.Extents.{has_page as extents_have, IsExtents};
@@ -102,5 +102,34 @@ impl SubpoolStorage {
         self.queues(elements, subpool)
             .free
             .longest(elements, boundary, region)
+    }
+    /// A subpool that has the page; `None` where none has it.
+    pub fn subpool_of_page(&self, elements: &Elements, page: Page) -> Option<Subpool>
+        requires { Stands elements.now self.now }
+        ensures none { IfNone result ((p : Subpool) → (subpools_of elements.now self.now).pages p page ≡ false) }
+        ensures some { IfSome result (λ p. (subpools_of elements.now self.now).pages p page ≡ true) }
+    {
+        for number in 0..128 {
+            if let Some(owner) = self.owner_of_page(elements, number, page) {
+                return Some(Subpool { number, owner });
+            }
+        }
+        None
+    }
+
+    // The owner of a subpool of this number that has the page.
+    fn owner_of_page(&self, elements: &Elements, number: u8, page: Page) -> Option<u8>
+        requires { Stands elements.now self.now }
+        ensures none { IfNone result ((o : ℕ) → (subpools_of elements.now self.now).pages
+            (record { number = number; owner = o }) page ≡ false) }
+        ensures some { IfSome result (λ o. (subpools_of elements.now self.now).pages
+            (record { number = number; owner = o }) page ≡ true) }
+    {
+        for owner in 0..65 {
+            if self.has_page(elements, Subpool { number, owner }, page) {
+                return Some(owner);
+            }
+        }
+        None
     }
 }

@@ -59,6 +59,7 @@ fn fill(
         },
     );
     assert!(rt; storage.has_page(elements, subpool, page));
+    assert_eq!(rt; storage.subpool_of_page(elements, page), Some(subpool));
     free(
         rt,
         elements,
@@ -147,6 +148,32 @@ fn empty(
     assert!(rt; !storage.has_page(elements, subpool, page));
 }
 
+// A part of two pages that are free storage is carved out, and freed again.
+fn carve_out(rt: &impl Abort, elements: &mut Elements, storage: &SubpoolStorage)
+    requires { Stands elements.old storage.now }
+    ensures { Stands elements.new storage.now }
+{
+    let region = Area {
+        start: 0,
+        len: 10_000,
+    };
+    let part = Area {
+        start: 2600,
+        len: 100,
+    };
+    assert_eq!(rt; storage.longest(elements, FIRST, 512, region), 1024);
+    carve(rt, elements, storage, FIRST, part);
+    assert_eq!(rt; elements.spare(), 121);
+    let fit = storage.least_fit(elements, FIRST, 41, 1, region);
+    assert_eq!(rt; fit, Some(2700));
+    let fit = storage.least_fit(elements, FIRST, 40, 1, region);
+    assert_eq!(rt; fit, Some(2560));
+    let fit = storage.least_fit(elements, SECOND, 1, 1, region);
+    assert_eq!(rt; fit, Some(3584));
+    assert_eq!(rt; storage.longest(elements, FIRST, 512, region), 512);
+    free(rt, elements, storage, FIRST, part);
+}
+
 #[test]
 fn pages_and_areas_come_and_go(rt: HostRuntime) -> Result<(), Fail> {
     let mut elements = Elements::new(rt.alloc());
@@ -159,51 +186,14 @@ fn pages_and_areas_come_and_go(rt: HostRuntime) -> Result<(), Fail> {
     fill(&rt, &mut elements, &storage, SECOND, 7);
     fill(&rt, &mut elements, &storage, FIRST, 6);
     assert_eq!(rt; elements.spare(), 122);
-    let region = Area {
-        start: 0,
-        len: 10_000,
-    };
-    assert_eq!(rt; storage.longest(&elements, FIRST, 512, region), 1024);
-    carve(
-        &rt,
-        &mut elements,
-        &storage,
-        FIRST,
-        Area {
-            start: 2600,
-            len: 100,
-        },
-    );
-    assert_eq!(rt; elements.spare(), 121);
-    assert_eq!(rt;
-        storage.least_fit(&elements, FIRST, 41, 1, region),
-        Some(2700)
-    );
-    assert_eq!(rt;
-        storage.least_fit(&elements, FIRST, 40, 1, region),
-        Some(2560)
-    );
-    assert_eq!(rt;
-        storage.least_fit(&elements, SECOND, 1, 1, region),
-        Some(3584)
-    );
-    assert_eq!(rt; storage.longest(&elements, FIRST, 512, region), 512);
-    free(
-        &rt,
-        &mut elements,
-        &storage,
-        FIRST,
-        Area {
-            start: 2600,
-            len: 100,
-        },
-    );
+    carve_out(&rt, &mut elements, &storage);
     empty(&rt, &mut elements, &storage, FIRST, 5);
     empty(&rt, &mut elements, &storage, SECOND, 7);
     empty(&rt, &mut elements, &storage, FIRST, 6);
     assert_eq!(rt; elements.spare(), 126);
     assert_eq!(rt; storage.owner_seen(&elements, 3, 2), Some(3));
     assert_eq!(rt; storage.owner_seen(&elements, 1, 2), None);
+    assert_eq!(rt; storage.subpool_of_page(&elements, 5), None);
     Ok(())
 }
 

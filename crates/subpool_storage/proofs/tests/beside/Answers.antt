@@ -1,4 +1,4 @@
-use Rattle.std.proofs.Common.{ℕ, ◌+◌, ◌≤◌, arith}
+use Rattle.std.proofs.Common.{◌+◌, ◌≤◌, arith}
 use Rattle.subpool_storage.specs.SubpoolStorage.{hold}
 use Rattle.subpool_storage.proofs.LawLemmas.{beside_after, hold_once}
 use Rattle.subpool_storage.proofs.tests.beside.Goals as goal

@@ -1,4 +1,4 @@
-use Rattle.std.proofs.Common.{◌≡◌, Bool, false, Some, sym, ap, ◌∙◌}
+use Rattle.std.proofs.Common.{◌≡◌, false, Some, sym, ap, ◌∙◌}
 use Rattle.run_set.specs.Runs.{contains}
 use Rattle.subpool_set.specs.SubpoolSet.{pool}
 use Rattle.subpool_storage.specs.Subpools.{is_there}
