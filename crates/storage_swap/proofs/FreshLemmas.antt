@@ -1,11 +1,11 @@
 -- The storage before the first request stands, and each live element is its own.
-use Rattle.std.proofs.Common.{◌≡◌, ℕ, ◌+◌, ◌/◌, ◌<◌, ◌≤◌, ◌⊎◌, Bool, true, false, ◌||◌, ◌==◌, if◌then◌else◌, List, [], Option, Some, None, IsSome, IsTrue, inl, inr, refl, sym, ap, ◌∙◌, arith, subst}
-use Rattle.std.specs.Prelude.{nat_le, nat_lt}
+use Rattle.std.proofs.Common.{◌≡◌, ℕ, ◌+◌, ◌/◌, ◌<◌, ◌≤◌, Bool, true, false, ◌||◌, ◌==◌, if◌then◌else◌, [], Option, Some, None, IsSome, inl, inr, refl, ◌∙◌, arith}
+use Rattle.std.specs.Prelude.{nat_lt}
 use Rattle.std.proofs.lemmas.Bool.{ltb-true}
 use Rattle.vsm_elements.specs.Store.{Store, at, SameElements}
 use Rattle.vsm_elements.specs.Ownership.{Leaves}
 use Rattle.vsm_elements.specs.Owners.{times, Moves}
-use Rattle.vsm_elements.proofs.TimesLemmas.{some-from, times-once, times-some}
+use Rattle.vsm_elements.proofs.TimesLemmas.{some-from, times-once}
 use Rattle.vsm_elements.proofs.MoveLemmas.{none-or-some, moves-of, moves-follow, moves-by, rest-same, once-after, all-after}
 use Rattle.run_set.specs.declared.run.Run.{Run}
 use Rattle.run_set.specs.Runs.{inside}
@@ -14,7 +14,7 @@ use Rattle.descriptor_queue.specs.declared.pages.Pages.{Pages as ThePages}
 use Rattle.descriptor_queue.specs.Pages.{is_unassigned, IsPages}
 use Rattle.descriptor_queue.specs.Pages
 use Rattle.descriptor_queue.proofs.PageLemmas.{pages_stand}
-use Rattle.raw_region.specs.Pages.{Pages as Tables, IsFresh as IsFreshRegion, IsInRegion, byte_at, has_segment}
+use Rattle.raw_region.specs.Pages.{Pages as Tables, IsFresh as IsFreshRegion, IsInRegion, byte_at}
 use Rattle.raw_region.proofs.ForCallers.{byte_at-unassigned}
 use Rattle.task_tree.specs.declared.tree.TaskTree.{TaskTree as TheTree}
 use Rattle.task_tree.specs.TaskTree.{current, parent, word, IsTaskTree}
@@ -23,12 +23,12 @@ use Rattle.task_tree.proofs.LawLemmas.{trees_stand}
 use Rattle.vsm_model.specs.declared.limits.Settings.{Settings}
 use Rattle.vsm_model.specs.Regions.{in_a_region}
 use Rattle.subpool_storage.specs.declared.storage.SubpoolStorage.{SubpoolStorage as TheSubpools}
-use Rattle.subpool_storage.specs.Subpools.{Subpools, no_subpools, with_own}
+use Rattle.subpool_storage.specs.Subpools.{no_subpools, with_own}
 use Rattle.subpool_storage.specs.SubpoolStorage.{subpools_of, Stands}
 use Rattle.subpool_storage.specs.SubpoolStorage
 use Rattle.storage_changes.proofs.Cases.{state-same}
 use Rattle.storage_exchange.specs.declared.storage.Storage.{Storage}
-use Rattle.storage_exchange.specs.Storage.{hold, tasks_of, state_of, Stand}
+use Rattle.storage_exchange.specs.Storage.{hold, tasks_of, state_of}
 use Rattle.storage_swap.specs.Fresh.{first_storage, IsFresh}
 use Rattle.storage_exchange.proofs.StructureLemmas.{TasksStay}
 use Rattle.storage_swap.proofs.Below.{trees-kept, storage-owns, storage-stays}

@@ -1,5 +1,5 @@
 -- A storage whose elements are as they were is as it was, and so are parked subpools.
-use Rattle.std.proofs.Common.{◌≡◌, ℕ, ◌+◌, ◌<◌, ◌≤◌, Bool, if◌then◌else◌, None, IsSome, inl, inr, refl, ap, arith}
+use Rattle.std.proofs.Common.{◌≡◌, ℕ, ◌+◌, ◌<◌, ◌≤◌, Bool, if◌then◌else◌, None, IsSome, inl, inr, ap, arith}
 use Rattle.std.specs.Prelude.{◌/◌, nat_lt}
 use Rattle.vsm_elements.specs.Store.{Store, at}
 use Rattle.vsm_elements.specs.Owners.{times, Moves}

@@ -1,11 +1,12 @@
 mod Below
-mod KeptLemmas
+pub mod KeptLemmas
 mod FirstLemmas
 mod LoopLemmas
-mod FrameLemmas
-mod SwapLemmas
+pub mod FrameLemmas
+pub mod SwapLemmas
 mod DiscardLemmas
-mod ReserveLemmas
+pub mod ReserveLemmas
 mod SettingsLemmas
-mod FreshLemmas
-mod BackLemmas
+pub mod FreshLemmas
+pub mod BackLemmas
+mod ObtainLemmas

@@ -10,7 +10,7 @@ use Rattle.run_set.specs.declared.run.Run.{Run}
 use Rattle.run_set.specs.Runs.{inside}
 use Rattle.run_set.proofs.RunLemmas.{inside_true}
 use Rattle.raw_region.specs.Frames.{PageFrame, zeros}
-use Rattle.raw_region.specs.Pages.{Pages as Tables, byte_of, bytes_at, byte_at, has_table, HaveTables, SamePages, SameTables}
+use Rattle.raw_region.specs.Pages.{Pages as Tables, byte_of, byte_at, has_table, HaveTables, SamePages, SameTables}
 use Rattle.raw_region.specs.Parked.{held_at}
 use Rattle.raw_region.proofs.ForCallers.{byte_at-same_pages}
 use Rattle.subpool_storage.specs.declared.storage.SubpoolStorage.{SubpoolStorage as TheParked}

@@ -1,18 +1,13 @@
 -- The pages of the two regions, and what the first storage is on the plain machine.
-use Rattle.std.proofs.Common.{◌≡◌, ℕ, ◌+◌, ◌/◌, ◌%◌, ◌<◌, ◌≤◌, Bool, true, false, ◌&&◌, ◌||◌, ◌==◌, not, if◌then◌else◌, List, [], ◌∷◌, Option, None, Some, refl, sym, ap, ◌∙◌, arith, inl, inr}
-use Rattle.std.specs.Prelude.{nat_le, nat_lt}
-use Rattle.std.proofs.lemmas.Bool.{leb-true, ltb-true, eqb-true}
-use Rattle.std.proofs.lemmas.Bool.Decides.{eqb_tells, leb_tells}
-use Rattle.run_set.specs.declared.run.Run.{Run}
-use Rattle.run_set.specs.Runs.{inside, contains}
-use Rattle.run_set.proofs.RunLemmas.{inside_true}
+use Rattle.std.proofs.Common.{◌≡◌, ℕ, ◌/◌, ◌%◌, ◌<◌, ◌≤◌, Bool, true, false, ◌&&◌, ◌==◌, if◌then◌else◌, List, [], ◌∷◌, Option, None, Some, refl, ap, arith}
+use Rattle.std.specs.Prelude.{nat_le}
+use Rattle.std.proofs.lemmas.Bool.{leb-true, eqb-true}
 use Rattle.vsm_model.specs.declared.Subpool.{Subpool}
 use Rattle.vsm_model.specs.declared.limits.Settings.{Settings}
-use Rattle.vsm_model.specs.Regions.{settings_valid, size_valid, in_a_region}
-use Rattle.vsm_model.specs.State.{first_state}
+use Rattle.vsm_model.specs.Regions.{settings_valid, size_valid}
 use Rattle.vsm_model.specs.Search.{holds}
-use Rattle.subpool_storage.specs.Subpools.{Subpools, no_subpools, with_own, is_there}
-use Rattle.storage_changes.specs.Meaning.{first_of, all_subpools, subpool_of, is_taken, model_of}
+use Rattle.subpool_storage.specs.Subpools.{no_subpools, with_own, is_there}
+use Rattle.storage_changes.specs.Meaning.{first_of, all_subpools, subpool_of, is_taken}
 use Rattle.storage_changes.proofs.Cases.{and-left, and-right}
 use Rattle.storage_swap.specs.Fresh.{first_storage, FirstIsFirst}
 

@@ -1,5 +1,5 @@
 -- A change is exchanged with the storage.
-use Rattle.std.proofs.Common.{◌≡◌, ℕ, ◌+◌, ◌-◌, ◌*◌, ◌/◌, ◌%◌, ◌≤◌, ◌<◌, Bool, true, false, if◌then◌else◌, List, [], length, map, Option, Some, None, IsSome, inl, inr, refl, sym, ap, ◌∙◌, arith, subst}
+use Rattle.std.proofs.Common.{◌≡◌, ℕ, ◌+◌, ◌-◌, ◌*◌, ◌/◌, ◌%◌, ◌≤◌, ◌<◌, Bool, true, false, if◌then◌else◌, List, [], length, map, Option, None, IsSome, inl, inr, refl, sym, ap, ◌∙◌, arith, subst}
 use Rattle.std.specs.Option.{option_or}
 use Rattle.vsm_elements.specs.Store.{Store, at}
 use Rattle.vsm_elements.specs.Chain.{Link, links, owned, ids, IsChain}
@@ -13,7 +13,6 @@ use Rattle.raw_region.specs.Parked.{held_at, CanEnter}
 use Rattle.raw_region.proofs.ForCallers.{byte_at-same}
 use Rattle.subpool_storage.specs.declared.storage.SubpoolStorage.{SubpoolStorage as TheParked}
 use Rattle.subpool_storage.specs.SubpoolStorage.{subpools_of}
-use Rattle.subpool_storage.specs.SubpoolStorage
 use Rattle.storage_changes.specs.declared.record.Record.{Record}
 use Rattle.storage_changes.specs.State.{StorageState}
 use Rattle.storage_changes.specs.Walk.{Walk}
@@ -23,13 +22,13 @@ use Rattle.storage_changes.specs.Fits.{FitInTurn}
 use Rattle.storage_changes.specs.Changes.{outset, arrival, Fit, inverse}
 use Rattle.storage_changes.proofs.Cases.{state-same, walk-same}
 use Rattle.storage_exchange.specs.declared.storage.Storage.{Storage}
-use Rattle.storage_exchange.specs.Storage.{hold, hold_with, state_of, walk_of, byte_held}
+use Rattle.storage_exchange.specs.Storage.{hold_with, state_of, walk_of, byte_held}
 use Rattle.storage_exchange.specs.Exchange.{HavePlaces}
 use Rattle.storage_swap.specs.declared.change.Change.{Change as TheChange}
 use Rattle.storage_swap.specs.Beside.{record_at, records_of, hold_beside, Beside, SwapsAll}
-use Rattle.storage_swap.specs.Swap.{means, change_holds, both_hold, Ready, Swaps}
-use Rattle.storage_swap.proofs.FrameLemmas.{none-some, none-if, in-both, first-address, held-some, byte-is-held, page-none}
-use Rattle.storage_swap.proofs.KeptLemmas.{over, with-live, kept-hold, kept-parked-hold, kept-hold-with, kept-stands, kept-state, kept-unassigned, kept-parked, region-stands-with}
+use Rattle.storage_swap.specs.Swap.{means, both_hold, Ready, Swaps}
+use Rattle.storage_swap.proofs.FrameLemmas.{none-if, in-both, first-address, held-some, byte-is-held, page-none}
+use Rattle.storage_swap.proofs.KeptLemmas.{over, with-live, kept-hold-with, kept-stands, kept-state, kept-unassigned, kept-parked, region-stands-with}
 
 not-false : (b : Bool) → b ≡ true → b ≡ false → ⊥
 not-false b p q = cc

@@ -4,7 +4,7 @@ use Rattle.vsm_elements.specs.Store.{Store}
 use Rattle.vsm_elements.specs.Owners.{times, Moves}
 use Rattle.vsm_elements.specs.Chain.{owned, IsChain}
 use Rattle.vsm_elements.specs.declared.chain.Chain.{Chain}
-use Rattle.raw_region.specs.Pages.{bytes_at, has_table, SamePages, SameTables}
+use Rattle.raw_region.specs.Pages.{bytes_at, SamePages, SameTables}
 use Rattle.subpool_storage.specs.declared.storage.SubpoolStorage.{SubpoolStorage}
 use Rattle.subpool_storage.specs.SubpoolStorage.{subpools_of}
 use Rattle.subpool_storage.specs.SubpoolStorage

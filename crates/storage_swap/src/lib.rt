@@ -12,3 +12,6 @@ mod reserve;
 pub use beginning::fresh;
 pub use change::Change;
 pub use ending::{Released, release};
+
+#[cfg(test)]
+mod tests;
