@@ -1,0 +1,5 @@
+pub mod Apart
+pub mod Kept
+pub mod Steps
+pub mod Reserved
+pub mod Fresh
