@@ -1,8 +1,8 @@
-//! Plans of services, found by reading the storage alone.
+//! Plans of services, found by reading the storage alone: where an area goes.
 #![tactic(auto)]
 
 mod places;
-mod plans;
+mod searches;
 
-pub use places::AreaPlace;
-pub use plans::Plan;
+pub use places::{AreaPlace, area_place};
+pub use searches::{least_area, least_pages};

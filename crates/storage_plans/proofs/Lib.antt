@@ -1,0 +1,2 @@
+pub mod LeastFits
+pub mod Regions
