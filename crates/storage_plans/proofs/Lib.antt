@@ -1,0 +1,3 @@
+pub mod FixedLengths
+pub mod LeastFits
+pub mod Regions

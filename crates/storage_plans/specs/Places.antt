@@ -1,0 +1,28 @@
+-- Where an area goes, in terms of the plain machine.
+use Rattle.std.specs.Prelude.{Option, Some, None}
+use Rattle.vsm_model.specs.declared.limits.Residence.{Residence}
+use Rattle.vsm_model.specs.declared.limits.Residence.TheVariants.{Below, Above}
+use Rattle.vsm_model.specs.declared.limits.Settings.{Settings}
+use Rattle.vsm_model.specs.Areas.{Place, Inside, Fresh, Nowhere}
+use Rattle.vsm_model.specs.Regions.{Region, low_region, high_region}
+use Rattle.storage_changes.specs.Meaning.{IsSound}
+use Rattle.storage_exchange.specs.declared.storage.Storage.{Storage}
+use Rattle.storage_exchange.specs.Storage.{state_of, Stand}
+use Rattle.storage_plans.specs.declared.places.AreaPlace.{AreaPlace}
+use Rattle.storage_plans.specs.declared.places.AreaPlace.TheVariants as areas
+
+-- the storage stands, and is sound at these settings
+pub record StandsSound (settings : Settings) (p : Storage) : Type 0 where
+  pub stands : Stand p
+  pub sound : IsSound settings (state_of p)
+
+-- the region on this side of the line
+abbrev pub region_on : Settings → Residence → Region
+region_on settings Below = low_region settings
+region_on settings Above = high_region settings
+
+-- where an area goes: in free storage of the subpool from a doubleword on, in new pages from one on, or nowhere
+abbrev pub place_of : Option AreaPlace → Place
+place_of (Some (areas.Inside doubleword)) = Inside doubleword
+place_of (Some (areas.Fresh page)) = Fresh page
+place_of None = Nowhere

@@ -1,0 +1,72 @@
+//! Where an area goes.
+ghost use Rattle.std.specs.Prelude.{◌≡◌, ◌^◌, ◌<◌, ◌≤◌, true};
+ghost use Rattle.vsm_model.specs.Areas.{place, place_in};
+ghost use Rattle.vsm_model.specs.Regions.{regions_for, settings_valid};
+ghost use Rattle.storage_changes.specs.Meaning.{model_of};
+ghost use Rattle.storage_exchange.specs.Storage.{state_of};
+ghost use Rattle.storage_plans.specs.Places.{StandsSound, place_of, region_on};
+
+use crate::searches::{PAGE_DOUBLEWORDS, least_area, least_pages};
+use storage_exchange::Storage;
+use vsm_model::{Residence, Settings, Subpool};
+
+/// A place for an area.
+#[derive(Clone, Copy, Debug, PartialEq, Eq)]
+pub enum AreaPlace {
+    /// In free storage of the subpool, from this doubleword on: an address divided by 8.
+    Inside(u32),
+    /// At the first byte of unassigned pages, from this one on: an address divided by 4,096.
+    Fresh(u32),
+}
+
+// The place in the region on one side of the line: the subpool's own free storage comes first.
+fn place_on(
+    storage: &Storage,
+    settings: Settings,
+    side: Residence,
+    subpool: Subpool,
+    count: u32,
+    spacing: u32,
+) -> Option<AreaPlace>
+    requires sound { StandsSound settings storage.now }
+    requires valid { settings_valid settings ≡ true }
+    requires asked { (0 < count) × (count ≤ 2 ^ 29) × (0 < spacing) × (spacing ≤ 512) }
+    ensures { place_of result
+        ≡ place_in (model_of (state_of storage.now)) subpool count spacing (region_on settings side) }
+{
+    if let Some(doubleword) = least_area(storage, settings, side, subpool, count, spacing) {
+        return Some(AreaPlace::Inside(doubleword));
+    }
+    let pages = count.div_ceil(PAGE_DOUBLEWORDS);
+    let page = least_pages(storage, settings, side, pages)?;
+    Some(AreaPlace::Fresh(page))
+}
+
+/// Where an area of `count` doublewords goes in the subpool, on a boundary of `spacing` doublewords: 1, or 512 for a
+/// page. `None` where it has no place. Reads alone, and takes no memory.
+///
+/// On the side above the line the high region comes before the low one; below it the low one is the only one. In a
+/// region the subpool's own free storage comes before unassigned pages, each time at the lowest address.
+pub fn area_place(
+    storage: &Storage,
+    settings: Settings,
+    side: Residence,
+    subpool: Subpool,
+    count: u32,
+    spacing: u32,
+) -> Option<AreaPlace>
+    requires sound { StandsSound settings storage.now }
+    requires valid { settings_valid settings ≡ true }
+    requires asked { (0 < count) × (count ≤ 2 ^ 29) × (0 < spacing) × (spacing ≤ 512) }
+    ensures { place_of result
+        ≡ place (model_of (state_of storage.now)) (regions_for settings side) subpool count spacing }
+{
+    let place = place_on(storage, settings, side, subpool, count, spacing);
+    match side {
+        Residence::Below => place,
+        Residence::Above => match place {
+            Some(place) => Some(place),
+            None => place_on(storage, settings, Residence::Below, subpool, count, spacing),
+        },
+    }
+}

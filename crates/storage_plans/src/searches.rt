@@ -1,0 +1,77 @@
+//! The least area and the least run of pages of a region.
+ghost use Rattle.std.specs.Prelude.{◌≡◌, ◌+◌, ◌^◌, ◌<◌, ◌≤◌, true};
+ghost use Rattle.vsm_model.specs.Areas.{least_fit, least_run};
+ghost use Rattle.vsm_model.specs.Regions.{settings_valid};
+ghost use Rattle.storage_changes.specs.Meaning.{model_of};
+ghost use Rattle.storage_exchange.specs.Storage.{state_of};
+ghost use Rattle.storage_plans.specs.Places.{StandsSound, region_on};
+
+use descriptor_queue::Page;
+use run_set::Run;
+use storage_exchange::Storage;
+use vsm_model::{Residence, Settings, Subpool};
+
+/// The doublewords of a page.
+pub(crate) const PAGE_DOUBLEWORDS: u32 = 512;
+
+// The pages of the region on one side of the line.
+fn pages_on(settings: Settings, side: Residence) -> Run
+    requires { settings_valid settings ≡ true }
+    ensures start { result.start ≡ (region_on settings side).first }
+    ensures len { result.len ≡ (region_on settings side).count }
+    ensures range { result.start + result.len ≤ 2 ^ 20 }
+{
+    match side {
+        Residence::Below => Run {
+            start: 6,
+            len: settings.low_k / 4,
+        },
+        Residence::Above => Run {
+            start: 32_768,
+            len: settings.high_k / 4,
+        },
+    }
+}
+
+/// The least doubleword of the region on that side of the line from which `count` doublewords are free storage of the
+/// subpool, as a multiple of `spacing`. Reads alone.
+pub fn least_area(
+    storage: &Storage,
+    settings: Settings,
+    side: Residence,
+    subpool: Subpool,
+    count: u32,
+    spacing: u32,
+) -> Option<u32>
+    requires sound { StandsSound settings storage.now }
+    requires valid { settings_valid settings ≡ true }
+    requires asked { (0 < count) × (count ≤ 2 ^ 29) × (0 < spacing) × (spacing ≤ 512) }
+    ensures { result ≡ least_fit (model_of (state_of storage.now)) (region_on settings side) subpool count spacing }
+{
+    let pages = pages_on(settings, side);
+    let region = Run {
+        start: pages.start * PAGE_DOUBLEWORDS,
+        len: pages.len * PAGE_DOUBLEWORDS,
+    };
+    storage
+        .subpools
+        .least_fit(&storage.elements, subpool, count, spacing, region)
+}
+
+/// The least page of the region on that side of the line from which `count` pages are nobody's. Reads alone.
+pub fn least_pages(
+    storage: &Storage,
+    settings: Settings,
+    side: Residence,
+    count: u32,
+) -> Option<Page>
+    requires sound { StandsSound settings storage.now }
+    requires valid { settings_valid settings ≡ true }
+    requires asked { (0 < count) × (count ≤ 2 ^ 20) }
+    ensures { result ≡ least_run (model_of (state_of storage.now)) (region_on settings side) count }
+{
+    let pages = pages_on(settings, side);
+    storage
+        .unassigned
+        .least_run(&storage.elements, pages, count)
+}
