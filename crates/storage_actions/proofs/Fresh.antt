@@ -15,7 +15,8 @@ use Rattle.storage_changes.specs.Meaning.{model_of, subpool_of, is_taken, IsSoun
 use Rattle.storage_changes.specs.Laws.{CanBe}
 use Rattle.storage_changes.proofs.MeaningLemmas.{joined_pages_are_named}
 use Rattle.storage_actions.specs.Actions.{run_of, own_records, area_records, assigned_records, take_fresh_records, register_records}
-use Rattle.storage_actions.specs.Leads.{change_of, with_new}
+use Rattle.storage_changes.specs.Changes.{change_of}
+use Rattle.storage_actions.specs.Leads.{with_new}
 use Rattle.storage_actions.specs.Laws.{TakingFreshLeads}
 use Rattle.storage_changes.proofs.Cases.{same-is}
 use Rattle.storage_actions.proofs.Cases.{at_self, inside_in, in_inside, not_inside, outside, or_none, none_from, none_some}

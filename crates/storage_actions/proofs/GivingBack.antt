@@ -13,7 +13,8 @@ use Rattle.storage_changes.specs.State.{StorageState}
 use Rattle.storage_changes.specs.Fits.{FrameIs}
 use Rattle.storage_changes.specs.Meaning.{model_of, subpool_of, IsSound}
 use Rattle.storage_actions.specs.Actions.{run_of, area_records, returned_records, give_back_records, register_records}
-use Rattle.storage_actions.specs.Leads.{change_of, AreIdle}
+use Rattle.storage_changes.specs.Changes.{change_of}
+use Rattle.storage_actions.specs.Leads.{AreIdle}
 use Rattle.storage_actions.specs.Laws.{GivingBackLeads}
 use Rattle.storage_actions.proofs.Cases.{inside_in, in_inside, not_inside, outside}
 use Rattle.storage_actions.proofs.Goes.{at, Goes, goes_on, goes_to}

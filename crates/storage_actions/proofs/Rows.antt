@@ -16,7 +16,8 @@ use Rattle.storage_changes.specs.State.{StorageState}
 use Rattle.storage_changes.specs.Changes.{outset, overlay}
 use Rattle.storage_changes.specs.Meaning.{model_of, subpool_of, IsSound}
 use Rattle.storage_actions.specs.Actions.{register_records, run_of}
-use Rattle.storage_actions.specs.Leads.{change_of, Leads, AreRegisters}
+use Rattle.storage_changes.specs.Changes.{change_of}
+use Rattle.storage_actions.specs.Leads.{Leads, AreRegisters}
 use Rattle.storage_actions.specs.Laws.{SettingLeads}
 use Rattle.storage_actions.proofs.Cases.{inside_in, not_inside}
 use Rattle.storage_actions.proofs.Goes.{at, Goes, goes_nowhere}

@@ -10,7 +10,7 @@ use Rattle.storage_changes.specs.State.{StorageState}
 use Rattle.storage_changes.specs.Meaning.{model_of, subpool_of, IsSound}
 use Rattle.storage_changes.proofs.MeaningLemmas.{areas_are_taken}
 use Rattle.storage_actions.specs.Actions.{run_of, take_records, register_records}
-use Rattle.storage_actions.specs.Leads.{change_of}
+use Rattle.storage_changes.specs.Changes.{change_of}
 use Rattle.storage_actions.specs.Laws.{TakingLeads}
 use Rattle.storage_actions.proofs.Cases.{in_inside}
 use Rattle.storage_actions.proofs.Goes.{at, goes_on}

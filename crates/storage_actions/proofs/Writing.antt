@@ -14,7 +14,7 @@ use Rattle.storage_changes.specs.Turned.{read}
 use Rattle.storage_changes.specs.Meaning.{model_of, subpool_of, IsSound}
 use Rattle.storage_changes.proofs.ByteSteps.{read-length, read-at}
 use Rattle.storage_actions.specs.Actions.{run_of, bytes_with, blocks_for, write_records}
-use Rattle.storage_actions.specs.Leads.{change_of}
+use Rattle.storage_changes.specs.Changes.{change_of}
 use Rattle.storage_actions.specs.Laws.{WritingLeads}
 use Rattle.storage_actions.proofs.Cases.{inside_in, in_inside, not_inside}
 use Rattle.storage_actions.proofs.Goes.{at, Goes, goes_nowhere, goes_to}

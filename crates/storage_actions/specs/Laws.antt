@@ -13,7 +13,8 @@ use Rattle.storage_changes.specs.Meaning.{model_of, IsSound}
 use Rattle.storage_actions.specs.Actions.{run_of, own_records, take_records, take_fresh_records}
 use Rattle.storage_actions.specs.Actions.{give_back_records, emptied_pages}
 use Rattle.storage_actions.specs.Actions.{write_records, register_records}
-use Rattle.storage_actions.specs.Leads.{change_of, Leads, with_new, CanOwn, AreRegisters, AreIdle}
+use Rattle.storage_changes.specs.Changes.{change_of}
+use Rattle.storage_actions.specs.Leads.{Leads, with_new, CanOwn, AreRegisters, AreIdle}
 
 -- An area of the subpool's free storage is taken,
 abbrev pub TakingLeads : Type 0

@@ -1,5 +1,5 @@
 -- What a change of records comes to on the plain machine.
-use Rattle.std.specs.Prelude.{◌≡◌, ℕ, ◌/◌, ◌<◌, ◌≤◌, ◌&&◌, true, false, Bool, if◌then◌else◌, Some, None, List, All}
+use Rattle.std.specs.Prelude.{◌≡◌, ℕ, ◌<◌, ◌≤◌, ◌&&◌, true, false, Bool, if◌then◌else◌, None, List, All}
 use Rattle.run_set.specs.declared.run.Run.{Run}
 use Rattle.run_set.specs.Runs.{inside}
 use Rattle.vsm_model.specs.declared.Subpool.{Subpool}
@@ -8,21 +8,10 @@ use Rattle.vsm_model.specs.Search.{holds}
 use Rattle.vsm_model.specs.State.{State}
 use Rattle.vsm_model.specs.Subpools.{same_subpool, with_subpool}
 use Rattle.vsm_model.specs.Releasing.{is_idle, without_taken}
-use Rattle.subpool_storage.specs.Subpools.{no_subpools, is_there}
-use Rattle.storage_changes.specs.declared.record.Record.{Record}
+use Rattle.subpool_storage.specs.Subpools.{is_there}
 use Rattle.storage_changes.specs.State.{StorageState}
 use Rattle.storage_changes.specs.Changes.{Change, Fit, overlay}
 use Rattle.storage_changes.specs.Meaning.{model_of, IsSound}
-
--- what these records mean, with blank elements, and frames of zeros for the pages of a run
-abbrev pub change_of : List Record → ℕ → Run → Change
-change_of records blanks fresh =
-    record {
-      records = records;
-      blanks = blanks;
-      frames = λ a. if inside (a / 4096) fresh then Some 0 else None;
-      parked = no_subpools;
-    }
 
 -- The change fits, and leads to a sound storage that is this state on the plain machine.
 pub record Leads (settings : Settings) (m : StorageState) (d : Change) (s : State) : Type 0 where

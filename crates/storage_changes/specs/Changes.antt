@@ -1,6 +1,8 @@
 -- A change of the storage, and what it leads to.
-use Rattle.std.specs.Prelude.{◌≡◌, ℕ, ◌/◌, true, List, [], Option, None, IsSome}
-use Rattle.subpool_storage.specs.Subpools.{Subpools}
+use Rattle.std.specs.Prelude.{◌≡◌, ℕ, ◌/◌, true, List, [], Option, Some, None, IsSome, if◌then◌else◌}
+use Rattle.run_set.specs.declared.run.Run.{Run}
+use Rattle.run_set.specs.Runs.{inside}
+use Rattle.subpool_storage.specs.Subpools.{Subpools, no_subpools}
 use Rattle.storage_changes.specs.declared.record.Record.{Record}
 use Rattle.storage_changes.specs.State.{StorageState}
 use Rattle.storage_changes.specs.Walk.{Walk}
@@ -15,6 +17,16 @@ pub record Change : Type 0 where
   pub blanks : ℕ
   pub frames : ℕ → Option ℕ
   pub parked : Subpools
+
+-- what these records mean, with blank elements, and frames of zeros for the pages of a run
+abbrev pub change_of : List Record → ℕ → Run → Change
+change_of records blanks fresh =
+    record {
+      records = records;
+      blanks = blanks;
+      frames = λ a. if inside (a / 4096) fresh then Some 0 else None;
+      parked = no_subpools;
+    }
 
 -- before the first record
 abbrev pub outset : StorageState → Change → Walk

@@ -1,11 +1,11 @@
 -- What a storage in elements and frames is as a state, and whose its elements are. No other module names the words of
 -- the structures that it is made of.
-use Rattle.std.specs.Prelude.{ℕ, ◌+◌, ◌-◌, ◌/◌, ◌%◌, ◌≤◌, nat_lt, List, Option, None, if◌then◌else◌}
+use Rattle.std.specs.Prelude.{◌≡◌, ℕ, ◌+◌, ◌-◌, ◌/◌, ◌%◌, ◌≤◌, nat_lt, true, List, Option, None, if◌then◌else◌}
 use Rattle.vsm_elements.specs.Owners.{times}
 use Rattle.descriptor_queue.specs.Pages.{is_unassigned, IsPages}
 use Rattle.descriptor_queue.specs.Pages
 use Rattle.raw_region.specs.Frames.{PageFrame}
-use Rattle.raw_region.specs.Pages.{byte_at, byte_of}
+use Rattle.raw_region.specs.Pages.{bytes_at, byte_at, byte_of}
 use Rattle.raw_region.specs.Parked.{held_at}
 use Rattle.task_tree.specs.TaskTree.{current, parent, word, IsTaskTree}
 use Rattle.task_tree.specs.TaskTree
@@ -46,6 +46,10 @@ state_of p =
       unassigned = λ page. is_unassigned p.elements p.unassigned page;
       bytes = λ a. if is_unassigned p.elements p.unassigned (a / 4096) then None else byte_at p.region a;
     }
+
+-- an unassigned page has no frame
+abbrev pub IsFrameless : Storage → Type 0
+IsFrameless p = (page : ℕ) → (state_of p).unassigned page ≡ true → bytes_at p.region page ≡ None
 
 -- the byte at an address, where its page's frame is among these
 abbrev pub byte_held : List PageFrame → ℕ → Option ℕ

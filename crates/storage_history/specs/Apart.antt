@@ -6,11 +6,10 @@ use Rattle.subpool_storage.specs.SubpoolStorage
 use Rattle.storage_changes.specs.State.{StorageState}
 use Rattle.storage_changes.specs.Changes.{Change as Meaning, Fit}
 use Rattle.storage_exchange.specs.declared.storage.Storage.{Storage}
-use Rattle.storage_exchange.specs.Storage.{hold, state_of, Stand}
+use Rattle.storage_exchange.specs.Storage.{hold, state_of, Stand, IsFrameless}
 use Rattle.storage_exchange.specs.Exchange.{HavePlaces}
 use Rattle.storage_swap.specs.declared.change.Change.{Change}
 use Rattle.storage_swap.specs.Swap.{means, change_holds, Ready, Swaps, Discards}
-use Rattle.storage_swap.specs.Reserve.{IsFrameless}
 use Rattle.storage_history.specs.declared.steps.Steps.{Steps}
 
 -- how often all these changes together hold an element

@@ -1,3 +1,4 @@
+mod BytesRead
 pub mod FixedLengths
 pub mod LeastFits
 pub mod Regions

@@ -1,10 +1,13 @@
-//! Plans of services, found by reading the storage alone: the area that a request gets, and where it goes.
+//! What a request gets, found by reading the storage alone: the area and where it goes; and readings of bytes and
+//! registers.
 #![tactic(auto)]
 
 mod areas;
 mod places;
+mod reading;
 mod searches;
 
 pub use areas::{FoundArea, find_area};
 pub use places::{AreaPlace, area_place};
+pub use reading::{current, load, register};
 pub use searches::{least_area, least_pages};

@@ -19,7 +19,8 @@ use Rattle.storage_exchange.specs.Storage.{state_of}
 use Rattle.storage_swap.specs.declared.change.Change.{Change as TheChange}
 use Rattle.storage_swap.specs.Swap.{means}
 use Rattle.storage_swap.specs.Fresh.{first_storage, IsFresh}
-use Rattle.storage_swap.specs.Reserve.{change_of, Reserves}
+use Rattle.storage_changes.specs.Changes.{change_of}
+use Rattle.storage_swap.specs.Reserve.{Reserves}
 use Rattle.run_set.proofs.RunLemmas.{inside_true, true_inside}
 
 abbrev pub first : Subpool

@@ -26,7 +26,9 @@ use Rattle.storage_exchange.specs.Storage.{hold, state_of, byte_held, Stand}
 use Rattle.storage_swap.specs.declared.change.Change.{Change as TheChange}
 use Rattle.storage_swap.specs.Beside.{record_at, records_of}
 use Rattle.storage_swap.specs.Swap.{change_holds}
-use Rattle.storage_swap.specs.Reserve.{IsFrameless, change_of, Grown, Reserves}
+use Rattle.storage_exchange.specs.Storage.{IsFrameless}
+use Rattle.storage_changes.specs.Changes.{change_of}
+use Rattle.storage_swap.specs.Reserve.{Grown, Reserves}
 use Rattle.storage_swap.proofs.FrameLemmas.{none-some}
 use Rattle.storage_swap.proofs.KeptLemmas.{over, holds-live, same-hold, same-stands, same-state, region-stands}
 

@@ -9,8 +9,7 @@ use Rattle.subpool_storage.specs.Subpools.{no_subpools, with_own}
 use Rattle.storage_changes.specs.State.{StorageState}
 use Rattle.storage_changes.specs.Meaning.{model_of}
 use Rattle.storage_exchange.specs.declared.storage.Storage.{Storage}
-use Rattle.storage_exchange.specs.Storage.{hold, state_of, Stand}
-use Rattle.storage_swap.specs.Reserve.{IsFrameless}
+use Rattle.storage_exchange.specs.Storage.{hold, state_of, Stand, IsFrameless}
 
 -- task 1 is current, its registers are zero, it owns and sees an empty subpool 0, and no page is assigned
 abbrev pub first_storage : Settings → StorageState

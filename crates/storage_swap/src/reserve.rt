@@ -11,7 +11,9 @@ ghost use Rattle.raw_region.specs.Pages.{bytes_at, has_segment, HaveTables, Same
 ghost use Rattle.raw_region.specs.Parked.{held_at};
 ghost use Rattle.storage_exchange.specs.Storage.{hold, state_of, Stand};
 ghost use Rattle.storage_swap.specs.Beside.{records_of};
-ghost use Rattle.storage_swap.specs.Reserve.{IsFrameless, change_of, Grown, Reserves};
+ghost use Rattle.storage_exchange.specs.Storage.{IsFrameless};
+ghost use Rattle.storage_changes.specs.Changes.{change_of};
+ghost use Rattle.storage_swap.specs.Reserve.{Grown, Reserves};
 
 use crate::change::Change;
 use crate::records::fill;

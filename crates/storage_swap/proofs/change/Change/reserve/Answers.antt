@@ -1,4 +1,4 @@
-use Rattle.storage_swap.specs.Reserve.{change_of}
+use Rattle.storage_changes.specs.Changes.{change_of}
 use Rattle.storage_swap.proofs.ReserveLemmas.{grown-stands, grown-once, grown-frameless, grown-unassigned, grown-reserves}
 use Rattle.storage_swap.proofs.change.Change.reserve.Goals as goal
 
