@@ -1,3 +1,4 @@
+mod BlockBytes
 mod BytesRead
 pub mod FixedLengths
 pub mod LeastFits
