@@ -48,7 +48,8 @@ pub record SwapsFirst (p t : Storage) (given given' : List PageFrame) (q q' : Su
   pub places : HavePlaces p given → HavePlaces t given'
 
 -- all records did, in their order
-pub record SwapsAll (p t : Storage) (given given' : List PageFrame) (q q' : SubpoolStorage) (c c' : Chain) : Type 0 where
+pub record SwapsAll (p t : Storage) (given given' : List PageFrame) (q q' : SubpoolStorage) (c c' : Chain)
+    : Type 0 where
   pub beside : Beside t q' c'
   pub moves : Moves p.elements t.elements (hold_beside p q c) (hold_beside t q' c')
   pub steps :

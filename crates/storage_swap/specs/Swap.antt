@@ -50,8 +50,8 @@ pub record Ready (p : Storage) (c : TheChange) : Type 0 where
   pub out : length c.frames ≤ p.region.out
   pub places : HavePlaces p c.frames
 
--- The storage is what the change means, and the change the one that leads back. Elements and frames went from the one to
--- the other, and nothing else changed.
+-- The storage is what the change means, and the change the one that leads back. Elements and frames went from the one
+-- to the other, and nothing else changed.
 pub record Swaps (p : Storage) (c : TheChange) (t : Storage) (d : TheChange) : Type 0 where
   pub before : Ready p c
   pub after : Ready t d

@@ -27,8 +27,8 @@ const HIGH: u32 = 32_768;
 // Four for task 1, one for its subpool 0, and two for the runs of unassigned pages.
 const ELEMENTS: u32 = 7;
 
-/// The storage before the first request: task 1 alone, which is current and has zero registers, its empty subpool 0, and
-/// both regions without a frame.
+/// The storage before the first request: task 1 alone, which is current and has zero registers, its empty subpool 0,
+/// and both regions without a frame.
 ///
 /// It answers an error where memory is refused.
 pub fn fresh(alloc: Global, settings: Settings) -> Result<Storage, AllocError>

@@ -28,8 +28,8 @@ pub struct Change {
 impl Change {
     /// Exchanges the change with the storage, and leaves the one that leads back.
     ///
-    /// It takes no memory: no block of elements and no frame is made, and no frame is copied. So many elements are spare
-    /// as before.
+    /// It takes no memory: no block of elements and no frame is made, and no frame is copied. So many elements are
+    /// spare as before.
     pub fn swap(&mut self, storage: &mut Storage)
         requires ready { Ready storage.old self.old }
         requires fits { Fit (state_of storage.old) (means storage.old.elements self.old) }

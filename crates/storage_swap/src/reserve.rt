@@ -32,8 +32,8 @@ impl Change {
     /// Each call on a queue takes one blank element at most, and one has to be left: so one more than the calls is
     /// enough. The run is in pages of 4,096 bytes, and each of them has to be unassigned.
     ///
-    /// It answers an error where memory is refused. What was made before that stays, as spare elements, spare frames and
-    /// tables. Where so many elements and frames are spare and the tables are there, it takes no memory.
+    /// It answers an error where memory is refused. What was made before that stays, as spare elements, spare frames
+    /// and tables. Where so many elements and frames are spare and the tables are there, it takes no memory.
     pub fn reserve(
         storage: &mut Storage,
         records: &[Record],
