@@ -18,12 +18,12 @@ use Rattle.storage_exchange.specs.Storage.{IsFrameless}
 use Rattle.storage_plans.specs.Reading.{put_at}
 use Rattle.storage_plans.proofs.BytesRead.{byte_shown}
 
--- the bytes of a store over those of a block, k of them
+-- a number of a run lies between its ends
 
 among_in : (a n k : ℕ) → among a n k ≡ true → (a ≤ k) × (k < a + n)
 among_in a n k e = grind (arith, nat_tests)
 
--- before place k all have theirs, and from it on none
+-- before place k the bytes of the store stand over those held, and from it on none do
 pub record PutBefore (held now : List ℕ) (first address : ℕ) (bytes : List ℕ) (k : ℕ) : Type 0 where
   pub same_length : length now ≡ length held
   pub before : (j : ℕ) → j < k → slice_index_or now j 0 ≡ put_at held first address bytes j
