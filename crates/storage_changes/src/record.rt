@@ -72,6 +72,15 @@ pub enum Record {
     Bytes(BytesRecord),
 }
 
+impl Default for Record {
+    /// A record that leaves all as it is: the empty storage of no subpool.
+    fn default() -> Record {
+        Record::Queues(QueuesRecord {
+            subpool: NO_SUBPOOL,
+        })
+    }
+}
+
 const AREA: u32 = 0;
 
 const EXTENT: u32 = 1;

@@ -11,10 +11,11 @@ use Rattle.storage_exchange.specs.Storage.{state_of, Stand}
 use Rattle.storage_plans.specs.declared.places.AreaPlace.{AreaPlace}
 use Rattle.storage_plans.specs.declared.places.AreaPlace.TheVariants as areas
 
--- the storage stands, and is sound at these settings
+-- The storage stands, and is sound at these settings. What is sound is so in more than one way, as each page has a
+-- taken doubleword: so it's only said that there is one.
 pub record StandsSound (settings : Settings) (p : Storage) : Type 0 where
   pub stands : Stand p
-  pub sound : IsSound settings (state_of p)
+  pub sound : ∥ IsSound settings (state_of p) ∥₁
 
 -- the region on this side of the line
 abbrev pub region_on : Settings → Residence → Region

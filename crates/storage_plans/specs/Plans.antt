@@ -1,0 +1,32 @@
+-- What the plan of a request comes to on the plain machine.
+use Rattle.std.specs.Prelude.{◌≡◌, ℕ, ◌+◌, ◌^◌, ◌≤◌, Bool, true, Result, Ok, Err}
+use Rattle.run_set.specs.Runs.{inside}
+use Rattle.vsm_model.specs.declared.causes.Cause.{Cause}
+use Rattle.vsm_model.specs.declared.limits.Settings.{Settings}
+use Rattle.vsm_model.specs.Services.{Service}
+use Rattle.vsm_model.specs.Standing.{Accepted, Refused}
+use Rattle.vsm_model.specs.Step.{step}
+use Rattle.storage_changes.specs.State.{StorageState}
+use Rattle.storage_changes.specs.Changes.{Change, change_of, Fit, overlay}
+use Rattle.storage_changes.specs.Meaning.{model_of, IsSound}
+use Rattle.storage_plans.specs.declared.plan.Plan.{Plan}
+
+-- the change of its records, with its blank elements, and frames of zeros for the pages that come to be assigned
+abbrev pub change_in : Plan → Change
+change_in plan = change_of plan.records.items plan.blanks plan.fresh
+
+-- The service is accepted with the plan's reply, in the state that the plan's change leads to. The change fits, and
+-- leads to a sound storage.
+pub record CarriesOut (settings : Settings) (names_full : Bool) (m : StorageState) (x : Service) (plan : Plan)
+    : Type 0 where
+  pub accepted : step settings names_full (model_of m) x ≡ Accepted (model_of (overlay m (change_in plan))) plan.reply
+  pub fits : Fit m (change_in plan)
+  pub sound : IsSound settings (overlay m (change_in plan))
+  pub few : plan.blanks ≤ 7
+  pub range : plan.fresh.start + plan.fresh.len ≤ 2 ^ 20
+  pub unassigned : (page : ℕ) → inside page plan.fresh ≡ true → m.unassigned page ≡ true
+
+-- A service was planned; or it's refused for this cause.
+abbrev pub IsPlanned : Settings → Bool → StorageState → Service → Result Plan Cause → Type 0
+IsPlanned settings names_full m x (Ok plan) = ∥ CarriesOut settings names_full m x plan ∥₁
+IsPlanned settings names_full m x (Err cause) = step settings names_full (model_of m) x ≡ Refused cause

@@ -1,0 +1,88 @@
+//! What an accepted request will do to the storage, as the records of a change.
+ghost use Rattle.std.specs.Prelude.{◌≡◌, ◌+◌, ◌<◌, ◌≤◌, [], ◌∷◌, ◌++◌};
+ghost use Rattle.arrayvec.specs.ArrayVec.{array_vec_len};
+ghost use Rattle.vsm_model.specs.declared.replies.Reply.TheVariants.{Returned};
+ghost use Rattle.storage_changes.specs.declared.record.Record.TheVariants.{Register};
+ghost use Rattle.storage_actions.specs.Actions.{area_records, register_records, run_of};
+ghost use Rattle.storage_exchange.specs.Storage.{state_of};
+
+use arrayvec::ArrayVec;
+use run_set::Run;
+use storage_changes::{AreaRecord, Record, RegisterRecord};
+use storage_exchange::Storage;
+use vsm_model::{Reply, Subpool};
+
+/// The most records of a plan: the blocks of sixteen bytes that a store of 256 bytes can touch.
+pub const PLAN_RECORDS: usize = 17;
+
+/// What an accepted request will do. It was found by reading alone, and nothing is changed yet.
+#[derive(Drop)]
+pub struct Plan {
+    /// The records of its change, in the order in which they are exchanged.
+    pub records: ArrayVec<Record, PLAN_RECORDS>,
+    /// How many blank elements the change needs, at most 7.
+    pub blanks: u32,
+    /// The pages of 4,096 bytes that come to be assigned; an empty run where there is none.
+    pub fresh: Run,
+    pub reply: Reply,
+}
+
+/// The empty run.
+pub(crate) const NO_PAGES: Run = Run { start: 0, len: 0 };
+
+/// One more record: the doublewords of an area become free storage of the subpool, or taken. An area without a
+/// doubleword needs none.
+pub(crate) fn push_area(
+    records: &mut ArrayVec<Record, PLAN_RECORDS>,
+    subpool: Subpool,
+    area: Run,
+    free: bool,
+)
+    requires { array_vec_len records.old < 17 }
+    ensures records { records.new.items ≡ records.old.items ++ area_records subpool area.start area.len free }
+    ensures few { array_vec_len records.new ≤ array_vec_len records.old + 1 }
+{
+    if area.len > 0 {
+        records.push(Record::Area(AreaRecord {
+            subpool,
+            area,
+            free,
+        }));
+    }
+}
+
+/// One more record: a register of the task gets the word.
+pub(crate) fn push_register(
+    records: &mut ArrayVec<Record, PLAN_RECORDS>,
+    task: u8,
+    register: u8,
+    word: u32,
+)
+    requires { array_vec_len records.old < 17 }
+    ensures records { records.new.items
+        ≡ records.old.items ++ Register (record { task = task; register = register; word = word }) ∷ [] }
+    ensures few { array_vec_len records.new ≡ array_vec_len records.old + 1 }
+{
+    records.push(Record::Register(RegisterRecord {
+        task,
+        register,
+        word,
+    }));
+}
+
+/// The plan of a conditional request that can't be met: register 15 gets 4, and nothing else changes.
+pub(crate) fn answer_four(storage: &Storage) -> Plan
+    ensures records { result.records.items ≡ register_records (state_of storage.now) ((15, 4) ∷ []) }
+    ensures blanks { result.blanks ≡ 0 }
+    ensures fresh { result.fresh ≡ run_of 0 0 }
+    ensures reply { result.reply ≡ Returned 4 }
+{
+    let mut records = ArrayVec::new();
+    push_register(&mut records, storage.tasks.current(), 15, 4);
+    Plan {
+        records,
+        blanks: 0,
+        fresh: NO_PAGES,
+        reply: Reply::Returned(4),
+    }
+}
