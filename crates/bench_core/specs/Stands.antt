@@ -1,5 +1,5 @@
 -- What a bench stands for: the states behind it, the present one and those before it.
-use Rattle.std.specs.Prelude.{◌≡◌, true, false, List, reverse, Result, Ok, Err}
+use Rattle.std.specs.Prelude.{◌≡◌, true, false, List, map, reverse, Result, Ok, Err}
 use Rattle.vsm_model.specs.declared.limits.Settings.{Settings}
 use Rattle.vsm_model.specs.declared.replies.Reply.{Reply}
 use Rattle.vsm_model.specs.Regions.{settings_valid}
@@ -9,7 +9,7 @@ use Rattle.storage_core.specs.Meaning.{settings_of}
 use Rattle.step_history.specs.Trail.{Trail, trail_of}
 use Rattle.step_history.specs.declared.too_far.TooFar.{TooFar}
 use Rattle.step_history.specs.declared.too_far.TooFarAhead.{TooFarAhead}
-use Rattle.vsm_machine.specs.Changes.{shown, machine_states}
+use Rattle.vsm_machine.specs.Changes.{named_of, shown, machine_states}
 use Rattle.vsm_machine.specs.declared.machine.Machine.{Machine}
 use Rattle.vsm_machine.specs.declared.machine.Change.{Change}
 use Rattle.vsm_machine.specs.Machine.{Why, unknown_name, abended}
@@ -24,8 +24,12 @@ use Rattle.vsm_machine.specs.declared.refusals.NewFault.TheVariants as new_fault
 abbrev pub bench_in : {M : Type 0} → Trail M → plain.Bench M
 bench_in t = record { past = reverse t.past; present = t.present; later = t.later }
 
+-- each state as something else
+abbrev pub bench_as : {M N : Type 0} → (M → N) → plain.Bench M → plain.Bench N
+bench_as f b = record { past = map f b.past; present = f b.present; later = map f b.later }
+
 abbrev pub bench_at : List Change → Machine → List Change → plain.Bench NamedState
-bench_at kept machine undone = bench_in (trail_of shown machine_states kept machine undone)
+bench_at kept machine undone = bench_as named_of (bench_in (trail_of shown machine_states kept machine undone))
 
 abbrev pub bench_of : Bench → plain.Bench NamedState
 bench_of b = bench_at b.history.kept b.machine b.history.undone

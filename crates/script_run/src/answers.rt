@@ -1,5 +1,5 @@
 //! A bench answers what a line asks for.
-ghost use Rattle.std.specs.Prelude.{◌≡◌, ◌≤◌, Ok};
+ghost use Rattle.std.specs.Prelude.{◌≡◌, ◌≤◌, Ok, length};
 ghost use Rattle.macro_statements.specs.Requests.{act, peek, back, forward, act_in, asked_in, written_in, IsValidAct};
 ghost use Rattle.macro_statements.specs.Requests.{IsValidAsked};
 ghost use Rattle.macro_reader.specs.Scripts.{told_by, told_at_end, IsValidFed};
@@ -9,9 +9,19 @@ ghost use Rattle.vsm_machine.specs.Machine.{shown_at};
 ghost use Rattle.script_run.specs.Responses.{reading_response};
 
 use crate::responses::Response;
+use arrayvec::ArrayVec;
 use bench_core::Bench;
 use macro_reader::{Fault, Fed, Request, Statement, Value};
-use vsm_machine::with_room;
+
+/// Bytes in room for as many as a PEEK may show, which is 256.
+fn with_room(bytes: &[u8]) -> ArrayVec<u8, 256>
+    requires { length bytes.now ≤ 256 }
+    ensures { result.items ≡ bytes.now }
+{
+    let mut room = ArrayVec::new();
+    room.try_extend_from_slice(bytes).unwrap();
+    room
+}
 
 /// Carries out a statement, or refuses it.
 fn carry_out(bench: &mut Bench, statement: &Statement) -> Response

@@ -1,13 +1,1 @@
-pub mod Region
-pub mod Views
-pub mod Searches
-pub mod Runs
-pub mod Sights
-pub mod Idle
-pub mod Outcomes
-pub mod Foreign
-pub mod Causes
-pub mod Released
-pub mod Fresh
-pub mod Written
-pub mod Carried
+-- Lemmas on a storage and its changes.

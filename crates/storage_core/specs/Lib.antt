@@ -1,3 +1,4 @@
+pub mod Held
 pub mod Meaning
 pub mod Planned
-pub mod Idle
+pub mod Stays

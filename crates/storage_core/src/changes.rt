@@ -1,32 +1,52 @@
-//! Changes of a storage, applied and taken back.
-ghost use Rattle.std.specs.Prelude.{◌≡◌};
-ghost use Rattle.storage_core.specs.Meaning.{settings_of, storage_in};
+//! Changes of a storage: made of a plan, exchanged with it, and discarded.
+ghost use Rattle.std.specs.Prelude.{◌≡◌, OnErr, IfOk};
+ghost use Rattle.storage_changes.specs.Changes.{Fit, overlay};
+ghost use Rattle.storage_changes.specs.Meaning.{IsSound};
+ghost use Rattle.storage_plans.specs.Plans.{change_in};
+ghost use Rattle.storage_swap.specs.Reserve.{Reserves};
+ghost use Rattle.storage_swap.specs.Swap.{means, Ready, Swaps, Discards};
+ghost use Rattle.storage_core.specs.Meaning.{state_in_place, settings_of};
+ghost use Rattle.storage_core.specs.Planned.{CanBeReserved};
+ghost use Rattle.storage_core.specs.Stays.{Stays};
 
-use super::Storage;
-use std::mem;
-
-/// What `Storage::swap` exchanges with a storage: another storage, of the same region.
-#[derive(Drop)]
-pub struct Change {
-    pub(crate) other: Storage,
-}
+use crate::storage::Storage;
+use std::alloc::AllocError;
+use storage_plans::Plan;
+use storage_swap::Change;
 
 impl Storage {
-    /// Applies a change, and leaves in its place the one that takes it back. Takes no memory, and never fails.
-    pub fn swap(&mut self, change: &mut Change)
-        requires { settings_of (storage_in change.old) ≡ settings_of self.old }
-        ensures state { self.new ≡ storage_in change.old }
-        ensures inverse { storage_in change.new ≡ self.old }
+    /// The change that carries out the plan, with all the memory that it needs: elements, and a frame and a place in a
+    /// table for each page that comes to be assigned. The storage stays as it is, whatever the answer.
+    ///
+    /// `AllocError` where memory is refused. What was made before that stays, as spare elements and frames.
+    pub fn reserve(&mut self, plan: Plan) -> Result<Change, AllocError>
+        requires { CanBeReserved (state_in_place self.old) plan }
+        ensures ok { IfOk result (λ change. Reserves self.old.parts (change_in plan) change self.new.parts) }
+        ensures err { OnErr result (Stays self.old.parts self.new.parts) }
         ensures settings { settings_of self.new ≡ settings_of self.old }
     {
-        mem::swap(self, &mut change.other);
+        Change::reserve(&mut self.parts, plan.records.as_slice(), plan.blanks, plan.fresh)
     }
 
-    /// Gives up a change that is not needed any more, and with it its memory.
-    pub fn discard(&mut self, change: Change)
-        ensures { self.new ≡ self.old }
+    /// Exchanges a change with the storage, and leaves in its place the one that takes it back. Takes no memory, and
+    /// never fails.
+    pub fn swap(&mut self, change: &mut Change)
+        requires ready { Ready self.old.parts change.old }
+        requires fits { Fit (state_in_place self.old) (means self.old.parts.elements change.old) }
+        requires sound { ∥ IsSound (settings_of self.old)
+            (overlay (state_in_place self.old) (means self.old.parts.elements change.old)) ∥₁ }
+        ensures swaps { Swaps self.old.parts change.old self.new.parts change.new }
+        ensures settings { settings_of self.new ≡ settings_of self.old }
     {
-        let Change { other } = change;
-        drop(other);
+        change.swap(&mut self.parts);
+    }
+
+    /// Gives up a change that is not needed any more: its elements and its frames are spare again.
+    pub fn discard(&mut self, change: Change)
+        requires { Ready self.old.parts change }
+        ensures discards { Discards self.old.parts change self.new.parts }
+        ensures settings { settings_of self.new ≡ settings_of self.old }
+    {
+        change.discard(&mut self.parts);
     }
 }

@@ -1,4 +1,0 @@
-pub mod Machine
-pub mod Refusals
-pub mod Changes
-pub mod Planned

@@ -1,20 +1,20 @@
 -- What a plan of a statement says, and the change that is made of it.
 use Rattle.std.specs.Prelude.{◌≡◌, ℕ, true, Option, Some, None, List, Result, Ok, Err}
 use Rattle.std.specs.Option.{option_map}
-use Rattle.vsm_model.specs.declared.limits.Settings.{Settings}
 use Rattle.vsm_model.specs.declared.replies.Reply.{Reply}
 use Rattle.vsm_model.specs.declared.replies.Reply.TheVariants.{Obtained, Cell}
-use Rattle.vsm_model.specs.Names.{NamedState}
 use Rattle.vsm_model.specs.Standing.{Accepted, Refused}
 use Rattle.macro_statements.specs.Requests.{Act}
-use Rattle.storage_core.specs.Meaning.{state_of, settings_of, storage_in}
-use Rattle.storage_core.specs.Planned as storage
+use Rattle.storage_core.specs.Planned.{CanBeReserved}
+use Rattle.storage_plans.specs.Plans.{change_in}
+use Rattle.storage_swap.specs.Reserve.{Reserves}
 use Rattle.name_table.specs.Steps.{NameStep, define, step_in, step_to}
 use Rattle.vsm_machine.specs.declared.machine.Machine.{Machine}
 use Rattle.vsm_machine.specs.declared.machine.Change.{Change}
 use Rattle.vsm_machine.specs.declared.plans.Planned.{Planned}
 use Rattle.vsm_machine.specs.declared.refusals.Refusal.{Refusal}
-use Rattle.vsm_machine.specs.Changes.{stepped_by, CanStepBy, step_of, undefines_none}
+use Rattle.vsm_machine.specs.NameSteps.{CanStepBy, undefines_none}
+use Rattle.vsm_machine.specs.Changes.{MachineState, Difference, named_of, step_of, overlay, StorageFits}
 use Rattle.vsm_machine.specs.Machine.{Why, statement_step}
 use Rattle.vsm_machine.specs.Refusals.{refusal_for}
 
@@ -33,22 +33,26 @@ defined_by _ = None
 abbrev pub step_planned : Planned → Option NameStep
 step_planned p = option_map step_in p.name
 
--- the plain machine once the plan is carried out
-abbrev pub after_plan : NamedState → Planned → NamedState
-after_plan m p = record { storage = storage.planned m.storage p.plan; names = stepped_by m.names (step_planned p) }
+-- what the change of the plan will mean
+abbrev pub difference_in : Planned → Difference
+difference_in p = record { storage = change_in p.plan; step = step_planned p; known = true }
 
--- A statement was planned: it is accepted, with this state and this reply; or it is refused for this.
-pub record IsAcceptedBy (settings : Settings) (m : NamedState) (x : Act) (p : Planned) : Type 0 where
-  pub accepted : statement_step settings m x ≡ Accepted (after_plan m p) (storage.reply_of p.plan)
+-- A statement was planned: it is accepted, with this reply, in the state that the plan's change leads to; that change
+-- fits, and can be made.
+pub record IsAcceptedBy (m : MachineState) (x : Act) (p : Planned) : Type 0 where
+  pub accepted :
+      statement_step m.settings (named_of m) x ≡ Accepted (named_of (overlay m (difference_in p))) p.plan.reply
+  pub fits : StorageFits m.settings m.storage (change_in p.plan)
+  pub reserved : CanBeReserved m.storage p.plan
   pub can : CanStepBy m.names (λ name. true) (step_planned p)
   pub gives : undefines_none (step_planned p) ≡ true
 
-abbrev pub IsPlanned : Settings → NamedState → Act → Result Planned Refusal → Type 0
-IsPlanned settings m x (Ok p) = IsAcceptedBy settings m x p
-IsPlanned settings m x (Err e) = (why : Why) × (statement_step settings m x ≡ Refused why) × (e ≡ refusal_for why)
+-- Or it is refused for this.
+abbrev pub IsPlanned : MachineState → Act → Result Planned Refusal → Type 0
+IsPlanned m x (Ok p) = ∥ IsAcceptedBy m x p ∥₁
+IsPlanned m x (Err e) = (why : Why) × (statement_step m.settings (named_of m) x ≡ Refused why) × (e ≡ refusal_for why)
 
--- The change carries out the plan on this machine.
-pub record IsChangeOf (m : Machine) (p : Planned) (c : Change) : Type 0 where
-  pub state : state_of (storage_in c.storage) ≡ storage.planned (state_of m.storage) p.plan
-  pub settings : settings_of (storage_in c.storage) ≡ settings_of m.storage
+-- The change was made of the plan: that of its storage beside this one, and the step of its name.
+pub record IsChangeOf (m : Machine) (p : Planned) (n : Machine) (c : Change) : Type 0 where
+  pub storage : Reserves m.storage.parts (change_in p.plan) c.storage n.storage.parts
   pub step : step_of c ≡ step_planned p

@@ -15,5 +15,4 @@ mod values;
 pub use machine::{Change, Machine};
 pub use plans::{Planned, plan_of, reserve};
 pub use refusals::{NewFault, Refusal};
-pub use storage_core::with_room;
 pub use values::look_up;

@@ -3,7 +3,7 @@ ghost use Rattle.std.specs.Prelude.{◌≡◌, ℕ, true, List};
 ghost use Rattle.std.specs.Option.{option_map};
 ghost use Rattle.name_table.specs.Table.{rows_of, knows};
 ghost use Rattle.name_table.specs.Steps.{step_in};
-ghost use Rattle.vsm_machine.specs.Changes.{stepped_by, turned_by, CanStepBy, is_ready};
+ghost use Rattle.vsm_machine.specs.NameSteps.{stepped_by, turned_by, CanStepBy, is_ready};
 
 use name_table::{NameChange, NameTable};
 use step_history::Reversible;
@@ -42,13 +42,12 @@ fn swap_name(names: &mut NameTable, change: &mut Option<NameChange>)
 }
 
 impl Reversible for Machine {
-    ghost use Rattle.vsm_model.specs.Names.{NamedState};
-    ghost use Rattle.vsm_machine.specs.Changes.{shown, machine_fits, machine_states, Alike, always, CanSwap, Swaps};
-    ghost use Rattle.vsm_machine.specs.Changes.{Discards, machine_laws};
+    ghost use Rattle.vsm_machine.specs.Changes.{MachineState, shown, machine_fits, machine_states, Apart, Whole};
+    ghost use Rattle.vsm_machine.specs.Changes.{CanSwap, Swaps, Discards, machine_laws};
 
     type Change = Change;
 
-    ghost Meaning = { NamedState };
+    ghost Meaning = { MachineState };
 
     ghost shows = { shown };
 
@@ -56,9 +55,9 @@ impl Reversible for Machine {
 
     ghost states = { machine_states };
 
-    ghost apart = { Alike };
+    ghost apart = { Apart };
 
-    ghost whole = { always };
+    ghost whole = { Whole };
 
     ghost can_swap = { CanSwap };
 

@@ -2,12 +2,14 @@
 ghost use Rattle.std.specs.Prelude.{◌≡◌, ℕ, true, List, IfOk, IfSome, OnErr, OnOk};
 ghost use Rattle.std.specs.Option.{option_map};
 ghost use Rattle.vsm_model.specs.Names.{is_one_too_many};
-ghost use Rattle.storage_core.specs.Meaning.{settings_of};
-ghost use Rattle.storage_core.specs.Planned.{FitsStorage};
+ghost use Rattle.storage_core.specs.Meaning.{state_in_place, settings_of};
+ghost use Rattle.storage_core.specs.Planned.{CanBeReserved};
+ghost use Rattle.storage_core.specs.Stays.{Stays};
 ghost use Rattle.macro_statements.specs.Requests.{act_in, IsValidAct};
 ghost use Rattle.name_table.specs.Table.{rows_of, knows};
 ghost use Rattle.name_table.specs.Steps.{step_in};
-ghost use Rattle.vsm_machine.specs.Changes.{shown, step_of, CanStepBy};
+ghost use Rattle.vsm_machine.specs.NameSteps.{CanStepBy};
+ghost use Rattle.vsm_machine.specs.Changes.{shown, step_of};
 ghost use Rattle.vsm_machine.specs.Planned.{step_for, step_planned, defined_by, IsPlanned, IsChangeOf};
 
 use crate::machine::{Change, Machine};
@@ -54,8 +56,7 @@ fn name_change(names: &NameTable, name: Option<&Name>, reply: Reply) -> Option<N
 /// The plan for what a statement asks for, or why it is refused: an unknown name, or the first cause that holds.
 pub fn plan_of(machine: &Machine, statement: &Statement) -> Result<Planned, Refusal>
     requires { IsValidAct (act_in statement.now) }
-    ensures is { IsPlanned (settings_of machine.now.storage) (shown machine.now) (act_in statement.now) result }
-    ensures fits { IfOk result (λ p. FitsStorage machine.now.storage p.plan) }
+    ensures { IsPlanned (shown machine.now) (act_in statement.now) result }
 {
     let mut room = [0; 4];
     let Some(service) = service_of(machine, statement, &mut room) else {
@@ -65,7 +66,7 @@ pub fn plan_of(machine: &Machine, statement: &Statement) -> Result<Planned, Refu
     let full = is_one_too_many(&machine.names, name);
     match machine.storage.plan(service, full) {
         Ok(plan) => {
-            let name = name_change(&machine.names, name, plan.reply());
+            let name = name_change(&machine.names, name, plan.reply);
             Ok(Planned { plan, name })
         }
         Err(cause) => {
@@ -113,16 +114,17 @@ fn make_ready(names: &mut NameTable, new: Option<Name>) -> Result<(), AllocError
 ///
 /// Refused where there is no memory for it; the table then holds the names that it held.
 pub fn reserve(machine: &mut Machine, planned: Planned) -> Result<Change, AllocError>
-    requires { FitsStorage machine.old.storage planned.plan }
-    ensures storage { machine.new.storage ≡ machine.old.storage }
+    requires { CanBeReserved (state_in_place machine.old.storage) planned.plan }
+    ensures is { IfOk result (λ c. IsChangeOf machine.old planned machine.new c) }
+    ensures settings { settings_of machine.new.storage ≡ settings_of machine.old.storage }
     ensures rows { rows_of machine.new.names ≡ rows_of machine.old.names }
-    ensures is { IfOk result (λ c. IsChangeOf machine.old planned c) }
     ensures can { IfOk result (λ c. CanStepBy (rows_of machine.old.names) (λ name. true) (step_planned planned)
         → CanStepBy (rows_of machine.new.names) (knows machine.new.names) (step_of c)) }
+    ensures stays { OnErr result (Stays machine.old.storage.parts machine.new.storage.parts) }
     ensures same { OnErr result ((name : List ℕ) → knows machine.new.names name ≡ knows machine.old.names name) }
 {
     let Planned { plan, name } = planned;
-    let storage = match plan.reserve(&mut machine.storage) {
+    let storage = match machine.storage.reserve(plan) {
         Ok(storage) => storage,
         Err(fault) => return Err(fault),
     };

@@ -4,7 +4,7 @@ ghost use Rattle.std.specs.Option.{option_map};
 ghost use Rattle.vsm_model.specs.Meaning.{service_in};
 ghost use Rattle.storage_core.specs.Planned.{CanBePlanned};
 ghost use Rattle.macro_statements.specs.Requests.{act_in, target_in, IsValidAct};
-ghost use Rattle.vsm_machine.specs.Changes.{shown};
+ghost use Rattle.vsm_machine.specs.Changes.{plain_of};
 ghost use Rattle.vsm_machine.specs.Machine.{service_asked, name_asked, family_asked, register_in};
 
 use crate::machine::Machine;
@@ -31,7 +31,7 @@ pub(crate) fn service_of<'a>(
     room: &'a mut [u8; 4],
 ) -> Option<Service<'a>>
     requires { IsValidAct (act_in statement.now) }
-    ensures is { option_map service_in result ≡ service_asked (shown machine.now) (act_in statement.now) }
+    ensures is { option_map service_in result ≡ service_asked (plain_of machine.now) (act_in statement.now) }
     ensures bounds { IfSome result (λ service. CanBePlanned (service_in service)) }
 {
     match statement {

@@ -2,7 +2,7 @@
 ghost use Rattle.std.specs.Prelude.{◌≡◌};
 ghost use Rattle.std.specs.Option.{option_map};
 ghost use Rattle.macro_statements.specs.Requests.{written_in, stored_in, IsValue, IsStored};
-ghost use Rattle.vsm_machine.specs.Changes.{shown};
+ghost use Rattle.vsm_machine.specs.Changes.{plain_of};
 ghost use Rattle.vsm_machine.specs.Machine.{looked_up, bytes_in};
 
 use crate::machine::Machine;
@@ -13,7 +13,7 @@ use operand_texts::{Content, Value};
 /// what it has. `None` where a name isn't defined.
 pub fn look_up(machine: &Machine, value: &Value) -> Option<u32>
     requires { IsValue (written_in value.now) }
-    ensures { result ≡ looked_up (shown machine.now) (written_in value.now) }
+    ensures { result ≡ looked_up (plain_of machine.now) (written_in value.now) }
 {
     match value {
         Value::Number(number) => Some(*number),
@@ -33,7 +33,7 @@ pub(crate) fn bytes_of<'a>(
     room: &'a mut [u8; 4],
 ) -> Option<&'a [u8]>
     requires { IsStored (stored_in content.now) }
-    ensures { option_map (λ b. b.now) result ≡ bytes_in (shown machine.now) (stored_in content.now) }
+    ensures { option_map (λ b. b.now) result ≡ bytes_in (plain_of machine.now) (stored_in content.now) }
 {
     match content {
         Content::Spelled(bytes) => Some(bytes.as_slice()),

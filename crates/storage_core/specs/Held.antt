@@ -1,0 +1,18 @@
+-- What holds of every storage that there is.
+use Rattle.std.specs.Prelude.{◌≡◌, ℕ, ◌≤◌, true, IsTrue}
+use Rattle.raw_region.specs.Pages.{has_segment}
+use Rattle.vsm_model.specs.declared.limits.Settings.{Settings}
+use Rattle.vsm_model.specs.Regions.{settings_valid, in_a_region}
+use Rattle.storage_changes.specs.Meaning.{IsSound}
+use Rattle.storage_exchange.specs.declared.storage.Storage.{Storage as Parts}
+use Rattle.storage_exchange.specs.Storage.{hold, state_of, Stand, IsFrameless}
+
+-- Its parts stand, no element is two parts', an unassigned page has no frame, each page of the regions can have a
+-- table, and the state is a sound one at the settings.
+pub record IsHeld (settings : Settings) (p : Parts) : Type 0 where
+  pub valid : settings_valid settings ≡ true
+  pub stands : Stand p
+  pub once : (i : ℕ) → hold p i ≤ 1
+  pub frameless : IsFrameless p
+  pub segments : (page : ℕ) → in_a_region settings page ≡ true → IsTrue (has_segment p.region page)
+  pub sound : ∥ IsSound settings (state_of p) ∥₁

@@ -1,0 +1,35 @@
+//! Readings of bytes and registers.
+ghost use Rattle.std.specs.Prelude.{◌≡◌, length, None, Some, OnOk, OnErr, IfErr};
+ghost use Rattle.vsm_model.specs.Bytes.{load};
+ghost use Rattle.storage_core.specs.Meaning.{state_of};
+
+use crate::storage::Storage;
+use storage_plans as plans;
+use vsm_model::Cause;
+
+impl Storage {
+    /// Reads the bytes from the address on. Refused with `NotAssigned` where one of them doesn't lie in an assigned
+    /// page, and `out` is then as it was. Takes no memory.
+    pub fn load(&self, address: u32, out: &mut [u8]) -> Result<(), Cause>
+        ensures ok { OnOk result (load (state_of self.now) address (length out.old) ≡ Some out.new) }
+        ensures err { OnErr result (load (state_of self.now) address (length out.old) ≡ None) }
+        ensures cause { IfErr result (λ cause. cause ≡ Cause.NotAssigned) }
+        ensures kept { OnErr result (out.new ≡ out.old) }
+    {
+        plans::load(&self.parts, address, out)
+    }
+
+    /// The word of a register of the task: 0 where there is no such task, and for a number past 15.
+    pub fn register(&self, task: u8, register: u8) -> u32
+        ensures { result ≡ (state_of self.now).words task register }
+    {
+        plans::register(&self.parts, task, register)
+    }
+
+    /// The task that makes the requests.
+    pub fn current(&self) -> u8
+        ensures { result ≡ (state_of self.now).current }
+    {
+        plans::current(&self.parts)
+    }
+}

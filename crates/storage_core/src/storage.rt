@@ -1,0 +1,44 @@
+ghost use Rattle.std.specs.Prelude.{◌≡◌, true, [], IfOk};
+ghost use Rattle.vsm_model.specs.Regions.{settings_valid};
+ghost use Rattle.storage_swap.specs.Fresh.{first_storage};
+ghost use Rattle.storage_history.specs.Apart.{AreWhole};
+ghost use Rattle.storage_core.specs.Held.{IsHeld, IsHeld-prop};
+ghost use Rattle.storage_core.specs.Meaning.{state_in_place, settings_of};
+
+use std::alloc::{AllocError, Global};
+use storage_exchange::Storage as Parts;
+use storage_swap::{Released, fresh, release};
+use vsm_model::Settings;
+
+/// Subpools, pages, doublewords and bytes of the regions below and above the 16 MB line (*Assembler Services Guide*,
+/// "Virtual storage management"), and the registers of the tasks.
+///
+/// A contract sees it by two words of `specs/Meaning.antt`: `state_of`, the state of the plain machine that it is in,
+/// and `settings_of`, the settings that lay out its regions.
+#[derive(Drop)]
+pub struct Storage {
+    pub(crate) parts: Parts,
+    pub(crate) settings: Settings,
+    ghost held: { IsHeld settings parts } by { IsHeld-prop settings parts },
+}
+
+impl Storage {
+    /// The storage of the regions that the settings lay out: task 1 is current, and owns and sees an empty subpool 0.
+    /// `AllocError` where the memory for it isn't there.
+    pub fn new(alloc: Global, settings: Settings) -> Result<Storage, AllocError>
+        requires { settings_valid settings ≡ true }
+        ensures state { IfOk result (λ s. state_in_place s ≡ first_storage settings) }
+        ensures settings { IfOk result (λ s. settings_of s ≡ settings) }
+        ensures whole { IfOk result (λ s. AreWhole s.parts []) }
+    {
+        let parts = fresh(alloc, settings)?;
+        Ok(Storage { parts, settings })
+    }
+
+    /// The settings that it was made with.
+    pub fn settings(&self) -> Settings
+        ensures { result ≡ settings_of self.now }
+    {
+        self.settings
+    }
+}
