@@ -3,7 +3,6 @@ ghost use Rattle.vsm_model.specs.Regions.{settings_valid};
 ghost use Rattle.storage_swap.specs.Fresh.{first_storage};
 ghost use Rattle.storage_history.specs.Apart.{AreWhole};
 ghost use Rattle.storage_core.specs.Held.{IsHeld, IsHeld-prop};
-ghost use Rattle.storage_core.specs.Meaning.{state_in_place, settings_of};
 
 use std::alloc::{AllocError, Global};
 use storage_exchange::Storage as Parts;
@@ -23,6 +22,8 @@ pub struct Storage {
 }
 
 impl Storage {
+    ghost use Rattle.storage_core.specs.Meaning.{state_in_place, settings_of};
+
     /// The storage of the regions that the settings lay out: task 1 is current, and owns and sees an empty subpool 0.
     /// `AllocError` where the memory for it isn't there.
     pub fn new(alloc: Global, settings: Settings) -> Result<Storage, AllocError>
