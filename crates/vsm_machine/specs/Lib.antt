@@ -1,0 +1,5 @@
+pub mod NameSteps
+pub mod Changes
+pub mod Machine
+pub mod Planned
+pub mod Refusals
