@@ -30,7 +30,7 @@ module _ (p t : Storage) (d : Meaning) (c : Change) (w : Reserves p d c t) where
   abbrev has : ℕ → ℕ
   has i = change_holds t.elements c i
 
-  reserve-others : (x : Change) → AreApart p (x ∷ []) → means t.elements x ≡ means p.elements x
+  pub reserve-others : (x : Change) → AreApart p (x ∷ []) → means t.elements x ≡ means p.elements x
   reserve-others x h =
       (left p t had has w.moves w.tables.tables x h.changes.0 (λ i. omega (arith, h.once i))).meant
 
@@ -45,7 +45,7 @@ module _ (p t : Storage) (d : Meaning) (c : Change) (w : Reserves p d c t) where
     reserve-once = once-after p.elements t.elements had has w.moves were (λ i. omega (arith, h.once i))
         (apart-live p xs h) (λ i. omega (arith, w.ready.once i))
 
-    reserve-apart : AreApart t (c ∷ xs)
+    pub reserve-apart : AreApart t (c ∷ xs)
     reserve-apart = record {
       storage = w.ready.stands.storage;
       changes = (
@@ -72,7 +72,7 @@ module _ (p t : Storage) (d : Meaning) (c : Change) (w : Reserves p d c t) where
           (λ j here. omega (arith, all j here)) i live,
     )
 
-  reserve-whole : (xs : List Change) → AreWhole p xs → AreWhole t (c ∷ xs)
+  pub reserve-whole : (xs : List Change) → AreWhole p xs → AreWhole t (c ∷ xs)
   reserve-whole xs h = record {
     apart = reserve-apart xs h.apart;
     all = reserve-all xs h.apart h.all;
