@@ -7,3 +7,4 @@ pub mod Fits
 pub mod Changes
 pub mod Meaning
 pub mod Laws
+pub mod Props

@@ -3,3 +3,4 @@ pub mod Kept
 pub mod Steps
 pub mod Reserved
 pub mod Fresh
+pub mod Props

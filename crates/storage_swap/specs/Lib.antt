@@ -3,3 +3,4 @@ pub mod Swap
 pub mod Reserve
 pub mod Fresh
 pub mod Laws
+pub mod Props

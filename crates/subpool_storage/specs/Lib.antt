@@ -1,3 +1,4 @@
 pub mod Subpools
 pub mod SubpoolStorage
 pub mod Laws
+pub mod Props

@@ -1,6 +1,8 @@
--- Trees without cycles.
+-- Trees without cycles. That there are depths is truncated: it says that there are some, and not which.
 use Rattle.std.proofs.Common.{◌≡◌, ◌≢◌, ℕ, zero, suc, ◌+◌, ◌<◌, ◌≤◌, leb, true, false, ◌==◌, Option, Some, None, IsSome, is_some, inl, inr, refl, sym, ap, ◌∙◌, subst, arith}
 use Rattle.std.specs.Prelude.{if◌then◌else◌}
+use Rattle.std.proofs.Math.Logic.{∥∥₁_elim, ∥∥₁_map, ∥∥₁_map₂}
+use Rattle.std.proofs.Props.{props}
 use Rattle.std.proofs.lemmas.Bool.{le-leb, leb-true}
 use Rattle.row_table.specs.Rows.{either_of}
 use Rattle.row_table.proofs.RowLemmas.{either, not_both, if_true, if_false, none_some, eqb_same, eqb_refl}
@@ -21,7 +23,7 @@ parent_of None h = absurd (not_both false h refl)
 parent_of (Some p) h = (p, refl)
 
 -- who is below another is as deep as that one, or deeper
-pub deeper : (f : Parents) (d : HasDepths f) (top t : ℕ) → IsBelow f top t → d.0 top ≤ d.0 t
+deeper : (f : Parents) (d : HasDepths f) (top t : ℕ) → IsBelow f top t → d.0 top ≤ d.0 t
 deeper f d top t below = leb-true (d.0 top) (d.0 t) (below (λ (x : ℕ). leb (d.0 top) (d.0 x)) (le-leb (d.0 top) (d.0 top) (omega arith)) closed) where
   closed : (child parent : ℕ) → f child ≡ Some parent → leb (d.0 top) (d.0 parent) ≡ true → leb (d.0 top) (d.0 child) ≡ true
   closed child parent e h =
@@ -29,44 +31,54 @@ deeper f d top t below = leb-true (d.0 top) (d.0 t) (below (λ (x : ℕ). leb (d
       let l : d.0 top ≤ d.0 parent = leb-true (d.0 top) (d.0 parent) h in
       le-leb (d.0 top) (d.0 child) (omega (arith, k, l))
 
-pub not_below : (f : Parents) → HasDepths f → (t p above : ℕ) → f t ≡ Some p → IsBelow f above p → IsBelow f t above → ⊥
-not_below f d t p above e up down =
-    let h : d.0 p < d.0 t = d.1 t p e in
-    let k : d.0 above ≤ d.0 p = deeper f d above p up in
-    let l : d.0 t ≤ d.0 above = deeper f d t above down in
-    omega (arith, h, k, l)
+pub not_below : (f : Parents) → ∥ HasDepths f ∥₁ → (t p above : ℕ) → f t ≡ Some p → IsBelow f above p → IsBelow f t above → ⊥
+not_below f some t p above e up down = ∥∥₁_elim some (hlevel props) no where
+  no : HasDepths f → ⊥
+  no d =
+      let h : d.0 p < d.0 t = d.1 t p e in
+      let k : d.0 above ≤ d.0 p = deeper f d above p up in
+      let l : d.0 t ≤ d.0 above = deeper f d t above down in
+      omega (arith, h, k, l)
 
 -- the way up from each task ends at the first
 module _ (f : Parents) (d : HasDepths f) (alone : (t : ℕ) → f t ≡ Some 0 → t ≡ 1) (parents : (t p : ℕ) → f t ≡ Some p → p ≢ 0 → IsSome (f p)) where
-  pub below_first : (n t : ℕ) → d.0 t ≤ n → IsSome (f t) → IsBelow f 1 t
-  below_first zero t high there =
+  below_by : (n t : ℕ) → d.0 t ≤ n → IsSome (f t) → IsBelow f 1 t
+  below_by zero t high there =
       let p : (p : ℕ) × (f t ≡ Some p) = parent_of (f t) there in
       let k : d.0 p.0 < d.0 t = d.1 t p.0 p.1 in
       absurd (omega (arith, high, k))
-  below_first (suc n) t high there =
+  below_by (suc n) t high there =
       let p : (p : ℕ) × (f t ≡ Some p) = parent_of (f t) there in
       let k : d.0 p.0 < d.0 t = d.1 t p.0 p.1 in
-      up p.0 p.1 (λ s. below_first n p.0 (omega (arith, high, k)) s) where
+      up p.0 p.1 (λ s. below_by n p.0 (omega (arith, high, k)) s) where
         up : (p : ℕ) → f t ≡ Some p → (IsSome (f p) → IsBelow f 1 p) → IsBelow f 1 t
         up zero e below = let P : ℕ → Type 0 = IsBelow f 1 in subst P (sym (alone t e)) (λ set begin closed. begin)
         up (suc p) e below =
             let b : IsBelow f 1 (suc p) = below (parents t (suc p) e (positive (suc p) (omega arith))) in
             λ set begin closed. closed t (suc p) e (b set begin closed)
 
--- a part of a tree without cycles
-pub depths_part : (f g : Parents) → ((t p : ℕ) → g t ≡ Some p → f t ≡ Some p) → HasDepths f → HasDepths g
-depths_part f g part d = (d.0, λ t p e. d.1 t p (part t p e))
+IsBelow-prop : (f : Parents) (top t : ℕ) → IsProp (IsBelow f top t)
+IsBelow-prop f top t = hlevel props
 
-pub depths_same : (f g : Parents) → ((t : ℕ) → g t ≡ f t) → HasDepths f → HasDepths g
+pub below_first : (f : Parents) → ∥ HasDepths f ∥₁ → ((t : ℕ) → f t ≡ Some 0 → t ≡ 1) → ((t p : ℕ) → f t ≡ Some p → p ≢ 0 → IsSome (f p))
+    → (t : ℕ) → IsSome (f t) → IsBelow f 1 t
+below_first f some alone parents t there =
+    ∥∥₁_elim some (IsBelow-prop f 1 t) (λ d. below_by f d alone parents (d.0 t) t (omega arith) there)
+
+-- a part of a tree without cycles
+pub depths_part : (f g : Parents) → ((t p : ℕ) → g t ≡ Some p → f t ≡ Some p) → ∥ HasDepths f ∥₁ → ∥ HasDepths g ∥₁
+depths_part f g part some = ∥∥₁_map some (λ d. (d.0, λ t p e. d.1 t p (part t p e)))
+
+pub depths_same : (f g : Parents) → ((t : ℕ) → g t ≡ f t) → ∥ HasDepths f ∥₁ → ∥ HasDepths g ∥₁
 depths_same f g same d = depths_part f g (λ t p e. sym (same t) ∙ e) d
 
 -- no task
-pub depths_none : (f : Parents) → ((t : ℕ) → f t ≡ None) → HasDepths f
-depths_none f none = ((λ x. x), λ t p e. absurd (none_some (f t) p (none t) e))
+pub depths_none : (f : Parents) → ((t : ℕ) → f t ≡ None) → ∥ HasDepths f ∥₁
+depths_none f none = ∣ ((λ x. x), λ t p e. absurd (none_some (f t) p (none t) e)) ∣₁
 
 -- the first task alone
-pub depths_first : (f : Parents) → ((t : ℕ) → f t ≡ (if t == 1 then Some 0 else None)) → HasDepths f
-depths_first f first = (
+first_depths : (f : Parents) → ((t : ℕ) → f t ≡ (if t == 1 then Some 0 else None)) → HasDepths f
+first_depths f first = (
   (λ x. x),
   λ t p e. elim (either (t == 1)) [
     | inl h ↦ (let k : 0 ≡ p = some_nat 0 p (sym (if_true (t == 1) (Some 0) None h) ∙ sym (first t) ∙ e) in
@@ -74,6 +86,9 @@ depths_first f first = (
     | inr h ↦ absurd (none_some (f t) p (first t ∙ if_false (t == 1) (Some 0) None h) e)
   ],
 )
+
+pub depths_first : (f : Parents) → ((t : ℕ) → f t ≡ (if t == 1 then Some 0 else None)) → ∥ HasDepths f ∥₁
+depths_first f first = ∣ first_depths f first ∣₁
 
 -- a task is added
 module _ (f g : Parents) (task under : ℕ) (absent : f task ≡ None) (low : 1 ≤ task) (home : IsSome (f under)) (added : (t : ℕ) → g t ≡ parents_with f task under t)
@@ -87,8 +102,8 @@ module _ (f g : Parents) (task under : ℕ) (absent : f task ≡ None) (low : 1 
     | inr h ↦ if_false (p == task) (suc (d.0 under)) (d.0 p) h
   ]
 
-  pub depths_more : HasDepths g
-  depths_more = (
+  more_depths : HasDepths g
+  more_depths = (
     more_depth,
     λ t p e. elim (either (t == task)) [
       | inl h ↦ (let k : under ≡ p = some_nat under p (sym (if_true (t == task) (Some under) (f t) h) ∙ sym (added t) ∙ e) in
@@ -106,7 +121,12 @@ module _ (f g : Parents) (task under : ℕ) (absent : f task ≡ None) (low : 1 
     ],
   )
 
--- a number that no more_depth up to n exceeds
+pub depths_more : (f g : Parents) (task under : ℕ) → f task ≡ None → 1 ≤ task → IsSome (f under) → ((t : ℕ) → g t ≡ parents_with f task under t)
+    → ((t p : ℕ) → f t ≡ Some p → p ≢ 0 → IsSome (f p)) → ∥ HasDepths f ∥₁ → ∥ HasDepths g ∥₁
+depths_more f g task under absent low home added parents some =
+    ∥∥₁_map some (λ d. more_depths f g task under absent low home added parents d)
+
+-- a number that no depth up to n exceeds
 abbrev most : (ℕ → ℕ) → ℕ → ℕ
 most d zero = d zero
 most d (suc n) = most d n + d (suc n)
@@ -139,8 +159,8 @@ module _ (f g h : Parents) (df : HasDepths f) (dg : HasDepths g) (rows : (t : �
     go None e s = s
     go (Some y) e s = absurd (not_both true refl e)
 
-  pub depths_join : HasDepths h
-  depths_join = (joined_depth, λ t p e. go t p (f t) refl (sym (rows t) ∙ e)) where
+  join_depths : HasDepths h
+  join_depths = (joined_depth, λ t p e. go t p (f t) refl (sym (rows t) ∙ e)) where
     from_parked : (t p : ℕ) → f t ≡ Some p → joined_depth p < joined_depth t
     from_parked t p e =
         let a : joined_depth t ≡ suc (most dg.0 64) + df.0 t = parked t (ap is_some e) in
@@ -165,3 +185,9 @@ module _ (f g h : Parents) (df : HasDepths f) (dg : HasDepths g) (rows : (t : �
     go : (t p : ℕ) (x : Option ℕ) → f t ≡ x → either_of x (g t) ≡ Some p → joined_depth p < joined_depth t
     go t p None e k = from_left t p e k
     go t p (Some y) e k = from_parked t p (e ∙ k)
+
+pub depths_join : (f g h : Parents) → ∥ HasDepths f ∥₁ → ∥ HasDepths g ∥₁ → ((t : ℕ) → h t ≡ either_of (f t) (g t)) → ((t : ℕ) → IsSome (f t) → g t ≡ None)
+    → ((t : ℕ) → IsSome (f t) → 1 ≤ t) → ((t : ℕ) → IsSome (g t) → t ≤ 64) → ((t p : ℕ) → g t ≡ Some p → p ≢ 0 → IsSome (g p))
+    → ((t p : ℕ) → f t ≡ Some p → IsSome (either_of (f p) (g p))) → ∥ HasDepths h ∥₁
+depths_join f g h parked left rows free range high parents homes =
+    ∥∥₁_map₂ parked left (λ df dg. join_depths f g h df dg rows free range high parents homes)

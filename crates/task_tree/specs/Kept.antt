@@ -36,7 +36,7 @@ pub record IsTree (f : Rows) : Type 0 where
   pub root : parents_in f 1 ≡ Some 0
   pub alone : (t : ℕ) → parents_in f t ≡ Some 0 → t ≡ 1
   pub parents : (t p : ℕ) → parents_in f t ≡ Some p → p ≢ 0 → IsSome (parents_in f p)
-  pub depths : HasDepths (parents_in f)
+  pub depths : ∥ HasDepths (parents_in f) ∥₁
 
 pub record IsKept (s : Store) (q : RowTable) (current : ℕ) : Type 0 where
   pub table : IsTable s q
@@ -46,7 +46,7 @@ pub record IsKept (s : Store) (q : RowTable) (current : ℕ) : Type 0 where
 pub record AreParked (s : Store) (q : RowTable) : Type 0 where
   pub table : IsTable s q
   pub tasks : AreTasks (row s q)
-  pub depths : HasDepths (parents_in (row s q))
+  pub depths : ∥ HasDepths (parents_in (row s q)) ∥₁
 
 -- the words of a task's row, whose registers are zero
 abbrev pub zero_words : ℕ → ℕ → ℕ → List ℕ

@@ -1,0 +1,17 @@
+-- That subpools stand with their storage has one proof at most.
+use Rattle.std.proofs.Props.{props}
+use Rattle.vsm_elements.specs.Store.{Store}
+use Rattle.subpool_set.specs.Props.{IsSubpoolSet-prop, AreApart-prop}
+use Rattle.subpool_storage.specs.declared.storage.SubpoolStorage.{SubpoolStorage}
+use Rattle.subpool_storage.specs.Subpools.{Subpools}
+use Rattle.subpool_storage.specs.SubpoolStorage.{StandsIn, Stands}
+
+pub Subpools-set : IsSet Subpools
+Subpools-set = hlevel props
+
+StandsIn-prop : (s : Store) (q : SubpoolStorage) → IsProp (StandsIn s q)
+StandsIn-prop s q = hlevel (IsSubpoolSet-prop, AreApart-prop, props)
+
+pub Stands-prop : (s : Store) (q : SubpoolStorage) → IsProp (Stands s q)
+unfolding Stands
+Stands-prop s q = StandsIn-prop s q
