@@ -6,6 +6,8 @@ use Rattle.vsm_model.specs.Regions.{settings_valid, in_a_region}
 use Rattle.storage_changes.specs.Meaning.{IsSound}
 use Rattle.storage_exchange.specs.declared.storage.Storage.{Storage as Parts}
 use Rattle.storage_exchange.specs.Storage.{hold, state_of, Stand, IsFrameless}
+use Rattle.storage_exchange.specs.Props.{Stand-prop, IsFrameless-prop}
+use Rattle.std.proofs.Props.{props}
 
 -- Its parts stand, no element is two parts', an unassigned page has no frame, each page of the regions can have a
 -- table, and the state is a sound one at the settings.
@@ -16,3 +18,7 @@ pub record IsHeld (settings : Settings) (p : Parts) : Type 0 where
   pub frameless : IsFrameless p
   pub segments : (page : ℕ) → in_a_region settings page ≡ true → IsTrue (has_segment p.region page)
   pub sound : ∥ IsSound settings (state_of p) ∥₁
+
+-- whether it's held is a question with one answer
+pub IsHeld-prop : (settings : Settings) (p : Parts) → IsProp (IsHeld settings p)
+IsHeld-prop settings p = hlevel (Stand-prop p, IsFrameless-prop p, props)

@@ -1,24 +1,26 @@
 -- A plan of a service is a plan of the statement that asks for it.
 use Rattle.std.proofs.Common.{◌≡◌, ℕ, Bool, true, false, ◌||◌, if◌then◌else◌, Option, Some, None, is_some, List, refl, sym, ap, ◌∙◌, subst}
-use Rattle.vsm_model.specs.declared.limits.Settings.{Settings}
 use Rattle.vsm_model.specs.declared.causes.Cause.{Cause}
 use Rattle.vsm_model.specs.declared.replies.Reply.{Reply}
 use Rattle.vsm_model.specs.declared.replies.Reply.TheVariants.{Obtained, Returned, Cell, Attached, Turn, Stored}
 use Rattle.vsm_model.specs.Codes.{completion_code}
 use Rattle.vsm_model.specs.Forms.{with_code}
-use Rattle.vsm_model.specs.Names.{NamedState, named, names_after, is_one_too_many, same_name, word_of}
+use Rattle.vsm_model.specs.Names.{named, names_after, is_one_too_many, same_name, word_of}
 use Rattle.vsm_model.specs.Standing.{Accepted, Refused}
 use Rattle.vsm_model.specs.Services.{Service}
 use Rattle.vsm_model.specs.Step.{step}
 use Rattle.macro_statements.specs.Requests.{Act}
-use Rattle.storage_core.specs.Planned as storage
+use Rattle.storage_changes.specs.Changes as storage
+use Rattle.storage_changes.specs.Meaning.{model_of, IsSound}
+use Rattle.storage_plans.specs.Plans.{change_in, CarriesOut}
 use Rattle.name_table.specs.Steps.{define, reword, step_to}
 use Rattle.name_table.proofs.StepsBack.{step_to_can, step_to_rows}
 use Rattle.name_table.proofs.SameName.{same_name-self}
 use Rattle.vsm_machine.specs.declared.plans.Planned.{Planned}
 use Rattle.vsm_machine.specs.declared.refusals.Refusal.{Refusal}
 use Rattle.vsm_machine.specs.declared.refusals.Refusal.TheVariants.{Abend}
-use Rattle.vsm_machine.specs.Changes.{stepped_by, CanStepBy, undefines_none}
+use Rattle.vsm_machine.specs.NameSteps.{stepped_by, CanStepBy, undefines_none}
+use Rattle.vsm_machine.specs.Changes.{MachineState, named_of}
 use Rattle.vsm_machine.specs.Machine.{Why, abended, or_abend, served, service_asked, name_asked, family_asked, statement_step}
 use Rattle.vsm_machine.specs.Planned.{step_for, step_planned, IsAcceptedBy}
 use Rattle.vsm_machine.specs.Refusals.{refusal_for}
@@ -81,32 +83,31 @@ gives names (Some name) (Attached task) = refl
 gives names (Some name) (Turn task) = refl
 gives names (Some name) Stored = refl
 
-module _
-    (settings : Settings) (m : NamedState) (x : Act) (service : Service) (is : Some service ≡ service_asked m x) where
-  pub accepted_by : (p : Planned) →
-      step settings (is_one_too_many m.names (name_asked x)) m.storage service
-      ≡ Accepted (storage.planned m.storage p.plan) (storage.reply_of p.plan) →
-      step_planned p ≡ step_for m.names (name_asked x) (storage.reply_of p.plan) → IsAcceptedBy settings m x p
-  accepted_by p e named_by =
-      let reply = storage.reply_of p.plan in
+module _ (m : MachineState) (x : Act) (service : Service) (is : Some service ≡ service_asked (named_of m) x) where
+  pub accepted_by : (p : Planned) → CarriesOut m.settings (is_one_too_many m.names (name_asked x)) m.storage service p.plan →
+      ∥ IsSound m.settings m.storage ∥₁ → step_planned p ≡ step_for m.names (name_asked x) p.plan.reply → IsAcceptedBy m x p
+  accepted_by p carried sound named_by =
+      let reply = p.plan.reply in
       let names : names_after m.names (name_asked x) reply ≡ stepped_by m.names (step_planned p) =
       sym (names_stepped m.names (name_asked x) reply) ∙ ap (stepped_by m.names) (sym named_by) in
       record {
         accepted =
-            ap (served settings m x) (sym is)
-            ∙ ap (λ o. or_abend (with_code (family_asked x) service (named m.names (name_asked x) o))) e
-            ∙ (λ i. Accepted (record { storage = storage.planned m.storage p.plan; names = names i }) reply);
+            ap (served m.settings (named_of m) x) (sym is)
+            ∙ ap (λ o. or_abend (with_code (family_asked x) service (named m.names (name_asked x) o))) carried.accepted
+            ∙ (λ i. Accepted (record { storage = model_of (storage.overlay m.storage (change_in p.plan)); names = names i }) reply);
+        fits = record { fits = carried.fits; before = sound; after = ∣ carried.sound ∣₁ };
+        reserved = record { few = carried.few; range = carried.range; unassigned = carried.unassigned };
         can = subst (CanStepBy m.names (λ name. true)) (sym named_by) (can_step m.names (name_asked x) reply);
         gives = ap undefines_none named_by ∙ gives m.names (name_asked x) reply;
       }
 
   pub refused_by : (cause : Cause) (e : Refusal) →
-      step settings (is_one_too_many m.names (name_asked x)) m.storage service ≡ Refused cause →
+      step m.settings (is_one_too_many m.names (name_asked x)) (model_of m.storage) service ≡ Refused cause →
       e ≡ Abend (completion_code (family_asked x) service cause) →
-      (why : Why) × (statement_step settings m x ≡ Refused why) × (e ≡ refusal_for why)
+      (why : Why) × (statement_step m.settings (named_of m) x ≡ Refused why) × (e ≡ refusal_for why)
   refused_by cause e refused told = (
     abended (completion_code (family_asked x) service cause),
-    ap (served settings m x) (sym is)
+    ap (served m.settings (named_of m) x) (sym is)
         ∙ ap (λ o. or_abend (with_code (family_asked x) service (named m.names (name_asked x) o))) refused,
     told,
   )

@@ -243,7 +243,7 @@ pub machine_laws : ReversibleLaws shown machine_fits machine_states Apart Whole 
 machine_laws = steps_laws fit overlay shown means Apart machine_steps
 
 StorageFits-prop : (settings : Settings) (m : StorageState) (d : StorageChange) → IsProp (StorageFits settings m d)
-StorageFits-prop settings m d = Prim.hlevel (Fit-prop m d)
+StorageFits-prop settings m d = hlevel (Fit-prop m d)
 
 fit-prop : (m : MachineState) (d : Difference) → IsProp (fit m d)
 fit-prop m d = ×_prop (StorageFits-prop m.settings m.storage d.storage) (Bool-set _ _)
