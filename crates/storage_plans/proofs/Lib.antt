@@ -3,3 +3,4 @@ mod BytesRead
 pub mod FixedLengths
 pub mod LeastFits
 pub mod Regions
+mod Stores
