@@ -1,19 +1,18 @@
 -- What a store needs of the storage, and what its plan comes to.
-use Rattle.std.proofs.Common.{◌≡◌, ℕ, suc, zero, ◌+◌, ◌-◌, ◌*◌, ◌<◌, ◌≤◌, ◌/◌, ◌^◌, Bool, true, false, not, List, [], ◌∷◌, length, slice_index_or, Some, None, IsSome, is_some, if◌then◌else◌, sym, ◌∙◌, ap, subst, arith, inl, inr}
+use Rattle.std.proofs.Common.{◌≡◌, ℕ, suc, zero, ◌+◌, ◌-◌, ◌*◌, ◌<◌, ◌≤◌, ◌/◌, Bool, true, false, not, List, [], ◌∷◌, length, slice_index_or, Some, None, IsSome, is_some, if◌then◌else◌, sym, ◌∙◌, ap, arith, inl, inr}
 use Rattle.std.specs.List.{All}
 use Rattle.std.proofs.Math.Logic.{∥∥₁_map}
 use Rattle.std.proofs.lemmas.Bool.{cases_eq, cases_lt}
-use Rattle.std.proofs.lemmas.Bool.Decides.{nat_tests}
-use Rattle.run_set.specs.declared.run.Run.{Run}
-use Rattle.run_set.specs.Runs.{inside}
 use Rattle.vsm_model.specs.declared.causes.Cause.TheVariants.{NotAssigned}
 use Rattle.vsm_model.specs.declared.limits.Settings.{Settings}
+use Rattle.vsm_model.specs.declared.replies.Reply.{Reply}
 use Rattle.vsm_model.specs.declared.replies.Reply.TheVariants.{Stored}
 use Rattle.vsm_model.specs.Bytes.{are_there, with_bytes}
 use Rattle.vsm_model.specs.Services.{store}
 use Rattle.vsm_model.specs.Standing.{Accepted}
 use Rattle.vsm_model.specs.State.{State}
 use Rattle.vsm_model.specs.Step.{step, answered}
+use Rattle.vsm_model.proofs.Chosen.{Stepped}
 use Rattle.vsm_model.proofs.Least.{all_pass_at, all_pass_from, all_pass_stops}
 use Rattle.raw_region.specs.Pages.{bytes_at}
 use Rattle.raw_region.proofs.ForCallers.{byte_at-assigned}
@@ -21,17 +20,17 @@ use Rattle.storage_laws.proofs.Kept.{store_leaves_well_formed}
 use Rattle.storage_changes.specs.declared.record.Record.{Record}
 use Rattle.storage_changes.specs.declared.record.Record.TheVariants.{Bytes}
 use Rattle.storage_changes.specs.State.{StorageState}
-use Rattle.storage_changes.specs.Changes.{Change, change_of, Fit, overlay}
 use Rattle.storage_changes.specs.Meaning.{model_of, IsSound}
 use Rattle.storage_changes.specs.Turned.{read}
 use Rattle.storage_actions.specs.Actions.{run_of, bytes_with, blocks_for, write_records}
-use Rattle.storage_actions.specs.Leads.{Leads}
+use Rattle.storage_actions.proofs.Rows.{none_fresh}
 use Rattle.storage_actions.proofs.Writing.{writing_leads}
 use Rattle.storage_exchange.specs.declared.storage.Storage.{Storage}
 use Rattle.storage_exchange.specs.Storage.{state_of, IsFrameless}
 use Rattle.storage_plans.specs.declared.plan.Plan.{Plan}
-use Rattle.storage_plans.specs.Plans.{CarriesOut, change_in}
+use Rattle.storage_plans.specs.Plans.{CarriesOut}
 use Rattle.storage_plans.proofs.BytesRead.{byte_shown}
+use Rattle.storage_plans.proofs.Carried.{carries_out}
 
 -- the record of a block with the bytes of a store over it
 abbrev pub block_record : StorageState → ℕ → List ℕ → ℕ → Record
@@ -96,28 +95,17 @@ are_bytes [] fits k d below = absurd (omega (arith, below))
 are_bytes (x ∷ xs) fits zero d below = fits 0
 are_bytes (x ∷ xs) fits (suc k) d below = are_bytes xs (λ i. fits (suc i)) k d (omega (arith, below))
 
-none_inside : (page : ℕ) → inside page (run_of 0 0) ≡ true → ⊥
-none_inside page own = grind (arith, nat_tests)
-
 -- the plan of a store
-module _ (settings : Settings) (names_full : Bool) (m : StorageState) (address : ℕ) (bytes : List ℕ) (plan : Plan)
-    (there : are_there (model_of m) address (length bytes) ≡ true) (are : All (λ byte. byte < 256) bytes)
-    (records : plan.records.items ≡ write_records m address bytes) (blanks : plan.blanks ≡ 0) (fresh : plan.fresh ≡ run_of 0 0) (reply : plan.reply ≡ Stored) where
-  same_change : change_of (write_records m address bytes) 0 (run_of 0 0) ≡ change_in plan
-  same_change = λ i. change_of (sym records i) (sym blanks i) (sym fresh i)
-
-  carried : Leads settings m (change_of (write_records m address bytes) 0 (run_of 0 0)) (with_bytes (model_of m) address bytes) → CarriesOut settings names_full m (store address bytes) plan
-  carried leads = record {
-    accepted = store_accepted settings names_full (model_of m) address bytes there
-        ∙ (λ i. Accepted ((sym leads.leads ∙ ap (λ (d : Change). model_of (overlay m d)) same_change) i) (sym reply i));
-    fits = subst (Fit m) same_change leads.fits;
-    sound = subst (λ (d : Change). IsSound settings (overlay m d)) same_change leads.sound;
-    few = omega (arith, blanks);
-    range = subst (λ (r : Run). r.start + r.len ≤ 2 ^ 20) (sym fresh) (omega arith);
-    unassigned = subst (λ (r : Run). (page : ℕ) → inside page r ≡ true → m.unassigned page ≡ true) (sym fresh) (λ page own. absurd (none_inside page own));
-  }
-
-  pub store_carried : ∥ IsSound settings m ∥₁ → ∥ CarriesOut settings names_full m (store address bytes) plan ∥₁
-  store_carried sound = ∥∥₁_map sound (λ h. carried (writing_leads settings m address bytes h there
-      (store_leaves_well_formed settings names_full (model_of m) (with_bytes (model_of m) address bytes) address bytes Stored are h.well_formed
-      (store_accepted settings names_full (model_of m) address bytes there))))
+pub store_carried :
+    (settings : Settings) (names_full : Bool) (m : StorageState) (address : ℕ) (bytes : List ℕ) (plan : Plan) → are_there (model_of m) address (length bytes) ≡ true
+    → All (λ byte. byte < 256) bytes → plan.records.items ≡ write_records m address bytes → plan.blanks ≡ 0 → plan.fresh ≡ run_of 0 0 → plan.reply ≡ Stored
+    → ∥ IsSound settings m ∥₁ → ∥ CarriesOut settings names_full m (store address bytes) plan ∥₁
+store_carried settings names_full m address bytes plan there are records blanks fresh reply sound =
+    let after : State = with_bytes (model_of m) address bytes in
+    let outcome : Reply → Stepped = λ r. Accepted after r in
+    let accepted : step settings names_full (model_of m) (store address bytes) ≡ Accepted after Stored = store_accepted settings names_full (model_of m) address bytes there in
+    ∥∥₁_map sound (λ h.
+        carries_out settings names_full m (store address bytes) plan (write_records m address bytes) 0 (run_of 0 0) after records blanks fresh (accepted ∙ ap outcome (sym reply))
+        (writing_leads settings m address bytes h there
+        (store_leaves_well_formed settings names_full (model_of m) after address bytes Stored are h.well_formed accepted))
+        (omega arith) (omega arith) (none_fresh m))

@@ -15,7 +15,7 @@ push-requires c =
     let record_at : ℕ → Record = block_record (state_of c.args.storage.now) c.args.address c.args.bytes.now in
     let long : length c.loop-k.records.items ≡ c.loop-k.k = ap length c.loop-k.invariant ∙ length-map-range_with_len record_at (c.args.address / 16) c.loop-k.k in (
       omega arith,
-      omega (arith, long, c.loop-k-test.true, c.blocks_touched-count.ensures.few),
+      omega (arith, long),
     )
 
 pub loop-k-preserved : goal.loop-k-preserved
