@@ -1,5 +1,7 @@
 mod BlockBytes
 mod BytesRead
+mod Carried
 pub mod FixedLengths
 pub mod LeastFits
 pub mod Regions
+mod Stores

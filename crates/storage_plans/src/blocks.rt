@@ -11,7 +11,7 @@ use storage_changes::BytesRecord;
 use storage_exchange::Storage;
 
 /// The bytes of a block.
-const BLOCK_BYTES: usize = 16;
+pub(crate) const BLOCK_BYTES: usize = 16;
 
 // Puts the bytes from `address` on over these, which are those from `first` on.
 fn put_over(held: &mut [u8], first: usize, address: usize, bytes: &[u8])

@@ -19,5 +19,5 @@ pub use places::{AreaPlace, area_place};
 pub use plan::{PLAN_RECORDS, Plan};
 pub use reading::{current, load, register};
 pub use release::plan_release;
-pub use store::{STORE_MOST, plan_store};
 pub use searches::{least_area, least_pages};
+pub use store::{STORE_MOST, plan_store};

@@ -1,17 +1,74 @@
 //! Plans of stores.
-ghost use Rattle.std.specs.Prelude.{◌≤◌, Bool, length};
+ghost use Rattle.std.specs.Prelude.{◌≡◌, ◌<◌, ◌≤◌, true, Bool, length};
 ghost use Rattle.vsm_model.specs.declared.limits.Settings.{Settings};
+ghost use Rattle.vsm_model.specs.Bytes.{are_there};
 ghost use Rattle.vsm_model.specs.Services.{store};
+ghost use Rattle.storage_changes.specs.Meaning.{model_of};
+ghost use Rattle.storage_actions.specs.Actions.{blocks_for, write_records};
 ghost use Rattle.storage_exchange.specs.Storage.{state_of, IsFrameless};
 ghost use Rattle.storage_plans.specs.Places.{StandsSound};
 ghost use Rattle.storage_plans.specs.Plans.{IsPlanned};
 
-use crate::plan::Plan;
+use crate::blocks::{BLOCK_BYTES, block_with};
+use crate::plan::{NO_PAGES, PLAN_RECORDS, Plan};
+use arrayvec::ArrayVec;
+use storage_changes::Record;
 use storage_exchange::Storage;
-use vsm_model::Cause;
+use vsm_model::{Cause, Reply};
 
 /// The most bytes of one store.
 pub const STORE_MOST: usize = 256;
+
+/// The bytes of a page.
+const PAGE_BYTES: usize = 4_096;
+
+// Whether each of so many bytes from the address on lies in an assigned page. They lie in two pages at most: that of
+// the first and that of the last one.
+fn are_assigned(storage: &Storage, address: u32, count: usize) -> bool
+    requires frameless { IsFrameless storage.now }
+    requires room { count ≤ 256 }
+    ensures { result ≡ are_there (model_of (state_of storage.now)) address count }
+{
+    if count == 0 {
+        return true;
+    }
+    let address = address as usize;
+    let first = address / PAGE_BYTES;
+    let last = (address + count - 1) / PAGE_BYTES;
+    storage.region.assigned(first as u32) && storage.region.assigned(last as u32)
+}
+
+// How many blocks so many bytes from the address on touch.
+fn blocks_touched(address: u32, count: usize) -> u32
+    requires { count ≤ 256 }
+    ensures value { result ≡ blocks_for address count }
+    ensures few { result ≤ 17 }
+{
+    if count == 0 {
+        return 0;
+    }
+    let address = address as usize;
+    let first = address / BLOCK_BYTES;
+    let last = (address + count - 1) / BLOCK_BYTES;
+    (last + 1 - first) as u32
+}
+
+// The records of the blocks that the bytes from the address on touch.
+fn block_records(storage: &Storage, address: u32, bytes: &[u8]) -> ArrayVec<Record, PLAN_RECORDS>
+    requires frameless { IsFrameless storage.now }
+    requires room { length bytes.now ≤ 256 }
+    requires there { are_there (model_of (state_of storage.now)) address (length bytes.now) ≡ true }
+    ensures { result.items ≡ write_records (state_of storage.now) address bytes.now }
+{
+    let first = address / BLOCK_BYTES as u32;
+    let count = blocks_touched(address, bytes.len());
+    let mut records = ArrayVec::new();
+    for k in 0..count {
+        let block = block_with(storage, first + k, address, bytes);
+        records.push(Record::Bytes(block));
+    }
+    records
+}
 
 /// A plan for a store of at most 256 bytes at the address, in any subpool. It sets no register. Reads alone, and takes
 /// no memory.
@@ -23,4 +80,13 @@ pub fn plan_store(storage: &Storage, address: u32, bytes: &[u8]) -> Result<Plan,
     ensures { (settings : Settings) (names_full : Bool) → StandsSound settings storage.now
         → IsPlanned settings names_full (state_of storage.now) (store address bytes.now) result }
 {
+    if !are_assigned(storage, address, bytes.len()) {
+        return Err(Cause::NotAssigned);
+    }
+    Ok(Plan {
+        records: block_records(storage, address, bytes),
+        blanks: 0,
+        fresh: NO_PAGES,
+        reply: Reply::Stored,
+    })
 }
