@@ -1,5 +1,6 @@
 mod BlockBytes
 mod BytesRead
+mod Carried
 pub mod FixedLengths
 pub mod LeastFits
 pub mod Regions
