@@ -1,6 +1,7 @@
 mod BlockBytes
 mod BytesRead
 mod Carried
+mod Obtained
 pub mod FixedLengths
 pub mod LeastFits
 pub mod Regions

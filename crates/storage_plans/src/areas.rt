@@ -1,12 +1,12 @@
 //! The area that a request for storage asks for, or why there is none.
-ghost use Rattle.std.specs.Prelude.{◌≡◌, ◌≤◌, ◌<◌, true, None, Some, IfOk, IfErr, OnOk, OnErr};
+ghost use Rattle.std.specs.Prelude.{◌≡◌, ◌≤◌, ◌<◌, not, true, None, Some, IfOk, IfErr, OnOk, OnErr};
 ghost use Rattle.vsm_model.specs.declared.services.Lengths.TheVariants.{Fixed};
 ghost use Rattle.vsm_model.specs.Areas.{spacing};
 ghost use Rattle.vsm_model.specs.Causes.{first_cause, number_causes};
 ghost use Rattle.vsm_model.specs.Obtaining.{longest, obtain_causes, place_for};
 ghost use Rattle.vsm_model.specs.Regions.{settings_valid, side};
 ghost use Rattle.vsm_model.specs.Services.{maximum};
-ghost use Rattle.vsm_model.specs.Subpools.{seen_or_own};
+ghost use Rattle.vsm_model.specs.Subpools.{seen_or_own, sees_one};
 ghost use Rattle.storage_changes.specs.Meaning.{model_of};
 ghost use Rattle.storage_exchange.specs.Storage.{state_of};
 ghost use Rattle.storage_plans.specs.Places.{StandsSound, place_of};
@@ -20,6 +20,8 @@ use vsm_model::{Boundary, Cause, Location, Obtain, Residence, Settings, Subpool}
 pub struct FoundArea {
     /// The subpool that gets it: the one that the task sees at the number, or a new one of its own.
     pub subpool: Subpool,
+    /// Whether the subpool is a new one.
+    pub is_new: bool,
     /// In doublewords.
     pub count: u32,
     pub place: AreaPlace,
@@ -61,19 +63,22 @@ fn spacing_of(boundary: Boundary) -> u32
     }
 }
 
-// The subpool that the current task sees at the number, or the one of its own that it is to have.
-fn subpool_for(storage: &Storage, settings: Settings, number: u8) -> Subpool
+// The subpool that the current task sees at the number, or the one of its own that it is to have; and whether that one
+// is new.
+fn subpool_for(storage: &Storage, settings: Settings, number: u8) -> (Subpool, bool)
     requires { StandsSound settings storage.now }
-    ensures { result ≡ seen_or_own (model_of (state_of storage.now)) number }
+    ensures subpool { result.0 ≡ seen_or_own (model_of (state_of storage.now)) number }
+    ensures is_new { result.1 ≡ not (sees_one (model_of (state_of storage.now)) number) }
 {
     let current = storage.tasks.current();
     let seen = storage
         .subpools
         .owner_seen(&storage.elements, current, number);
-    Subpool {
+    let subpool = Subpool {
         number,
         owner: seen.unwrap_or(current),
-    }
+    };
+    (subpool, seen.is_none())
 }
 
 /// The area that a request for a fixed length gets, or the first cause that refuses it. Reads alone, and takes no
@@ -94,6 +99,7 @@ pub fn find_area(
         first_cause (obtain_causes settings names_full (model_of (state_of storage.now)) o) ≡ None) }
     ensures subpool { IfOk result (λ found.
         found.subpool ≡ seen_or_own (model_of (state_of storage.now)) o.number) }
+    ensures is_new { IfOk result (λ found. found.is_new ≡ not (sees_one (model_of (state_of storage.now)) o.number)) }
     ensures count { IfOk result (λ found.
         longest settings (model_of (state_of storage.now)) o ≡ Some found.count) }
     ensures place { IfOk result (λ found. place_of (Some found.place)
@@ -110,12 +116,13 @@ pub fn find_area(
         return Err(Cause::TooManyNames);
     }
     let count = length.div_ceil(8);
-    let subpool = subpool_for(storage, settings, number);
+    let (subpool, is_new) = subpool_for(storage, settings, number);
     let side = side_of(settings, o.location);
     let spacing = spacing_of(o.boundary);
     match area_place(storage, settings, side, subpool, count, spacing) {
         Some(place) => Ok(FoundArea {
             subpool,
+            is_new,
             count,
             place,
         }),

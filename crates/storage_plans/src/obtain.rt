@@ -1,15 +1,172 @@
 //! Plans of STORAGE OBTAIN.
-ghost use Rattle.std.specs.Prelude.{◌≡◌, ◌<◌, true, IfSome};
+ghost use Rattle.std.specs.Prelude.{◌≡◌, ◌+◌, ◌*◌, ◌<◌, ◌≤◌, ◌^◌, ◌++◌, true, IfSome};
+ghost use Rattle.arrayvec.specs.ArrayVec.{array_vec_len};
+ghost use Rattle.vsm_model.specs.declared.replies.Reply.TheVariants.{Obtained};
 ghost use Rattle.vsm_model.specs.declared.services.Lengths.TheVariants.{Fixed};
 ghost use Rattle.vsm_model.specs.Regions.{settings_valid};
 ghost use Rattle.vsm_model.specs.Services.{maximum, obtain};
+ghost use Rattle.storage_actions.specs.Actions.{own_records, register_records, take_fresh_records};
 ghost use Rattle.storage_exchange.specs.Storage.{state_of};
+ghost use Rattle.storage_plans.specs.ObtainPlans.{address_registers, obtain_records, place_address, place_blanks};
+ghost use Rattle.storage_plans.specs.ObtainPlans.{place_pages, place_records};
 ghost use Rattle.storage_plans.specs.Places.{StandsSound};
 ghost use Rattle.storage_plans.specs.Plans.{IsPlanned};
 
-use crate::plan::Plan;
+use crate::areas::{FoundArea, find_area};
+use crate::places::AreaPlace;
+use crate::plan::{NO_PAGES, PLAN_RECORDS, Plan, answer_cause, push_area, push_register};
+use crate::searches::PAGE_DOUBLEWORDS;
+use arrayvec::ArrayVec;
+use descriptor_queue::Page;
+use run_set::Run;
+use storage_changes::{ExtentRecord, OwnRecord, PagesRecord, Record};
 use storage_exchange::Storage;
-use vsm_model::{Cause, Obtain, Settings};
+use vsm_model::{Cause, Obtain, Reply, Settings, Subpool};
+
+/// The bytes of a page.
+const PAGE_BYTES: u32 = 4096;
+
+// One more record where the subpool is new: it's made.
+fn push_own(records: &mut ArrayVec<Record, PLAN_RECORDS>, subpool: Subpool, is_new: bool)
+    requires { array_vec_len records.old < 17 }
+    ensures records { records.new.items ≡ records.old.items ++ own_records subpool is_new }
+    ensures few { array_vec_len records.new ≤ array_vec_len records.old + 1 }
+{
+    if is_new {
+        records.push(Record::Own(OwnRecord {
+            subpool,
+            present: true,
+        }));
+    }
+}
+
+// Up to three more records: an area of `count` doublewords is taken from the first byte of unassigned pages on.
+fn push_fresh(
+    records: &mut ArrayVec<Record, PLAN_RECORDS>,
+    subpool: Subpool,
+    page: Page,
+    count: u32,
+)
+    requires few { array_vec_len records.old ≤ 8 }
+    requires range { (page < 2 ^ 20) × (0 < count) × (count < 2 ^ 29) }
+    ensures records { records.new.items ≡ records.old.items ++ take_fresh_records subpool page count }
+    ensures few { array_vec_len records.new ≤ array_vec_len records.old + 3 }
+{
+    let run = Run {
+        start: page,
+        len: count.div_ceil(PAGE_DOUBLEWORDS),
+    };
+    records.push(Record::Pages(PagesRecord {
+        run,
+        assigned: true,
+    }));
+    records.push(Record::Extent(ExtentRecord {
+        subpool,
+        run,
+        present: true,
+    }));
+    let rest = Run {
+        start: PAGE_DOUBLEWORDS * page + count,
+        len: PAGE_DOUBLEWORDS * run.len - count,
+    };
+    push_area(records, subpool, rest, true);
+}
+
+// Up to three more records: an area is taken at its place.
+fn push_place(
+    records: &mut ArrayVec<Record, PLAN_RECORDS>,
+    subpool: Subpool,
+    place: AreaPlace,
+    count: u32,
+)
+    requires few { array_vec_len records.old ≤ 8 }
+    requires range { (place_address place < 2 ^ 32) × (0 < count) × (count < 2 ^ 29) }
+    ensures records { records.new.items ≡ records.old.items ++ place_records subpool count place }
+    ensures few { array_vec_len records.new ≤ array_vec_len records.old + 3 }
+{
+    match place {
+        AreaPlace::Inside(doubleword) => {
+            let area = Run {
+                start: doubleword,
+                len: count,
+            };
+            push_area(records, subpool, area, false);
+        }
+        AreaPlace::Fresh(page) => push_fresh(records, subpool, page, count),
+    }
+}
+
+// Up to three more records: the return code 0, and the address in register 1 and in the one that is named.
+fn push_address(
+    records: &mut ArrayVec<Record, PLAN_RECORDS>,
+    storage: &Storage,
+    named: Option<u8>,
+    address: u32,
+)
+    requires few { array_vec_len records.old ≤ 8 }
+    ensures records { records.new.items
+        ≡ records.old.items ++ register_records (state_of storage.now) (address_registers named address) }
+{
+    let current = storage.tasks.current();
+    push_register(records, current, 15, 0);
+    push_register(records, current, 1, address);
+    if let Some(register) = named {
+        push_register(records, current, register, address);
+    }
+}
+
+// The address of the first byte of a place.
+fn address_of(place: AreaPlace) -> u32
+    requires { place_address place < 2 ^ 32 }
+    ensures { result ≡ place_address place }
+{
+    match place {
+        AreaPlace::Inside(doubleword) => 8 * doubleword,
+        AreaPlace::Fresh(page) => PAGE_BYTES * page,
+    }
+}
+
+// The blank elements that it takes to take an area at its place, and the pages that come to be assigned.
+fn needs_of(place: AreaPlace, count: u32) -> (u32, Run)
+    ensures blanks { result.0 ≡ place_blanks place }
+    ensures fresh { result.1 ≡ place_pages count place }
+{
+    match place {
+        AreaPlace::Inside(_) => (3, NO_PAGES),
+        AreaPlace::Fresh(page) => {
+            let pages = Run {
+                start: page,
+                len: count.div_ceil(PAGE_DOUBLEWORDS),
+            };
+            (5, pages)
+        }
+    }
+}
+
+// The plan that takes the area that was found, with its address in register 1 and in the one that is named.
+fn plan_area(storage: &Storage, found: FoundArea, named: Option<u8>) -> Plan
+    requires { (place_address found.place < 2 ^ 32) × (0 < found.count) × (found.count < 2 ^ 29) }
+    ensures records { result.records.items ≡ obtain_records (state_of storage.now) found named }
+    ensures blanks { result.blanks ≡ place_blanks found.place }
+    ensures fresh { result.fresh ≡ place_pages found.count found.place }
+    ensures reply { result.reply ≡ Obtained (place_address found.place) (8 * found.count) }
+{
+    let address = address_of(found.place);
+    let mut records = ArrayVec::new();
+    push_own(&mut records, found.subpool, found.is_new);
+    push_place(&mut records, found.subpool, found.place, found.count);
+    push_address(&mut records, storage, named, address);
+    let (blanks, fresh) = needs_of(found.place, found.count);
+    Plan {
+        records,
+        blanks,
+        fresh,
+        reply: Reply::Obtained {
+            address,
+            length: 8 * found.count,
+        },
+    }
+}
 
 /// A plan for an area of a fixed length (*Assembler Services Reference*, STORAGE): it goes to the subpool that the
 /// current task sees at the number, or to a new one of its own. Its address goes into register 1, and into the one that
@@ -19,11 +176,20 @@ use vsm_model::{Cause, Obtain, Settings};
 /// The causes that refuse it, in order: a number above 127 (`UnsupportedSubpool` for 131 and 132, else
 /// `SubpoolNotAllowed`), `BadLength` for zero bytes, `TooManyNames`, and `NoStorage` where the area has no place. A
 /// conditional form has in place of `NoStorage` a plan that sets register 15 to 4, and nothing else.
-pub fn plan_obtain(storage: &Storage, settings: Settings, o: Obtain, names_full: bool) -> Result<Plan, Cause>
+pub fn plan_obtain(
+    storage: &Storage,
+    settings: Settings,
+    o: Obtain,
+    names_full: bool,
+) -> Result<Plan, Cause>
     requires sound { StandsSound settings storage.now }
     requires valid { settings_valid settings ≡ true }
     requires fixed { o.lengths ≡ Fixed (maximum o.lengths) }
     requires register { IfSome o.register (λ r. r < 16) }
     ensures { IsPlanned settings names_full (state_of storage.now) (obtain o) result }
 {
+    match find_area(storage, settings, o, names_full) {
+        Ok(found) => Ok(plan_area(storage, found, o.register)),
+        Err(cause) => answer_cause(storage, cause, o.conditional),
+    }
 }

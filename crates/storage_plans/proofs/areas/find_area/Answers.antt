@@ -15,8 +15,8 @@ returns-in-Some-clause-none c =
     let o = c.args.o in
     let fixed = c.requires.fixed in
     let count : c.div_ceil-count.result ≡ doublewords (maximum o.lengths) = first_of (search rules, grind (arith, common_steps)) in
-    let own : c.subpool_for-subpool.result ≡ seen_or_own s o.number = first_of (search rules, cc) in
-    let goes = place_is c.args.settings s o fixed c.side_of-side.result c.subpool_for-subpool.result c.spacing_of-spacing.result c.div_ceil-count.result
+    let own : c.subpool_for-is_new.result.0 ≡ seen_or_own s o.number = first_of (search rules, cc) in
+    let goes = place_is c.args.settings s o fixed c.side_of-side.result c.subpool_for-is_new.result.0 c.spacing_of-spacing.result c.div_ceil-count.result
     (place_of (Some c.in-Some.place)) c.side_of-side.ensures own c.spacing_of-spacing.ensures.value count (ap place_of (sym c.in-Some.is) ∙ c.area_place.ensures) in
     no_cause c.args.settings s o fixed c.args.names_full (search rules) (first_of (omega arith, search rules)) (search rules)
     (longest_some c.args.settings s o fixed (place_of (Some c.in-Some.place)) goes (is_somewhere c.in-Some.place))
@@ -27,8 +27,8 @@ returns-in-Some-clause-count c =
     let o = c.args.o in
     let fixed = c.requires.fixed in
     let count : c.div_ceil-count.result ≡ doublewords (maximum o.lengths) = first_of (search rules, grind (arith, common_steps)) in
-    let own : c.subpool_for-subpool.result ≡ seen_or_own s o.number = first_of (search rules, cc) in
-    let goes = place_is c.args.settings s o fixed c.side_of-side.result c.subpool_for-subpool.result c.spacing_of-spacing.result c.div_ceil-count.result
+    let own : c.subpool_for-is_new.result.0 ≡ seen_or_own s o.number = first_of (search rules, cc) in
+    let goes = place_is c.args.settings s o fixed c.side_of-side.result c.subpool_for-is_new.result.0 c.spacing_of-spacing.result c.div_ceil-count.result
     (place_of (Some c.in-Some.place)) c.side_of-side.ensures own c.spacing_of-spacing.ensures.value count (ap place_of (sym c.in-Some.is) ∙ c.area_place.ensures) in
     longest_some c.args.settings s o fixed (place_of (Some c.in-Some.place)) goes (is_somewhere c.in-Some.place) ∙ ap Some (sym count)
 
@@ -38,8 +38,8 @@ returns-in-None-clause-err c =
     let o = c.args.o in
     let fixed = c.requires.fixed in
     let count : c.div_ceil-count.result ≡ doublewords (maximum o.lengths) = first_of (search rules, grind (arith, common_steps)) in
-    let own : c.subpool_for-subpool.result ≡ seen_or_own s o.number = first_of (search rules, cc) in
-    let goes = place_is c.args.settings s o fixed c.side_of-side.result c.subpool_for-subpool.result c.spacing_of-spacing.result c.div_ceil-count.result
+    let own : c.subpool_for-is_new.result.0 ≡ seen_or_own s o.number = first_of (search rules, cc) in
+    let goes = place_is c.args.settings s o fixed c.side_of-side.result c.subpool_for-is_new.result.0 c.spacing_of-spacing.result c.div_ceil-count.result
     (place_of None) c.side_of-side.ensures own c.spacing_of-spacing.ensures.value count (ap place_of (sym c.in-None.is) ∙ c.area_place.ensures) in
     no_storage c.args.settings s o fixed c.args.names_full (search rules) (first_of (omega arith, search rules)) (search rules)
     (longest_none c.args.settings s o fixed (place_of None) goes refl)

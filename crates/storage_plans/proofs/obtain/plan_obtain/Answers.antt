@@ -1,0 +1,34 @@
+use Rattle.std.proofs.Common.{refl}
+use Rattle.std.proofs.Math.Logic.{∥∥₁_map}
+use Rattle.vsm_model.specs.Services.{obtain}
+use Rattle.storage_exchange.specs.Storage.{state_of}
+use Rattle.storage_plans.proofs.Obtained.{in_words, obtain_carried_out}
+use Rattle.storage_plans.proofs.obtain.plan_obtain.Goals as goal
+
+pub plan_area-requires : goal.plan_area-requires
+plan_area-requires c =
+    in_words c.args.settings c.args.names_full (state_of c.args.storage.now) c.args.o c.in-Ok.found (record {
+      valid = c.requires.valid;
+      fixed = c.requires.fixed;
+      none = c.in-Ok.ensures.none;
+      subpool = c.in-Ok.ensures.subpool;
+      is_new = c.in-Ok.ensures.is_new;
+      count = c.in-Ok.ensures.count;
+      place = c.in-Ok.ensures.place;
+    })
+
+pub returns-in-Ok : goal.returns-in-Ok
+returns-in-Ok c =
+    ∥∥₁_map c.requires.sound.sound (λ h. obtain_carried_out c.args.settings c.args.names_full (state_of c.args.storage.now) c.args.o c.in-Ok.found (record {
+      valid = c.requires.valid;
+      fixed = c.requires.fixed;
+      none = c.in-Ok.ensures.none;
+      subpool = c.in-Ok.ensures.subpool;
+      is_new = c.in-Ok.ensures.is_new;
+      count = c.in-Ok.ensures.count;
+      place = c.in-Ok.ensures.place;
+    }) h c.requires.register c.plan_area.result c.plan_area.ensures.records c.plan_area.ensures.blanks c.plan_area.ensures.fresh c.plan_area.ensures.reply)
+
+pub returns-in-Err : goal.returns-in-Err
+returns-in-Err c =
+    c.answer_cause.ensures c.args.settings c.args.names_full (obtain c.args.o) c.requires.sound.sound refl c.in-Err.ensures.err

@@ -1,0 +1,43 @@
+-- The change of an obtain, by the place of its area.
+use Rattle.std.specs.Prelude.{ℕ, List, ◌∷◌, ◌++◌, Option, Some}
+use Rattle.run_set.specs.declared.run.Run.{Run}
+use Rattle.vsm_model.specs.declared.Subpool.{Subpool}
+use Rattle.vsm_model.specs.Areas.{address_of}
+use Rattle.vsm_model.specs.Regions.{pages_for}
+use Rattle.vsm_model.specs.Registers.{named_register}
+use Rattle.storage_changes.specs.declared.record.Record.{Record}
+use Rattle.storage_changes.specs.State.{StorageState}
+use Rattle.storage_actions.specs.Actions.{own_records, take_records, take_fresh_records, register_records, run_of}
+use Rattle.storage_plans.specs.declared.areas.FoundArea.{FoundArea}
+use Rattle.storage_plans.specs.declared.places.AreaPlace.{AreaPlace}
+use Rattle.storage_plans.specs.declared.places.AreaPlace.TheVariants.{Inside, Fresh}
+use Rattle.storage_plans.specs.Places.{place_of}
+
+-- the address of the first byte of a place
+abbrev pub place_address : AreaPlace → ℕ
+place_address place = address_of (place_of (Some place))
+
+-- the area is taken there,
+abbrev pub place_records : Subpool → ℕ → AreaPlace → List Record
+place_records p count (Inside doubleword) = take_records p doubleword count
+place_records p count (Fresh page) = take_fresh_records p page count
+
+-- with so many blank elements,
+abbrev pub place_blanks : AreaPlace → ℕ
+place_blanks (Inside doubleword) = 3
+place_blanks (Fresh page) = 5
+
+-- and these pages come to be assigned.
+abbrev pub place_pages : ℕ → AreaPlace → Run
+place_pages count (Inside doubleword) = run_of 0 0
+place_pages count (Fresh page) = run_of page (pages_for count)
+
+-- The registers that the request sets: the return code, and the address in register 1 and in the one that is named.
+abbrev pub address_registers : Option ℕ → ℕ → List (ℕ × ℕ)
+address_registers named address = (15, 0) ∷ (1, address) ∷ named_register named address
+
+-- The subpool is made first, if it is new; then the area is taken, and the registers are set.
+abbrev pub obtain_records : StorageState → FoundArea → Option ℕ → List Record
+obtain_records m found named =
+    own_records found.subpool found.is_new ++ place_records found.subpool found.count found.place
+    ++ register_records m (address_registers named (place_address found.place))
