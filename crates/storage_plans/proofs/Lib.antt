@@ -6,3 +6,5 @@ pub mod FixedLengths
 pub mod LeastFits
 pub mod Regions
 mod Stores
+mod OwnedAreas
+mod GivenBack

@@ -2,3 +2,4 @@ pub mod Places
 pub mod Reading
 pub mod Plans
 pub mod ObtainPlans
+pub mod Releases
