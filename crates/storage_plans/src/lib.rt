@@ -4,14 +4,17 @@
 
 mod areas;
 mod blocks;
+mod obtain;
 mod places;
 mod plan;
 mod reading;
 mod release;
 mod searches;
+mod store;
 
 pub use areas::{FoundArea, find_area};
 pub use blocks::block_with;
+pub use obtain::plan_obtain;
 pub use places::{AreaPlace, area_place};
 pub use plan::{PLAN_RECORDS, Plan};
 pub use reading::{current, load, register};
