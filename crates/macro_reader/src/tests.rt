@@ -12,15 +12,19 @@ const STORAGE: Form = Form {
     conditional: false,
 };
 
-fn obtain(length: u32, subpool: u32) -> Request {
+fn obtain_in(length: Value, subpool: Value, place: Option<Place>) -> Request {
     Request::Act(Statement::Obtain {
-        length: Value::Number(length),
-        subpool: Value::Number(subpool),
-        place: None,
+        length,
+        subpool,
+        place,
         boundary: Boundary::Doubleword,
         location: Location::Caller,
         form: STORAGE,
     })
+}
+
+fn obtain(length: u32, subpool: u32) -> Request {
+    obtain_in(Value::Number(length), Value::Number(subpool), None)
 }
 
 fn release(length: u32, address: u32, subpool: u32) -> Request {
@@ -133,25 +137,19 @@ fn reads_names_and_registers(rt: HostRuntime) {
     let script: [(&[u8], Request); 3] = [
         (
             b" STORAGE OBTAIN,LENGTH=(0),SP=(R15),ADDR=area_1",
-            Request::Act(Statement::Obtain {
-                length: Value::Register(0),
-                subpool: Value::Register(15),
-                place: Some(Place::Named(name("AREA_1"))),
-                boundary: Boundary::Doubleword,
-                location: Location::Caller,
-                form: STORAGE,
-            }),
+            obtain_in(
+                Value::Register(0),
+                Value::Register(15),
+                Some(Place::Named(name("AREA_1"))),
+            ),
         ),
         (
             b" STORAGE OBTAIN,LENGTH=R5,ADDR=(r12),COND=no",
-            Request::Act(Statement::Obtain {
-                length: Value::Named(name("R5")),
-                subpool: Value::Number(0),
-                place: Some(Place::Register(12)),
-                boundary: Boundary::Doubleword,
-                location: Location::Caller,
-                form: STORAGE,
-            }),
+            obtain_in(
+                Value::Named(name("R5")),
+                Value::Number(0),
+                Some(Place::Register(12)),
+            ),
         ),
         (
             b" STORAGE RELEASE,LENGTH=$n,ADDR=(1),COND=Yes",

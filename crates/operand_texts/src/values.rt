@@ -5,7 +5,8 @@ ghost use Rattle.std.specs.Option.{option_map};
 ghost use Rattle.operand_texts.specs.Field.{outside, operands_from};
 ghost use Rattle.operand_texts.specs.Written.{written_in, target_in, is_upper_name, IsValue, IsTarget};
 ghost use Rattle.operand_texts.specs.Values.{register_number, without_r, is_enclosed, enclosed, register_of, value_of};
-ghost use Rattle.operand_texts.specs.Values.{is_value, target_of, is_condition, are_two_values, is_pair, two_of, parts_of};
+ghost use Rattle.operand_texts.specs.Values.{is_value, target_of, is_condition, two_of, are_two_values, is_pair};
+ghost use Rattle.operand_texts.specs.Values.{parts_of};
 
 use crate::nesting::{is_balanced, split};
 use crate::numbers::number_of;
