@@ -2,7 +2,8 @@
 
 use crate::tests::{card, fault, more, name};
 use crate::{
-    Content, Family, Fault, FaultKind, Fed, Form, Place, Reader, Request, Statement, Value,
+    Boundary, Content, Family, Fault, FaultKind, Fed, Form, Location, Place, Reader, Request,
+    Statement, Value,
 };
 use arrayvec::ArrayVec;
 use std::process::Abort;
@@ -278,6 +279,8 @@ fn tells_statements_that_can_be_spelled(rt: HostRuntime) {
             length: Value::Number(0),
             subpool: Value::Number(4_294_967_295),
             place: Some(Place::Register(register)),
+            boundary: Boundary::Page,
+            location: Location::Either,
             form: Form {
                 family,
                 conditional: true,

@@ -9,7 +9,7 @@ mod reading;
 
 pub use laws::{every_script_is_read, one_reading, valid_requests_are_read};
 pub use macro_statements::{
-    Family, FaultKind, Form, Request, Statement, valid_requests_are_spelled,
+    Boundary, Family, FaultKind, Form, Location, Request, Statement, valid_requests_are_spelled,
 };
 pub use operand_texts::{
     Content, Name, Place, Value, valid_contents_are_spelled, valid_places_are_spelled,

@@ -1,7 +1,8 @@
 //! A script with every kind of fault.
 
 use crate::{
-    Content, Family, Fault, FaultKind, Fed, Form, Name, Place, Reader, Request, Statement, Value,
+    Boundary, Content, Family, Fault, FaultKind, Fed, Form, Location, Name, Place, Reader, Request,
+    Statement, Value,
 };
 use arrayvec::ArrayVec;
 use std::process::Abort;
@@ -11,13 +12,19 @@ const STORAGE: Form = Form {
     conditional: false,
 };
 
-fn obtain(length: u32, subpool: u32) -> Request {
+fn obtain_in(length: Value, subpool: Value, place: Option<Place>) -> Request {
     Request::Act(Statement::Obtain {
-        length: Value::Number(length),
-        subpool: Value::Number(subpool),
-        place: None,
+        length,
+        subpool,
+        place,
+        boundary: Boundary::Doubleword,
+        location: Location::Caller,
         form: STORAGE,
     })
+}
+
+fn obtain(length: u32, subpool: u32) -> Request {
+    obtain_in(Value::Number(length), Value::Number(subpool), None)
 }
 
 fn release(length: u32, address: u32, subpool: u32) -> Request {
@@ -95,7 +102,7 @@ fn answers_every_operand(rt: HostRuntime) {
         (b" STORAGE RELEASE,LENGTH=(8,4)", Err(FaultKind::Value)),
         (b" STORAGE OBTAIN,LENGTH=(P)", Err(FaultKind::Value)),
         (b" STORAGE OBTAIN,LENGTH=(P,(5))", Err(FaultKind::LeftOut)),
-        (b" STORAGE OBTAIN,LENGTH=8,LOC=31", Err(FaultKind::LeftOut)),
+        (b" STORAGE RELEASE,LENGTH=8,LOC=31", Err(FaultKind::Operand)),
         (b" STORAGE KEY=1", Err(FaultKind::LeftOut)),
         (b" STORAGE OBTAIN,LENGTH=8,ADDR=(13)", Err(FaultKind::Value)),
         (b" STORAGE OBTAIN,LENGTH=8,ADDR=(0)", Err(FaultKind::Value)),
@@ -130,21 +137,19 @@ fn reads_names_and_registers(rt: HostRuntime) {
     let script: [(&[u8], Request); 3] = [
         (
             b" STORAGE OBTAIN,LENGTH=(0),SP=(R15),ADDR=area_1",
-            Request::Act(Statement::Obtain {
-                length: Value::Register(0),
-                subpool: Value::Register(15),
-                place: Some(Place::Named(name("AREA_1"))),
-                form: STORAGE,
-            }),
+            obtain_in(
+                Value::Register(0),
+                Value::Register(15),
+                Some(Place::Named(name("AREA_1"))),
+            ),
         ),
         (
             b" STORAGE OBTAIN,LENGTH=R5,ADDR=(r12),COND=no",
-            Request::Act(Statement::Obtain {
-                length: Value::Named(name("R5")),
-                subpool: Value::Number(0),
-                place: Some(Place::Register(12)),
-                form: STORAGE,
-            }),
+            obtain_in(
+                Value::Named(name("R5")),
+                Value::Number(0),
+                Some(Place::Register(12)),
+            ),
         ),
         (
             b" STORAGE RELEASE,LENGTH=$n,ADDR=(1),COND=Yes",
@@ -163,6 +168,83 @@ fn reads_names_and_registers(rt: HostRuntime) {
     for (line, want) in script {
         number = number.saturating_add(1);
         feed(&rt, &mut reader, number, line, Ok(Some(want)));
+    }
+}
+
+fn obtain_at(boundary: Boundary, location: Location) -> Result<Option<Request>, FaultKind> {
+    Ok(Some(Request::Act(Statement::Obtain {
+        length: Value::Number(8),
+        subpool: Value::Number(0),
+        place: None,
+        boundary,
+        location,
+        form: STORAGE,
+    })))
+}
+
+/// Feeds STORAGE OBTAIN,LENGTH=8 with this operand besides as the first line of a script, and compares the answer.
+fn feed_obtain(rt: &impl Abort, operand: &[u8], want: Result<Option<Request>, FaultKind>) {
+    let text = b"STORAGE OBTAIN,LENGTH=8,";
+    let mut line = [b' '; 72];
+    for i in 0..71usize {
+        line[i.saturating_add(1)] = match text.get(i) {
+            Some(byte) => *byte,
+            None => operand
+                .get(i.saturating_sub(text.len()))
+                .copied()
+                .unwrap_or(b' '),
+        };
+    }
+    feed(rt, &mut Reader::new(), 1, &line, want);
+}
+
+#[test]
+fn reads_boundaries_and_locations(rt: HostRuntime) {
+    let doubleword = Boundary::Doubleword;
+    for (operand, boundary, location) in [
+        (b"BNDRY=DBLWD".as_slice(), doubleword, Location::Caller),
+        (b"bndry=page", Boundary::Page, Location::Caller),
+        (b"LOC=BELOW", doubleword, Location::Low),
+        (b"LOC=24", doubleword, Location::Low),
+        (b"loc=any", doubleword, Location::Either),
+        (b"LOC=31", doubleword, Location::Either),
+        (b"LOC=RES", doubleword, Location::Caller),
+        (b"LOC=(BELOW,ANY)", doubleword, Location::Low),
+        (b"LOC=(24,64)", doubleword, Location::Low),
+        (b"LOC=(any,24)", doubleword, Location::Either),
+        (b"LOC=(31,31)", doubleword, Location::Either),
+        (b"LOC=(res,below)", doubleword, Location::Caller),
+        (b"BNDRY=PAGE,LOC=(31,64)", Boundary::Page, Location::Either),
+    ] {
+        feed_obtain(&rt, operand, obtain_at(boundary, location));
+    }
+}
+
+#[test]
+fn refuses_boundaries_and_locations(rt: HostRuntime) {
+    for (operand, fault) in [
+        (b"BNDRY=".as_slice(), FaultKind::Value),
+        (b"BNDRY=(PAGE)", FaultKind::Value),
+        (b"BNDRY=PAGE,BNDRY=X", FaultKind::Repeated),
+        (b"LOC=", FaultKind::Value),
+        (b"LOC=64", FaultKind::Value),
+        (b"LOC=X'18'", FaultKind::Value),
+        (b"LOC=(31)", FaultKind::Value),
+        (b"LOC=(31,RES)", FaultKind::Value),
+        (b"LOC=(64,31)", FaultKind::Value),
+        (b"LOC=(31,31,31)", FaultKind::Value),
+        (b"LOC=(31,)", FaultKind::Value),
+        (b"LOC=((31),31)", FaultKind::Value),
+        (b"LOC=(EXPLICIT)", FaultKind::Value),
+        (b"LOC=(EXPLICIT,24,31)", FaultKind::Value),
+        (b"LOC=(EXPLICIT,24)(31,24)", FaultKind::Value),
+        (b"LOC=(31,EXPLICIT)", FaultKind::Value),
+        (b"LOC=EXPLICIT", FaultKind::LeftOut),
+        (b"LOC=(explicit,24)", FaultKind::LeftOut),
+        (b"LOC=(EXPLICIT,)", FaultKind::LeftOut),
+        (b"LOC=31,LOC=EXPLICIT", FaultKind::Repeated),
+    ] {
+        feed_obtain(&rt, operand, Err(fault));
     }
 }
 

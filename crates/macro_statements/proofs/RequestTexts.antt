@@ -12,7 +12,8 @@ use Rattle.macro_statements.specs.Requests.{obtain, release, poke, Asked, act, p
 use Rattle.operand_texts.specs.Values.{number_of, value_of, target_of, content_of, within_size, size_of}
 use Rattle.macro_statements.specs.Rows.{Key, position, keyword, is_among, Entry, entry, Row}
 use Rattle.macro_statements.specs.Operands.{entry_for, is_excluded, unknown_fault, first_fault, text_at, value_at, target_at, unless_fault}
-use Rattle.macro_statements.specs.Storage.{obtain_row, release_row, storage_left_out, subpool_at, says_yes, storage_form, obtain_of, release_of, obtain_with, release_with, storage}
+use Rattle.macro_statements.specs.Locations.{boundary_of, location_of}
+use Rattle.macro_statements.specs.Storage.{obtain_row, release_row, storage_left_out, subpool_at, boundary_at, location_at, says_yes, storage_form, obtain_of, release_of, obtain_with, release_with, storage}
 use Rattle.macro_statements.specs.Poke.{poke_row, poke_of, poke_with}
 use Rattle.macro_statements.specs.Peek.{peek_row, peek_of, peek_with}
 use Rattle.macro_statements.specs.Steps.{steps_row, count_with, step_with, count_in}
@@ -24,8 +25,13 @@ use Rattle.macro_statements.specs.declared.faults.FaultKind.{FaultKind}
 use Rattle.macro_statements.specs.declared.faults.FaultKind.TheVariants as fault
 use Rattle.vsm_model.specs.declared.causes.Family.{Family}
 use Rattle.vsm_model.specs.declared.causes.Family.TheVariants as family
+use Rattle.vsm_model.specs.declared.services.Boundary.{Boundary}
+use Rattle.vsm_model.specs.declared.services.Boundary.TheVariants.{Doubleword, Page}
+use Rattle.vsm_model.specs.declared.services.Location.{Location}
+use Rattle.vsm_model.specs.declared.services.Location.TheVariants.{Low, Either, Caller}
 use Rattle.macro_statements.specs.declared.requests.Form.{Form}
 use Rattle.macro_statements.specs.declared.requests.Request.{Request}
+use Rattle.macro_statements.specs.declared.rows.Kind.{Kind}
 use Rattle.macro_statements.specs.declared.rows.Kind.TheVariants as kind
 use Rattle.macro_statements.specs.declared.statements.Operation.{Operation}
 use Rattle.macro_statements.specs.declared.statements.Operation.TheVariants as operation
@@ -60,11 +66,12 @@ in_position : (row : Row) (before : List Key) (i : ℕ) (e : Entry) (t : List �
 in_position row before i e t has free once says some no_equals stands =
     record { entry = e; has = has; free = free; once = once; says = (says, placed i t some no_equals stands) }
 
-obtain_is : (os : List (List ℕ)) (l s : Written) (p : Option Target) (c : Bool) → first_fault obtain_row os ≡ None
-    → value_at (keyword (codes "LENGTH")) os ≡ Some l → subpool_at os ≡ s → target_at (keyword (codes "ADDR")) os ≡ p
+obtain_is : (os : List (List ℕ)) (l s : Written) (p : Option Target) (y : Boundary) (o : Location) (c : Bool)
+    → first_fault obtain_row os ≡ None → value_at (keyword (codes "LENGTH")) os ≡ Some l → subpool_at os ≡ s
+    → target_at (keyword (codes "ADDR")) os ≡ p → boundary_at os ≡ y → location_at os ≡ o
     → says_yes (text_at (keyword (codes "COND")) os) ≡ c
-    → obtain_of os ≡ Ok (act (obtain l s p (record { family = family.S; conditional = c })))
-obtain_is os l s p c f a b d e = rw (f, a, b, d, e) refl
+    → obtain_of os ≡ Ok (act (obtain l s p y o (record { family = family.S; conditional = c })))
+obtain_is os l s p y o c f a b d g h e = rw (f, a, b, d, g, h, e) refl
 
 release_is : (os : List (List ℕ)) (l a s : Written) (c : Bool) → first_fault release_row os ≡ None
     → value_at (keyword (codes "LENGTH")) os ≡ Some l → value_at (keyword (codes "ADDR")) os ≡ Some a → subpool_at os ≡ s
@@ -95,13 +102,43 @@ abbrev condition_text : Bool → List ℕ
 condition_text true = codes "YES"
 condition_text false = codes "NO"
 
-condition_says : (c : Bool) → is_some (said_of kind.Condition (condition_text c)) ≡ true
-condition_says true = refl
-condition_says false = refl
+-- a word that is a value of this kind
+record IsWord (k : Kind) (t : List ℕ) : Type 0 where
+  says : is_some (said_of k t) ≡ true
+  name : is_name t ≡ true
+  few : length t ≤ 63
 
-condition_name : (c : Bool) → is_name (condition_text c) ≡ true
-condition_name true = refl
-condition_name false = refl
+condition_word : (c : Bool) → IsWord kind.Condition (condition_text c)
+condition_word true = record { says = refl; name = refl; few = omega arith }
+condition_word false = record { says = refl; name = refl; few = omega arith }
+
+-- a boundary, and a location
+abbrev boundary_text : Boundary → List ℕ
+boundary_text Doubleword = codes "DBLWD"
+boundary_text Page = codes "PAGE"
+
+boundary_spelled : (b : Boundary) → boundary_of (boundary_text b) ≡ Some b
+boundary_spelled Doubleword = refl
+boundary_spelled Page = refl
+
+boundary_word : (b : Boundary) → IsWord kind.Boundary (boundary_text b)
+boundary_word Doubleword = record { says = refl; name = refl; few = omega arith }
+boundary_word Page = record { says = refl; name = refl; few = omega arith }
+
+abbrev location_text : Location → List ℕ
+location_text Low = codes "BELOW"
+location_text Either = codes "ANY"
+location_text Caller = codes "RES"
+
+location_spelled : (l : Location) → location_of (location_text l) ≡ Some l
+location_spelled Low = refl
+location_spelled Either = refl
+location_spelled Caller = refl
+
+location_word : (l : Location) → IsWord kind.Location (location_text l)
+location_word Low = record { says = refl; name = refl; few = omega arith }
+location_word Either = record { says = refl; name = refl; few = omega arith }
+location_word Caller = record { says = refl; name = refl; few = omega arith }
 
 abbrev form_of : Family → Bool → Form
 form_of f c = record { family = f; conditional = c }
@@ -139,10 +176,6 @@ pub record Operands (asked : Asked) : Type 0 where
 two_long : (o p : List ℕ) → length (joined o (p ∷ [])) ≡ length o + length p + 1
 two_long o p = let a = length-append o (44 ∷ p) in omega (arith, a)
 
-condition_few : (c : Bool) → length (condition_text c) ≤ 63
-condition_few true = omega arith
-condition_few false = omega arith
-
 poke_fits : (a : Written) (c : Stored) (ta : ValueText a) (tc : ContentText c) → IsStored c → HasRoom (act (poke a c))
     → length (joined ta.text (tc.text ∷ [])) ≤ 569
 poke_fits (number n) (spelled bytes) ta tc h r =
@@ -177,21 +210,34 @@ optional_few : (k : List ℕ) (t : Option (List ℕ)) → length k ≤ 6 → IfS
 optional_few k None h few = tt
 optional_few k (Some t) h few = keyed_few k t h few
 
-obtain_operands : (l s : Written) (p : Option Target) (form : Form) → IsValidAsked (act (obtain l s p form)) → Operands (act (obtain l s p form))
-obtain_operands l s p form h =
+obtain_operands : (l s : Written) (p : Option Target) (y : Boundary) (o : Location) (form : Form)
+    → IsValidAsked (act (obtain l s p y o form)) → Operands (act (obtain l s p y o form))
+obtain_operands l s p y o form h =
     let tl = value_text_of l h.0 in
     let ts = value_text_of s h.1 in
     let tp = optional_place p h.2 in
+    let ty = boundary_text y in
+    let wy = boundary_word y in
+    let to = location_text o in
+    let wo = location_word o in
     let tc = condition_text form.conditional in
+    let wc = condition_word form.conditional in
     let items : List Item = item (keyword (codes "LENGTH")) (Some tl.text) ∷ item (keyword (codes "SP")) (Some ts.text)
-    ∷ item (keyword (codes "ADDR")) tp.text ∷ item (keyword (codes "COND")) (Some tc) ∷ [] in
+    ∷ item (keyword (codes "ADDR")) tp.text ∷ item (keyword (codes "BNDRY")) (Some ty) ∷ item (keyword (codes "LOC")) (Some to)
+    ∷ item (keyword (codes "COND")) (Some tc) ∷ [] in
     let fit : Good obtain_row items = (
       with_keyword obtain_row _ _ (codes "LENGTH") (entry (keyword (codes "LENGTH")) kind.Length) (Some tl.text) refl refl refl refl refl (value_says tl.text l tl.spells, tl.neat.goes 0),
       (
         with_keyword obtain_row _ _ (codes "SP") (entry (keyword (codes "SP")) kind.Value) (Some ts.text) refl refl refl refl refl (value_says ts.text s ts.spells, ts.neat.goes 0),
         (
           with_keyword obtain_row _ _ (codes "ADDR") (entry (keyword (codes "ADDR")) kind.Place) tp.text refl refl refl refl refl tp.says,
-          (with_keyword obtain_row _ _ (codes "COND") (entry (keyword (codes "COND")) kind.Condition) (Some tc) refl refl refl refl refl (condition_says form.conditional, word_stands tc (condition_name form.conditional)), tt),
+          (
+            with_keyword obtain_row _ _ (codes "BNDRY") (entry (keyword (codes "BNDRY")) kind.Boundary) (Some ty) refl refl refl refl refl (wy.says, word_stands ty wy.name),
+            (
+              with_keyword obtain_row _ _ (codes "LOC") (entry (keyword (codes "LOC")) kind.Location) (Some to) refl refl refl refl refl (wo.says, word_stands to wo.name),
+              (with_keyword obtain_row _ _ (codes "COND") (entry (keyword (codes "COND")) kind.Condition) (Some tc) refl refl refl refl refl (wc.says, word_stands tc wc.name), tt),
+            ),
+          ),
         ),
       ),
     ) in
@@ -199,7 +245,13 @@ obtain_operands l s p form h =
       keyed_few (codes "LENGTH") tl.text (omega arith) tl.neat.few,
       (
         keyed_few (codes "SP") ts.text (omega arith) ts.neat.few,
-        (optional_few (codes "ADDR") tp.text (omega arith) tp.few, (keyed_few (codes "COND") tc (omega arith) (condition_few form.conditional), tt)),
+        (
+          optional_few (codes "ADDR") tp.text (omega arith) tp.few,
+          (
+            keyed_few (codes "BNDRY") ty (omega arith) wy.few,
+            (keyed_few (codes "LOC") to (omega arith) wo.few, (keyed_few (codes "COND") tc (omega arith) wc.few, tt)),
+          ),
+        ),
       ),
     ) in
     record {
@@ -209,12 +261,14 @@ obtain_operands l s p form h =
       some = omega arith;
       stands = word_stands (codes "OBTAIN") refl;
       stand = stand obtain_row [] 0 items fit;
-      reads = obtain_is (operands.written items) l s p (is_word tc (codes "YES")) (no_fault obtain_row items fit)
+      reads = obtain_is (operands.written items) l s p y o (is_word tc (codes "YES")) (no_fault obtain_row items fit)
           (ap (λ t. option_and_then value_of t) (text obtain_row (keyword (codes "LENGTH")) items fit) ∙ tl.spells)
           (ap (λ t. unwrap_or (option_and_then value_of t) (number 0)) (text obtain_row (keyword (codes "SP")) items fit) ∙ ap (λ v. unwrap_or v (number 0)) ts.spells)
           (ap (λ t. option_and_then target_of t) (text obtain_row (keyword (codes "ADDR")) items fit) ∙ tp.spells)
+          (ap (λ t. unwrap_or (option_and_then boundary_of t) Doubleword) (text obtain_row (keyword (codes "BNDRY")) items fit) ∙ ap (λ v. unwrap_or v Doubleword) (boundary_spelled y))
+          (ap (λ t. unwrap_or (option_and_then location_of t) Caller) (text obtain_row (keyword (codes "LOC")) items fit) ∙ ap (λ v. unwrap_or v Caller) (location_spelled o))
           (ap says_yes (text obtain_row (keyword (codes "COND")) items fit))
-          ∙ ap (λ f. Ok (act (obtain l s p f))) (form_back form.family form.conditional h.3);
+          ∙ ap (λ f. Ok (act (obtain l s p y o f))) (form_back form.family form.conditional h.3);
       fits = λ r. (let all = long (codes "OBTAIN") items few in omega (arith, all));
     }
 
@@ -224,6 +278,7 @@ release_operands l a s form h =
     let ta = value_text_of a h.1 in
     let ts = value_text_of s h.2 in
     let tc = condition_text form.conditional in
+    let wc = condition_word form.conditional in
     let items : List Item = item (keyword (codes "LENGTH")) (Some tl.text) ∷ item (keyword (codes "ADDR")) (Some ta.text)
     ∷ item (keyword (codes "SP")) (Some ts.text) ∷ item (keyword (codes "COND")) (Some tc) ∷ [] in
     let fit : Good release_row items = (
@@ -232,7 +287,7 @@ release_operands l a s form h =
         with_keyword release_row _ _ (codes "ADDR") (entry (keyword (codes "ADDR")) kind.Value) (Some ta.text) refl refl refl refl refl (value_says ta.text a ta.spells, ta.neat.goes 0),
         (
           with_keyword release_row _ _ (codes "SP") (entry (keyword (codes "SP")) kind.Value) (Some ts.text) refl refl refl refl refl (value_says ts.text s ts.spells, ts.neat.goes 0),
-          (with_keyword release_row _ _ (codes "COND") (entry (keyword (codes "COND")) kind.Condition) (Some tc) refl refl refl refl refl (condition_says form.conditional, word_stands tc (condition_name form.conditional)), tt),
+          (with_keyword release_row _ _ (codes "COND") (entry (keyword (codes "COND")) kind.Condition) (Some tc) refl refl refl refl refl (wc.says, word_stands tc wc.name), tt),
         ),
       ),
     ) in
@@ -240,7 +295,7 @@ release_operands l a s form h =
       keyed_few (codes "LENGTH") tl.text (omega arith) tl.neat.few,
       (
         keyed_few (codes "ADDR") ta.text (omega arith) ta.neat.few,
-        (keyed_few (codes "SP") ts.text (omega arith) ts.neat.few, (keyed_few (codes "COND") tc (omega arith) (condition_few form.conditional), tt)),
+        (keyed_few (codes "SP") ts.text (omega arith) ts.neat.few, (keyed_few (codes "COND") tc (omega arith) wc.few, tt)),
       ),
     ) in
     record {
@@ -321,7 +376,7 @@ step_operands o n asked h e =
     record { operation = o; first = decimal n; rest = []; some = neat.some; stands = neat.goes 0; stand = tt; reads = e; fits = λ r. (let few = neat.few in omega (arith, few)) }
 
 pub operands_of : (asked : Asked) → AskedHasBytes asked → IsValidAsked asked → Operands asked
-operands_of (act (obtain l s p form)) b h = obtain_operands l s p form h
+operands_of (act (obtain l s p y o form)) b h = obtain_operands l s p y o form h
 operands_of (act (release l a s form)) b h = release_operands l a s form h
 operands_of (act (poke a c)) b h = poke_operands a c b h
 operands_of (peek a n) b h = peek_operands a n h
@@ -380,11 +435,11 @@ or_zero : (o : Option Written) → IfSome o IsValue → IsValue (unwrap_or o (nu
 or_zero None h = omega arith
 or_zero (Some v) h = h
 
-obtain_valid : (f : Option FaultKind) (l : Option Written) (s : Written) (p : Option Target) (form : Form) (asked : Asked) → IfSome l IsValue → IsValue s
-    → IfSome p IsTarget → form.family ≡ family.S → unless_fault f (obtain_with l s p form) ≡ Ok asked → IsValidAsked asked
-obtain_valid (Some f) l s p form asked a b c d h = cc
-obtain_valid None None s p form asked a b c d h = cc
-obtain_valid None (Some l) s p form asked a b c d h = let same : act (obtain l s p form) ≡ asked = cc in subst IsValidAsked same (a, b, c, d)
+obtain_valid : (f : Option FaultKind) (l : Option Written) (s : Written) (p : Option Target) (y : Boundary) (o : Location) (form : Form) (asked : Asked)
+    → IfSome l IsValue → IsValue s → IfSome p IsTarget → form.family ≡ family.S → unless_fault f (obtain_with l s p y o form) ≡ Ok asked → IsValidAsked asked
+obtain_valid (Some f) l s p y o form asked a b c d h = cc
+obtain_valid None None s p y o form asked a b c d h = cc
+obtain_valid None (Some l) s p y o form asked a b c d h = let same : act (obtain l s p y o form) ≡ asked = cc in subst IsValidAsked same (a, b, c, d)
 
 release_valid : (f : Option FaultKind) (l a : Option Written) (s : Written) (form : Form) (asked : Asked) → IfSome l IsValue → IfSome a IsValue → IsValue s
     → form.family ≡ family.S → unless_fault f (release_with l a s form) ≡ Ok asked → IsValidAsked asked
@@ -421,7 +476,7 @@ forward_valid None (Some n) asked v h = let same : forward n ≡ asked = cc in s
 
 obtain_of_valid : (os : List (List ℕ)) (asked : Asked) → obtain_of os ≡ Ok asked → IsValidAsked asked
 obtain_of_valid os asked h =
-    obtain_valid (first_fault obtain_row os) (value_at (keyword (codes "LENGTH")) os) (subpool_at os) (target_at (keyword (codes "ADDR")) os) (storage_form os) asked
+    obtain_valid (first_fault obtain_row os) (value_at (keyword (codes "LENGTH")) os) (subpool_at os) (target_at (keyword (codes "ADDR")) os) (boundary_at os) (location_at os) (storage_form os) asked
     (value_valid (text_at (keyword (codes "LENGTH")) os)) (or_zero (value_at (keyword (codes "SP")) os) (value_valid (text_at (keyword (codes "SP")) os)))
     (place_valid (text_at (keyword (codes "ADDR")) os)) refl h
 

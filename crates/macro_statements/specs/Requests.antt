@@ -6,16 +6,18 @@ pub use Rattle.operand_texts.specs.Written.{Stored, spelled, word, written_in, t
 pub use Rattle.operand_texts.specs.Written.{is_upper_name, IsValue, IsTarget, IsStored, HasBytes}
 use Rattle.macro_statements.specs.declared.faults.FaultKind.{FaultKind}
 use Rattle.vsm_model.specs.declared.causes.Family.TheVariants as family
+use Rattle.vsm_model.specs.declared.services.Boundary.{Boundary}
+use Rattle.vsm_model.specs.declared.services.Location.{Location}
 use Rattle.macro_statements.specs.declared.requests.Form.{Form}
 use Rattle.macro_statements.specs.declared.requests.Statement.{Statement}
 use Rattle.macro_statements.specs.declared.requests.Statement.TheVariants as code_statement
 use Rattle.macro_statements.specs.declared.requests.Request.{Request}
 use Rattle.macro_statements.specs.declared.requests.Request.TheVariants as code_request
 
--- A statement that changes storage: `obtain length subpool target form`, `release length address subpool form`, `poke
--- address content`.
+-- A statement that changes storage: `obtain length subpool target boundary location form`, `release length address
+-- subpool form`, `poke address content`.
 pub data Act : Type 0 where
-  obtain : Written → Written → Option Target → Form → Act
+  obtain : Written → Written → Option Target → Boundary → Location → Form → Act
   release : Written → Written → Written → Form → Act
   poke : Written → Stored → Act
 
@@ -28,8 +30,8 @@ pub data Asked : Type 0 where
 
 -- What the code's statement says.
 abbrev pub act_in : Statement → Act
-act_in (code_statement.Obtain length subpool place form) =
-    obtain (written_in length) (written_in subpool) (option_map target_in place) form
+act_in (code_statement.Obtain length subpool place boundary location form) =
+    obtain (written_in length) (written_in subpool) (option_map target_in place) boundary location form
 act_in (code_statement.Release length address subpool form) =
     release (written_in length) (written_in address) (written_in subpool) form
 act_in (code_statement.Poke address content) = poke (written_in address) (stored_in content)
@@ -49,7 +51,7 @@ seen (Err e) = Err e
 -- So are those of what a request stores.
 abbrev pub AskedHasBytes : Asked → Type 0
 AskedHasBytes (act (poke address content)) = HasBytes content
-AskedHasBytes (act (obtain length subpool target form)) = ⊤
+AskedHasBytes (act (obtain length subpool target boundary location form)) = ⊤
 AskedHasBytes (act (release length address subpool form)) = ⊤
 AskedHasBytes (peek address len) = ⊤
 AskedHasBytes (back n) = ⊤
@@ -62,15 +64,16 @@ HasRoom (act (poke (named name) (spelled bytes))) = length name + 2 * length byt
 HasRoom (act (poke (named name) (word value))) = ⊤
 HasRoom (act (poke (number n) content)) = ⊤
 HasRoom (act (poke (register n) content)) = ⊤
-HasRoom (act (obtain length subpool target form)) = ⊤
+HasRoom (act (obtain length subpool target boundary location form)) = ⊤
 HasRoom (act (release length address subpool form)) = ⊤
 HasRoom (peek address len) = ⊤
 HasRoom (back n) = ⊤
 HasRoom (forward n) = ⊤
 
--- A statement that can be written: each of its values is one, and its form is of the family of STORAGE.
+-- A statement that can be written: each of its values is one, and its form is of the family of STORAGE. Each boundary
+-- and each location can be.
 abbrev pub IsValidAct : Act → Type 0
-IsValidAct (obtain length subpool target form) =
+IsValidAct (obtain length subpool target boundary location form) =
     IsValue length × IsValue subpool × IfSome target IsTarget × (form.family ≡ family.S)
 IsValidAct (release length address subpool form) =
     IsValue length × IsValue address × IsValue subpool × (form.family ≡ family.S)

@@ -4,10 +4,13 @@ use Rattle.std.specs.Option.{option_map}
 use Rattle.operand_texts.specs.Words.{is_word}
 use Rattle.operand_texts.specs.Written.{Written, Target}
 use Rattle.operand_texts.specs.Values.{number_of, value_of, is_pair, target_of, content_of, size_of}
+use Rattle.macro_statements.specs.Locations.{boundary_of, location_of, is_explicit}
 use Rattle.macro_statements.specs.declared.faults.FaultKind.{FaultKind}
 use Rattle.macro_statements.specs.declared.faults.FaultKind.TheVariants as fault
 use Rattle.macro_statements.specs.declared.rows.Kind.{Kind}
 use Rattle.macro_statements.specs.declared.rows.Kind.TheVariants as kind
+use Rattle.vsm_model.specs.declared.services.Boundary.{Boundary}
+use Rattle.vsm_model.specs.declared.services.Location.{Location}
 
 -- Of what is stored that is the text that spells it.
 pub data Said : Type 0 where
@@ -17,6 +20,8 @@ pub data Said : Type 0 where
   content : List ℕ → Said
   size : ℕ → Said
   count : ℕ → Said
+  boundary : Boundary → Said
+  location : Location → Said
 
 -- A condition is YES or NO, in either case.
 abbrev pub condition_of : List ℕ → Option Bool
@@ -42,8 +47,10 @@ said_of kind.ConditionWord text = option_map condition (condition_word_of text)
 said_of kind.Content text = if is_some (content_of text) then Some (content text) else None
 said_of kind.Size text = option_map size (size_of text)
 said_of kind.Count text = option_map count (number_of text)
+said_of kind.Boundary text = option_map boundary (boundary_of text)
+said_of kind.Location text = option_map location (location_of text)
 
--- A text is a value of this kind that isn't supported: of lengths that is a pair.
+-- A text is a value of this kind that isn't supported: of lengths that is a pair, of locations EXPLICIT.
 abbrev pub is_unsupported : Kind → List ℕ → Bool
 is_unsupported kind.Value text = false
 is_unsupported kind.Length text = is_pair text
@@ -53,6 +60,8 @@ is_unsupported kind.ConditionWord text = false
 is_unsupported kind.Content text = false
 is_unsupported kind.Size text = false
 is_unsupported kind.Count text = false
+is_unsupported kind.Boundary text = false
+is_unsupported kind.Location text = is_explicit text
 
 -- What is wrong with a text that is no value of this kind: it's a bad value, but where words stand for themselves, any
 -- other is no operand of the statement.
@@ -65,6 +74,8 @@ wrong_fault kind.ConditionWord = fault.Operand
 wrong_fault kind.Content = fault.Value
 wrong_fault kind.Size = fault.Value
 wrong_fault kind.Count = fault.Value
+wrong_fault kind.Boundary = fault.Value
+wrong_fault kind.Location = fault.Value
 
 -- What is wrong with a text that says nothing of this kind.
 abbrev pub unsaid_fault : Kind → List ℕ → FaultKind

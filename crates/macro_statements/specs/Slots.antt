@@ -20,6 +20,10 @@ use Rattle.macro_statements.specs.Said as says
 use Rattle.macro_statements.specs.Said.{said_of, unsaid_fault}
 use Rattle.macro_statements.specs.Requests.{Asked}
 use Rattle.vsm_model.specs.declared.causes.Family.TheVariants as family
+use Rattle.vsm_model.specs.declared.services.Boundary.{Boundary}
+use Rattle.vsm_model.specs.declared.services.Boundary.TheVariants.{Doubleword}
+use Rattle.vsm_model.specs.declared.services.Location.{Location}
+use Rattle.vsm_model.specs.declared.services.Location.TheVariants.{Caller}
 use Rattle.macro_statements.specs.declared.requests.Form.{Form}
 use Rattle.macro_statements.specs.declared.faults.FaultKind.{FaultKind}
 use Rattle.macro_statements.specs.declared.faults.FaultKind.TheVariants as fault
@@ -58,6 +62,8 @@ said_in (code_said.Condition b) = says.condition b
 said_in (code_said.Content text) = says.content text.now
 said_in (code_said.Size n) = says.size n
 said_in (code_said.Count n) = says.count n
+said_in (code_said.Boundary b) = says.boundary b
+said_in (code_said.Location l) = says.location l
 
 -- For each entry of a row what was read of it, or nothing.
 abbrev pub Slots : Type 0
@@ -153,6 +159,14 @@ abbrev pub as_count : Option says.Said → Option ℕ
 as_count (Some (says.count n)) = Some n
 as_count _ = None
 
+abbrev pub as_boundary : Option says.Said → Option Boundary
+as_boundary (Some (says.boundary b)) = Some b
+as_boundary _ = None
+
+abbrev pub as_location : Option says.Said → Option Location
+as_location (Some (says.location l)) = Some l
+as_location _ = None
+
 -- What each statement asks for by what was read.
 abbrev pub form_by : Bool → Form
 form_by conditional = record { family = family.S; conditional = conditional }
@@ -160,10 +174,16 @@ form_by conditional = record { family = family.S; conditional = conditional }
 abbrev pub subpool_by : Option says.Said → Written
 subpool_by said = unwrap_or (as_value said) (number 0)
 
+abbrev pub boundary_by : Option says.Said → Boundary
+boundary_by said = unwrap_or (as_boundary said) Doubleword
+
+abbrev pub location_by : Option says.Said → Location
+location_by said = unwrap_or (as_location said) Caller
+
 abbrev pub obtain_by : Slots → Result Asked FaultKind
 obtain_by slots =
     obtain_with (as_value (slot slots 0)) (subpool_by (slot slots 1)) (as_place (slot slots 2))
-    (form_by (as_condition (slot slots 3)))
+    (boundary_by (slot slots 3)) (location_by (slot slots 4)) (form_by (as_condition (slot slots 5)))
 
 abbrev pub release_by : Slots → Result Asked FaultKind
 release_by slots =

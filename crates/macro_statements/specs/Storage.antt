@@ -1,10 +1,11 @@
 -- STORAGE: its forms OBTAIN and RELEASE, and their rows.
 use Rattle.std.specs.Prelude.{ℕ, Bool, false, if◌then◌else◌, List, [], ◌∷◌, Option, Some, None, Result, Ok, Err}
-use Rattle.std.specs.Prelude.{codes, unwrap_or}
+use Rattle.std.specs.Prelude.{codes, unwrap_or, option_and_then}
 use Rattle.operand_texts.specs.Words.{is_word}
 use Rattle.operand_texts.specs.Written.{Written, number, Target}
 use Rattle.macro_statements.specs.Rows.{keyword, entry, Row}
 use Rattle.macro_statements.specs.Keywords.{operand_at}
+use Rattle.macro_statements.specs.Locations.{boundary_of, location_of}
 use Rattle.macro_statements.specs.Operands.{unknown_fault, first_fault, unless_fault, text_at, value_at, target_at}
 use Rattle.macro_statements.specs.Requests.{obtain, release, Asked, act}
 use Rattle.macro_statements.specs.declared.faults.FaultKind.{FaultKind}
@@ -12,22 +13,27 @@ use Rattle.macro_statements.specs.declared.faults.FaultKind.TheVariants as fault
 use Rattle.macro_statements.specs.declared.requests.Form.{Form}
 use Rattle.macro_statements.specs.declared.rows.Kind.TheVariants as kind
 use Rattle.vsm_model.specs.declared.causes.Family.TheVariants as family
+use Rattle.vsm_model.specs.declared.services.Boundary.{Boundary}
+use Rattle.vsm_model.specs.declared.services.Boundary.TheVariants.{Doubleword}
+use Rattle.vsm_model.specs.declared.services.Location.{Location}
+use Rattle.vsm_model.specs.declared.services.Location.TheVariants.{Caller}
 
--- The keywords of STORAGE that are left out: boundaries, locations and what has no effect, which aren't supported;
--- storage keys, the storage of other tasks, exact boundaries, and lists of operands.
+-- The keywords of STORAGE that are left out: what has no effect, which isn't supported; storage keys, the storage of
+-- other tasks, exact boundaries, and lists of operands.
 abbrev pub storage_left_out : List (List ℕ)
 storage_left_out =
-    codes "BNDRY" ∷ codes "LOC" ∷ codes "RELATED" ∷ codes "LINKAGE" ∷ codes "REGS"
+    codes "RELATED" ∷ codes "LINKAGE" ∷ codes "REGS"
     ∷ codes "KEY" ∷ codes "CALLRKY" ∷ codes "TCBADDR" ∷ codes "OWNER" ∷ codes "EXECUTABLE" ∷ codes "CHECKZERO"
     ∷ codes "STARTBDY" ∷ codes "CONTBDY" ∷ codes "INADDR" ∷ codes "RTCD" ∷ codes "BRANCH" ∷ codes "TCB"
     ∷ codes "MF" ∷ []
 
--- STORAGE OBTAIN has LENGTH, SP, ADDR and COND (Assembler Services Reference, "STORAGE - Obtain and release storage",
--- OBTAIN option).
+-- STORAGE OBTAIN has LENGTH, SP, ADDR, BNDRY, LOC and COND (Assembler Services Reference, "STORAGE - Obtain and release
+-- storage", OBTAIN option).
 abbrev pub obtain_row : Row
 obtain_row = record {
   entries = entry (keyword (codes "LENGTH")) kind.Length ∷ entry (keyword (codes "SP")) kind.Value
-      ∷ entry (keyword (codes "ADDR")) kind.Place ∷ entry (keyword (codes "COND")) kind.Condition ∷ [];
+      ∷ entry (keyword (codes "ADDR")) kind.Place ∷ entry (keyword (codes "BNDRY")) kind.Boundary
+      ∷ entry (keyword (codes "LOC")) kind.Location ∷ entry (keyword (codes "COND")) kind.Condition ∷ [];
   left_out = storage_left_out;
 }
 
@@ -43,6 +49,14 @@ release_row = record {
 abbrev pub subpool_at : List (List ℕ) → Written
 subpool_at texts = unwrap_or (value_at (keyword (codes "SP")) texts) (number 0)
 
+-- BNDRY is a doubleword where it is left out.
+abbrev pub boundary_at : List (List ℕ) → Boundary
+boundary_at texts = unwrap_or (option_and_then boundary_of (text_at (keyword (codes "BNDRY")) texts)) Doubleword
+
+-- LOC is as the caller resides where it is left out.
+abbrev pub location_at : List (List ℕ) → Location
+location_at texts = unwrap_or (option_and_then location_of (text_at (keyword (codes "LOC")) texts)) Caller
+
 -- A condition says YES.
 abbrev pub says_yes : Option (List ℕ) → Bool
 says_yes None = false
@@ -54,9 +68,10 @@ abbrev pub storage_form : List (List ℕ) → Form
 storage_form texts = record { family = family.S; conditional = says_yes (text_at (keyword (codes "COND")) texts) }
 
 -- LENGTH is required.
-abbrev pub obtain_with : Option Written → Written → Option Target → Form → Result Asked FaultKind
-obtain_with None subpool target form = Err fault.Missing
-obtain_with (Some length) subpool target form = Ok (act (obtain length subpool target form))
+abbrev pub obtain_with : Option Written → Written → Option Target → Boundary → Location → Form → Result Asked FaultKind
+obtain_with None subpool target boundary location form = Err fault.Missing
+obtain_with (Some length) subpool target boundary location form =
+    Ok (act (obtain length subpool target boundary location form))
 
 -- LENGTH and ADDR are required.
 abbrev pub release_with : Option Written → Option Written → Written → Form → Result Asked FaultKind
@@ -70,7 +85,7 @@ abbrev pub obtain_of : List (List ℕ) → Result Asked FaultKind
 obtain_of texts =
     unless_fault (first_fault obtain_row texts)
     (obtain_with (value_at (keyword (codes "LENGTH")) texts) (subpool_at texts)
-    (target_at (keyword (codes "ADDR")) texts) (storage_form texts))
+    (target_at (keyword (codes "ADDR")) texts) (boundary_at texts) (location_at texts) (storage_form texts))
 
 -- STORAGE RELEASE with the operands behind its form (there).
 abbrev pub release_of : List (List ℕ) → Result Asked FaultKind

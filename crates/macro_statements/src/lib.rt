@@ -3,6 +3,7 @@
 
 mod faults;
 mod laws;
+mod locations;
 mod operands;
 mod peek;
 mod poke;
@@ -17,4 +18,4 @@ pub use faults::FaultKind;
 pub use laws::valid_requests_are_spelled;
 pub use requests::{Form, Request, Statement};
 pub use statements::{from_operands, is_misplaced, statement_with};
-pub use vsm_model::Family;
+pub use vsm_model::{Boundary, Family, Location};

@@ -7,7 +7,7 @@ ghost use Rattle.macro_statements.specs.Requests.{act_in, IsValidAct};
 
 use operand_texts::contents::Content;
 use operand_texts::values::{Place, Value};
-use vsm_model::Family;
+use vsm_model::{Boundary, Family, Location};
 
 /// The form of a macro.
 #[derive(Clone, Copy, Debug, PartialEq, Eq)]
@@ -21,11 +21,14 @@ pub struct Form {
 /// A statement that changes storage.
 #[derive(Clone, Debug, PartialEq, Eq, Drop)]
 pub enum Statement {
-    /// STORAGE OBTAIN: so many bytes from a subpool. The address is stored in `place`, where there is one.
+    /// STORAGE OBTAIN: so many bytes from a subpool, from such a boundary and on such a side of the 16 MB line. The
+    /// address is stored in `place`, where there is one.
     Obtain {
         length: Value,
         subpool: Value,
         place: Option<Place>,
+        boundary: Boundary,
+        location: Location,
         form: Form,
     },
     /// STORAGE RELEASE: so many bytes at an address, back to a subpool.
@@ -77,6 +80,7 @@ impl Statement {
                 subpool,
                 place,
                 form,
+                ..
             } => {
                 length.valid()
                     && subpool.valid()

@@ -19,6 +19,10 @@ pub enum Kind {
     Size,
     /// A number.
     Count,
+    /// DBLWD or PAGE.
+    Boundary,
+    /// BELOW, 24, ANY, 31 or RES, or a pair that begins with one of these. EXPLICIT isn't supported.
+    Location,
 }
 
 /// What an operand is known by.

@@ -6,14 +6,16 @@ ghost use Rattle.operand_texts.specs.Written.{written_in, target_in, stored_in};
 ghost use Rattle.macro_statements.specs.Said.{condition_of, condition_word_of, said_of, is_unsupported};
 ghost use Rattle.macro_statements.specs.Said.{wrong_fault, unsaid_fault};
 ghost use Rattle.macro_statements.specs.Slots.{said_in, slots_in, slot, as_value, as_place, as_condition, as_content};
-ghost use Rattle.macro_statements.specs.Slots.{as_size, as_count};
+ghost use Rattle.macro_statements.specs.Slots.{as_size, as_count, as_boundary, as_location};
 
 use crate::faults::FaultKind;
+use crate::locations::{boundary_of, is_explicit, location_of};
 use crate::rows::Kind;
 use operand_texts::contents::{Content, content_of, is_content, size_of};
 use operand_texts::numbers::number_of;
 use operand_texts::values::{Place, Value, is_pair, place_of, value_of};
 use operand_texts::words::is_word;
+use vsm_model::{Boundary, Location};
 
 /// What an operand says, by the kind of its value. What is stored stays in its text, which is lent.
 #[derive(Clone, Copy)]
@@ -24,6 +26,8 @@ pub enum Said<'a> {
     Content(&'a [u8]),
     Size(u16),
     Count(u32),
+    Boundary(Boundary),
+    Location(Location),
 }
 
 /// Nothing that was read.
@@ -86,6 +90,14 @@ pub(crate) fn said_of(kind: Kind, text: &[u8]) -> Option<Said<'_>>
             Some(count) => Some(Said::Count(count)),
             None => None,
         },
+        Kind::Boundary => match boundary_of(text) {
+            Some(boundary) => Some(Said::Boundary(boundary)),
+            None => None,
+        },
+        Kind::Location => match location_of(text) {
+            Some(location) => Some(Said::Location(location)),
+            None => None,
+        },
     }
 }
 
@@ -95,6 +107,7 @@ fn is_unsupported(kind: Kind, text: &[u8]) -> bool
 {
     match kind {
         Kind::Length => is_pair(text),
+        Kind::Location => is_explicit(text),
         _ => false,
     }
 }
@@ -182,6 +195,28 @@ pub(crate) fn count_at(said: &[Option<Said>], i: usize) -> Option<u32>
 {
     match &said[i] {
         Some(Said::Count(count)) => Some(*count),
+        _ => None,
+    }
+}
+
+/// The boundary that was read at a place.
+pub(crate) fn boundary_at(said: &[Option<Said>], i: usize) -> Option<Boundary>
+    requires { i < length said.now }
+    ensures { result ≡ as_boundary (slot (slots_in said.now) i) }
+{
+    match &said[i] {
+        Some(Said::Boundary(boundary)) => Some(*boundary),
+        _ => None,
+    }
+}
+
+/// The location that was read at a place.
+pub(crate) fn location_at(said: &[Option<Said>], i: usize) -> Option<Location>
+    requires { i < length said.now }
+    ensures { result ≡ as_location (slot (slots_in said.now) i) }
+{
+    match &said[i] {
+        Some(Said::Location(location)) => Some(*location),
         _ => None,
     }
 }

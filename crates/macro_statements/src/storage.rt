@@ -12,16 +12,14 @@ use crate::faults::FaultKind;
 use crate::operands::{operand_at, read, unknown_fault};
 use crate::requests::{Form, Request, Statement};
 use crate::rows::{Entry, Key, Kind, Row, keyword};
-use crate::said::{NOTHING, Said, condition_at, place_at, value_at};
+use crate::said::{NOTHING, Said, boundary_at, condition_at, location_at, place_at, value_at};
 use operand_texts::nesting::split;
 use operand_texts::values::Value;
 use operand_texts::words::is_word;
-use vsm_model::Family;
+use vsm_model::{Boundary, Family, Location};
 
 /// The keywords of STORAGE that are left out.
-pub const LEFT_OUT: [&[u8]; 18] = [
-    b"BNDRY",
-    b"LOC",
+pub const LEFT_OUT: [&[u8]; 16] = [
     b"RELATED",
     b"LINKAGE",
     b"REGS",
@@ -46,6 +44,8 @@ pub const OBTAIN: Row = Row {
         keyword!(b"LENGTH", Length),
         keyword!(b"SP", Value),
         keyword!(b"ADDR", Place),
+        keyword!(b"BNDRY", Boundary),
+        keyword!(b"LOC", Location),
         keyword!(b"COND", Condition),
     ],
     left_out: &LEFT_OUT,
@@ -86,7 +86,7 @@ fn storage_form(said: &[Option<Said>], i: usize) -> Form
 
 /// What STORAGE OBTAIN asks for by what was read.
 fn obtain_by(said: &[Option<Said>]) -> Result<Request, FaultKind>
-    requires { length said.now ≡ 4 }
+    requires { length said.now ≡ 6 }
     ensures { seen result ≡ obtain_by (slots_in said.now) }
 {
     let Some(length) = value_at(said, 0) else {
@@ -96,7 +96,9 @@ fn obtain_by(said: &[Option<Said>]) -> Result<Request, FaultKind>
         length,
         subpool: subpool_at(said, 1),
         place: place_at(said, 2),
-        form: storage_form(said, 3),
+        boundary: boundary_at(said, 3).unwrap_or(Boundary::Doubleword),
+        location: location_at(said, 4).unwrap_or(Location::Caller),
+        form: storage_form(said, 5),
     }))
 }
 
@@ -104,7 +106,7 @@ fn obtain_by(said: &[Option<Said>]) -> Result<Request, FaultKind>
 fn obtain(text: Option<&[u8]>) -> Result<Request, FaultKind>
     ensures { seen result ≡ obtain_of (operands_behind (option_copied text.entry)) }
 {
-    let mut said = [NOTHING, NOTHING, NOTHING, NOTHING];
+    let mut said = [NOTHING, NOTHING, NOTHING, NOTHING, NOTHING, NOTHING];
     match read(&OBTAIN, text, &mut said) {
         Ok(said) => obtain_by(said),
         Err(fault) => Err(fault),

@@ -1,5 +1,5 @@
 -- Bytes above those that a field is made out by: behind them all stands where they stand.
-use Rattle.std.proofs.Common.{◌≡◌, ℕ, ◌+◌, ◌<◌, ◌==◌, Bool, true, false, not, ◌&&◌, List, [], ◌∷◌, if◌then◌else◌, arith, refl, ap, ◌∙◌}
+use Rattle.std.proofs.Common.{◌≡◌, ℕ, ◌+◌, ◌<◌, ◌==◌, Bool, true, false, not, ◌&&◌, List, ◌∷◌, if◌then◌else◌, arith, refl, ap, ◌∙◌}
 use Rattle.std.proofs.lemmas.Bool.Decides.{nat_tests}
 use Rattle.operand_texts.specs.declared.nesting.Nesting.{Nesting}
 use Rattle.operand_texts.specs.Field.{past, field_len, is_balanced, operand_len}

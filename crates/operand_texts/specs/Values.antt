@@ -9,7 +9,7 @@ use Rattle.std.specs.Str.Parse.{digits_value}
 use Rattle.operand_texts.specs.Words.{is_name, is_word}
 use Rattle.operand_texts.specs.Written.{Written, number, named, register, Target, in_name, in_register, Stored, spelled}
 use Rattle.operand_texts.specs.Written.{word}
-use Rattle.operand_texts.specs.Field.{outside, operands_from}
+use Rattle.operand_texts.specs.Field.{outside, is_balanced, operands_from}
 
 -- The number that one digit or more of a radix spell, up to this many, where it is below 2 ^ 32.
 abbrev pub digits_number : ℕ → ℕ → List ℕ → Option ℕ
@@ -107,6 +107,19 @@ are_two_values (a ∷ b ∷ c ∷ os) = false
 -- A pair is two values in parentheses: a maximum and a minimum length.
 abbrev pub is_pair : List ℕ → Bool
 is_pair text = is_enclosed text && are_two_values (operands_from outside (enclosed text))
+
+-- Two operands, whatever they are.
+abbrev pub two_of : List (List ℕ) → Option (List ℕ × List ℕ)
+two_of [] = None
+two_of (a ∷ []) = None
+two_of (a ∷ b ∷ []) = Some (a, b)
+two_of (a ∷ b ∷ c ∷ os) = None
+
+-- The two parts of a text in parentheses, with a comma between them. They may be empty.
+abbrev pub parts_of : List ℕ → Option (List ℕ × List ℕ)
+parts_of text =
+    if is_enclosed text && is_balanced outside (enclosed text) then two_of (operands_from outside (enclosed text))
+    else None
 
 -- The byte that two hexadecimal digits spell.
 abbrev pub byte_of : ℕ → ℕ → Option ℕ

@@ -5,9 +5,10 @@ ghost use Rattle.std.specs.Option.{option_map};
 ghost use Rattle.operand_texts.specs.Field.{outside, operands_from};
 ghost use Rattle.operand_texts.specs.Written.{written_in, target_in, is_upper_name, IsValue, IsTarget};
 ghost use Rattle.operand_texts.specs.Values.{register_number, without_r, is_enclosed, enclosed, register_of, value_of};
-ghost use Rattle.operand_texts.specs.Values.{is_value, target_of, is_condition, are_two_values, is_pair};
+ghost use Rattle.operand_texts.specs.Values.{is_value, target_of, is_condition, two_of, are_two_values, is_pair};
+ghost use Rattle.operand_texts.specs.Values.{parts_of};
 
-use crate::nesting::split;
+use crate::nesting::{is_balanced, split};
 use crate::numbers::number_of;
 use crate::words::{Name, is_name, is_word, upper_name};
 
@@ -164,18 +165,25 @@ pub fn is_condition(text: &[u8]) -> bool
     is_word(text, b"YES") || is_word(text, b"NO")
 }
 
+/// The two operands of a text, where it has two.
+fn two_of(text: &[u8]) -> Option<(&[u8], &[u8])>
+    ensures { option_map (λ p. (p.0.now, p.1.now)) result ≡ two_of (operands_from outside text.now) }
+{
+    let (first, behind) = split(text);
+    let (second, more) = split(behind?);
+    match more {
+        Some(_) => None,
+        None => Some((first, second)),
+    }
+}
+
 /// Whether a text is two values with a comma between them.
 fn are_two_values(text: &[u8]) -> bool
     ensures { result ≡ are_two_values (operands_from outside text.now) }
 {
-    let (first, behind) = split(text);
-    let Some(behind) = behind else {
-        return false;
-    };
-    let (second, more) = split(behind);
-    match more {
-        Some(_) => false,
-        None => is_value(first) && is_value(second),
+    match two_of(text) {
+        Some((first, second)) => is_value(first) && is_value(second),
+        None => false,
     }
 }
 
@@ -184,4 +192,16 @@ pub fn is_pair(text: &[u8]) -> bool
     ensures { result ≡ is_pair text.now }
 {
     is_enclosed(text) && are_two_values(enclosed(text))
+}
+
+/// The two parts of a text in parentheses, with a comma between them, whatever they are. Nothing where a text isn't
+/// such.
+pub fn parts_of(text: &[u8]) -> Option<(&[u8], &[u8])>
+    ensures { option_map (λ p. (p.0.now, p.1.now)) result ≡ parts_of text.now }
+{
+    if is_enclosed(text) && is_balanced(enclosed(text)) {
+        two_of(enclosed(text))
+    } else {
+        None
+    }
 }

@@ -1,11 +1,15 @@
-use Rattle.std.proofs.Common.{refl, arith}
-use Rattle.std.proofs.lemmas.Grind.{common_steps}
-use Rattle.operand_texts.specs.Field.{outside, operand_len}
-use Rattle.operand_texts.proofs.Split.{some_at}
+use Rattle.std.proofs.Common.{◌∙◌, ◌&&◌, ap, sym}
+use Rattle.operand_texts.specs.Field.{outside, operands_from}
+use Rattle.operand_texts.specs.Values.{is_value}
+use Rattle.operand_texts.proofs.Split.{are_values, two_values}
 use Rattle.operand_texts.proofs.values.are_two_values.Goals as goal
 
--- a third value is one too many
-pub returns-in-Some-more : goal.returns-in-Some-more
-returns-in-Some-more c =
-    let e = (some_at c.in-Some-more.field-0.now (operand_len outside c.in-Some-more.field-0.now) refl).1 in
-    grind (arith, common_steps, e)
+pub returns-then-is_value : goal.returns-then-is_value
+returns-then-is_value c =
+    c.is_value-then-is_value.ensures ∙ ap (λ b. b && is_value c.in-Some.second.now) c.if-is_value.ensures
+    ∙ ap are_values c.in-Some.ensures ∙ two_values (operands_from outside c.args.text.now)
+
+pub returns-else-is_value : goal.returns-else-is_value
+returns-else-is_value c =
+    c.is_value.ensures ∙ sym c.if-is_value.ensures ∙ ap (λ b. b && is_value c.in-Some.second.now) c.if-is_value.ensures
+    ∙ ap are_values c.in-Some.ensures ∙ two_values (operands_from outside c.args.text.now)
