@@ -8,9 +8,9 @@ use Rattle.vsm_model.specs.declared.causes.Family.{Family}
 use Rattle.vsm_model.specs.declared.causes.Family.TheVariants.{S}
 use Rattle.vsm_model.specs.declared.replies.Reply.{Reply}
 use Rattle.vsm_model.specs.Bytes.{fullword, load}
-use Rattle.vsm_model.specs.declared.services.Boundary.TheVariants.{Doubleword}
+use Rattle.vsm_model.specs.declared.services.Boundary.{Boundary}
 use Rattle.vsm_model.specs.declared.services.Lengths.TheVariants.{Fixed}
-use Rattle.vsm_model.specs.declared.services.Location.TheVariants.{Low}
+use Rattle.vsm_model.specs.declared.services.Location.{Location}
 use Rattle.vsm_model.specs.Forms.{formed_step}
 use Rattle.vsm_model.specs.Names.{NamedState, word_of}
 use Rattle.vsm_model.specs.Services as services
@@ -58,15 +58,15 @@ abbrev pub with_bytes : Option ℕ → Option (List ℕ) → Option Service
 with_bytes (Some address) (Some bytes) = Some (services.store address bytes)
 with_bytes _ _ = None
 
--- an area of a fixed length, on a doubleword below the line
-abbrev pub fixed_area : Option ℕ → Bool → ℕ → ℕ → Service
-fixed_area r conditional bytes subpool =
+-- an area of a fixed length
+abbrev pub fixed_area : Option ℕ → Boundary → Location → Bool → ℕ → ℕ → Service
+fixed_area r boundary location conditional bytes subpool =
     services.obtain
     (record {
       lengths = Fixed bytes;
       number = subpool;
-      boundary = Doubleword;
-      location = Low;
+      boundary = boundary;
+      location = location;
       register = r;
       conditional = conditional;
     })
@@ -80,8 +80,9 @@ area_back conditional bytes first subpool =
 -- The service that a statement asks for, with the words of its values; there is none where one of its names isn't
 -- defined.
 abbrev pub service_asked : NamedState → Act → Option Service
-service_asked m (obtain length subpool target form) =
-    with_two (fixed_area (register_in target) form.conditional) (looked_up m length) (looked_up m subpool)
+service_asked m (obtain length subpool target boundary location form) =
+    with_two (fixed_area (register_in target) boundary location form.conditional)
+    (looked_up m length) (looked_up m subpool)
 service_asked m (release length address subpool form) =
     with_three (area_back form.conditional)
     (looked_up m length) (looked_up m address) (looked_up m subpool)
@@ -89,14 +90,14 @@ service_asked m (poke address content) = with_bytes (looked_up m address) (bytes
 
 -- the name that is given the address of the area that a statement obtains, if it names one
 abbrev pub name_asked : Act → Option (List ℕ)
-name_asked (obtain length subpool target form) = name_in target
+name_asked (obtain length subpool target boundary location form) = name_in target
 name_asked (release length address subpool form) = None
 name_asked (poke address content) = None
 
 -- The family of a statement's completion codes, by its form. A statement of the bench's own has no form: its codes are
 -- the same in each.
 abbrev pub family_asked : Act → Family
-family_asked (obtain length subpool target form) = form.family
+family_asked (obtain length subpool target boundary location form) = form.family
 family_asked (release length address subpool form) = form.family
 family_asked (poke address content) = S
 

@@ -11,7 +11,7 @@ use crate::machine::Machine;
 use crate::values::{bytes_of, look_up};
 use macro_statements::{Family, Statement};
 use operand_texts::{Name, Place};
-use storage_core::{Boundary, Lengths, Location, Obtain, Release, Service};
+use storage_core::{Lengths, Obtain, Release, Service};
 
 /// The register that is set besides register 1, if the place is one.
 fn register_of(place: &Option<Place>) -> Option<u8>
@@ -39,12 +39,14 @@ pub(crate) fn service_of<'a>(
             length,
             subpool,
             place,
+            boundary,
+            location,
             form,
         } => Some(Service::Obtain(Obtain {
             lengths: Lengths::Fixed(look_up(machine, length)?),
             number: look_up(machine, subpool)?,
-            boundary: Boundary::Doubleword,
-            location: Location::Low,
+            boundary: *boundary,
+            location: *location,
             register: register_of(place),
             conditional: form.conditional,
         })),
