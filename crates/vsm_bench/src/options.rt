@@ -25,9 +25,9 @@ const ABOUT: &str =
     "Runs a script of z/OS storage macros over a simulated private region, and prints a line for each statement.";
 
 const AFTER_THE_OPTIONS: &str =
-    "The low region lies below the 16 MB line, the high region above it. An area that is asked for with LOC=31 or LOC=ANY
-lies in the high region, whose size --high sets, or in the low one where that has no room. LOC=RES, which holds where LOC
-is left out, asks by --residence: with 24 for an area below the line, with 31 for one on either side.
+    "The low region lies below the 16 MB line, the high region above it. An area that is asked for with LOC=31 or ANY
+lies in the high region, whose size --high sets, or in the low one where that has no room. LOC=RES, which holds where
+LOC is left out, asks by --residence: with 24 for an area below the line, with 31 for one on either side.
 
 What can be written in a script is told in docs/STATEMENTS.md, what is printed in docs/MESSAGES.md.
 
