@@ -1,6 +1,6 @@
 -- A change of records that leads to the outcome of a service carries it out.
-use Rattle.std.proofs.Common.{◌≡◌, ℕ, ◌+◌, ◌<◌, ◌≤◌, ◌^◌, Bool, true, false, ◌&&◌, if◌then◌else◌, Some, List, [], ◌∷◌, sym, ap, ◌∙◌, subst, arith}
-use Rattle.std.proofs.lemmas.Bool.{and_from, cond-false, cond-true}
+use Rattle.std.proofs.Common.{◌≡◌, ℕ, ◌+◌, ◌<◌, ◌≤◌, ◌^◌, Bool, true, ◌&&◌, if◌then◌else◌, Some, List, [], ◌∷◌, sym, ap, ◌∙◌, subst, arith}
+use Rattle.std.proofs.lemmas.Bool.{and_from, cond-true}
 use Rattle.std.proofs.lemmas.List.Elements.{All-cons, All-nil}
 use Rattle.run_set.specs.declared.run.Run.{Run}
 use Rattle.run_set.specs.Runs.{inside}
@@ -58,10 +58,6 @@ module _ (settings : Settings) (names_full : Bool) (m : StorageState) (x : Servi
   by_cause : (cause : Cause) → first_cause (causes settings names_full (model_of m) x) ≡ Some cause →
       step settings names_full (model_of m) x ≡ (if is_conditional x && answers_four cause then replied x (model_of m, Returned 4) else Refused cause)
   by_cause cause first = ap (answered settings (model_of m) x) first
-
-  pub refused_by : (cause : Cause) → first_cause (causes settings names_full (model_of m) x) ≡ Some cause → (is_conditional x && answers_four cause) ≡ false →
-      step settings names_full (model_of m) x ≡ Refused cause
-  refused_by cause first plain = by_cause cause first ∙ cond-false (is_conditional x && answers_four cause) (replied x (model_of m, Returned 4)) (Refused cause) plain
 
   pub four_carried_out : (cause : Cause) (plan : Plan) → IsSound settings m → first_cause (causes settings names_full (model_of m) x) ≡ Some cause →
       is_conditional x ≡ true → answers_four cause ≡ true → plan.records.items ≡ register_records m ((15, 4) ∷ []) → plan.blanks ≡ 0 → plan.fresh ≡ run_of 0 0 →

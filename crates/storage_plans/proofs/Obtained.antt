@@ -76,6 +76,10 @@ are_registers named address h =
       is_named None h = no_registers
       is_named (Some n) h = register_and n address [] h no_registers
 
+few_blanks : (x : AreaPlace) → place_blanks x ≤ 7
+few_blanks (areas.Inside d) = omega arith
+few_blanks (areas.Fresh page) = omega arith
+
 -- one that passes is a run that passes
 one_passes : (f : ℕ → Bool) (k : ℕ) → f k ≡ true → all_pass f k 1 ≡ true
 one_passes f k e = and_from (f k) true e refl
@@ -134,6 +138,10 @@ module _ (settings : Settings) (m : StorageState) (o : Obtain) where
         let low = words.0 in
         omega (arith, low, some)
 
+    pages_in_range : (x : AreaPlace) → Goes (IsOf settings) s p count (spacing o.boundary) (place_of (Some x)) → (place_pages count x).start + (place_pages count x).len ≤ 2 ^ 20
+    pages_in_range (areas.Inside d) goes = omega arith
+    pages_in_range (areas.Fresh page) goes = fresh_ends page goes
+
     module _ (sound : IsSound settings m) where
       inside_free : (d : ℕ) → Goes (IsOf settings) s p count (spacing o.boundary) (Inside d) → (k : ℕ) → among d count k ≡ true → m.subpools.free p k ≡ true
       inside_free d (r, its, fit) k own =
@@ -158,14 +166,6 @@ module _ (settings : Settings) (m : StorageState) (o : Obtain) where
           taking_leads settings m p is_new d count rows sound own are some (inside_ends d goes) (inside_free d goes) formed
       leads_at (areas.Fresh page) is_new rows goes own are formed =
           taking_fresh_leads settings m p is_new page count rows sound own are some (fresh_ends page goes) (fresh_unassigned page goes) formed
-
-      few_blanks : (x : AreaPlace) → place_blanks x ≤ 7
-      few_blanks (areas.Inside d) = omega arith
-      few_blanks (areas.Fresh page) = omega arith
-
-      pages_in_range : (x : AreaPlace) → Goes (IsOf settings) s p count (spacing o.boundary) (place_of (Some x)) → (place_pages count x).start + (place_pages count x).len ≤ 2 ^ 20
-      pages_in_range (areas.Inside d) goes = omega arith
-      pages_in_range (areas.Fresh page) goes = fresh_ends page goes
 
       pages_unassigned : (x : AreaPlace) → Goes (IsOf settings) s p count (spacing o.boundary) (place_of (Some x)) → (k : ℕ) → inside k (place_pages count x) ≡ true → m.unassigned k ≡ true
       pages_unassigned (areas.Inside d) goes k own = none_fresh m k own
@@ -236,5 +236,5 @@ module _ (settings : Settings) (names_full : Bool) (m : StorageState) (o : Obtai
       carries_out settings names_full m (obtain o) plan (own_records own found.is_new ++ place_records own found.count found.place ++ register_records m rows)
       (place_blanks found.place) (place_pages found.count found.place) after
       (records ∙ ap (λ (p : Subpool). own_records p found.is_new ++ place_records p found.count found.place ++ register_records m rows) is.subpool) blanks fresh
-      (accepted sound ∙ ap (λ r. Accepted after r) (sym reply)) leads (few_blanks settings m o is.valid found.count some sound found.place)
-      (pages_in_range settings m o is.valid found.count some sound found.place its) (pages_unassigned settings m o is.valid found.count some sound found.place its)
+      (accepted sound ∙ ap (λ r. Accepted after r) (sym reply)) leads (few_blanks found.place)
+      (pages_in_range settings m o is.valid found.count some found.place its) (pages_unassigned settings m o is.valid found.count some sound found.place its)
