@@ -14,4 +14,4 @@ pub use script_files::ScriptFiles;
 pub use script_run::{RunFault, RunTotals, run};
 pub use step_history::{TooFar, TooFarAhead};
 pub use vsm_machine::{NewFault, Refusal};
-pub use vsm_model::{Code, Reply, Residence, Settings};
+pub use vsm_model::{Boundary, Code, Location, Reply, Residence, Settings};

@@ -3,8 +3,8 @@
 use std::process::Abort;
 use std::test::Fail;
 use vsm_bench::{
-    Bench, Code, DEFAULT_SETTINGS, Family, Form, NewFault, Refusal, Reply, Residence, Settings,
-    Statement, Value,
+    Bench, Boundary, Code, DEFAULT_SETTINGS, Family, Form, Location, NewFault, Refusal, Reply,
+    Residence, Settings, Statement, Value,
 };
 
 fn settings_of(low_k: u32, high_k: u32, history: u32) -> Settings {
@@ -60,6 +60,8 @@ fn obtain(length: u32) -> Statement {
         length: Value::Number(length),
         subpool: Value::Number(1),
         place: None,
+        boundary: Boundary::Doubleword,
+        location: Location::Low,
         form: Form {
             family: Family::S,
             conditional: false,
