@@ -6,7 +6,8 @@ ghost use Rattle.storage_core.specs.Held.{IsHeld, IsHeld-prop};
 
 use std::alloc::{AllocError, Global};
 use storage_exchange::Storage as Parts;
-use storage_swap::{Released, fresh, release};
+use storage_swap::fresh;
+use storage_swap::laws::first_is_first;
 use vsm_model::Settings;
 
 /// Subpools, pages, doublewords and bytes of the regions below and above the 16 MB line (*Assembler Services Guide*,
@@ -33,6 +34,7 @@ impl Storage {
         ensures whole { IfOk result (λ s. AreWhole s.parts []) }
     {
         let parts = fresh(alloc, settings)?;
+        first_is_first();
         Ok(Storage { parts, settings })
     }
 
