@@ -21,10 +21,10 @@ use Rattle.storage_plans.specs.declared.places.AreaPlace.{AreaPlace}
 use Rattle.storage_plans.specs.declared.places.AreaPlace.TheVariants as areas
 use Rattle.storage_plans.specs.Places.{place_of}
 
-skip : (b : Bool) (cause : Cause) (rows : Causes) → b ≡ false → first_cause ((b, cause) ∷ rows) ≡ first_cause rows
+pub skip : (b : Bool) (cause : Cause) (rows : Causes) → b ≡ false → first_cause ((b, cause) ∷ rows) ≡ first_cause rows
 skip b cause rows e = cond-false b (Some cause) (first_cause rows) e
 
-stop : (b : Bool) (cause : Cause) (rows : Causes) → b ≡ true → first_cause ((b, cause) ∷ rows) ≡ Some cause
+pub stop : (b : Bool) (cause : Cause) (rows : Causes) → b ≡ true → first_cause ((b, cause) ∷ rows) ≡ Some cause
 stop b cause rows e = cond-true b (Some cause) (first_cause rows) e
 
 not_131 : (n : ℕ) → n ≤ 127 → ((n == 131) || (n == 132)) ≡ false
@@ -33,7 +33,7 @@ not_131 n h = grind (arith, nat_tests)
 not_above : (n : ℕ) → n ≤ 127 → nat_lt 127 n ≡ false
 not_above n h = grind (arith, nat_tests)
 
-number_allowed : (n : ℕ) (rows : Causes) → n ≤ 127 → first_cause (number_causes n ++ rows) ≡ first_cause rows
+pub number_allowed : (n : ℕ) (rows : Causes) → n ≤ 127 → first_cause (number_causes n ++ rows) ≡ first_cause rows
 number_allowed n rows h =
     skip ((n == 131) || (n == 132)) UnsupportedSubpool ((nat_lt 127 n, SubpoolNotAllowed) ∷ rows) (not_131 n h)
     ∙ skip (nat_lt 127 n) SubpoolNotAllowed rows (not_above n h)

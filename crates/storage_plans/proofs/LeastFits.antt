@@ -1,6 +1,8 @@
 -- A least fit in a set is the answer of the plain machine's search.
 use Rattle.std.proofs.Common.{◌≡◌, ℕ, ◌+◌, ◌*◌, ◌/◌, ◌%◌, ◌<◌, ◌≤◌, Bool, true, false, ◌&&◌, not, is_some, nat_le, nat_lt, ◌==◌, Option, Some, None, IfSome, IfNone, sym, ◌∙◌, ap, refl, arith}
 use Rattle.std.proofs.lemmas.Bool.{and_parts, and_from, leb-true, ltb-true, le-leb, lt-ltb, eqb-true, eq-eqb, false_from_ne_true}
+use Rattle.std.proofs.Math.Bool.{Bool-set}
+use Rattle.std.proofs.Math.Logic.{∥∥₁_elim}
 use Rattle.run_set.specs.declared.run.Run.{Run}
 use Rattle.run_set.specs.Runs.{inside}
 use Rattle.run_set.specs.Fits.{Fits, IsLeastFit}
@@ -83,14 +85,23 @@ module _ (r : Region) (area : Run) (start : area.start ≡ r.first * 512) (len :
   same_page : (k : ℕ) → inside k area ≡ within r (k / 512)
   same_page k = same_tests (inside k area) (within r (k / 512)) (to_page k) (from_page k)
 
+-- What is an equation of tests holds also where it's only said that the storage is sound.
+
+pub free_in : (settings : Settings) (m : StorageState) → ∥ IsSound settings m ∥₁ → (p : Subpool) (d : ℕ) → is_free (model_of m) p d ≡ m.subpools.free p d
+free_in settings m sound p d = ∥∥₁_elim sound (Bool-set _ _) (λ h. free_storage_is_free settings m h p d)
+
+pub unassigned_in : (settings : Settings) (m : StorageState) → ∥ IsSound settings m ∥₁ → (page : ℕ) → in_a_region settings page ≡ true →
+    m.unassigned page ≡ not (is_some ((model_of m).pages page))
+unassigned_in settings m sound page its = ∥∥₁_elim sound (Bool-set _ _) (λ h. unassigned_pages_are_nobodys settings m h page its)
+
 -- The least fit in the free storage of a subpool is the area that the plain machine finds.
-pub area_found : (settings : Settings) (m : StorageState) → IsSound settings m → (r : Region) (area : Run) → area.start ≡ r.first * 512 → area.len ≡ r.count * 512 →
+pub area_found : (settings : Settings) (m : StorageState) → ∥ IsSound settings m ∥₁ → (r : Region) (area : Run) → area.start ≡ r.first * 512 → area.len ≡ r.count * 512 →
     (p : Subpool) (count boundary : ℕ) → 0 < count → (answer : Option ℕ) → IfNone answer ((a : ℕ) → ¬ Fits (m.subpools.free p) area a count boundary) →
     IfSome answer (λ a. IsLeastFit (m.subpools.free p) area a count boundary) → answer ≡ least_fit (model_of m) r p count boundary
 area_found settings m sound r area start len p count boundary some answer none fit =
     let here : ℕ → Bool = λ k. within r (k / 512) && is_free (model_of m) p k in
     let same : (k : ℕ) → is_held (m.subpools.free p) area k ≡ here k =
-    λ k. same_both (inside k area) (within r (k / 512)) (m.subpools.free p k) (is_free (model_of m) p k) (same_page r area start len k) (λ e. sym (free_storage_is_free settings m sound p k)) in
+    λ k. same_both (inside k area) (within r (k / 512)) (m.subpools.free p k) (is_free (model_of m) p k) (same_page r area start len k) (λ e. sym (free_in settings m sound p k)) in
     least_found (m.subpools.free p) area count boundary some answer none fit
     ∙ ap (λ (f : ℕ → Bool). least (λ d. ((d % boundary) == 0) && all_pass f d count) area.start area.len) (λ i k. same k i)
     ∙ ap (λ (x : ℕ). least (λ d. ((d % boundary) == 0) && all_pass here d count) x area.len) start
@@ -100,7 +111,7 @@ on_one : (d : ℕ) → ((d % 1) == 0) ≡ true
 on_one d = eq-eqb (d % 1) 0 (omega arith)
 
 -- The least run of unassigned pages is the one that the plain machine finds.
-pub pages_found : (settings : Settings) (m : StorageState) → IsSound settings m → (r : Region) (run : Run) → run.start ≡ r.first → run.len ≡ r.count →
+pub pages_found : (settings : Settings) (m : StorageState) → ∥ IsSound settings m ∥₁ → (r : Region) (run : Run) → run.start ≡ r.first → run.len ≡ r.count →
     ((page : ℕ) → within r page ≡ true → in_a_region settings page ≡ true) → (count : ℕ) → 0 < count → (answer : Option ℕ) →
     IfNone answer ((a : ℕ) → ¬ Fits m.unassigned run a count 1) → IfSome answer (λ a. IsLeastFit m.unassigned run a count 1) →
     answer ≡ least_run (model_of m) r count
@@ -109,7 +120,7 @@ pages_found settings m sound r run start len its count some answer none fit =
     let region : (k : ℕ) → inside k run ≡ within r k =
     λ k. ap (λ (x : ℕ). nat_le x k && nat_lt k (x + run.len)) start ∙ ap (λ (x : ℕ). nat_le r.first k && nat_lt k (r.first + x)) len in
     let same : (k : ℕ) → is_held m.unassigned run k ≡ here k =
-    λ k. same_both (inside k run) (within r k) (m.unassigned k) (not (is_some ((model_of m).pages k))) (region k) (λ e. unassigned_pages_are_nobodys settings m sound k (its k e)) in
+    λ k. same_both (inside k run) (within r k) (m.unassigned k) (not (is_some ((model_of m).pages k))) (region k) (λ e. unassigned_in settings m sound k (its k e)) in
     least_found m.unassigned run count 1 some answer none fit
     ∙ ap (λ (f : ℕ → Bool). least (λ d. ((d % 1) == 0) && all_pass f d count) run.start run.len) (λ i k. same k i)
     ∙ ap (λ (f : ℕ → Bool). least f run.start run.len) (λ i d. ap (λ b. b && all_pass here d count) (on_one d) i)

@@ -25,8 +25,8 @@ pub struct FoundArea {
     pub place: AreaPlace,
 }
 
-// The subpool number, or the cause that refuses it.
-fn check_number(number: u32) -> Result<u8, Cause>
+/// The subpool number, or the cause that refuses it.
+pub(crate) fn check_number(number: u32) -> Result<u8, Cause>
     ensures ok { IfOk result (λ n. n ≡ number) }
     ensures allowed { OnOk result (number ≤ 127) }
     ensures err { IfErr result (λ cause. first_cause (number_causes number) ≡ Some cause) }

@@ -1,16 +1,22 @@
 //! What an accepted request will do to the storage, as the records of a change.
-ghost use Rattle.std.specs.Prelude.{◌≡◌, ◌+◌, ◌<◌, ◌≤◌, [], ◌∷◌, ◌++◌};
+ghost use Rattle.std.specs.Prelude.{◌≡◌, ◌+◌, ◌<◌, ◌≤◌, [], ◌∷◌, ◌++◌, Bool, Some};
 ghost use Rattle.arrayvec.specs.ArrayVec.{array_vec_len};
+ghost use Rattle.vsm_model.specs.declared.limits.Settings.{Settings};
 ghost use Rattle.vsm_model.specs.declared.replies.Reply.TheVariants.{Returned};
+ghost use Rattle.vsm_model.specs.Causes.{first_cause};
+ghost use Rattle.vsm_model.specs.Services.{Service, is_conditional};
+ghost use Rattle.vsm_model.specs.Step.{causes};
+ghost use Rattle.storage_changes.specs.Meaning.{model_of, IsSound};
 ghost use Rattle.storage_changes.specs.declared.record.Record.TheVariants.{Register};
 ghost use Rattle.storage_actions.specs.Actions.{area_records, register_records, run_of};
 ghost use Rattle.storage_exchange.specs.Storage.{state_of};
+ghost use Rattle.storage_plans.specs.Plans.{IsPlanned};
 
 use arrayvec::ArrayVec;
 use run_set::Run;
 use storage_changes::{AreaRecord, Record, RegisterRecord};
 use storage_exchange::Storage;
-use vsm_model::{Reply, Subpool};
+use vsm_model::{Cause, Reply, Subpool};
 
 /// The most records of a plan: the blocks of sixteen bytes that a store of 256 bytes can touch.
 pub const PLAN_RECORDS: usize = 17;
@@ -84,5 +90,24 @@ pub(crate) fn answer_four(storage: &Storage) -> Plan
         blanks: 0,
         fresh: NO_PAGES,
         reply: Reply::Returned(4),
+    }
+}
+
+/// What a request is answered of which this is the first cause: a plan that sets register 15 to 4, where it is
+/// conditional and the cause is one of those that such a form answers so; else the cause refuses it.
+pub(crate) fn answer_cause(
+    storage: &Storage,
+    cause: Cause,
+    conditional: bool,
+) -> Result<Plan, Cause>
+    ensures { (settings : Settings) (names_full : Bool) (x : Service) → ∥ IsSound settings (state_of storage.now) ∥₁
+        → is_conditional x ≡ conditional
+        → first_cause (causes settings names_full (model_of (state_of storage.now)) x) ≡ Some cause
+        → IsPlanned settings names_full (state_of storage.now) x result }
+{
+    if conditional && cause.answers_four() {
+        Ok(answer_four(storage))
+    } else {
+        Err(cause)
     }
 }

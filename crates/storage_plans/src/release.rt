@@ -1,27 +1,334 @@
 //! Plans of STORAGE RELEASE.
-ghost use Rattle.std.specs.Prelude.{◌≡◌, Bool, true};
-ghost use Rattle.vsm_model.specs.Regions.{settings_valid};
+ghost use Rattle.std.specs.Prelude.{◌≡◌, ◌+◌, ◌-◌, ◌/◌, ◌^◌, ◌<◌, ◌≤◌, ◌&&◌, Bool, true, not, nat_le};
+ghost use Rattle.std.specs.Prelude.{None, Some, IfOk, IfErr, OnOk, IsTrue, [], ◌++◌};
+ghost use Rattle.arrayvec.specs.ArrayVec.{array_vec_len};
+ghost use Rattle.vsm_model.specs.Causes.{first_cause};
+ghost use Rattle.vsm_model.specs.Regions.{doublewords, in_a_region, pages_for, settings_valid};
+ghost use Rattle.vsm_model.specs.Releasing.{release_causes};
+ghost use Rattle.vsm_model.specs.Search.{all_pass, some_pass, holds};
 ghost use Rattle.vsm_model.specs.Services.{release};
-ghost use Rattle.storage_exchange.specs.Storage.{state_of};
+ghost use Rattle.vsm_model.specs.Subpools.{same_subpool, seen_or_own};
+ghost use Rattle.storage_changes.specs.Meaning.{model_of};
+ghost use Rattle.storage_actions.specs.Actions.{area_records, emptied_pages, give_back_records, returned_records};
+ghost use Rattle.storage_actions.specs.Actions.{run_of};
+ghost use Rattle.storage_exchange.specs.Storage.{state_of, Stand, IsFrameless};
 ghost use Rattle.storage_plans.specs.Places.{StandsSound};
 ghost use Rattle.storage_plans.specs.Plans.{IsPlanned};
+ghost use Rattle.storage_plans.specs.Releases.{area_causes, IsGivenBack};
 
-use crate::plan::Plan;
+use crate::areas::check_number;
+use crate::plan::{NO_PAGES, PLAN_RECORDS, Plan, answer_cause, push_area, push_register};
+use crate::searches::{PAGE_DOUBLEWORDS, pages_on};
+use arrayvec::ArrayVec;
+use descriptor_queue::Page;
+use run_set::{Cover, Run};
+use storage_changes::{ExtentRecord, PagesRecord, Record};
 use storage_exchange::Storage;
-use vsm_model::{Cause, Release, Settings};
+use vsm_model::{Cause, Release, Reply, Residence, Settings, Subpool};
+
+/// What a release gives back.
+#[derive(Clone, Copy)]
+pub(crate) struct GivenBack {
+    pub(crate) subpool: Subpool,
+    /// In doublewords, each of them taken storage of the subpool.
+    pub(crate) area: Run,
+}
+
+/// The blank elements that a release needs at most.
+const RELEASE_BLANKS: u32 = 7;
+
+// The pages that an area in doublewords touches.
+fn pages_of(area: Run) -> Run
+    requires some { 0 < area.len }
+    requires range { area.start + area.len ≤ 2 ^ 30 }
+    ensures start { result.start ≡ area.start / 512 }
+    ensures end { result.start + result.len ≡ pages_for (area.start + area.len) }
+    ensures some { 0 < result.len }
+{
+    let start = area.start / PAGE_DOUBLEWORDS;
+    let end = (area.start + area.len).div_ceil(PAGE_DOUBLEWORDS);
+    Run {
+        start,
+        len: end - start,
+    }
+}
+
+// Whether the run lies in the region.
+fn lies_in(run: Run, region: Run) -> bool
+    requires run { run.start + run.len < 2 ^ 32 }
+    requires region { region.start + region.len < 2 ^ 32 }
+    ensures { result ≡ (nat_le region.start run.start && nat_le (run.start + run.len) (region.start + region.len)) }
+{
+    region.start <= run.start && run.start + run.len <= region.start + region.len
+}
+
+// Whether each page of the run lies in a region. There are pages between the two regions, so the run lies in one of
+// them then.
+fn lies_in_a_region(settings: Settings, pages: Run) -> bool
+    requires valid { settings_valid settings ≡ true }
+    requires some { 0 < pages.len }
+    requires range { pages.start + pages.len < 2 ^ 32 }
+    ensures value { result ≡ all_pass (in_a_region settings) pages.start pages.len }
+    ensures range { IsTrue result → pages.start + pages.len ≤ 2 ^ 20 }
+{
+    lies_in(pages, pages_on(settings, Residence::Above))
+        || lies_in(pages, pages_on(settings, Residence::Below))
+}
+
+// Whether each page of the run is the subpool's.
+fn has_pages(storage: &Storage, subpool: Subpool, pages: Run) -> bool
+    requires stands { Stand storage.now }
+    requires range { pages.start + pages.len < 2 ^ 32 }
+    ensures { result ≡ all_pass ((state_of storage.now).subpools.pages subpool) pages.start pages.len }
+{
+    for k in 0..pages.len {
+        if !storage
+            .subpools
+            .has_page(&storage.elements, subpool, pages.start + k)
+        {
+            return false;
+        }
+    }
+    true
+}
+
+// Whether the page is another subpool's. A page has a frame just where some subpool has the page.
+fn is_others(storage: &Storage, settings: Settings, subpool: Subpool, page: Page) -> bool
+    requires sound { StandsSound settings storage.now }
+    requires frameless { IsFrameless storage.now }
+    ensures { result ≡ holds (λ p. not (same_subpool subpool p)) ((model_of (state_of storage.now)).pages page) }
+{
+    storage.region.assigned(page) && !storage.subpools.has_page(&storage.elements, subpool, page)
+}
+
+// Whether a page of the run is another subpool's.
+fn has_others(storage: &Storage, settings: Settings, subpool: Subpool, pages: Run) -> bool
+    requires sound { StandsSound settings storage.now }
+    requires frameless { IsFrameless storage.now }
+    requires range { pages.start + pages.len < 2 ^ 32 }
+    ensures { result ≡ some_pass
+        (λ page. holds (λ p. not (same_subpool subpool p)) ((model_of (state_of storage.now)).pages page))
+        pages.start pages.len }
+{
+    for k in 0..pages.len {
+        if is_others(storage, settings, subpool, pages.start + k) {
+            return true;
+        }
+    }
+    false
+}
+
+// Whether the area is the subpool's and taken, or the first cause that refuses to give it back.
+fn check_area(
+    storage: &Storage,
+    settings: Settings,
+    subpool: Subpool,
+    area: Run,
+) -> Result<(), Cause>
+    requires sound { StandsSound settings storage.now }
+    requires frameless { IsFrameless storage.now }
+    requires valid { settings_valid settings ≡ true }
+    requires some { 0 < area.len }
+    requires range { area.start + area.len ≤ 2 ^ 30 }
+    ensures ok { OnOk result (first_cause
+        (area_causes settings (model_of (state_of storage.now)) subpool area.start area.len) ≡ None) }
+    ensures range { OnOk result (area.start + area.len ≤ 2 ^ 29) }
+    ensures err { IfErr result (λ cause. first_cause
+        (area_causes settings (model_of (state_of storage.now)) subpool area.start area.len) ≡ Some cause) }
+{
+    let pages = pages_of(area);
+    if !lies_in_a_region(settings, pages) {
+        return Err(Cause::NotInSubpool);
+    }
+    if !has_pages(storage, subpool, pages) {
+        if has_others(storage, settings, subpool, pages) {
+            return Err(Cause::NotInSubpool);
+        }
+        return Err(Cause::OverlapsFree);
+    }
+    match storage.subpools.covers(&storage.elements, subpool, area) {
+        Cover::None => Ok(()),
+        _ => Err(Cause::OverlapsFree),
+    }
+}
+
+// What the release gives back, or the first cause that refuses it in any form.
+fn find_given_back(storage: &Storage, settings: Settings, r: Release) -> Result<GivenBack, Cause>
+    requires sound { StandsSound settings storage.now }
+    requires frameless { IsFrameless storage.now }
+    requires valid { settings_valid settings ≡ true }
+    ensures none { IfOk result (λ found.
+        first_cause (release_causes settings (model_of (state_of storage.now)) r) ≡ None) }
+    ensures subpool { IfOk result (λ found.
+        found.subpool ≡ seen_or_own (model_of (state_of storage.now)) r.number) }
+    ensures area { IfOk result (λ found. found.area ≡ run_of (r.address / 8) (doublewords r.length)) }
+    ensures some { IfOk result (λ found. 0 < found.area.len) }
+    ensures range { IfOk result (λ found. found.area.start + found.area.len ≤ 2 ^ 29) }
+    ensures err { IfErr result (λ cause.
+        first_cause (release_causes settings (model_of (state_of storage.now)) r) ≡ Some cause) }
+{
+    let number = check_number(r.number)?;
+    if r.length == 0 {
+        return Err(Cause::BadLength);
+    }
+    if r.address % 8 != 0 {
+        return Err(Cause::Misaligned);
+    }
+    let current = storage.tasks.current();
+    let seen = storage
+        .subpools
+        .owner_seen(&storage.elements, current, number);
+    let Some(owner) = seen else {
+        return Err(Cause::NotInSubpool);
+    };
+    let subpool = Subpool { number, owner };
+    let area = Run {
+        start: r.address / 8,
+        len: r.length.div_ceil(8),
+    };
+    check_area(storage, settings, subpool, area)?;
+    Ok(GivenBack { subpool, area })
+}
+
+// Whether each doubleword of the area, if it has any, is free storage of the subpool.
+fn is_free(storage: &Storage, subpool: Subpool, area: Run) -> bool
+    requires stands { Stand storage.now }
+    requires range { area.start + area.len ≤ 2 ^ 29 }
+    ensures { result ≡ all_pass ((state_of storage.now).subpools.free subpool) area.start area.len }
+{
+    area.len == 0
+        || match storage.subpools.covers(&storage.elements, subpool, area) {
+            Cover::All => true,
+            _ => false,
+        }
+}
+
+// The pages that the area empties when it's given back.
+fn emptied(storage: &Storage, subpool: Subpool, area: Run) -> Run
+    requires stands { Stand storage.now }
+    requires some { 0 < area.len }
+    requires range { area.start + area.len ≤ 2 ^ 29 }
+    ensures value { result ≡ emptied_pages (state_of storage.now).subpools subpool area.start area.len }
+    ensures range { result.start + result.len ≤ 2 ^ 20 }
+{
+    let pages = pages_of(area);
+    let start = PAGE_DOUBLEWORDS * pages.start;
+    let front = Run {
+        start,
+        len: area.start - start,
+    };
+    let end = area.start + area.len;
+    let back = Run {
+        start: end,
+        len: PAGE_DOUBLEWORDS * (pages.start + pages.len) - end,
+    };
+    let keeps_first = !is_free(storage, subpool, front);
+    let keeps_last = !is_free(storage, subpool, back);
+    let first = pages.start + u32::from(keeps_first);
+    let past = pages.start + pages.len - u32::from(keeps_last);
+    Run {
+        start: first,
+        len: past.saturating_sub(first),
+    }
+}
+
+// The doublewords from one up to another, if there are any, become free storage of the subpool, or taken.
+fn push_between(
+    records: &mut ArrayVec<Record, PLAN_RECORDS>,
+    subpool: Subpool,
+    from: u32,
+    to: u32,
+    free: bool,
+)
+    requires { array_vec_len records.old < 17 }
+    ensures records { records.new.items ≡ records.old.items ++ area_records subpool from (to - from) free }
+    ensures few { array_vec_len records.new ≤ array_vec_len records.old + 1 }
+{
+    let area = Run {
+        start: from,
+        len: to.saturating_sub(from),
+    };
+    push_area(records, subpool, area, free);
+}
+
+// The pages, which are the subpool's, leave it and become unassigned.
+fn push_returned(records: &mut ArrayVec<Record, PLAN_RECORDS>, subpool: Subpool, run: Run)
+    requires few { array_vec_len records.old + 2 ≤ 17 }
+    requires some { 0 < run.len }
+    ensures records { records.new.items ≡ records.old.items ++ returned_records subpool run.start run.len }
+    ensures few { array_vec_len records.new ≡ array_vec_len records.old + 2 }
+{
+    records.push(Record::Extent(ExtentRecord {
+        subpool,
+        run,
+        present: false,
+    }));
+    records.push(Record::Pages(PagesRecord {
+        run,
+        assigned: false,
+    }));
+}
+
+// The area is given back with the pages that it empties: what of either lies beside the other becomes free, or taken.
+fn push_given_back(records: &mut ArrayVec<Record, PLAN_RECORDS>, found: GivenBack, pages: Run)
+    requires none { records.old.items ≡ [] }
+    requires range { found.area.start + found.area.len ≤ 2 ^ 29 }
+    requires high { pages.start + pages.len ≤ 2 ^ 20 }
+    ensures records { records.new.items
+        ≡ give_back_records found.subpool found.area.start found.area.len pages.start pages.len }
+    ensures few { array_vec_len records.new ≤ 6 }
+{
+    let GivenBack { subpool, area } = found;
+    if pages.len == 0 {
+        push_area(records, subpool, area, true);
+        return;
+    }
+    let past = area.start + area.len;
+    let begin = PAGE_DOUBLEWORDS * pages.start;
+    let end = PAGE_DOUBLEWORDS * (pages.start + pages.len);
+    push_between(records, subpool, area.start, begin, true);
+    push_between(records, subpool, begin, area.start, false);
+    push_between(records, subpool, end, past, true);
+    push_between(records, subpool, past, end, false);
+    push_returned(records, subpool, pages);
+}
+
+// The plan of a release that no cause refuses.
+fn give_back(storage: &Storage, found: GivenBack) -> Plan
+    requires stands { Stand storage.now }
+    requires some { 0 < found.area.len }
+    requires range { found.area.start + found.area.len ≤ 2 ^ 29 }
+    ensures { IsGivenBack (state_of storage.now) found result }
+{
+    let pages = emptied(storage, found.subpool, found.area);
+    let mut records = ArrayVec::new();
+    push_given_back(&mut records, found, pages);
+    push_register(&mut records, storage.tasks.current(), 15, 0);
+    Plan {
+        records,
+        blanks: RELEASE_BLANKS,
+        fresh: NO_PAGES,
+        reply: Reply::Returned(0),
+    }
+}
 
 /// A plan for the release of an area (*Assembler Services Reference*, STORAGE): its doublewords are free again, and the
 /// pages that are left without a taken doubleword leave the subpool. Register 15 gets 0. Reads alone, and takes no
 /// memory.
 ///
 /// The causes that refuse it, in order: a number above 127 (`UnsupportedSubpool` for 131 and 132, else
-/// `SubpoolNotAllowed`), `BadLength` for zero bytes, `Misaligned`, `NotInSubpool` where the task doesn't see the subpool
-/// or a doubleword of the area lies outside both regions or in a page of another subpool, and `OverlapsFree`, also where
-/// its page isn't assigned. A conditional form has in place of the last two a plan that sets register 15 to 4, and
-/// nothing else.
+/// `SubpoolNotAllowed`), `BadLength` for zero bytes, `Misaligned`, `NotInSubpool` where the task doesn't see the
+/// subpool or a doubleword of the area lies outside both regions or in a page of another subpool, and `OverlapsFree`
+/// where one is free in the subpool or lies in a page that isn't assigned. A conditional form has in place of the last
+/// two a plan that sets register 15 to 4, and nothing else.
 pub fn plan_release(storage: &Storage, settings: Settings, r: Release) -> Result<Plan, Cause>
     requires sound { StandsSound settings storage.now }
+    requires frameless { IsFrameless storage.now }
     requires valid { settings_valid settings ≡ true }
     ensures { (names_full : Bool) → IsPlanned settings names_full (state_of storage.now) (release r) result }
 {
+    match find_given_back(storage, settings, r) {
+        Ok(found) => Ok(give_back(storage, found)),
+        Err(cause) => answer_cause(storage, cause, r.conditional),
+    }
 }

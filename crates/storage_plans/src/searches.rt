@@ -14,8 +14,8 @@ use vsm_model::{Residence, Settings, Subpool};
 /// The doublewords of a page.
 pub(crate) const PAGE_DOUBLEWORDS: u32 = 512;
 
-// The pages of the region on one side of the line.
-fn pages_on(settings: Settings, side: Residence) -> Run
+/// The pages of the region on one side of the line.
+pub(crate) fn pages_on(settings: Settings, side: Residence) -> Run
     requires { settings_valid settings ≡ true }
     ensures start { result.start ≡ (region_on settings side).first }
     ensures len { result.len ≡ (region_on settings side).count }

@@ -1,0 +1,141 @@
+-- The causes of a release, and its plan on the plain machine.
+use Rattle.std.proofs.Common.{◌≡◌, ◌≢◌, ℕ, ◌+◌, ◌/◌, ◌%◌, ◌<◌, ◌≤◌, ◌^◌, Bool, true, false, not, ◌&&◌, ◌==◌, Option, Some, None, is_some, [], ◌∷◌, ◌++◌, sym, ap, ◌∙◌, arith}
+use Rattle.std.proofs.lemmas.Bool.{eq-eqb, ne_eqb, and_parts, not-false, not-true}
+use Rattle.std.proofs.Math.Logic.{∥∥₁_elim, ∥∥₁_prop}
+use Rattle.run_set.specs.declared.run.Run.{Run}
+use Rattle.vsm_model.specs.declared.Subpool.{Subpool}
+use Rattle.vsm_model.specs.declared.causes.Cause.TheVariants.{BadLength, Misaligned, NotInSubpool, OverlapsFree, OverlapsCells}
+use Rattle.vsm_model.specs.declared.limits.Settings.{Settings}
+use Rattle.vsm_model.specs.declared.replies.Reply.{Reply}
+use Rattle.vsm_model.specs.declared.replies.Reply.TheVariants.{Returned}
+use Rattle.vsm_model.specs.declared.services.Release.{Release}
+use Rattle.vsm_model.specs.Causes.{Causes, first_cause}
+use Rattle.vsm_model.specs.Regions.{among, doublewords}
+use Rattle.vsm_model.specs.Registers.{with_registers}
+use Rattle.vsm_model.specs.Releasing.{is_foreign, is_not_taken, release_causes, without_area}
+use Rattle.vsm_model.specs.Search.{some_pass, holds}
+use Rattle.vsm_model.specs.Services.{release}
+use Rattle.vsm_model.specs.Standing.{Accepted}
+use Rattle.vsm_model.specs.State.{State}
+use Rattle.vsm_model.specs.Step.{step, answered}
+use Rattle.vsm_model.specs.Subpools.{same_subpool, sees_one, seen_or_own}
+use Rattle.vsm_model.proofs.Chosen.{Stepped}
+use Rattle.storage_laws.proofs.Allowed.{release_allowed}
+use Rattle.storage_laws.proofs.Cases.{among_in, belongs_is}
+use Rattle.storage_laws.proofs.Kept.{release_leaves_well_formed}
+use Rattle.storage_changes.specs.State.{StorageState}
+use Rattle.storage_changes.specs.Meaning.{model_of, subpool_of, is_taken, IsSound}
+use Rattle.storage_changes.proofs.MeaningLemmas.{named_pages_are_there}
+use Rattle.storage_actions.specs.Actions.{run_of, emptied_pages, give_back_records, register_records}
+use Rattle.storage_actions.proofs.GivingBack.{giving_back_leads}
+use Rattle.storage_actions.proofs.Idle.{emptied_pages_are_a_run}
+use Rattle.storage_actions.proofs.Rows.{none_fresh}
+use Rattle.storage_plans.specs.declared.plan.Plan.{Plan}
+use Rattle.storage_plans.specs.declared.release.GivenBack.{GivenBack}
+use Rattle.storage_plans.specs.Plans.{CarriesOut}
+use Rattle.storage_plans.specs.Releases.{area_causes, IsGivenBack}
+use Rattle.storage_plans.proofs.Carried.{carries_out, no_registers, register_and}
+use Rattle.storage_plans.proofs.FixedLengths.{skip, stop, number_allowed}
+use Rattle.storage_plans.proofs.OwnedAreas.{not_one}
+
+-- the first cause of an area
+module _ (settings : Settings) (s : State) (p : Subpool) (d count : ℕ) where
+  abbrev foreign : Bool
+  foreign = some_pass (is_foreign settings s p) d count
+
+  abbrev not_taken : Bool
+  not_taken = some_pass (is_not_taken s p) d count
+
+  abbrev cell_rows : Causes
+  cell_rows = (false, OverlapsCells) ∷ []
+
+  abbrev free_rows : Causes
+  free_rows = (not_taken, OverlapsFree) ∷ cell_rows
+
+  pub is_foreign_first : foreign ≡ true → first_cause (area_causes settings s p d count) ≡ Some NotInSubpool
+  is_foreign_first e = stop foreign NotInSubpool free_rows e
+
+  pub is_free_first : foreign ≡ false → not_taken ≡ true → first_cause (area_causes settings s p d count) ≡ Some OverlapsFree
+  is_free_first e f = skip foreign NotInSubpool free_rows e ∙ stop not_taken OverlapsFree cell_rows f
+
+  pub has_no_cause : foreign ≡ false → not_taken ≡ false → first_cause (area_causes settings s p d count) ≡ None
+  has_no_cause e f = skip foreign NotInSubpool free_rows e ∙ skip not_taken OverlapsFree cell_rows f
+
+module _ (settings : Settings) (m : StorageState) (r : Release) where
+  abbrev s : State
+  s = model_of m
+
+  abbrev area_rows : Causes
+  area_rows = area_causes settings s (seen_or_own s r.number) (r.address / 8) (doublewords r.length)
+
+  abbrev sight_rows : Causes
+  sight_rows = (not (sees_one s r.number), NotInSubpool) ∷ area_rows
+
+  abbrev address_rows : Causes
+  address_rows = (not ((r.address % 8) == 0), Misaligned) ∷ sight_rows
+
+  own : (number owner : ℕ) → number ≡ r.number → s.sight s.current number ≡ Some owner → record { number = number; owner = owner } ≡ seen_or_own s r.number
+  own number owner is e = cc
+
+  -- a release of an area in a subpool that is seen has the first cause of the area
+  pub as_of_the_area : (number owner : ℕ) (area : Run) → r.number ≤ 127 → r.length ≢ 0 → r.address % 8 ≡ 0 → number ≡ r.number → s.sight s.current number ≡ Some owner →
+      area.start ≡ r.address / 8 → area.len ≡ doublewords r.length →
+      first_cause (release_causes settings s r) ≡ first_cause (area_causes settings s (record { number = number; owner = owner }) area.start area.len)
+  as_of_the_area number owner area allowed some whole is seen at long =
+      number_allowed r.number ((r.length == 0, BadLength) ∷ address_rows) allowed
+      ∙ skip (r.length == 0) BadLength address_rows (ne_eqb r.length 0 some)
+      ∙ skip (not ((r.address % 8) == 0)) Misaligned sight_rows (ap not (eq-eqb (r.address % 8) 0 whole))
+      ∙ skip (not (sees_one s r.number)) NotInSubpool area_rows (ap not (ap is_some (ap (s.sight s.current) (sym is) ∙ seen)))
+      ∙ (λ i. first_cause (area_causes settings s (sym (own number owner is seen) i) (sym at i) (sym long i)))
+
+  -- an area that no cause keeps is given back by the plan
+  module _ (names_full : Bool) (found : GivenBack) (plan : Plan) (sound : IsSound settings m) (none : first_cause (release_causes settings s r) ≡ None)
+      (its : found.subpool ≡ seen_or_own s r.number) (at : found.area ≡ run_of (r.address / 8) (doublewords r.length)) (some : 0 < found.area.len)
+      (high : found.area.start + found.area.len ≤ 2 ^ 29) (given : IsGivenBack m found plan) where
+    abbrev p : Subpool
+    p = found.subpool
+
+    abbrev d : ℕ
+    d = found.area.start
+
+    abbrev count : ℕ
+    count = found.area.len
+
+    abbrev after : State
+    after = with_registers (without_area s p d count) ((15, 0) ∷ [])
+
+    accepted : step settings names_full s (release r) ≡ Accepted after (Returned 0)
+    accepted =
+        let outcome : State → Stepped = λ t. Accepted (with_registers t ((15, 0) ∷ [])) (Returned 0) in
+        ap (answered settings s (release r)) none
+        ∙ (λ i. outcome (without_area s (sym its i) (sym at i).start (sym at i).len))
+
+    taken : (k : ℕ) → among d count k ≡ true → (m.subpools.pages p (k / 512) ≡ true) × (m.subpools.free p k ≡ false)
+    taken k e =
+        let used : some_pass (is_not_taken s p) d count ≡ false =
+        (λ i. some_pass (is_not_taken s (its i)) (at i).start (at i).len) ∙ (release_allowed settings s r none).used in
+        let bounds = among_in d count k e in
+        let owner : Option Subpool = subpool_of m.subpools (k / 512) in
+        let both = not-false (holds (same_subpool p) owner && is_taken m.subpools owner k) (not_one (is_not_taken s p) d count k used bounds.0 bounds.1) in
+        let parts = and_parts (holds (same_subpool p) owner) (is_taken m.subpools owner k) both in
+        let is = belongs_is p owner parts.0 in (
+          (named_pages_are_there m.subpools (k / 512)).0 p is,
+          not-true (m.subpools.free p k) (ap (λ o. is_taken m.subpools o k) (sym is) ∙ parts.1),
+        )
+
+    pub given_back : CarriesOut settings names_full m (release r) plan
+    given_back =
+        let pages : Run = emptied_pages m.subpools p d count in
+        let idle = emptied_pages_are_a_run settings m p d count sound some high taken in
+        let outcome : Reply → Stepped = λ reply. Accepted after reply in
+        carries_out settings names_full m (release r) plan (give_back_records p d count pages.start pages.len ++ register_records m ((15, 0) ∷ [])) 7 (run_of 0 0) after
+        given.records given.blanks given.fresh (accepted ∙ ap outcome (sym given.reply))
+        (giving_back_leads settings m p d count pages.start pages.len ((15, 0) ∷ []) sound (register_and 15 0 [] (omega arith) no_registers) some high idle.1 taken idle.0
+        (release_leaves_well_formed settings names_full s after r (Returned 0) sound.well_formed accepted))
+        (omega arith) (omega arith) (none_fresh m)
+
+  pub is_given_back : (names_full : Bool) (found : GivenBack) (plan : Plan) → ∥ IsSound settings m ∥₁ → first_cause (release_causes settings s r) ≡ None →
+      found.subpool ≡ seen_or_own s r.number → found.area ≡ run_of (r.address / 8) (doublewords r.length) → 0 < found.area.len → found.area.start + found.area.len ≤ 2 ^ 29 →
+      IsGivenBack m found plan → ∥ CarriesOut settings names_full m (release r) plan ∥₁
+  is_given_back names_full found plan sound none its at some high given =
+      ∥∥₁_elim sound ∥∥₁_prop (λ h. ∣ given_back names_full found plan h none its at some high given ∣₁)

@@ -1,0 +1,37 @@
+-- What of a release depends on where its area lies.
+use Rattle.std.specs.Prelude.{◌≡◌, ℕ, false, List, [], ◌∷◌, ◌++◌}
+use Rattle.vsm_model.specs.declared.Subpool.{Subpool}
+use Rattle.vsm_model.specs.declared.causes.Cause.TheVariants.{NotInSubpool, OverlapsFree, OverlapsCells}
+use Rattle.vsm_model.specs.declared.limits.Settings.{Settings}
+use Rattle.vsm_model.specs.declared.replies.Reply.TheVariants.{Returned}
+use Rattle.vsm_model.specs.Causes.{Causes}
+use Rattle.vsm_model.specs.Releasing.{is_foreign, is_not_taken}
+use Rattle.vsm_model.specs.Search.{some_pass}
+use Rattle.vsm_model.specs.State.{State}
+use Rattle.storage_changes.specs.declared.record.Record.{Record}
+use Rattle.storage_changes.specs.State.{StorageState}
+use Rattle.storage_actions.specs.Actions.{emptied_pages, give_back_records, register_records, run_of}
+use Rattle.storage_plans.specs.declared.plan.Plan.{Plan}
+use Rattle.storage_plans.specs.declared.release.GivenBack.{GivenBack}
+
+-- the last of a release's causes, those of an area of so many doublewords from this one on: the storage has no cell
+-- pools
+abbrev pub area_causes : Settings → State → Subpool → ℕ → ℕ → Causes
+area_causes settings s p d count =
+    (some_pass (is_foreign settings s p) d count, NotInSubpool)
+    ∷ (some_pass (is_not_taken s p) d count, OverlapsFree)
+    ∷ (false, OverlapsCells)
+    ∷ []
+
+-- the records that give an area back with the pages that it empties, and set the return code
+abbrev pub given_back_records : StorageState → Subpool → ℕ → ℕ → List Record
+given_back_records m p d count =
+    let pages = emptied_pages m.subpools p d count in
+    give_back_records p d count pages.start pages.len ++ register_records m ((15, 0) ∷ [])
+
+-- The plan has these records.
+pub record IsGivenBack (m : StorageState) (found : GivenBack) (plan : Plan) : Type 0 where
+  pub records : plan.records.items ≡ given_back_records m found.subpool found.area.start found.area.len
+  pub blanks : plan.blanks ≡ 7
+  pub fresh : plan.fresh ≡ run_of 0 0
+  pub reply : plan.reply ≡ Returned 0
