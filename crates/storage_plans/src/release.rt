@@ -1,7 +1,7 @@
 //! Plans of STORAGE RELEASE.
-ghost use Rattle.std.specs.Prelude.{◌≡◌, ◌+◌, ◌-◌, ◌*◌, ◌/◌, ◌^◌, ◌<◌, ◌≤◌, Bool, true, false, not, nat_le, ◌&&◌};
-ghost use Rattle.std.specs.Prelude.{None, Some, IfOk, IfErr, OnOk, IsTrue, [], ◌∷◌, ◌++◌, length};
-ghost use Rattle.vsm_model.specs.declared.replies.Reply.TheVariants.{Returned};
+ghost use Rattle.std.specs.Prelude.{◌≡◌, ◌+◌, ◌-◌, ◌/◌, ◌^◌, ◌<◌, ◌≤◌, ◌&&◌, Bool, true, not, nat_le};
+ghost use Rattle.std.specs.Prelude.{None, Some, IfOk, IfErr, OnOk, IsTrue, [], ◌++◌};
+ghost use Rattle.arrayvec.specs.ArrayVec.{array_vec_len};
 ghost use Rattle.vsm_model.specs.Causes.{first_cause};
 ghost use Rattle.vsm_model.specs.Regions.{doublewords, in_a_region, pages_for, settings_valid};
 ghost use Rattle.vsm_model.specs.Releasing.{release_causes};
@@ -9,7 +9,6 @@ ghost use Rattle.vsm_model.specs.Search.{all_pass, some_pass, holds};
 ghost use Rattle.vsm_model.specs.Services.{release};
 ghost use Rattle.vsm_model.specs.Subpools.{same_subpool, seen_or_own};
 ghost use Rattle.storage_changes.specs.Meaning.{model_of};
-ghost use Rattle.arrayvec.specs.ArrayVec.{array_vec_len};
 ghost use Rattle.storage_actions.specs.Actions.{area_records, emptied_pages, give_back_records, returned_records};
 ghost use Rattle.storage_actions.specs.Actions.{run_of};
 ghost use Rattle.storage_exchange.specs.Storage.{state_of, Stand, IsFrameless};
@@ -63,7 +62,8 @@ fn lies_in(run: Run, region: Run) -> bool
     region.start <= run.start && run.start + run.len <= region.start + region.len
 }
 
-// Whether each page of the run lies in a region. No page is between the two regions' pages.
+// Whether each page of the run lies in a region. There are pages between the two regions, so the run lies in one of
+// them then.
 fn lies_in_a_region(settings: Settings, pages: Run) -> bool
     requires valid { settings_valid settings ≡ true }
     requires some { 0 < pages.len }
@@ -92,7 +92,7 @@ fn has_pages(storage: &Storage, subpool: Subpool, pages: Run) -> bool
     true
 }
 
-// Whether the page is another subpool's. Each page that is a subpool's has a frame, and no other page has one.
+// Whether the page is another subpool's. A page has a frame just where some subpool has the page.
 fn is_others(storage: &Storage, settings: Settings, subpool: Subpool, page: Page) -> bool
     requires sound { StandsSound settings storage.now }
     requires frameless { IsFrameless storage.now }
@@ -317,10 +317,10 @@ fn give_back(storage: &Storage, found: GivenBack) -> Plan
 /// memory.
 ///
 /// The causes that refuse it, in order: a number above 127 (`UnsupportedSubpool` for 131 and 132, else
-/// `SubpoolNotAllowed`), `BadLength` for zero bytes, `Misaligned`, `NotInSubpool` where the task doesn't see the subpool
-/// or a doubleword of the area lies outside both regions or in a page of another subpool, and `OverlapsFree`, also where
-/// its page isn't assigned. A conditional form has in place of the last two a plan that sets register 15 to 4, and
-/// nothing else.
+/// `SubpoolNotAllowed`), `BadLength` for zero bytes, `Misaligned`, `NotInSubpool` where the task doesn't see the
+/// subpool or a doubleword of the area lies outside both regions or in a page of another subpool, and `OverlapsFree`
+/// where one is free in the subpool or lies in a page that isn't assigned. A conditional form has in place of the last
+/// two a plan that sets register 15 to 4, and nothing else.
 pub fn plan_release(storage: &Storage, settings: Settings, r: Release) -> Result<Plan, Cause>
     requires sound { StandsSound settings storage.now }
     requires frameless { IsFrameless storage.now }
