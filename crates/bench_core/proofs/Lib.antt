@@ -1,3 +1,4 @@
 pub mod Trails
 pub mod Moves
 pub mod Applied
+pub mod Accepted

@@ -1,7 +1,7 @@
 -- A machine that moves along its history.
-use Rattle.std.proofs.Common.{◌≡◌, ℕ, zero, suc, ◌+◌, ◌≤◌, ◌↔◌, List, [], ◌∷◌, ◌++◌, length, drop, Option, Some, None, Result, Ok, Err, OnOk, OnErr, IfErr, IsOk, sym, ◌∙◌, ap, subst, refl, arith, append_assoc, inl, inr, true, true≢false}
-use Rattle.std.proofs.lemmas.Bool.{and_parts, cases_lt}
-use Rattle.std.proofs.lemmas.List.{length-reverse}
+use Rattle.std.proofs.Common.{◌≡◌, ℕ, zero, suc, ◌+◌, ◌≤◌, ◌↔◌, List, [], ◌∷◌, ◌++◌, length, drop, reverse, Option, Some, None, Result, Ok, Err, OnOk, OnErr, IfErr, IsOk, sym, ◌∙◌, ap, subst, refl, arith, inl, inr, true, true≢false}
+use Rattle.std.proofs.lemmas.Bool.{cases_lt}
+use Rattle.std.proofs.lemmas.List.{length-map, length-reverse}
 use Rattle.vsm_model.specs.declared.limits.Settings.{Settings}
 use Rattle.std.specs.List.{AllByRecursion}
 use Rattle.vsm_model.specs.Standing.{Keeps, Back, Forward}
@@ -14,12 +14,13 @@ use Rattle.step_history.specs.Walk.{Moment, moment, Times, StepsBack, StepsForwa
 use Rattle.step_history.specs.declared.too_far.TooFar.{TooFar}
 use Rattle.step_history.specs.declared.too_far.TooFarAhead.{TooFarAhead}
 use Rattle.vsm_machine.specs.Machine.{statement_step}
-use Rattle.vsm_machine.specs.Changes.{shown, step_of, turned_by, is_alike, all_alike, Alike, Swaps, Discards, machine_fits, machine_states, machine_laws, swap_settings, swap_alike, all_pick, all_put, defines_none, undefines_none, DefineNone, UndefineNone}
+use Rattle.vsm_machine.specs.NameSteps.{turned_by, defines_none, undefines_none}
+use Rattle.vsm_machine.specs.Changes.{named_of, shown, step_of, Swaps, Discards, machine_fits, machine_states, machine_laws, DefineNone, UndefineNone}
 use Rattle.bench_core.specs.Stands.{bench_at, answer_to_back, answer_to_forward}
 use Rattle.vsm_machine.specs.declared.machine.Machine.{Machine}
 use Rattle.vsm_machine.specs.declared.machine.Change.{Change}
 use Rattle.bench_core.specs.declared.bench.Bench.{Bench}
-use Rattle.bench_core.proofs.Trails.{moves_back, moves_forward}
+use Rattle.bench_core.proofs.Trails.{moves_back_as, moves_forward_as}
 
 all_front : {C : Type 0} (P : C → Type 0) (xs ys : List C) → AllByRecursion P (xs ++ ys) → AllByRecursion P xs
 all_front P [] ys h = tt
@@ -62,62 +63,44 @@ pub record Directed (kept undone : List Change) : Type 0 where
   pub kept_define_none : DefineNone kept
   pub undone_undefine_none : UndefineNone undone
 
-pub record Sound (p : Moment Machine Change) : Type 0 where
-  pub alike : Alike p.state (p.kept ++ p.undone)
-  pub directed : Directed p.kept p.undone
-
 abbrev pub Goes : Moment Machine Change → Moment Machine Change → Type 0
-Goes p q = (settings_of q.state.storage ≡ settings_of p.state.storage) × Sound q
+Goes p q = (settings_of q.state.storage ≡ settings_of p.state.storage) × Directed q.kept q.undone
 
--- a step leaves the settings as they were, the changes alike, and those that are kept and undone as such
-step_back : (p q : Moment Machine Change) → StepsBack Swaps p q → Sound p → Goes p q
+-- a step leaves the settings as they were, and the changes that are kept and undone as such
+step_back : (p q : Moment Machine Change) → StepsBack Swaps p q → Directed p.kept p.undone → Goes p q
 step_back p q step h =
     let c = step.change in
     let d = step.inverse in
-    let split : Alike p.state (q.kept ++ c ∷ p.undone) = subst (Alike p.state) (ap (λ ks. ks ++ p.undone) step.last ∙ append_assoc q.kept (c ∷ []) p.undone) h.alike in
-    let picked = all_pick q.kept p.undone c p.state split in
-    let first = and_parts (is_alike p.state c) (all_alike p.state (q.kept ++ p.undone)) picked in
-    let put = all_put q.kept p.undone d q.state (swap_alike p.state q.state c d (q.kept ++ p.undone) picked step.swapped) in
-    let kept : DefineNone (q.kept ++ c ∷ []) = subst DefineNone step.last h.directed.kept_define_none in
+    let kept : DefineNone (q.kept ++ c ∷ []) = subst DefineNone step.last h.kept_define_none in
     let none = all_last (λ x. defines_none (step_of x) ≡ true) q.kept c kept in (
-      swap_settings p.state q.state c d first.0 step.swapped,
+      step.swapped.settings,
       record {
-        alike = subst (λ us. Alike q.state (q.kept ++ us)) (sym step.first) put;
-        directed = record {
-          kept_define_none = all_front (λ x. defines_none (step_of x) ≡ true) q.kept (c ∷ []) kept;
-          undone_undefine_none = subst UndefineNone (sym step.first) (swap_undefines_none p.state q.state c d step.swapped none, h.directed.undone_undefine_none);
-        };
+        kept_define_none = all_front (λ x. defines_none (step_of x) ≡ true) q.kept (c ∷ []) kept;
+        undone_undefine_none = subst UndefineNone (sym step.first) (swap_undefines_none p.state q.state c d step.swapped none, h.undone_undefine_none);
       },
     )
 
-step_forward : (p q : Moment Machine Change) → StepsForward Swaps p q → Sound p → Goes p q
+step_forward : (p q : Moment Machine Change) → StepsForward Swaps p q → Directed p.kept p.undone → Goes p q
 step_forward p q step h =
     let c = step.change in
     let d = step.inverse in
-    let split : Alike p.state (p.kept ++ c ∷ q.undone) = subst (λ us. Alike p.state (p.kept ++ us)) step.first h.alike in
-    let picked = all_pick p.kept q.undone c p.state split in
-    let first = and_parts (is_alike p.state c) (all_alike p.state (p.kept ++ q.undone)) picked in
-    let put = all_put p.kept q.undone d q.state (swap_alike p.state q.state c d (p.kept ++ q.undone) picked step.swapped) in
-    let undone : UndefineNone (c ∷ q.undone) = subst UndefineNone step.first h.directed.undone_undefine_none in
+    let undone : UndefineNone (c ∷ q.undone) = subst UndefineNone step.first h.undone_undefine_none in
     let defined = swap_defines_none p.state q.state c d step.swapped undone.0 in (
-      swap_settings p.state q.state c d first.0 step.swapped,
+      step.swapped.settings,
       record {
-        alike = subst (Alike q.state) (sym (ap (λ ks. ks ++ q.undone) step.last ∙ append_assoc p.kept (d ∷ []) q.undone)) put;
-        directed = record {
-          kept_define_none = subst DefineNone (sym step.last) (all_push (λ x. defines_none (step_of x) ≡ true) p.kept d h.directed.kept_define_none defined);
-          undone_undefine_none = undone.1;
-        };
+        kept_define_none = subst DefineNone (sym step.last) (all_push (λ x. defines_none (step_of x) ≡ true) p.kept d h.kept_define_none defined);
+        undone_undefine_none = undone.1;
       },
     )
 
-all_back : (n : ℕ) (p q : Moment Machine Change) → Times (StepsBack Swaps) n p q → Sound p → Goes p q
+all_back : (n : ℕ) (p q : Moment Machine Change) → Times (StepsBack Swaps) n p q → Directed p.kept p.undone → Goes p q
 all_back zero p q e h = subst (Goes p) e (refl, h)
 all_back (suc n) p q (m, steps, step) h =
     let before = all_back n p m steps h in
     let then = step_back m q step before.1 in
     (then.0 ∙ before.0, then.1)
 
-all_forward : (n : ℕ) (p q : Moment Machine Change) → Times (StepsForward Swaps) n p q → Sound p → Goes p q
+all_forward : (n : ℕ) (p q : Moment Machine Change) → Times (StepsForward Swaps) n p q → Directed p.kept p.undone → Goes p q
 all_forward zero p q e h = subst (Goes p) e (refl, h)
 all_forward (suc n) p q (m, steps, step) h =
     let before = all_forward n p m steps h in
@@ -128,30 +111,32 @@ all_forward (suc n) p q (m, steps, step) h =
 abbrev pub Stays : Log Change → Machine → Machine → Type 0
 Stays new s t = (settings_of t.storage ≡ settings_of s.storage) × Directed new.kept new.undone
 
-module _ (n : ℕ) (old new : Log Change) (s t : Machine) (h : Sound (moment old.kept s old.undone)) where
+module _ (n : ℕ) (old new : Log Change) (s t : Machine) (h : Directed old.kept old.undone) where
   unmoved : (new ≡ old) × (t ≡ s) → Stays new s t
-  unmoved same = (ap (λ (m : Machine). settings_of m.storage) same.1, subst (λ (l : Log Change). Directed l.kept l.undone) (sym same.0) h.directed)
+  unmoved same = (ap (λ (m : Machine). settings_of m.storage) same.1, subst (λ (l : Log Change). Directed l.kept l.undone) (sym same.0) h)
 
   pub back_stays : (r : Result (Unit {0}) TooFar) →
       OnOk r (Times (StepsBack Swaps) n (moment old.kept s old.undone) (moment new.kept t new.undone)) → OnErr r ((new ≡ old) × (t ≡ s)) → Stays new s t
-  back_stays (Ok u) steps same = let goes = all_back n _ _ steps h in (goes.0, goes.1.directed)
+  back_stays (Ok u) steps same = all_back n _ _ steps h
   back_stays (Err e) steps same = unmoved same
 
   pub forward_stays : (r : Result (Unit {0}) TooFarAhead) →
       OnOk r (Times (StepsForward Swaps) n (moment old.kept s old.undone) (moment new.kept t new.undone)) → OnErr r ((new ≡ old) × (t ≡ s)) → Stays new s t
-  forward_stays (Ok u) steps same = let goes = all_forward n _ _ steps h in (goes.0, goes.1.directed)
+  forward_stays (Ok u) steps same = all_forward n _ _ steps h
   forward_stays (Err e) steps same = unmoved same
 
--- a discarded copy leaves the machine as it was
-pub discards_all : (cs : List Change) (s t : Machine) → DiscardsAll Discards cs s t → t ≡ s
-discards_all [] s t e = e
-discards_all (c ∷ cs) s t (m, all, one) = one ∙ discards_all cs s m all
+-- discarded changes leave the settings as they were
+pub discards_settings : (cs : List Change) (s t : Machine) → DiscardsAll Discards cs s t → settings_of t.storage ≡ settings_of s.storage
+discards_settings [] s t e = ap (λ (m : Machine). settings_of m.storage) e
+discards_settings (c ∷ cs) s t (m, all, one) = one.settings ∙ discards_settings cs s m all
 
 pub past_is : (ks us : List Change) (s : Machine) → machine_fits ks s us → length (bench_at ks s us).past ≡ length ks
-past_is ks us s f = length-reverse (trail_of shown machine_states ks s us).past ∙ past_count machine_laws ks us s f
+past_is ks us s f =
+    length-map (reverse (trail_of shown machine_states ks s us).past) named_of
+    ∙ length-reverse (trail_of shown machine_states ks s us).past ∙ past_count machine_laws ks us s f
 
 pub later_is : (ks us : List Change) (s : Machine) → machine_fits ks s us → length (bench_at ks s us).later ≡ length us
-later_is ks us s f = later_count machine_laws ks us s f
+later_is ks us s f = length-map (trail_of shown machine_states ks s us).later named_of ∙ later_count machine_laws ks us s f
 
 module _ (settings : Settings) (n : ℕ) (old new : Log Change) (s t : Machine) where
   pub back_keeps : (r : Result (Unit {0}) TooFar) → machine_fits old.kept s old.undone → machine_fits new.kept t new.undone →
@@ -161,7 +146,7 @@ module _ (settings : Settings) (n : ℕ) (old new : Log Change) (s t : Machine) 
   back_keeps (Ok u) f g states accepted steps err same =
       let count = past_is old.kept old.undone s f in (
         omega (arith, count, steps),
-        moves_back n (trail_of shown machine_states old.kept s old.undone) (trail_of shown machine_states new.kept t new.undone)
+        moves_back_as named_of n (trail_of shown machine_states old.kept s old.undone) (trail_of shown machine_states new.kept t new.undone)
             (trail_back machine_laws n old.kept old.undone new.kept new.undone s t f g states steps),
       )
   back_keeps (Err e) f g states accepted steps err same =
@@ -182,7 +167,7 @@ module _ (settings : Settings) (n : ℕ) (old new : Log Change) (s t : Machine) 
       let count = later_is old.kept old.undone s f in
       let few : n ≤ length old.undone = accepted.0 refl in (
         omega (arith, count, few),
-        moves_forward n (trail_of shown machine_states old.kept s old.undone) (trail_of shown machine_states new.kept t new.undone)
+        moves_forward_as named_of n (trail_of shown machine_states old.kept s old.undone) (trail_of shown machine_states new.kept t new.undone)
             (trail_back machine_laws n new.kept new.undone old.kept old.undone t s g f (sym states) steps),
       )
   forward_keeps (Err e) f g states accepted steps err same =
@@ -195,9 +180,6 @@ module _ (settings : Settings) (n : ℕ) (old new : Log Change) (s t : Machine) 
         λ i. bench_at (same.0 i).kept (same.1 i) (same.0 i).undone,
       )
 
--- a bench is sound
-pub sound_of : (b : Bench) → Sound (moment b.history.kept b.machine b.history.undone)
-sound_of b = record {
-  alike = b.fits.1;
-  directed = record { kept_define_none = b.kept_define_none; undone_undefine_none = b.undone_undefine_none };
-}
+-- the changes of a bench
+pub directed_of : (b : Bench) → Directed b.history.kept b.history.undone
+directed_of b = record { kept_define_none = b.kept_define_none; undone_undefine_none = b.undone_undefine_none }

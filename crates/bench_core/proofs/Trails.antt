@@ -1,10 +1,10 @@
 -- The states along a history, told from the newest past one, move as those of the plain machine.
-use Rattle.std.proofs.Common.{◌≡◌, ℕ, zero, suc, ◌+◌, ◌-◌, ◌≤◌, List, [], ◌∷◌, ◌++◌, length, take, drop, reverse, sym, ◌∙◌, ap, refl, arith, inl, inr}
+use Rattle.std.proofs.Common.{◌≡◌, ℕ, zero, suc, ◌+◌, ◌-◌, ◌≤◌, List, [], ◌∷◌, ◌++◌, length, map, take, drop, reverse, sym, ◌∙◌, ap, refl, arith, inl, inr}
 use Rattle.std.proofs.lemmas.Bool.{cases_lt}
-use Rattle.std.proofs.lemmas.List.{reverse-append, reverse-reverse, length-reverse, append_assoc, length-append, take_all, take-append-le}
+use Rattle.std.proofs.lemmas.List.{reverse-append, reverse-reverse, length-reverse, append_assoc, length-append, take_all, take-append-le, take-map}
 use Rattle.std.proofs.lemmas.Grind.{reverse_onto}
 use Rattle.vsm_model.specs.Standing.{Bench, moved_back, moved_forward}
-use Rattle.bench_core.specs.Stands.{bench_in}
+use Rattle.bench_core.specs.Stands.{bench_in, bench_as}
 use Rattle.step_history.specs.Log.{latest}
 use Rattle.step_history.specs.Trail.{Trail, trail, line, MovesBack, forward_again}
 
@@ -47,7 +47,7 @@ module _ {M : Type 0} where
   line_in : (t : Trail M) → reverse (reverse t.past) ++ t.present ∷ t.later ≡ line t
   line_in t = ap (λ past. past ++ t.present ∷ t.later) (reverse-reverse t.past)
 
-  pub moves_back : (n : ℕ) (t u : Trail M) → MovesBack n t u → bench_in u ≡ moved_back n (reverse t.past) t.present t.later
+  moves_back : (n : ℕ) (t u : Trail M) → MovesBack n t u → bench_in u ≡ moved_back n (reverse t.past) t.present t.later
   moves_back n t u h =
       let long = length-reverse t.past in
       let few : n ≤ length (reverse t.past) = omega (arith, long, h.1) in
@@ -57,7 +57,7 @@ module _ {M : Type 0} where
       bench_of_trail u b
       (same_trail u (trail_in b) (h.0 ∙ sym (line_in t) ∙ sym (back_line n (reverse t.past) t.present t.later few)) (omega (arith, long, h.1, count, turned)))
 
-  pub moves_forward : (n : ℕ) (t u : Trail M) → MovesBack n u t → bench_in u ≡ moved_forward n (reverse t.past) t.present t.later
+  moves_forward : (n : ℕ) (t u : Trail M) → MovesBack n u t → bench_in u ≡ moved_forward n (reverse t.past) t.present t.later
   moves_forward n t u h =
       let whole : length t.past + suc (length t.later) ≡ length u.past + suc (length u.later) =
       sym (length-append t.past (t.present ∷ t.later)) ∙ ap length h.0 ∙ length-append u.past (u.present ∷ u.later) in
@@ -87,8 +87,32 @@ module _ {M : Type 0} where
   ]
 
   -- The newest states, up to the limit.
-  pub newest_states : (limit : ℕ) (past : List M) (s t : M) →
+  newest_states : (limit : ℕ) (past : List M) (s t : M) →
       bench_in (trail (latest limit (past ++ s ∷ [])) t []) ≡ record { past = take limit (s ∷ reverse past); present = t; later = [] }
   newest_states limit past s t =
       ap (λ p. record { past = p; present = t; later = [] })
       (latest_reverse limit (past ++ s ∷ []) ∙ ap (take limit) (reverse-append past (s ∷ [])))
+
+-- the same of what the states become
+module _ {M N : Type 0} (f : M → N) where
+  back_as : (n : ℕ) (past : List M) (s : M) (later : List M) → bench_as f (moved_back n past s later) ≡ moved_back n (map f past) (f s) (map f later)
+  back_as zero past s later = refl
+  back_as (suc n) [] s later = refl
+  back_as (suc n) (p ∷ past) s later = back_as n past p (s ∷ later)
+
+  forward_as : (n : ℕ) (past : List M) (s : M) (later : List M) → bench_as f (moved_forward n past s later) ≡ moved_forward n (map f past) (f s) (map f later)
+  forward_as zero past s later = refl
+  forward_as (suc n) past s [] = refl
+  forward_as (suc n) past s (t ∷ later) = forward_as n (s ∷ past) t later
+
+  pub moves_back_as : (n : ℕ) (t u : Trail M) → MovesBack n t u → bench_as f (bench_in u) ≡ moved_back n (map f (reverse t.past)) (f t.present) (map f t.later)
+  moves_back_as n t u h = ap (bench_as f) (moves_back n t u h) ∙ back_as n (reverse t.past) t.present t.later
+
+  pub moves_forward_as : (n : ℕ) (t u : Trail M) → MovesBack n u t → bench_as f (bench_in u) ≡ moved_forward n (map f (reverse t.past)) (f t.present) (map f t.later)
+  moves_forward_as n t u h = ap (bench_as f) (moves_forward n t u h) ∙ forward_as n (reverse t.past) t.present t.later
+
+  pub newest_as : (limit : ℕ) (past : List M) (s t : M) →
+      bench_as f (bench_in (trail (latest limit (past ++ s ∷ [])) t [])) ≡ record { past = take limit (f s ∷ map f (reverse past)); present = f t; later = [] }
+  newest_as limit past s t =
+      ap (bench_as f) (newest_states limit past s t)
+      ∙ ap (λ (p : List N). record { past = p; present = f t; later = [] }) (sym (take-map f limit (s ∷ reverse past)))

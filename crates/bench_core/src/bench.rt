@@ -14,6 +14,7 @@ use operand_texts::Value;
 use std::alloc::Global;
 use step_history::{History, Reversible, TooFar, TooFarAhead};
 use storage_core::{Reply, Settings, Storage};
+use storage_swap::laws::first_is_first;
 use vsm_machine::{Machine, NewFault, Refusal, look_up, plan_of, reserve};
 
 /// A bench over one private region.
@@ -51,6 +52,7 @@ impl Bench {
         }
         let storage = Storage::new(alloc, settings)?;
         let history = History::new(alloc, settings.history)?;
+        first_is_first();
         Ok(Bench {
             machine: Machine {
                 storage,

@@ -1,104 +1,166 @@
-use Rattle.std.proofs.Common.{◌≡◌, ◌-◌, ◌++◌, ◌∷◌, [], List, length, drop, sym, ◌∙◌, ap, subst}
+use Rattle.std.proofs.Common.{◌≡◌, ◌-◌, ◌++◌, ◌∷◌, [], List, length, drop, take, sym, ◌∙◌, ap, subst}
+use Rattle.std.proofs.lemmas.List.{append-nil}
 use Rattle.macro_statements.specs.Requests.{act_in}
 use Rattle.storage_core.specs.Meaning.{settings_of}
-use Rattle.step_history.specs.Log.{latest}
-use Rattle.vsm_model.specs.Standing.{Accepted}
-use Rattle.vsm_machine.specs.Changes.{Alike, machine_fits, machine_states, undefines_none}
-use Rattle.bench_core.specs.Stands.{bench_of}
+use Rattle.vsm_model.specs.Names.{NamedState}
+use Rattle.vsm_model.specs.Standing.{Bench, Accepted}
+use Rattle.vsm_machine.specs.NameSteps.{undefines_none}
+use Rattle.vsm_machine.specs.Changes.{Whole, DefineNone, UndefineNone, shown, plain_of, named_of, machine_fits, machine_states}
+use Rattle.bench_core.specs.Stands.{bench_of, bench_at}
 use Rattle.vsm_machine.specs.declared.machine.Machine.{Machine}
 use Rattle.vsm_machine.specs.declared.machine.Change.{Change}
-use Rattle.bench_core.proofs.Applied.{Readied, applied_fits, applied_apart, applied_settings, kept_bench, kept_directed, accepted_as, refused_as}
-use Rattle.bench_core.proofs.Moves.{discards_all}
+use Rattle.bench_core.proofs.Accepted.{reserved_of, accepted_as, refused_as, stays_readied, is_accepted, is_reservable, gives_of}
+use Rattle.bench_core.proofs.Applied.{can_swap, applied_fits, applied_apart, applied_whole, applied_settings, kept_bench, kept_directed, next, unchanged_bench, unchanged_fits}
+use Rattle.bench_core.proofs.Moves.{discards_settings}
 use Rattle.bench_core.proofs.bench.Bench.apply.Goals as goal
 
 pub returns-in-Err-clause-keeps : goal.returns-in-Err-clause-keeps
 returns-in-Err-clause-keeps c =
-    let is = c.in-Err.ensures.is in
-    refused_as (settings_of c.args.self.now.machine.storage) (settings_of c.args.self.now.machine.storage).history (bench_of c.args.self.now) (act_in c.args.statement.now)
+    let b = c.args.self.now in
+    let is = c.in-Err.ensures in
+    refused_as (settings_of b.machine.storage) (settings_of b.machine.storage).history (bench_of b) (act_in c.args.statement.now)
     c.in-Err.refusal is.0 is.1 is.2
+
+pub reserve-requires : goal.reserve-requires
+reserve-requires c = is_reservable (shown c.args.self.now.machine) (act_in c.args.statement.now) c.in-Ok.planned c.in-Ok.ensures
+
+-- where no memory is there, all is as it was
+
+pub invariant_of-self-in-Err-reserve : goal.invariant_of-self-in-Err-reserve
+invariant_of-self-in-Err-reserve c =
+    let b = c.args.self.now in
+    let r = c.reserve.new.machine in
+    let h = c.reserve_place.new.self in
+    let e = c.reserve_place.ensures in
+    let left = c.in-Err-reserve.ensures in
+    let same = stays_readied b.machine r left.settings left.rows left.stays in
+    let fits = unchanged_fits b.machine r same left.same b.history.kept b.history.undone b.fits in
+    record {
+      fits = subst (λ zs. machine_fits zs r h.undone) (sym e.kept) (subst (λ zs. machine_fits b.history.kept r zs) (sym e.undone) fits);
+      whole = subst (λ zs. Whole r (zs ++ h.undone)) (sym e.kept) (subst (λ zs. Whole r (b.history.kept ++ zs)) (sym e.undone) (left.stays.whole _ b.whole));
+      kept_define_none = subst DefineNone (sym e.kept) b.kept_define_none;
+      undone_undefine_none = subst UndefineNone (sym e.undone) b.undone_undefine_none;
+      limit = e.limit ∙ b.limit ∙ sym (ap (λ s. s.history) left.settings);
+    }
+
+pub returns-in-Err-reserve-clause-keeps : goal.returns-in-Err-reserve-clause-keeps
+returns-in-Err-reserve-clause-keeps c =
+    let b = c.args.self.now in
+    let r = c.reserve.new.machine in
+    let e = c.reserve_place.ensures in
+    let left = c.in-Err-reserve.ensures in
+    let same = stays_readied b.machine r left.settings left.rows left.stays in (
+      is_accepted (shown b.machine) (act_in c.args.statement.now) c.in-Ok.planned c.in-Ok.ensures,
+      (λ i. bench_at (e.kept i) r (e.undone i)) ∙ unchanged_bench b.machine r same left.same b.history.kept b.history.undone b.fits,
+    )
+
+-- the change that was made, beside those of the history
+
+pub swap-requires : goal.swap-requires
+swap-requires c =
+    let b = c.args.self.now in
+    let r = c.reserve.new.machine in
+    let h = c.reserve_place.new.self in
+    let e = c.reserve_place.ensures in
+    let change = c.in-Ok-reserve.change in
+    let made = c.in-Ok-reserve.ensures in
+    can_swap h.kept h.undone b.machine r change
+    (reserved_of b.machine r made.settings made.rows c.in-Ok.planned change made.is (act_in c.args.statement.now)
+    b.history.kept b.history.undone h.kept h.undone e.kept e.undone b.fits b.whole b.kept_define_none c.in-Ok.ensures made.can)
 
 pub push_reserved-requires-clause-fits : goal.push_reserved-requires-clause-fits
 push_reserved-requires-clause-fits c =
     let b = c.args.self.now in
     let r = c.reserve.new.machine in
-    let t = c.swap.new.self in
-    let d = c.swap.new.c in
+    let h = c.reserve_place.new.self in
+    let e = c.reserve_place.ensures in
     let change = c.in-Ok-reserve.change in
-    let same : Readied b.machine r = record { storage = c.in-Ok-reserve.ensures.storage; rows = c.in-Ok-reserve.ensures.rows } in
-    let can = c.in-Ok-reserve.ensures.can c.in-Ok.ensures.is.can in
-    subst (λ ks. machine_fits (ks ++ d ∷ []) t []) (sym c.reserve_place.ensures.kept)
-    (applied_fits b.history.kept b.history.undone b.machine r t change d b.fits b.kept_define_none same c.in-Ok-reserve.ensures.is.settings can c.swap.ensures)
+    let made = c.in-Ok-reserve.ensures in
+    applied_fits h.kept h.undone b.machine r c.swap.new.self change c.swap.new.c
+    (reserved_of b.machine r made.settings made.rows c.in-Ok.planned change made.is (act_in c.args.statement.now)
+    b.history.kept b.history.undone h.kept h.undone e.kept e.undone b.fits b.whole b.kept_define_none c.in-Ok.ensures made.can)
+    c.swap.ensures
 
 pub push_reserved-requires-clause-apart : goal.push_reserved-requires-clause-apart
 push_reserved-requires-clause-apart c =
     let b = c.args.self.now in
     let r = c.reserve.new.machine in
-    let t = c.swap.new.self in
-    let d = c.swap.new.c in
+    let h = c.reserve_place.new.self in
+    let e = c.reserve_place.ensures in
     let change = c.in-Ok-reserve.change in
-    let same : Readied b.machine r = record { storage = c.in-Ok-reserve.ensures.storage; rows = c.in-Ok-reserve.ensures.rows } in
-    let can = c.in-Ok-reserve.ensures.can c.in-Ok.ensures.is.can in
-    subst (λ ks. Alike t ((ks ++ d ∷ []) ++ c.reserve_place.new.self.undone)) (sym c.reserve_place.ensures.kept)
-    (subst (λ us. Alike t ((b.history.kept ++ d ∷ []) ++ us)) (sym c.reserve_place.ensures.undone)
-    (applied_apart b.history.kept b.history.undone b.machine r t change d b.fits b.kept_define_none same c.in-Ok-reserve.ensures.is.settings can c.swap.ensures))
+    let made = c.in-Ok-reserve.ensures in
+    applied_apart h.kept h.undone b.machine r c.swap.new.self change c.swap.new.c
+    (reserved_of b.machine r made.settings made.rows c.in-Ok.planned change made.is (act_in c.args.statement.now)
+    b.history.kept b.history.undone h.kept h.undone e.kept e.undone b.fits b.whole b.kept_define_none c.in-Ok.ensures made.can)
+    c.swap.ensures
 
 pub invariant_of-self-2 : goal.invariant_of-self-2
 invariant_of-self-2 c =
     let b = c.args.self.now in
     let r = c.reserve.new.machine in
+    let h = c.reserve_place.new.self in
+    let e = c.reserve_place.ensures in
+    let change = c.in-Ok-reserve.change in
+    let made = c.in-Ok-reserve.ensures in
+    let reserved = reserved_of b.machine r made.settings made.rows c.in-Ok.planned change made.is (act_in c.args.statement.now)
+    b.history.kept b.history.undone h.kept h.undone e.kept e.undone b.fits b.whole b.kept_define_none c.in-Ok.ensures made.can in
     let t = c.swap.new.self in
     let d = c.swap.new.c in
-    let change = c.in-Ok-reserve.change in
-    let same : Readied b.machine r = record { storage = c.in-Ok-reserve.ensures.storage; rows = c.in-Ok-reserve.ensures.rows } in
-    let can = c.in-Ok-reserve.ensures.can c.in-Ok.ensures.is.can in
     let u = c.push_reserved.new.s in
-    let settings = applied_settings b.history.kept b.history.undone b.machine r t change d b.fits b.kept_define_none same c.in-Ok-reserve.ensures.is.settings can c.swap.ensures in
-    let left = discards_all _ t u c.push_reserved.ensures.discarded in
-    let gives : undefines_none _ ≡ _ = ap undefines_none c.in-Ok-reserve.ensures.is.step ∙ c.in-Ok.ensures.is.gives in
-    let reserved : c.reserve_place.new.self.limit ≡ (settings_of b.machine.storage).history = c.reserve_place.ensures.limit ∙ b.limit in
-    let kept = subst (λ (ks : List Change). c.push_reserved.new.self.kept ≡ latest c.reserve_place.new.self.limit (ks ++ d ∷ [])) c.reserve_place.ensures.kept c.push_reserved.ensures.kept in
-    let directed = kept_directed b.history.kept b.history.undone b.machine r t change d b.fits b.kept_define_none same c.in-Ok-reserve.ensures.is.settings can c.swap.ensures c.reserve_place.new.self.limit c.push_reserved.new.self gives kept c.push_reserved.ensures.undone in
+    let n = c.push_reserved.new.self in
+    let kept = c.push_reserved.ensures in
+    let settings = discards_settings _ t u kept.discarded ∙ applied_settings h.kept h.undone b.machine r t change d reserved c.swap.ensures in
+    let gives : undefines_none _ ≡ _ = ap undefines_none made.is.step ∙ gives_of (shown b.machine) (act_in c.args.statement.now) c.in-Ok.planned c.in-Ok.ensures in
+    let directed = kept_directed h.kept h.undone b.machine r t change d reserved c.swap.ensures h.limit n gives kept.kept kept.undone in
+    let whole : Whole u n.kept = kept.whole (applied_whole h.kept h.undone b.machine r t change d reserved c.swap.ensures) in
     record {
-      fits = subst (λ us. machine_fits c.push_reserved.new.self.kept u us) (sym c.push_reserved.ensures.undone) c.push_reserved.ensures.fits;
+      fits = subst (λ us. machine_fits n.kept u us) (sym kept.undone) kept.fits;
+      whole = subst (λ us. Whole u (n.kept ++ us)) (sym kept.undone) (subst (Whole u) (sym (append-nil n.kept)) whole);
       kept_define_none = directed.kept_define_none;
       undone_undefine_none = directed.undone_undefine_none;
-      limit =
-          c.push_reserved.ensures.limit ∙ reserved
-          ∙ sym (ap (λ (m : Machine). (settings_of m.storage).history) left ∙ ap (λ s. s.history) settings);
+      limit = kept.limit ∙ e.limit ∙ b.limit ∙ sym (ap (λ s. s.history) settings);
     }
 
 pub returns-clause-settings : goal.returns-clause-settings
 returns-clause-settings c =
     let b = c.args.self.now in
     let r = c.reserve.new.machine in
-    let t = c.swap.new.self in
-    let d = c.swap.new.c in
+    let h = c.reserve_place.new.self in
+    let e = c.reserve_place.ensures in
     let change = c.in-Ok-reserve.change in
-    let same : Readied b.machine r = record { storage = c.in-Ok-reserve.ensures.storage; rows = c.in-Ok-reserve.ensures.rows } in
-    let can = c.in-Ok-reserve.ensures.can c.in-Ok.ensures.is.can in
-    ap (λ (m : Machine). settings_of m.storage) (discards_all _ t c.push_reserved.new.s c.push_reserved.ensures.discarded)
-    ∙ applied_settings b.history.kept b.history.undone b.machine r t change d b.fits b.kept_define_none same c.in-Ok-reserve.ensures.is.settings can c.swap.ensures
+    let made = c.in-Ok-reserve.ensures in
+    discards_settings _ c.swap.new.self c.push_reserved.new.s c.push_reserved.ensures.discarded
+    ∙ applied_settings h.kept h.undone b.machine r c.swap.new.self change c.swap.new.c
+    (reserved_of b.machine r made.settings made.rows c.in-Ok.planned change made.is (act_in c.args.statement.now)
+    b.history.kept b.history.undone h.kept h.undone e.kept e.undone b.fits b.whole b.kept_define_none c.in-Ok.ensures made.can)
+    c.swap.ensures
 
 pub returns-clause-keeps : goal.returns-clause-keeps
 returns-clause-keeps c =
     let b = c.args.self.now in
     let r = c.reserve.new.machine in
+    let h = c.reserve_place.new.self in
+    let e = c.reserve_place.ensures in
+    let change = c.in-Ok-reserve.change in
+    let made = c.in-Ok-reserve.ensures in
+    let x = act_in c.args.statement.now in
+    let reserved = reserved_of b.machine r made.settings made.rows c.in-Ok.planned change made.is x
+    b.history.kept b.history.undone h.kept h.undone e.kept e.undone b.fits b.whole b.kept_define_none c.in-Ok.ensures made.can in
     let t = c.swap.new.self in
     let d = c.swap.new.c in
-    let change = c.in-Ok-reserve.change in
-    let same : Readied b.machine r = record { storage = c.in-Ok-reserve.ensures.storage; rows = c.in-Ok-reserve.ensures.rows } in
-    let can = c.in-Ok-reserve.ensures.can c.in-Ok.ensures.is.can in
     let u = c.push_reserved.new.s in
     let n = c.push_reserved.new.self in
+    let kept = c.push_reserved.ensures in
     let limit = (settings_of b.machine.storage).history in
-    let reserved : c.reserve_place.new.self.limit ≡ limit = c.reserve_place.ensures.limit ∙ b.limit in
-    let states : machine_states n.kept u [] ≡ drop (length (b.history.kept ++ d ∷ []) - limit) (machine_states (b.history.kept ++ d ∷ []) t []) =
-    subst (λ k. machine_states n.kept u [] ≡ drop (length (b.history.kept ++ d ∷ []) - k) (machine_states (b.history.kept ++ d ∷ []) t [])) reserved
-    (subst (λ (ks : List Change). machine_states n.kept u [] ≡ drop (length (ks ++ d ∷ []) - c.reserve_place.new.self.limit) (machine_states (ks ++ d ∷ []) t [])) c.reserve_place.ensures.kept
-    c.push_reserved.ensures.states) in
-    let new = kept_bench b.history.kept b.history.undone b.machine r t change d b.fits b.kept_define_none same c.in-Ok-reserve.ensures.is.settings can c.swap.ensures limit n u c.push_reserved.ensures.undone c.push_reserved.ensures.fits states in
-    let accepted = accepted_as (settings_of b.machine.storage) b.machine r (act_in c.args.statement.now) c.in-Ok.planned change c.reply-reply.result c.in-Ok.ensures.is c.in-Ok-reserve.ensures.is c.reply-reply.ensures in (
-      accepted ∙ (λ i. Accepted (sym (ap (λ x. x.present) new) i) c.reply-reply.result),
-      ap (λ x. x.past) new,
-      ap (λ x. x.later) new,
+    let states : machine_states n.kept u [] ≡ drop (length (h.kept ++ d ∷ []) - limit) (machine_states (h.kept ++ d ∷ []) t []) =
+    subst (λ k. machine_states n.kept u [] ≡ drop (length (h.kept ++ d ∷ []) - k) (machine_states (h.kept ++ d ∷ []) t [])) (e.limit ∙ b.limit)
+    kept.states in
+    let led = named_of (next h.kept h.undone b.machine r t change d reserved c.swap.ensures) in
+    let new : bench_at n.kept u n.undone ≡ record { past = take limit (plain_of b.machine ∷ (bench_of b).past); present = led; later = [] } =
+    kept_bench h.kept h.undone b.machine r t change d reserved c.swap.ensures limit n u kept.undone kept.fits states
+    ∙ (λ i. record { past = take limit (plain_of b.machine ∷ (bench_at (e.kept i) b.machine (e.undone i)).past); present = led; later = [] }) in
+    let accepted = accepted_as b.machine r x c.in-Ok.planned change c.in-Ok.ensures made.is in (
+      accepted ∙ (λ i. Accepted (sym (ap (λ (y : Bench NamedState). y.present) new) i) c.in-Ok.planned.plan.reply),
+      ap (λ (y : Bench NamedState). y.past) new,
+      ap (λ (y : Bench NamedState). y.later) new,
     )

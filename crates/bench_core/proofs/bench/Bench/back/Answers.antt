@@ -1,6 +1,6 @@
 use Rattle.std.proofs.Common.{sym, ◌∙◌, ap}
 use Rattle.bench_core.specs.Stands.{settings_in}
-use Rattle.bench_core.proofs.Moves.{sound_of, back_stays, back_keeps}
+use Rattle.bench_core.proofs.Moves.{directed_of, back_stays, back_keeps}
 use Rattle.bench_core.proofs.bench.Bench.back.Goals as goal
 
 pub back-requires : goal.back-requires
@@ -9,9 +9,10 @@ back-requires c = c.args.self.now.fits
 pub invariant_of-self : goal.invariant_of-self
 invariant_of-self c =
     let b = c.args.self.now in
-    let stays = back_stays _ b.history c.back.new.self b.machine c.back.new.s (sound_of b) c.back.result c.back.ensures.ok c.back.ensures.unchanged in
+    let stays = back_stays _ b.history c.back.new.self b.machine c.back.new.s (directed_of b) c.back.result c.back.ensures.ok c.back.ensures.unchanged in
     record {
       fits = c.back.ensures.fits;
+      whole = c.back.ensures.whole b.whole;
       kept_define_none = stays.1.kept_define_none;
       undone_undefine_none = stays.1.undone_undefine_none;
       limit = c.back.ensures.limit ∙ b.limit ∙ sym (ap (λ settings. settings.history) stays.0);
@@ -28,4 +29,4 @@ returns-clause-keeps c =
 pub returns-clause-settings : goal.returns-clause-settings
 returns-clause-settings c =
     let b = c.args.self.now in
-    (back_stays _ b.history c.back.new.self b.machine c.back.new.s (sound_of b) c.back.result c.back.ensures.ok c.back.ensures.unchanged).0
+    (back_stays _ b.history c.back.new.self b.machine c.back.new.s (directed_of b) c.back.result c.back.ensures.ok c.back.ensures.unchanged).0

@@ -1,6 +1,6 @@
 use Rattle.std.proofs.Common.{sym, ◌∙◌, ap}
 use Rattle.bench_core.specs.Stands.{settings_in}
-use Rattle.bench_core.proofs.Moves.{sound_of, forward_stays, forward_keeps}
+use Rattle.bench_core.proofs.Moves.{directed_of, forward_stays, forward_keeps}
 use Rattle.bench_core.proofs.bench.Bench.forward.Goals as goal
 
 pub forward-requires : goal.forward-requires
@@ -9,9 +9,10 @@ forward-requires c = c.args.self.now.fits
 pub invariant_of-self : goal.invariant_of-self
 invariant_of-self c =
     let b = c.args.self.now in
-    let stays = forward_stays _ b.history c.forward.new.self b.machine c.forward.new.s (sound_of b) c.forward.result c.forward.ensures.ok c.forward.ensures.unchanged in
+    let stays = forward_stays _ b.history c.forward.new.self b.machine c.forward.new.s (directed_of b) c.forward.result c.forward.ensures.ok c.forward.ensures.unchanged in
     record {
       fits = c.forward.ensures.fits;
+      whole = c.forward.ensures.whole b.whole;
       kept_define_none = stays.1.kept_define_none;
       undone_undefine_none = stays.1.undone_undefine_none;
       limit = c.forward.ensures.limit ∙ b.limit ∙ sym (ap (λ settings. settings.history) stays.0);
@@ -28,4 +29,4 @@ returns-clause-keeps c =
 pub returns-clause-settings : goal.returns-clause-settings
 returns-clause-settings c =
     let b = c.args.self.now in
-    (forward_stays _ b.history c.forward.new.self b.machine c.forward.new.s (sound_of b) c.forward.result c.forward.ensures.ok c.forward.ensures.unchanged).0
+    (forward_stays _ b.history c.forward.new.self b.machine c.forward.new.s (directed_of b) c.forward.result c.forward.ensures.ok c.forward.ensures.unchanged).0
