@@ -1,5 +1,4 @@
 use Rattle.std.proofs.Common.{sym, subst}
-use Rattle.vsm_model.specs.declared.services.Service.{Service}
 use Rattle.vsm_model.specs.Meaning.{service_in}
 use Rattle.storage_plans.specs.Plans.{IsPlanned}
 use Rattle.storage_core.specs.Meaning.{state_in_place, settings_of}
@@ -8,14 +7,12 @@ use Rattle.storage_core.proofs.storage.Storage.plan.Goals as goal
 pub returns-in-Release : goal.returns-in-Release
 returns-in-Release c =
     let s = c.args.self.now in
-    let P : Service → Type 0 = λ x.
-      IsPlanned (settings_of s) c.args.names_full (state_in_place s) (service_in x) c.plan_release.result in
-    subst P (sym c.in-Release.is) (c.plan_release.ensures c.args.names_full)
+    subst (λ x. IsPlanned (settings_of s) c.args.names_full (state_in_place s) (service_in x) c.plan_release.result)
+    (sym c.in-Release.is) (c.plan_release.ensures c.args.names_full)
 
 pub returns-in-Store : goal.returns-in-Store
 returns-in-Store c =
     let s = c.args.self.now in
-    let P : Service → Type 0 = λ x.
-      IsPlanned (settings_of s) c.args.names_full (state_in_place s) (service_in x) c.plan_store.result in
-    subst P (sym c.in-Store.is)
+    subst (λ x. IsPlanned (settings_of s) c.args.names_full (state_in_place s) (service_in x) c.plan_store.result)
+    (sym c.in-Store.is)
     (c.plan_store.ensures s.settings c.args.names_full (record { stands = s.held.stands; sound = s.held.sound }))
