@@ -71,18 +71,25 @@ fn readings(
     Ok([done, undone, again])
 }
 
+// Twenty bytes of subpool 1 from a page on, with their address in register 2.
+fn small_area(location: Location) -> Service<'static>
+    ensures { CanBePlanned (service_in result) }
+{
+    Service::Obtain(Obtain {
+        lengths: Lengths::Fixed(20),
+        number: 1,
+        boundary: Boundary::Page,
+        location,
+        register: Some(2),
+        conditional: false,
+    })
+}
+
 #[test]
 fn requests_come_and_go(rt: HostRuntime) -> Result<(), Fail> {
     let mut storage = Storage::new(rt.alloc(), SETTINGS)?;
     for (location, start) in [(Location::Low, 0x6000), (Location::Either, 0x0800_0000)] {
-        let obtain = Service::Obtain(Obtain {
-            lengths: Lengths::Fixed(20),
-            number: 1,
-            boundary: Boundary::Page,
-            location,
-            register: Some(2),
-            conditional: false,
-        });
+        let obtain = small_area(location);
         let reply = storage.plan(obtain, false)?.reply;
         assert_eq!(rt;
             reply,
