@@ -1,7 +1,6 @@
 -- What a change that was made and discarded leaves, and one that could not be made: all as it was.
-use Rattle.std.proofs.Common.{◌≡◌, ℕ, ◌<◌, [], ◌∷◌, List, IsSome, Option, Result, Ok, Err, IfErr, OnErr, ap, sym, subst, ◌∙◌, arith}
+use Rattle.std.proofs.Common.{◌≡◌, ℕ, [], ◌∷◌, List, IsSome, Option, Result, Ok, Err, IfErr, OnErr, ap, sym, subst, ◌∙◌, arith}
 use Rattle.vsm_elements.specs.declared.element.Element.{Element}
-use Rattle.vsm_elements.specs.Store.{at}
 use Rattle.vsm_elements.specs.Owners.{Moves}
 use Rattle.vsm_elements.proofs.MoveLemmas.{moves-none}
 use Rattle.storage_changes.specs.State.{StorageState}
@@ -10,7 +9,7 @@ use Rattle.storage_exchange.specs.declared.storage.Storage.{Storage as Parts}
 use Rattle.storage_exchange.specs.Storage.{hold, state_of, Stand}
 use Rattle.storage_swap.specs.declared.change.Change.{Change}
 use Rattle.storage_swap.specs.Reserve.{Grown, Reserves}
-use Rattle.storage_swap.specs.Swap.{means, Discards}
+use Rattle.storage_swap.specs.Swap.{Discards}
 use Rattle.storage_history.specs.Apart.{AreApart, AreWhole}
 use Rattle.storage_history.specs.Kept.{moved-hold, moved-stand, moved-state, left, AllLeft, all-left}
 use Rattle.storage_history.specs.Reserved.{reserve-others, reserve-apart, reserve-whole}

@@ -25,7 +25,12 @@ impl Storage {
         ensures err { OnErr result (Stays self.old.parts self.new.parts) }
         ensures settings { settings_of self.new ≡ settings_of self.old }
     {
-        Change::reserve(&mut self.parts, plan.records.as_slice(), plan.blanks, plan.fresh)
+        Change::reserve(
+            &mut self.parts,
+            plan.records.as_slice(),
+            plan.blanks,
+            plan.fresh,
+        )
     }
 
     /// Exchanges a change with the storage, and leaves in its place the one that takes it back. Takes no memory, and

@@ -16,7 +16,8 @@ impl Storage {
     /// The causes of each service and their order are those of `plan_obtain`, `plan_release` and `plan_store`.
     pub fn plan(&self, service: Service<'_>, names_full: bool) -> Result<Plan, Cause>
         requires { CanBePlanned (service_in service) }
-        ensures { IsPlanned (settings_of self.now) names_full (state_in_place self.now) (service_in service.entry) result }
+        ensures { IsPlanned (settings_of self.now) names_full (state_in_place self.now) (service_in service.entry)
+            result }
     {
         match service {
             Service::Obtain(o) => plan_obtain(&self.parts, self.settings, o, names_full),

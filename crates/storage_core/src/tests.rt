@@ -1,0 +1,128 @@
+//! An area on either side of the 16 MB line, obtained, stored into and released: each of them undone and done again.
+
+ghost use Rattle.std.specs.Prelude.{◌≡◌, true, IfOk};
+ghost use Rattle.vsm_model.specs.Meaning.{service_in};
+ghost use Rattle.storage_changes.specs.Changes.{overlay};
+ghost use Rattle.storage_changes.specs.Meaning.{IsSound};
+ghost use Rattle.storage_swap.specs.Swap.{means};
+ghost use Rattle.storage_history.specs.Apart.{CanSwap};
+ghost use Rattle.storage_core.specs.Meaning.{state_in_place, settings_of};
+ghost use Rattle.storage_core.specs.Planned.{CanBePlanned};
+
+use super::*;
+use std::test::Fail;
+
+const SETTINGS: Settings = Settings {
+    low_k: 64,
+    high_k: 64,
+    residence: Residence::Above,
+    history: 10,
+};
+
+// The change is exchanged with the storage, and can be again.
+fn exchange(storage: &mut Storage, change: &mut Change)
+    requires can { CanSwap storage.old.parts change.old }
+    requires sound { ∥ IsSound (settings_of storage.old)
+        (overlay (state_in_place storage.old) (means storage.old.parts.elements change.old)) ∥₁ }
+    ensures can { CanSwap storage.new.parts change.new }
+    ensures sound { ∥ IsSound (settings_of storage.new)
+        (overlay (state_in_place storage.new) (means storage.new.parts.elements change.new)) ∥₁ }
+{
+    storage.swap(change);
+}
+
+// The storage carries the service out. What is left takes it back.
+fn carry_out(storage: &mut Storage, service: Service<'_>) -> Result<Change, Fail>
+    requires { CanBePlanned (service_in service) }
+    ensures can { IfOk result (λ change. CanSwap storage.new.parts change) }
+    ensures sound { IfOk result (λ change. ∥ IsSound (settings_of storage.new)
+        (overlay (state_in_place storage.new) (means storage.new.parts.elements change)) ∥₁) }
+{
+    let plan = storage.plan(service, false)?;
+    let mut change = storage.reserve(plan)?;
+    exchange(storage, &mut change);
+    Ok(change)
+}
+
+// The byte at the address, where its page is assigned.
+fn byte_at(storage: &Storage, address: u32) -> Option<u8> {
+    let mut room = [0];
+    match storage.load(address, &mut room) {
+        Ok(()) => Some(room[0]),
+        Err(_) => None,
+    }
+}
+
+// What is read at the address once the service was done, once it was undone, and once it was done again.
+fn readings(
+    storage: &mut Storage,
+    service: Service<'_>,
+    address: u32,
+) -> Result<[Option<u8>; 3], Fail>
+    requires { CanBePlanned (service_in service) }
+{
+    let mut change = carry_out(storage, service)?;
+    let done = byte_at(storage, address);
+    exchange(storage, &mut change);
+    let undone = byte_at(storage, address);
+    exchange(storage, &mut change);
+    let again = byte_at(storage, address);
+    storage.discard(change);
+    Ok([done, undone, again])
+}
+
+// Twenty bytes of subpool 1 from a page on, with their address in register 2.
+fn small_area(location: Location) -> Service<'static>
+    ensures { CanBePlanned (service_in result) }
+{
+    Service::Obtain(Obtain {
+        lengths: Lengths::Fixed(20),
+        number: 1,
+        boundary: Boundary::Page,
+        location,
+        register: Some(2),
+        conditional: false,
+    })
+}
+
+#[test]
+fn requests_come_and_go(rt: HostRuntime) -> Result<(), Fail> {
+    let mut storage = Storage::new(rt.alloc(), SETTINGS)?;
+    for (location, start) in [(Location::Low, 0x6000), (Location::Either, 0x0800_0000)] {
+        let obtain = small_area(location);
+        let reply = storage.plan(obtain, false)?.reply;
+        assert_eq!(rt;
+            reply,
+            Reply::Obtained {
+                address: start,
+                length: 24
+            }
+        );
+        assert_eq!(rt;
+            readings(&mut storage, obtain, start)?,
+            [Some(0), None, Some(0)]
+        );
+        assert_eq!(rt; storage.register(1, 2), start);
+        let store = Service::Store {
+            address: start,
+            bytes: &[0xC1, 0xC2, 0xC3],
+        };
+        assert_eq!(rt;
+            readings(&mut storage, store, start + 2)?,
+            [Some(0xC3), Some(0), Some(0xC3)]
+        );
+        let release = Service::Release(Release {
+            length: 24,
+            address: start,
+            number: 1,
+            conditional: false,
+        });
+        assert_eq!(rt;
+            readings(&mut storage, release, start + 2)?,
+            [None, Some(0xC3), None]
+        );
+    }
+    assert_eq!(rt; storage.current(), 1);
+    assert_eq!(rt; storage.settings(), SETTINGS);
+    Ok(())
+}
