@@ -26,9 +26,7 @@ pub struct Bench {
     history: History<Machine>,
     ghost fits: { fit history.kept machine history.undone } by { fit_prop history.kept machine history.undone },
     // No element and no frame is anyone's but the storage's and its changes', and each is one's.
-    ghost whole: { Whole machine (history.kept ++ history.undone) } by {
-        Whole-prop machine (history.kept ++ history.undone)
-    },
+    ghost whole: { Whole machine (history.kept ++ history.undone) } by { Whole-prop machine (history.kept ++ history.undone) },
     ghost kept_define_none: { DefineNone history.kept } by { Prim.hlevel props },
     ghost undone_undefine_none: { UndefineNone history.undone } by { Prim.hlevel props },
     ghost limit: { history.limit ≡ (settings_of machine.storage).history },

@@ -23,7 +23,7 @@ use Rattle.storage_history.specs.Steps.{storage_steps}
 use Rattle.storage_core.specs.Meaning.{state_in_place, settings_of}
 use Rattle.step_history.specs.Laws.{ReversibleLaws}
 use Rattle.step_history.specs.Single.{SingleSteps, steps_fit, steps_states, steps_laws}
-use Rattle.step_history.specs.Chain.{FitsBefore, FitsAfter}
+use Rattle.step_history.specs.Chain.{FitsBefore, FitsAfter, start}
 use Rattle.name_table.specs.Table.{rows_of, knows}
 use Rattle.name_table.specs.Steps.{NameStep, step_in}
 use Rattle.vsm_machine.specs.NameSteps.{is_ready, stepped_by, turned_by, CanStepBy, can_take_by, defines_none}
@@ -250,7 +250,7 @@ fit-prop m d = ×_prop (StorageFits-prop m.settings m.storage d.storage) (Bool-s
 
 fits_before_prop : (ds : List Difference) (m : MachineState) → IsProp (FitsBefore fit overlay ds m)
 fits_before_prop [] m = Unit-prop
-fits_before_prop (d ∷ ds) m = ×_prop (fit-prop _ _) (fits_before_prop ds m)
+fits_before_prop (d ∷ ds) m = ×_prop (fit-prop (start fit overlay ds m) d) (fits_before_prop ds m)
 
 fits_after_prop : (m : MachineState) (ds : List Difference) → IsProp (FitsAfter fit overlay m ds)
 fits_after_prop m [] = Unit-prop
