@@ -1,5 +1,5 @@
 -- A plan that was accepted, and the change that was made of it.
-use Rattle.std.proofs.Common.{◌≡◌, ℕ, true, Option, Some, None, List, [], ◌∷◌, ◌++◌, Err, sym, ap, subst, refl, arith}
+use Rattle.std.proofs.Common.{◌≡◌, ℕ, true, Option, Some, None, List, ◌∷◌, ◌++◌, Err, sym, subst, refl, arith}
 use Rattle.std.proofs.Props.{props}
 use mathlib.Core.Bool.{Bool-set}
 use mathlib.Core.Logic.{∥∥₁_elim}

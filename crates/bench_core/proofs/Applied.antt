@@ -1,7 +1,6 @@
 -- A change that is applied and kept.
-use Rattle.std.proofs.Common.{◌≡◌, ℕ, suc, ◌-◌, true, true≢false, Option, Some, None, List, [], ◌∷◌, ◌++◌, length, map, take, drop, Err, sym, ◌∙◌, ap, subst, refl, arith, append_assoc}
+use Rattle.std.proofs.Common.{◌≡◌, ℕ, suc, ◌-◌, true, true≢false, Option, Some, None, List, [], ◌∷◌, ◌++◌, length, map, take, drop, sym, ◌∙◌, ap, subst, refl, arith, append_assoc}
 use Rattle.std.proofs.lemmas.List.{append-nil, length_push}
-use Rattle.vsm_model.specs.Names.{NamedState}
 use Rattle.name_table.specs.Steps.{NameStep, define, undefine, reword}
 use Rattle.name_table.specs.Table.{knows}
 use Rattle.storage_core.specs.Meaning.{settings_of}

@@ -1,5 +1,5 @@
--- The changes of a machine: a change of its storage, and at most one name with its other word. A swap exchanges them with
--- those of the machine.
+-- The changes of a machine: a change of its storage, and at most one name with its other word. A swap exchanges them
+-- with those of the machine.
 use Rattle.std.specs.Prelude.{◌≡◌, ℕ, Bool, true, ◌&&◌, Option, None, List, [], ◌∷◌, ◌++◌, map, refl}
 use Rattle.std.specs.Option.{option_map}
 use Rattle.std.specs.List.{AllByRecursion}
@@ -261,6 +261,9 @@ pub machine_fits_prop : (ks : List Change) (m : Machine) (us : List Change) → 
 machine_fits_prop ks m us = ×_prop (×_prop (fits_before_prop (map (means m) ks) (shown m))
     (fits_after_prop (shown m) (map (means m) us))) (AreApart-prop m.storage.parts (storages (ks ++ us)))
 
--- and so is whether nothing is missing
-pub Whole-prop : (m : Machine) (cs : List Change) → IsProp (Whole m cs)
-Whole-prop m cs = AreWhole-prop m.storage.parts (storages cs)
+-- nothing is missing from a machine and its kept and undone changes: a question with one answer too
+abbrev pub IsWhole : List Change → Machine → List Change → Type 0
+IsWhole ks m us = Whole m (ks ++ us)
+
+pub IsWhole-prop : (ks : List Change) (m : Machine) (us : List Change) → IsProp (IsWhole ks m us)
+IsWhole-prop ks m us = AreWhole-prop m.storage.parts (storages (ks ++ us))

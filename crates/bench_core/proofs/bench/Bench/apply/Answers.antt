@@ -1,4 +1,4 @@
-use Rattle.std.proofs.Common.{◌≡◌, ◌-◌, ◌++◌, ◌∷◌, [], List, length, drop, take, sym, ◌∙◌, ap, subst}
+use Rattle.std.proofs.Common.{◌≡◌, ◌-◌, ◌++◌, ◌∷◌, [], length, drop, take, sym, ◌∙◌, ap, subst}
 use Rattle.std.proofs.lemmas.List.{append-nil}
 use Rattle.macro_statements.specs.Requests.{act_in}
 use Rattle.storage_core.specs.Meaning.{settings_of}
@@ -7,8 +7,6 @@ use Rattle.vsm_model.specs.Standing.{Bench, Accepted}
 use Rattle.vsm_machine.specs.NameSteps.{undefines_none}
 use Rattle.vsm_machine.specs.Changes.{Whole, DefineNone, UndefineNone, shown, plain_of, named_of, machine_fits, machine_states}
 use Rattle.bench_core.specs.Stands.{bench_of, bench_at}
-use Rattle.vsm_machine.specs.declared.machine.Machine.{Machine}
-use Rattle.vsm_machine.specs.declared.machine.Change.{Change}
 use Rattle.bench_core.proofs.Accepted.{reserved_of, accepted_as, refused_as, stays_readied, is_accepted, is_reservable, gives_of}
 use Rattle.bench_core.proofs.Applied.{can_swap, applied_fits, applied_apart, applied_whole, applied_settings, kept_bench, kept_directed, next, unchanged_bench, unchanged_fits}
 use Rattle.bench_core.proofs.Moves.{discards_settings}
