@@ -1,5 +1,5 @@
 //! A bench: a machine, and the history that it moves along.
-ghost use Rattle.std.specs.Prelude.{◌≡◌, ◌++◌, Ok, length, IfErr, OnErr, OnOk};
+ghost use Rattle.std.specs.Prelude.{◌≡◌, Ok, length, IfErr, OnErr, OnOk};
 ghost use Rattle.storage_core.specs.Meaning.{settings_of};
 ghost use Rattle.macro_statements.specs.Requests.{written_in, act_in, IsValue, IsValidAct};
 ghost use Rattle.std.proofs.Props.{props};
