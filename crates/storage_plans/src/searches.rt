@@ -1,10 +1,10 @@
-//! The least area and the least run of pages of a region.
-ghost use Rattle.std.specs.Prelude.{◌≡◌, ◌+◌, ◌^◌, ◌<◌, ◌≤◌, true};
+//! The least and the longest area and run of pages of a region.
+ghost use Rattle.std.specs.Prelude.{◌≡◌, ◌+◌, ◌^◌, ◌<◌, ◌≤◌, true, is_some};
 ghost use Rattle.vsm_model.specs.Areas.{least_fit, least_run};
 ghost use Rattle.vsm_model.specs.Regions.{settings_valid};
 ghost use Rattle.storage_changes.specs.Meaning.{model_of};
 ghost use Rattle.storage_exchange.specs.Storage.{state_of};
-ghost use Rattle.storage_plans.specs.Places.{StandsSound, region_on};
+ghost use Rattle.storage_plans.specs.Places.{IsUpTo, StandsSound, region_on};
 
 use descriptor_queue::Page;
 use run_set::Run;
@@ -74,4 +74,42 @@ pub fn least_pages(
     storage
         .unassigned
         .least_run(&storage.elements, pages, count)
+}
+
+/// The greatest number of doublewords of the region on that side of the line that are free storage of the subpool from a
+/// multiple of `spacing` on; 0 where there is none. Reads alone.
+pub(crate) fn longest_area(
+    storage: &Storage,
+    settings: Settings,
+    side: Residence,
+    subpool: Subpool,
+    spacing: u32,
+) -> u32
+    requires sound { StandsSound settings storage.now }
+    requires valid { settings_valid settings ≡ true }
+    requires asked { (0 < spacing) × (spacing ≤ 512) }
+    ensures { IsUpTo (λ count. is_some
+        (least_fit (model_of (state_of storage.now)) (region_on settings side) subpool count spacing)) result }
+{
+    let pages = pages_on(settings, side);
+    let region = Run {
+        start: pages.start * PAGE_DOUBLEWORDS,
+        len: pages.len * PAGE_DOUBLEWORDS,
+    };
+    storage
+        .subpools
+        .longest(&storage.elements, subpool, spacing, region)
+}
+
+/// The greatest number of pages in a row of the region on that side of the line that are nobody's; 0 where there is
+/// none. Reads alone.
+pub(crate) fn longest_pages(storage: &Storage, settings: Settings, side: Residence) -> u32
+    requires sound { StandsSound settings storage.now }
+    requires valid { settings_valid settings ≡ true }
+    ensures up_to { IsUpTo (λ count. is_some
+        (least_run (model_of (state_of storage.now)) (region_on settings side) count)) result }
+    ensures range { result ≤ 2 ^ 20 }
+{
+    let pages = pages_on(settings, side);
+    storage.unassigned.longest_run(&storage.elements, pages)
 }
