@@ -1,5 +1,5 @@
 -- The causes of a request, and how long an area it gets.
-use Rattle.std.proofs.Common.{◌≡◌, ℕ, suc, ◌+◌, ◌-◌, ◌<◌, ◌≤◌, min, Bool, true, false, not, ◌||◌, nat_le, nat_lt, ◌==◌, Some, None, is_none, [], ◌∷◌, ◌++◌, arith, refl, sym, ap, ◌∙◌}
+use Rattle.std.proofs.Common.{◌≡◌, ℕ, suc, ◌-◌, ◌<◌, ◌≤◌, min, Bool, true, false, not, ◌||◌, nat_le, nat_lt, ◌==◌, Some, None, is_none, [], ◌∷◌, ◌++◌, arith, refl, sym, ap, ◌∙◌}
 use Rattle.std.proofs.lemmas.Bool.{both_ways, cond-false, cond-true, false_from_ne_true, le-leb, leb-true}
 use Rattle.std.proofs.lemmas.Bool.Decides.{nat_tests}
 use Rattle.vsm_model.specs.declared.Subpool.{Subpool}
@@ -66,6 +66,12 @@ module _ (settings : Settings) (s : State) (o : Obtain) where
       ap (λ (z : Residence). place s (regions_for settings z) p count sp) is_side
       ∙ ap (λ (z : Subpool). place s (regions_for settings (side settings o.location)) z count sp) is_subpool
       ∙ ap (λ (z : ℕ). place s (regions_for settings (side settings o.location)) (seen_or_own s o.number) count z) is_spacing
+
+  -- what is known of places on the side that is asked for, and so on, is known of the request's
+  pub up_to_for : (sd : Residence) (p : Subpool) (sp top : ℕ) → sd ≡ side settings o.location → p ≡ seen_or_own s o.number → sp ≡ spacing o.boundary →
+      IsUpTo (λ n. not (is_nowhere (place s (regions_for settings sd) p n sp))) top → IsUpTo (λ n. not (is_nowhere (place_for settings s o n))) top
+  up_to_for sd p sp top is_side is_subpool is_spacing h n some =
+      ap (λ (z : Place). not (is_nowhere z)) (sym (place_is sd p sp is_side is_subpool is_spacing n)) ∙ h n some
 
   module _ (top count : ℕ) (some : 0 < minimum o.lengths) (up_to : IsUpTo (λ n. not (is_nowhere (place_for settings s o n))) top) (is : count ≡ min (doublewords (maximum o.lengths)) top) where
     pub longest_is : doublewords (minimum o.lengths) ≤ count → longest settings s o ≡ Some count

@@ -65,9 +65,9 @@ module _ (set : ℕ → Bool) (region : Run) (len boundary : ℕ) where
       elim (least f region.start region.len) as (λ o. IsLeastAmong f region.start region.len o → is_some o ≡ nat_le len most) [
         | Some d ↦ λ h. sym (le-leb len most (longest.greatest d len (fits_from d h.0)))
         | None ↦ λ h. sym (false_from_ne_true (nat_le len most) (λ e.
-          let (a, fit) = (shorter_fit set region most boundary len longest some).0 (leb-true len most e) in
-          let at = in_run a region (fit.within a (omega arith) (omega (arith, some))) in
-          both_ways (f a) (h a at.0 at.1) (place_from a fit)))
+            let (a, fit) = (shorter_fit set region most boundary len longest some).0 (leb-true len most e) in
+            let at = in_run a region (fit.within a (omega arith) (omega (arith, some))) in
+            both_ways (f a) (h a at.0 at.1) (place_from a fit)))
       ] (least_among f region.start region.len)
 
 -- no fit is longer than the region

@@ -1,5 +1,5 @@
 -- The regions, and the place of an area in the first of them that has one.
-use Rattle.std.proofs.Common.{◌≡◌, ℕ, ◌*◌, ◌<◌, max, Bool, true, false, not, ◌||◌, nat_le, is_some, Option, Some, None, [], ◌∷◌, refl, sym, ap, ◌∙◌, arith}
+use Rattle.std.proofs.Common.{◌≡◌, ℕ, ◌*◌, max, true, false, not, ◌||◌, nat_le, is_some, Option, Some, None, [], ◌∷◌, refl, sym, ap, ◌∙◌, arith}
 use Rattle.std.proofs.lemmas.Bool.{le-leb, leb-true, or_left, or_right}
 use Rattle.std.proofs.lemmas.Bool.Decides.{nat_tests}
 use Rattle.vsm_model.specs.declared.Subpool.{Subpool}

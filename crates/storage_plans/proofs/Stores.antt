@@ -105,7 +105,7 @@ store_carried settings names_full m address bytes plan there are records blanks 
     let outcome : Reply → Stepped = λ r. Accepted after r in
     let accepted : step settings names_full (model_of m) (store address bytes) ≡ Accepted after Stored = store_accepted settings names_full (model_of m) address bytes there in
     ∥∥₁_map sound (λ h.
-        carries_out settings names_full m (store address bytes) plan (write_records m address bytes) 0 (run_of 0 0) after records blanks fresh (accepted ∙ ap outcome (sym reply))
-        (writing_leads settings m address bytes h there
-        (store_leaves_well_formed settings names_full (model_of m) after address bytes Stored are h.well_formed accepted))
-        (omega arith) (omega arith) (none_fresh m))
+    carries_out settings names_full m (store address bytes) plan (write_records m address bytes) 0 (run_of 0 0) after records blanks fresh (accepted ∙ ap outcome (sym reply))
+    (writing_leads settings m address bytes h there
+    (store_leaves_well_formed settings names_full (model_of m) after address bytes Stored are h.well_formed accepted))
+    (omega arith) (omega arith) (none_fresh m))

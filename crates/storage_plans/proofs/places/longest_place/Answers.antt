@@ -1,4 +1,4 @@
-use Rattle.std.proofs.Common.{ℕ, not, sym, subst}
+use Rattle.std.proofs.Common.{not, sym, subst}
 use Rattle.vsm_model.specs.Areas.{is_nowhere, place}
 use Rattle.vsm_model.specs.Regions.{regions_for}
 use Rattle.storage_changes.specs.Meaning.{model_of}

@@ -1,4 +1,4 @@
-use Rattle.std.proofs.Common.{◌≤◌, arith}
+use Rattle.std.proofs.Common.{arith}
 use Rattle.storage_exchange.specs.Storage.{state_of}
 use Rattle.storage_plans.specs.Places.{region_on}
 use Rattle.storage_plans.proofs.LeastFits.{longest_in_region, pages_up_to}
