@@ -86,8 +86,8 @@ pub fn least_pages(
         .least_run(&storage.elements, pages, count)
 }
 
-/// The greatest number of doublewords of the region on that side of the line that are free storage of the subpool from a
-/// multiple of `spacing` on; 0 where there is none. Reads alone.
+/// The greatest number of doublewords of the region on that side of the line that are free storage of the subpool, from
+/// a multiple of `spacing` on; 0 where there is none. Reads alone.
 pub(crate) fn longest_area(
     storage: &Storage,
     settings: Settings,
