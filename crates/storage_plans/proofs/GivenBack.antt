@@ -35,7 +35,7 @@ use Rattle.storage_plans.specs.declared.release.GivenBack.{GivenBack}
 use Rattle.storage_plans.specs.Plans.{CarriesOut}
 use Rattle.storage_plans.specs.Releases.{area_causes, IsGivenBack}
 use Rattle.storage_plans.proofs.Carried.{carries_out, no_registers, register_and}
-use Rattle.storage_plans.proofs.FixedLengths.{skip, stop, number_allowed}
+use Rattle.storage_plans.proofs.AskedLengths.{skip, stop, number_allowed}
 use Rattle.storage_plans.proofs.OwnedAreas.{not_one}
 
 -- the first cause of an area

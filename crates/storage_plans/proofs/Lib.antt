@@ -2,7 +2,7 @@ mod BlockBytes
 mod BytesRead
 mod Carried
 mod Obtained
-pub mod FixedLengths
+pub mod AskedLengths
 pub mod LeastFits
 pub mod Regions
 mod Stores

@@ -8,7 +8,7 @@ use Rattle.vsm_model.specs.declared.Subpool.{Subpool}
 use Rattle.vsm_model.specs.declared.limits.Settings.{Settings}
 use Rattle.vsm_model.specs.declared.replies.Reply.TheVariants.{Obtained}
 use Rattle.vsm_model.specs.declared.services.Lengths.{Lengths}
-use Rattle.vsm_model.specs.declared.services.Lengths.TheVariants.{Fixed}
+use Rattle.vsm_model.specs.declared.services.Lengths.TheVariants.{Fixed, Variable}
 use Rattle.vsm_model.specs.declared.services.Obtain.{Obtain}
 use Rattle.vsm_model.specs.Search.{all_pass}
 use Rattle.vsm_model.specs.Regions.{among, within, regions_for, settings_valid, side, pages_for}
@@ -18,7 +18,7 @@ use Rattle.vsm_model.specs.Areas.{Place, Inside, Fresh, address_of, fits, is_fre
 use Rattle.vsm_model.specs.Causes.{first_cause}
 use Rattle.vsm_model.specs.Obtaining.{longest, obtain_causes, place_for, with_area}
 use Rattle.vsm_model.specs.Registers.{length_register, named_register, with_registers}
-use Rattle.vsm_model.specs.Services.{maximum, obtain}
+use Rattle.vsm_model.specs.Services.{obtain}
 use Rattle.vsm_model.specs.Standing.{Accepted}
 use Rattle.vsm_model.specs.Step.{answered, replied, step}
 use Rattle.vsm_model.specs.WellFormed.{IsWellFormed}
@@ -45,11 +45,11 @@ use Rattle.storage_plans.specs.declared.areas.FoundArea.{FoundArea}
 use Rattle.storage_plans.specs.declared.places.AreaPlace.{AreaPlace}
 use Rattle.storage_plans.specs.declared.places.AreaPlace.TheVariants as areas
 use Rattle.storage_plans.specs.declared.plan.Plan.{Plan}
-use Rattle.storage_plans.specs.ObtainPlans.{address_registers, obtain_records, place_address, place_blanks, place_pages, place_records}
+use Rattle.storage_plans.specs.ObtainPlans.{reply_registers, obtain_records, place_address, place_blanks, place_pages, place_records}
 use Rattle.storage_plans.specs.Places.{place_of}
 use Rattle.storage_plans.specs.Plans.{CarriesOut}
 use Rattle.storage_plans.proofs.Carried.{carries_out, no_registers, register_and}
-use Rattle.storage_plans.proofs.FixedLengths.{is_somewhere}
+use Rattle.storage_plans.proofs.AskedLengths.{is_somewhere}
 
 -- the records of new pages, pushed one by one
 pub fresh_pushed : (p : Subpool) (page count n : ℕ) (old one two all : List Record) → n ≡ pages_for count → one ≡ old ++ Pages (record { run = run_of page n; assigned = true }) ∷ [] →
@@ -69,12 +69,17 @@ is_register : (named : Option ℕ) → IfSome named (λ r. r < 16) → IsRegiste
 is_register None h register e = absurd (cc)
 is_register (Some n) h register e = let below : ℕ → Type 0 = λ r. r < 16 in subst below (same_some n register e) h
 
-are_registers : (named : Option ℕ) (address : ℕ) → IfSome named (λ r. r < 16) → AreRegisters (address_registers named address)
-are_registers named address h =
-    register_and 15 0 ((1, address) ∷ named_register named address) (omega arith) (register_and 1 address (named_register named address) (omega arith) (is_named named h)) where
+are_registers : (lengths : Lengths) (named : Option ℕ) (address length : ℕ) → IfSome named (λ r. r < 16) → AreRegisters (reply_registers lengths named address length)
+are_registers lengths named address length h =
+    register_and 15 0 ((1, address) ∷ length_register lengths length ++ named_register named address) (omega arith)
+    (register_and 1 address (length_register lengths length ++ named_register named address) (omega arith) (of_length lengths)) where
       is_named : (named : Option ℕ) → IfSome named (λ r. r < 16) → AreRegisters (named_register named address)
       is_named None h = no_registers
       is_named (Some n) h = register_and n address [] h no_registers
+
+      of_length : (lengths : Lengths) → AreRegisters (length_register lengths length ++ named_register named address)
+      of_length (Fixed n) = is_named named h
+      of_length (Variable most least) = register_and 0 length (named_register named address) (omega arith) (is_named named h)
 
 few_blanks : (x : AreaPlace) → place_blanks x ≤ 7
 few_blanks (areas.Inside d) = omega arith
@@ -171,10 +176,9 @@ module _ (settings : Settings) (m : StorageState) (o : Obtain) where
       pages_unassigned (areas.Inside d) goes k own = none_fresh m k own
       pages_unassigned (areas.Fresh page) goes k own = fresh_unassigned page goes k own
 
--- What was found for a request of a fixed length.
+-- What was found for a request.
 pub record IsFound (settings : Settings) (names_full : Bool) (m : StorageState) (o : Obtain) (found : FoundArea) : Type 0 where
   pub valid : settings_valid settings ≡ true
-  pub fixed : o.lengths ≡ Fixed (maximum o.lengths)
   pub none : first_cause (obtain_causes settings names_full (model_of m) o) ≡ None
   pub subpool : found.subpool ≡ seen_or_own (model_of m) o.number
   pub is_new : found.is_new ≡ not (sees_one (model_of m) o.number)
@@ -189,7 +193,7 @@ module _ (settings : Settings) (names_full : Bool) (m : StorageState) (o : Obtai
   goes = place_of (Some found.place)
 
   abbrev rows : List (ℕ × ℕ)
-  rows = address_registers o.register (place_address found.place)
+  rows = reply_registers o.lengths o.register (place_address found.place) (8 * found.count)
 
   -- the state behind the request
   abbrev after : State
@@ -215,15 +219,12 @@ module _ (settings : Settings) (names_full : Bool) (m : StorageState) (o : Obtai
   accepted sound =
       let x = obtain o in
       let outcome : State → ℕ → Place → Stepped = λ t count z. replied x (with_area t own count z, Obtained (address_of z) (8 * count)) in
-      let length : ℕ = 8 * found.count in
-      let taken : State = with_area (with_new (model_of m) own found.is_new) own found.count goes in
       ap (answered settings (model_of m) x) is.none
       ∙ ap (λ (f : Option ℕ). outcome (with_own (model_of m) o.number) (unwrap_or f 0) (place_for settings (model_of m) o (unwrap_or f 0))) is.count
       ∙ ap (outcome (with_own (model_of m) o.number) found.count) (sym is.place)
       ∙ ap (λ (t : State). outcome t found.count goes) (made settings m o sound found.is_new is.is_new)
-      ∙ ap (λ (l : Lengths). Accepted (with_registers taken ((15, 0) ∷ (1, address_of goes) ∷ length_register l length ++ named_register o.register (address_of goes))) (Obtained (address_of goes) length)) is.fixed
 
-  pub obtain_carried_out : IsSound settings m → IfSome o.register (λ r. r < 16) → (plan : Plan) → plan.records.items ≡ obtain_records m found o.register →
+  pub obtain_carried_out : IsSound settings m → IfSome o.register (λ r. r < 16) → (plan : Plan) → plan.records.items ≡ obtain_records m found o →
       plan.blanks ≡ place_blanks found.place → plan.fresh ≡ place_pages found.count found.place →
       plan.reply ≡ Obtained (place_address found.place) (8 * found.count) → CarriesOut settings names_full m (obtain o) plan
   obtain_carried_out sound register plan records blanks fresh reply =
@@ -232,7 +233,7 @@ module _ (settings : Settings) (names_full : Bool) (m : StorageState) (o : Obtai
       let formed = obtain_leaves_well_formed settings names_full (model_of m) after o (Obtained (place_address found.place) (8 * found.count)) is.valid (is_register o.register register)
       sound.well_formed (accepted sound) in
       let leads = leads_at settings m o is.valid found.count some sound found.place found.is_new rows its (can_own settings m o sound found.is_new is.is_new may.private)
-      (are_registers o.register (place_address found.place) register) formed in
+      (are_registers o.lengths o.register (place_address found.place) (8 * found.count) register) formed in
       carries_out settings names_full m (obtain o) plan (own_records own found.is_new ++ place_records own found.count found.place ++ register_records m rows)
       (place_blanks found.place) (place_pages found.count found.place) after
       (records ∙ ap (λ (p : Subpool). own_records p found.is_new ++ place_records p found.count found.place ++ register_records m rows) is.subpool) blanks fresh

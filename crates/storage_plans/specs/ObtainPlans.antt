@@ -1,10 +1,12 @@
 -- The change of an obtain, by the place of its area.
-use Rattle.std.specs.Prelude.{ℕ, List, ◌∷◌, ◌++◌, Option, Some}
+use Rattle.std.specs.Prelude.{ℕ, ◌*◌, List, ◌∷◌, ◌++◌, Option, Some}
 use Rattle.run_set.specs.declared.run.Run.{Run}
 use Rattle.vsm_model.specs.declared.Subpool.{Subpool}
+use Rattle.vsm_model.specs.declared.services.Lengths.{Lengths}
+use Rattle.vsm_model.specs.declared.services.Obtain.{Obtain}
 use Rattle.vsm_model.specs.Areas.{address_of}
 use Rattle.vsm_model.specs.Regions.{pages_for}
-use Rattle.vsm_model.specs.Registers.{named_register}
+use Rattle.vsm_model.specs.Registers.{length_register, named_register}
 use Rattle.storage_changes.specs.declared.record.Record.{Record}
 use Rattle.storage_changes.specs.State.{StorageState}
 use Rattle.storage_actions.specs.Actions.{own_records, take_records, take_fresh_records, register_records, run_of}
@@ -32,12 +34,14 @@ abbrev pub place_pages : ℕ → AreaPlace → Run
 place_pages count (Inside doubleword) = run_of 0 0
 place_pages count (Fresh page) = run_of page (pages_for count)
 
--- The registers that the request sets: the return code, and the address in register 1 and in the one that is named.
-abbrev pub address_registers : Option ℕ → ℕ → List (ℕ × ℕ)
-address_registers named address = (15, 0) ∷ (1, address) ∷ named_register named address
+-- The registers that the request sets: the return code, the address in register 1 and in the one that is named, and the
+-- length of a variable request in register 0.
+abbrev pub reply_registers : Lengths → Option ℕ → ℕ → ℕ → List (ℕ × ℕ)
+reply_registers lengths named address length =
+    (15, 0) ∷ (1, address) ∷ length_register lengths length ++ named_register named address
 
 -- The subpool is made first, if it is new; then the area is taken, and the registers are set.
-abbrev pub obtain_records : StorageState → FoundArea → Option ℕ → List Record
-obtain_records m found named =
+abbrev pub obtain_records : StorageState → FoundArea → Obtain → List Record
+obtain_records m found o =
     own_records found.subpool found.is_new ++ place_records found.subpool found.count found.place
-    ++ register_records m (address_registers named (place_address found.place))
+    ++ register_records m (reply_registers o.lengths o.register (place_address found.place) (8 * found.count))

@@ -1,5 +1,5 @@
 -- Where an area goes, in terms of the plain machine.
-use Rattle.std.specs.Prelude.{Option, Some, None}
+use Rattle.std.specs.Prelude.{◌≡◌, ℕ, ◌<◌, Bool, nat_le, Option, Some, None}
 use Rattle.vsm_model.specs.declared.limits.Residence.{Residence}
 use Rattle.vsm_model.specs.declared.limits.Residence.TheVariants.{Below, Above}
 use Rattle.vsm_model.specs.declared.limits.Settings.{Settings}
@@ -27,3 +27,7 @@ abbrev pub place_of : Option AreaPlace → Place
 place_of (Some (areas.Inside doubleword)) = Inside doubleword
 place_of (Some (areas.Fresh page)) = Fresh page
 place_of None = Nowhere
+
+-- of the counts from 1 on, just those up to this one pass the test
+abbrev pub IsUpTo : (ℕ → Bool) → ℕ → Type 0
+IsUpTo passes most = (count : ℕ) → 0 < count → passes count ≡ nat_le count most

@@ -1,19 +1,18 @@
 //! The area that a request for storage asks for, or why there is none.
-ghost use Rattle.std.specs.Prelude.{◌≡◌, ◌≤◌, ◌<◌, not, true, None, Some, IfOk, IfErr, OnOk, OnErr};
-ghost use Rattle.vsm_model.specs.declared.services.Lengths.TheVariants.{Fixed};
+ghost use Rattle.std.specs.Prelude.{◌≡◌, ◌≤◌, ◌<◌, not, true, None, Some, IfOk, IfErr, IfNone, IfSome, OnOk, OnErr};
 ghost use Rattle.vsm_model.specs.Areas.{spacing};
 ghost use Rattle.vsm_model.specs.Causes.{first_cause, number_causes};
 ghost use Rattle.vsm_model.specs.Obtaining.{longest, obtain_causes, place_for};
 ghost use Rattle.vsm_model.specs.Regions.{settings_valid, side};
-ghost use Rattle.vsm_model.specs.Services.{maximum};
+ghost use Rattle.vsm_model.specs.Services.{minimum};
 ghost use Rattle.vsm_model.specs.Subpools.{seen_or_own, sees_one};
 ghost use Rattle.storage_changes.specs.Meaning.{model_of};
 ghost use Rattle.storage_exchange.specs.Storage.{state_of};
 ghost use Rattle.storage_plans.specs.Places.{StandsSound, place_of};
 
-use crate::places::{AreaPlace, area_place};
+use crate::places::{AreaPlace, area_place, longest_place};
 use storage_exchange::Storage;
-use vsm_model::{Boundary, Cause, Location, Obtain, Residence, Settings, Subpool};
+use vsm_model::{Boundary, Cause, Lengths, Location, Obtain, Residence, Settings, Subpool};
 
 /// An area that was found for a request.
 #[derive(Clone, Copy, Debug, PartialEq, Eq)]
@@ -81,11 +80,56 @@ fn subpool_for(storage: &Storage, settings: Settings, number: u8) -> (Subpool, b
     (subpool, seen.is_none())
 }
 
-/// The area that a request for a fixed length gets, or the first cause that refuses it. Reads alone, and takes no
-/// memory. `names_full` says that the statement defines a name for which there is no room.
+// The least length in bytes that will do, as it was asked for: that of a fixed length is itself.
+fn minimum_of(lengths: Lengths) -> u32
+    ensures { result ≡ minimum lengths }
+{
+    match lengths {
+        Lengths::Fixed(length) => length,
+        Lengths::Variable { minimum, .. } => minimum,
+    }
+}
+
+// The most doublewords that the request can be given, between its rounded bounds, and where they go; `None` where not
+// even the fewest have a place.
+fn find_place(
+    storage: &Storage,
+    settings: Settings,
+    o: Obtain,
+    subpool: Subpool,
+) -> Option<(u32, AreaPlace)>
+    requires sound { StandsSound settings storage.now }
+    requires valid { settings_valid settings ≡ true }
+    requires subpool { subpool ≡ seen_or_own (model_of (state_of storage.now)) o.number }
+    requires some { 0 < minimum o.lengths }
+    ensures count { IfSome result (λ found.
+        longest settings (model_of (state_of storage.now)) o ≡ Some found.0) }
+    ensures place { IfSome result (λ found. place_of (Some found.1)
+        ≡ place_for settings (model_of (state_of storage.now)) o found.0) }
+    ensures none { IfNone result (longest settings (model_of (state_of storage.now)) o ≡ None) }
+{
+    let least = minimum_of(o.lengths).div_ceil(8);
+    let most = o.lengths.maximum().div_ceil(8);
+    let side = side_of(settings, o.location);
+    let spacing = spacing_of(o.boundary);
+    let longest = longest_place(storage, settings, side, subpool, spacing);
+    let count = most.min(longest);
+    if count < least {
+        return None;
+    }
+    match area_place(storage, settings, side, subpool, count, spacing) {
+        Some(place) => Some((count, place)),
+        None => None,
+    }
+}
+
+/// The area that a request gets, or the first cause that refuses it: as many doublewords as have a place, from its
+/// rounded minimum to its rounded maximum. A fixed length is both. Reads alone, and takes no memory. `names_full` says
+/// that the statement defines a name for which there is no room.
 ///
 /// The causes, in order: a number above 127 (`UnsupportedSubpool` for 131 and 132, else `SubpoolNotAllowed`),
-/// `BadLength` for zero bytes, `TooManyNames`, and `NoStorage` where the area has no place.
+/// `BadLength` for a minimum of zero bytes or one above the maximum, `TooManyNames`, and `NoStorage` where not even the
+/// minimum has a place.
 pub fn find_area(
     storage: &Storage,
     settings: Settings,
@@ -94,7 +138,6 @@ pub fn find_area(
 ) -> Result<FoundArea, Cause>
     requires sound { StandsSound settings storage.now }
     requires valid { settings_valid settings ≡ true }
-    requires fixed { o.lengths ≡ Fixed (maximum o.lengths) }
     ensures none { IfOk result (λ found.
         first_cause (obtain_causes settings names_full (model_of (state_of storage.now)) o) ≡ None) }
     ensures subpool { IfOk result (λ found.
@@ -108,19 +151,16 @@ pub fn find_area(
         first_cause (obtain_causes settings names_full (model_of (state_of storage.now)) o) ≡ Some cause) }
 {
     let number = check_number(o.number)?;
-    let length = o.lengths.maximum();
-    if length == 0 {
+    let least = minimum_of(o.lengths);
+    if least == 0 || o.lengths.maximum() < least {
         return Err(Cause::BadLength);
     }
     if names_full {
         return Err(Cause::TooManyNames);
     }
-    let count = length.div_ceil(8);
     let (subpool, is_new) = subpool_for(storage, settings, number);
-    let side = side_of(settings, o.location);
-    let spacing = spacing_of(o.boundary);
-    match area_place(storage, settings, side, subpool, count, spacing) {
-        Some(place) => Ok(FoundArea {
+    match find_place(storage, settings, o, subpool) {
+        Some((count, place)) => Ok(FoundArea {
             subpool,
             is_new,
             count,

@@ -2,12 +2,11 @@
 ghost use Rattle.std.specs.Prelude.{◌≡◌, ◌+◌, ◌*◌, ◌<◌, ◌≤◌, ◌^◌, ◌++◌, true, IfSome};
 ghost use Rattle.arrayvec.specs.ArrayVec.{array_vec_len};
 ghost use Rattle.vsm_model.specs.declared.replies.Reply.TheVariants.{Obtained};
-ghost use Rattle.vsm_model.specs.declared.services.Lengths.TheVariants.{Fixed};
 ghost use Rattle.vsm_model.specs.Regions.{settings_valid};
-ghost use Rattle.vsm_model.specs.Services.{maximum, obtain};
+ghost use Rattle.vsm_model.specs.Services.{obtain};
 ghost use Rattle.storage_actions.specs.Actions.{own_records, register_records, take_fresh_records};
 ghost use Rattle.storage_exchange.specs.Storage.{state_of};
-ghost use Rattle.storage_plans.specs.ObtainPlans.{address_registers, obtain_records, place_address, place_blanks};
+ghost use Rattle.storage_plans.specs.ObtainPlans.{reply_registers, obtain_records, place_address, place_blanks};
 ghost use Rattle.storage_plans.specs.ObtainPlans.{place_pages, place_records};
 ghost use Rattle.storage_plans.specs.Places.{StandsSound};
 ghost use Rattle.storage_plans.specs.Plans.{IsPlanned};
@@ -21,7 +20,7 @@ use descriptor_queue::Page;
 use run_set::Run;
 use storage_changes::{ExtentRecord, OwnRecord, PagesRecord, Record};
 use storage_exchange::Storage;
-use vsm_model::{Cause, Obtain, Reply, Settings, Subpool};
+use vsm_model::{Cause, Lengths, Obtain, Reply, Settings, Subpool};
 
 /// The bytes of a page.
 const PAGE_BYTES: u32 = 4096;
@@ -96,21 +95,27 @@ fn push_place(
     }
 }
 
-// Up to three more records: the return code 0, and the address in register 1 and in the one that is named.
-fn push_address(
+// Up to four more records: the return code 0, the address in register 1 and in the one that is named, and the length in
+// register 0 where it was asked for by bounds.
+fn push_reply(
     records: &mut ArrayVec<Record, PLAN_RECORDS>,
     storage: &Storage,
-    named: Option<u8>,
+    o: Obtain,
     address: u32,
+    length: u32,
 )
     requires few { array_vec_len records.old ≤ 8 }
     ensures records { records.new.items
-        ≡ records.old.items ++ register_records (state_of storage.now) (address_registers named address) }
+        ≡ records.old.items
+        ++ register_records (state_of storage.now) (reply_registers o.lengths o.register address length) }
 {
     let current = storage.tasks.current();
     push_register(records, current, 15, 0);
     push_register(records, current, 1, address);
-    if let Some(register) = named {
+    if let Lengths::Variable { .. } = o.lengths {
+        push_register(records, current, 0, length);
+    }
+    if let Some(register) = o.register {
         push_register(records, current, register, address);
     }
 }
@@ -143,39 +148,39 @@ fn needs_of(place: AreaPlace, count: u32) -> (u32, Run)
     }
 }
 
-// The plan that takes the area that was found, with its address in register 1 and in the one that is named.
-fn plan_area(storage: &Storage, found: FoundArea, named: Option<u8>) -> Plan
+// The plan that takes the area that was found, with its address and its length in the registers.
+fn plan_area(storage: &Storage, found: FoundArea, o: Obtain) -> Plan
     requires { (place_address found.place < 2 ^ 32) × (0 < found.count) × (found.count < 2 ^ 29) }
-    ensures records { result.records.items ≡ obtain_records (state_of storage.now) found named }
+    ensures records { result.records.items ≡ obtain_records (state_of storage.now) found o }
     ensures blanks { result.blanks ≡ place_blanks found.place }
     ensures fresh { result.fresh ≡ place_pages found.count found.place }
     ensures reply { result.reply ≡ Obtained (place_address found.place) (8 * found.count) }
 {
     let address = address_of(found.place);
+    let length = 8 * found.count;
     let mut records = ArrayVec::new();
     push_own(&mut records, found.subpool, found.is_new);
     push_place(&mut records, found.subpool, found.place, found.count);
-    push_address(&mut records, storage, named, address);
+    push_reply(&mut records, storage, o, address, length);
     let (blanks, fresh) = needs_of(found.place, found.count);
     Plan {
         records,
         blanks,
         fresh,
-        reply: Reply::Obtained {
-            address,
-            length: 8 * found.count,
-        },
+        reply: Reply::Obtained { address, length },
     }
 }
 
-/// A plan for an area of a fixed length (*Assembler Services Reference*, STORAGE): it goes to the subpool that the
-/// current task sees at the number, or to a new one of its own. Its address goes into register 1, and into the one that
-/// is named; register 15 gets 0. Reads alone, and takes no memory. `names_full` says that the statement defines a name
-/// for which there is no room.
+/// A plan for an area (*Assembler Services Reference*, GETMAIN and STORAGE): as many doublewords as have a place, from
+/// the rounded minimum to the rounded maximum, of which a fixed length is both. It goes to the subpool that the current
+/// task sees at the number, or to a new one of its own. Its address goes into register 1, and into the one that is
+/// named; register 15 gets 0; and where bounds were asked for, register 0 gets the length in bytes. Reads alone, and
+/// takes no memory. `names_full` says that the statement defines a name for which there is no room.
 ///
 /// The causes that refuse it, in order: a number above 127 (`UnsupportedSubpool` for 131 and 132, else
-/// `SubpoolNotAllowed`), `BadLength` for zero bytes, `TooManyNames`, and `NoStorage` where the area has no place. A
-/// conditional form has in place of `NoStorage` a plan that sets register 15 to 4, and nothing else.
+/// `SubpoolNotAllowed`), `BadLength` for a minimum of zero bytes or one above the maximum, `TooManyNames`, and
+/// `NoStorage` where not even the minimum has a place. A conditional form has in place of `NoStorage` a plan that sets
+/// register 15 to 4, and nothing else.
 pub fn plan_obtain(
     storage: &Storage,
     settings: Settings,
@@ -184,12 +189,11 @@ pub fn plan_obtain(
 ) -> Result<Plan, Cause>
     requires sound { StandsSound settings storage.now }
     requires valid { settings_valid settings ≡ true }
-    requires fixed { o.lengths ≡ Fixed (maximum o.lengths) }
     requires register { IfSome o.register (λ r. r < 16) }
     ensures { IsPlanned settings names_full (state_of storage.now) (obtain o) result }
 {
     match find_area(storage, settings, o, names_full) {
-        Ok(found) => Ok(plan_area(storage, found, o.register)),
+        Ok(found) => Ok(plan_area(storage, found, o)),
         Err(cause) => answer_cause(storage, cause, o.conditional),
     }
 }

@@ -1,12 +1,12 @@
 //! Where an area goes.
-ghost use Rattle.std.specs.Prelude.{◌≡◌, ◌^◌, ◌<◌, ◌≤◌, true};
-ghost use Rattle.vsm_model.specs.Areas.{place, place_in};
+ghost use Rattle.std.specs.Prelude.{◌≡◌, ◌^◌, ◌<◌, ◌≤◌, true, not};
+ghost use Rattle.vsm_model.specs.Areas.{is_nowhere, place, place_in};
 ghost use Rattle.vsm_model.specs.Regions.{regions_for, settings_valid};
 ghost use Rattle.storage_changes.specs.Meaning.{model_of};
 ghost use Rattle.storage_exchange.specs.Storage.{state_of};
-ghost use Rattle.storage_plans.specs.Places.{StandsSound, place_of, region_on};
+ghost use Rattle.storage_plans.specs.Places.{IsUpTo, StandsSound, place_of, region_on};
 
-use crate::searches::{PAGE_DOUBLEWORDS, least_area, least_pages};
+use crate::searches::{PAGE_DOUBLEWORDS, least_area, least_pages, longest_area, longest_pages};
 use storage_exchange::Storage;
 use vsm_model::{Residence, Settings, Subpool};
 
@@ -68,5 +68,49 @@ pub fn area_place(
             Some(place) => Some(place),
             None => place_on(storage, settings, Residence::Below, subpool, count, spacing),
         },
+    }
+}
+
+// The most doublewords that have a place in the region on one side of the line.
+fn longest_on(
+    storage: &Storage,
+    settings: Settings,
+    side: Residence,
+    subpool: Subpool,
+    spacing: u32,
+) -> u32
+    requires sound { StandsSound settings storage.now }
+    requires valid { settings_valid settings ≡ true }
+    requires asked { (0 < spacing) × (spacing ≤ 512) }
+    ensures { IsUpTo (λ count. not (is_nowhere
+        (place_in (model_of (state_of storage.now)) subpool count spacing (region_on settings side)))) result }
+{
+    let inside = longest_area(storage, settings, side, subpool, spacing);
+    let pages = longest_pages(storage, settings, side);
+    inside.max(PAGE_DOUBLEWORDS * pages)
+}
+
+/// The most doublewords that have a place in the subpool, on a boundary of `spacing` doublewords: 1, or 512 for a page;
+/// 0 where not even one has. Each smaller number has a place too. Reads alone, and takes no memory.
+pub(crate) fn longest_place(
+    storage: &Storage,
+    settings: Settings,
+    side: Residence,
+    subpool: Subpool,
+    spacing: u32,
+) -> u32
+    requires sound { StandsSound settings storage.now }
+    requires valid { settings_valid settings ≡ true }
+    requires asked { (0 < spacing) × (spacing ≤ 512) }
+    ensures { IsUpTo (λ count. not (is_nowhere
+        (place (model_of (state_of storage.now)) (regions_for settings side) subpool count spacing))) result }
+{
+    let low = longest_on(storage, settings, Residence::Below, subpool, spacing);
+    match side {
+        Residence::Below => low,
+        Residence::Above => {
+            let high = longest_on(storage, settings, Residence::Above, subpool, spacing);
+            high.max(low)
+        }
     }
 }

@@ -1,10 +1,10 @@
-//! The least area and the least run of pages of a region.
-ghost use Rattle.std.specs.Prelude.{◌≡◌, ◌+◌, ◌^◌, ◌<◌, ◌≤◌, true};
+//! The least and the longest area and run of pages of a region.
+ghost use Rattle.std.specs.Prelude.{◌≡◌, ◌+◌, ◌*◌, ◌^◌, ◌<◌, ◌≤◌, true, is_some};
 ghost use Rattle.vsm_model.specs.Areas.{least_fit, least_run};
 ghost use Rattle.vsm_model.specs.Regions.{settings_valid};
 ghost use Rattle.storage_changes.specs.Meaning.{model_of};
 ghost use Rattle.storage_exchange.specs.Storage.{state_of};
-ghost use Rattle.storage_plans.specs.Places.{StandsSound, region_on};
+ghost use Rattle.storage_plans.specs.Places.{IsUpTo, StandsSound, region_on};
 
 use descriptor_queue::Page;
 use run_set::Run;
@@ -33,6 +33,20 @@ pub(crate) fn pages_on(settings: Settings, side: Residence) -> Run
     }
 }
 
+// The doublewords of the region on one side of the line.
+fn area_on(settings: Settings, side: Residence) -> Run
+    requires { settings_valid settings ≡ true }
+    ensures start { result.start ≡ (region_on settings side).first * 512 }
+    ensures len { result.len ≡ (region_on settings side).count * 512 }
+    ensures range { result.start + result.len ≤ 2 ^ 29 }
+{
+    let pages = pages_on(settings, side);
+    Run {
+        start: pages.start * PAGE_DOUBLEWORDS,
+        len: pages.len * PAGE_DOUBLEWORDS,
+    }
+}
+
 /// The least doubleword of the region on that side of the line from which `count` doublewords are free storage of the
 /// subpool, as a multiple of `spacing`. Reads alone.
 pub fn least_area(
@@ -48,11 +62,7 @@ pub fn least_area(
     requires asked { (0 < count) × (count ≤ 2 ^ 29) × (0 < spacing) × (spacing ≤ 512) }
     ensures { result ≡ least_fit (model_of (state_of storage.now)) (region_on settings side) subpool count spacing }
 {
-    let pages = pages_on(settings, side);
-    let region = Run {
-        start: pages.start * PAGE_DOUBLEWORDS,
-        len: pages.len * PAGE_DOUBLEWORDS,
-    };
+    let region = area_on(settings, side);
     storage
         .subpools
         .least_fit(&storage.elements, subpool, count, spacing, region)
@@ -74,4 +84,38 @@ pub fn least_pages(
     storage
         .unassigned
         .least_run(&storage.elements, pages, count)
+}
+
+/// The greatest number of doublewords of the region on that side of the line that are free storage of the subpool, from
+/// a multiple of `spacing` on; 0 where there is none. Reads alone.
+pub(crate) fn longest_area(
+    storage: &Storage,
+    settings: Settings,
+    side: Residence,
+    subpool: Subpool,
+    spacing: u32,
+) -> u32
+    requires sound { StandsSound settings storage.now }
+    requires valid { settings_valid settings ≡ true }
+    requires asked { (0 < spacing) × (spacing ≤ 512) }
+    ensures { IsUpTo (λ count. is_some
+        (least_fit (model_of (state_of storage.now)) (region_on settings side) subpool count spacing)) result }
+{
+    let region = area_on(settings, side);
+    storage
+        .subpools
+        .longest(&storage.elements, subpool, spacing, region)
+}
+
+/// The greatest number of pages in a row of the region on that side of the line that are nobody's; 0 where there is
+/// none. Reads alone.
+pub(crate) fn longest_pages(storage: &Storage, settings: Settings, side: Residence) -> u32
+    requires sound { StandsSound settings storage.now }
+    requires valid { settings_valid settings ≡ true }
+    ensures up_to { IsUpTo (λ count. is_some
+        (least_run (model_of (state_of storage.now)) (region_on settings side) count)) result }
+    ensures range { result ≤ 2 ^ 20 }
+{
+    let pages = pages_on(settings, side);
+    storage.unassigned.longest_run(&storage.elements, pages)
 }

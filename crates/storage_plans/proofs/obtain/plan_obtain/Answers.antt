@@ -9,7 +9,6 @@ pub plan_area-requires : goal.plan_area-requires
 plan_area-requires c =
     in_words c.args.settings c.args.names_full (state_of c.args.storage.now) c.args.o c.in-Ok.found (record {
       valid = c.requires.valid;
-      fixed = c.requires.fixed;
       none = c.in-Ok.ensures.none;
       subpool = c.in-Ok.ensures.subpool;
       is_new = c.in-Ok.ensures.is_new;
@@ -21,7 +20,6 @@ pub returns-in-Ok : goal.returns-in-Ok
 returns-in-Ok c =
     ∥∥₁_map c.requires.sound.sound (λ h. obtain_carried_out c.args.settings c.args.names_full (state_of c.args.storage.now) c.args.o c.in-Ok.found (record {
       valid = c.requires.valid;
-      fixed = c.requires.fixed;
       none = c.in-Ok.ensures.none;
       subpool = c.in-Ok.ensures.subpool;
       is_new = c.in-Ok.ensures.is_new;

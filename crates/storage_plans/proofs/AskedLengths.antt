@@ -1,0 +1,111 @@
+-- The causes of a request, and how long an area it gets.
+use Rattle.std.proofs.Common.{◌≡◌, ℕ, suc, ◌-◌, ◌<◌, ◌≤◌, min, Bool, true, false, not, ◌||◌, nat_le, nat_lt, ◌==◌, Some, None, is_none, [], ◌∷◌, ◌++◌, arith, refl, sym, ap, ◌∙◌}
+use Rattle.std.proofs.lemmas.Bool.{both_ways, cond-false, cond-true, false_from_ne_true, le-leb, leb-true}
+use Rattle.std.proofs.lemmas.Bool.Decides.{nat_tests}
+use Rattle.vsm_model.specs.declared.Subpool.{Subpool}
+use Rattle.vsm_model.specs.declared.causes.Cause.{Cause}
+use Rattle.vsm_model.specs.declared.causes.Cause.TheVariants.{UnsupportedSubpool, SubpoolNotAllowed, BadLength, TooManyNames, NoStorage}
+use Rattle.vsm_model.specs.declared.limits.Residence.{Residence}
+use Rattle.vsm_model.specs.declared.limits.Settings.{Settings}
+use Rattle.vsm_model.specs.declared.services.Obtain.{Obtain}
+use Rattle.vsm_model.specs.Search.{greatest}
+use Rattle.vsm_model.specs.Regions.{regions_for, side, doublewords}
+use Rattle.vsm_model.specs.State.{State}
+use Rattle.vsm_model.specs.Subpools.{seen_or_own}
+use Rattle.vsm_model.specs.Areas.{Place, place, is_nowhere, spacing}
+use Rattle.vsm_model.specs.Services.{minimum, maximum}
+use Rattle.vsm_model.specs.Causes.{Causes, first_cause, number_causes}
+use Rattle.vsm_model.specs.Obtaining.{place_for, longest, obtain_causes}
+use Rattle.vsm_model.proofs.Least.{greatest_by}
+use Rattle.storage_plans.specs.declared.places.AreaPlace.{AreaPlace}
+use Rattle.storage_plans.specs.declared.places.AreaPlace.TheVariants as areas
+use Rattle.storage_plans.specs.Places.{IsUpTo, place_of}
+
+pub skip : (b : Bool) (cause : Cause) (rows : Causes) → b ≡ false → first_cause ((b, cause) ∷ rows) ≡ first_cause rows
+skip b cause rows e = cond-false b (Some cause) (first_cause rows) e
+
+pub stop : (b : Bool) (cause : Cause) (rows : Causes) → b ≡ true → first_cause ((b, cause) ∷ rows) ≡ Some cause
+stop b cause rows e = cond-true b (Some cause) (first_cause rows) e
+
+not_131 : (n : ℕ) → n ≤ 127 → ((n == 131) || (n == 132)) ≡ false
+not_131 n h = grind (arith, nat_tests)
+
+not_above : (n : ℕ) → n ≤ 127 → nat_lt 127 n ≡ false
+not_above n h = grind (arith, nat_tests)
+
+pub number_allowed : (n : ℕ) (rows : Causes) → n ≤ 127 → first_cause (number_causes n ++ rows) ≡ first_cause rows
+number_allowed n rows h =
+    skip ((n == 131) || (n == 132)) UnsupportedSubpool ((nat_lt 127 n, SubpoolNotAllowed) ∷ rows) (not_131 n h)
+    ∙ skip (nat_lt 127 n) SubpoolNotAllowed rows (not_above n h)
+
+-- The greatest count that passes, where just those up to a bound do.
+module _ (f : ℕ → Bool) (least most top count : ℕ) (some : 0 < least) (up_to : IsUpTo f top) (is : count ≡ min most top) where
+  too_long : (k : ℕ) → top < k → f k ≡ false
+  too_long k h = up_to k (omega (arith, h)) ∙ false_from_ne_true (nat_le k top) (λ e. let low = leb-true k top e in omega (arith, h, low))
+
+  pub greatest_up_to : least ≤ count → greatest f least (suc most - least) ≡ Some count
+  greatest_up_to enough =
+      sym (greatest_by f least (suc most - least) (Some count) (
+        up_to count (omega (arith, some, enough)) ∙ le-leb count top (omega (arith, is)),
+        enough,
+        omega (arith, is, enough),
+        λ k above below. too_long k (omega (arith, is, enough, above, below)),
+      ))
+
+  pub greatest_none : count < least → greatest f least (suc most - least) ≡ None
+  greatest_none few = sym (greatest_by f least (suc most - least) None (λ k from below. too_long k (omega (arith, is, few, from, below))))
+
+pub is_somewhere : (x : AreaPlace) → is_nowhere (place_of (Some x)) ≡ false
+is_somewhere (areas.Inside d) = refl
+is_somewhere (areas.Fresh page) = refl
+
+module _ (settings : Settings) (s : State) (o : Obtain) where
+  pub place_is : (sd : Residence) (p : Subpool) (sp : ℕ) → sd ≡ side settings o.location → p ≡ seen_or_own s o.number → sp ≡ spacing o.boundary →
+      (count : ℕ) → place s (regions_for settings sd) p count sp ≡ place_for settings s o count
+  place_is sd p sp is_side is_subpool is_spacing count =
+      ap (λ (z : Residence). place s (regions_for settings z) p count sp) is_side
+      ∙ ap (λ (z : Subpool). place s (regions_for settings (side settings o.location)) z count sp) is_subpool
+      ∙ ap (λ (z : ℕ). place s (regions_for settings (side settings o.location)) (seen_or_own s o.number) count z) is_spacing
+
+  -- what is known of places on the side that is asked for, and so on, is known of the request's
+  pub up_to_for : (sd : Residence) (p : Subpool) (sp top : ℕ) → sd ≡ side settings o.location → p ≡ seen_or_own s o.number → sp ≡ spacing o.boundary →
+      IsUpTo (λ n. not (is_nowhere (place s (regions_for settings sd) p n sp))) top → IsUpTo (λ n. not (is_nowhere (place_for settings s o n))) top
+  up_to_for sd p sp top is_side is_subpool is_spacing h n some =
+      ap (λ (z : Place). not (is_nowhere z)) (sym (place_is sd p sp is_side is_subpool is_spacing n)) ∙ h n some
+
+  module _ (top count : ℕ) (some : 0 < minimum o.lengths) (up_to : IsUpTo (λ n. not (is_nowhere (place_for settings s o n))) top) (is : count ≡ min (doublewords (maximum o.lengths)) top) where
+    pub longest_is : doublewords (minimum o.lengths) ≤ count → longest settings s o ≡ Some count
+    longest_is enough =
+        greatest_up_to (λ n. not (is_nowhere (place_for settings s o n))) (doublewords (minimum o.lengths)) (doublewords (maximum o.lengths)) top count
+        (omega (arith, some)) up_to is enough
+
+    pub longest_none : count < doublewords (minimum o.lengths) → longest settings s o ≡ None
+    longest_none few =
+        greatest_none (λ n. not (is_nowhere (place_for settings s o n))) (doublewords (minimum o.lengths)) (doublewords (maximum o.lengths)) top count
+        (omega (arith, some)) up_to is few
+
+    pub has_place : doublewords (minimum o.lengths) ≤ count → is_nowhere (place_for settings s o count) ≡ true → ⊥
+    has_place enough none =
+        both_ways (not (is_nowhere (place_for settings s o count))) (ap not none)
+        (up_to count (omega (arith, some, enough)) ∙ le-leb count top (omega (arith, is)))
+
+  bad : minimum o.lengths ≤ maximum o.lengths → 0 < minimum o.lengths → ((minimum o.lengths == 0) || nat_lt (maximum o.lengths) (minimum o.lengths)) ≡ false
+  bad ordered some = grind (arith, nat_tests)
+
+  rest : (names_full : Bool) → o.number ≤ 127 → 0 < minimum o.lengths → minimum o.lengths ≤ maximum o.lengths → names_full ≡ false →
+      first_cause (obtain_causes settings names_full s o) ≡ first_cause ((is_none (longest settings s o), NoStorage) ∷ [])
+  rest names_full allowed some ordered room =
+      let last : Causes = (is_none (longest settings s o), NoStorage) ∷ [] in
+      number_allowed o.number (((minimum o.lengths == 0) || nat_lt (maximum o.lengths) (minimum o.lengths), BadLength) ∷ (names_full, TooManyNames) ∷ last) allowed
+      ∙ skip ((minimum o.lengths == 0) || nat_lt (maximum o.lengths) (minimum o.lengths)) BadLength ((names_full, TooManyNames) ∷ last) (bad ordered some)
+      ∙ skip names_full TooManyNames last room
+
+  pub no_cause : (names_full : Bool) → o.number ≤ 127 → 0 < minimum o.lengths → minimum o.lengths ≤ maximum o.lengths → names_full ≡ false → (count : ℕ) →
+      longest settings s o ≡ Some count → first_cause (obtain_causes settings names_full s o) ≡ None
+  no_cause names_full allowed some ordered room count e =
+      rest names_full allowed some ordered room ∙ skip (is_none (longest settings s o)) NoStorage [] (ap is_none e)
+
+  pub no_storage : (names_full : Bool) → o.number ≤ 127 → 0 < minimum o.lengths → minimum o.lengths ≤ maximum o.lengths → names_full ≡ false → longest settings s o ≡ None →
+      first_cause (obtain_causes settings names_full s o) ≡ Some NoStorage
+  no_storage names_full allowed some ordered room e =
+      rest names_full allowed some ordered room ∙ stop (is_none (longest settings s o)) NoStorage [] (ap is_none e)
