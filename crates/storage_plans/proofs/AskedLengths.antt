@@ -1,6 +1,6 @@
 -- The causes of a request, and how long an area it gets.
 use Rattle.std.proofs.Common.{◌≡◌, ℕ, suc, ◌-◌, ◌<◌, ◌≤◌, min, Bool, true, false, not, ◌||◌, nat_le, nat_lt, ◌==◌, Some, None, is_none, [], ◌∷◌, ◌++◌, arith, refl, sym, ap, ◌∙◌}
-use Rattle.std.proofs.lemmas.Bool.{both_ways, cond-false, cond-true, false_from_ne_true, le-leb, leb-true}
+use Rattle.std.proofs.lemmas.Bool.{cond-false, cond-true, false_from_ne_true, le-leb, leb-true}
 use Rattle.std.proofs.lemmas.Bool.Decides.{nat_tests}
 use Rattle.vsm_model.specs.declared.Subpool.{Subpool}
 use Rattle.vsm_model.specs.declared.causes.Cause.{Cause}
@@ -83,11 +83,6 @@ module _ (settings : Settings) (s : State) (o : Obtain) where
     longest_none few =
         greatest_none (λ n. not (is_nowhere (place_for settings s o n))) (doublewords (minimum o.lengths)) (doublewords (maximum o.lengths)) top count
         (omega (arith, some)) up_to is few
-
-    pub has_place : doublewords (minimum o.lengths) ≤ count → is_nowhere (place_for settings s o count) ≡ true → ⊥
-    has_place enough none =
-        both_ways (not (is_nowhere (place_for settings s o count))) (ap not none)
-        (up_to count (omega (arith, some, enough)) ∙ le-leb count top (omega (arith, is)))
 
   bad : minimum o.lengths ≤ maximum o.lengths → 0 < minimum o.lengths → ((minimum o.lengths == 0) || nat_lt (maximum o.lengths) (minimum o.lengths)) ≡ false
   bad ordered some = grind (arith, nat_tests)
