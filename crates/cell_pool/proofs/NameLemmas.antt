@@ -10,7 +10,7 @@ use Rattle.std.proofs.Math.Seq.{drop-cons}
 use Rattle.vsm_elements.proofs.ChainLemmas.{not_both}
 use Rattle.list_table.specs.Entries.{word}
 use Rattle.cell_pool.specs.declared.label.Label.{Label}
-use Rattle.cell_pool.specs.Names.{digit, word_at, words_from, byte_of, bytes_in, unpacked, packed, spelled, same_words, same_label}
+use Rattle.cell_pool.specs.Names.{digit, word_at, words_from, byte_of, bytes_in, unpacked, packed, spelled, same_words, same_label, AreBytes}
 use Rattle.cell_pool.proofs.PoolLemmas.{eqb_same, eqb_refl}
 
 -- three digits are what the word says
@@ -136,3 +136,7 @@ label_is bs first second third a b c =
 
 pub header_is : (bs front : List ℕ) (last : ℕ) → ((i : ℕ) → get_or bs i 0 < 256) → length bs ≤ 24 → front ≡ words_from 7 bs 0 → last ≡ word_at bs 21 → unpacked (front ++ last ∷ []) ≡ bs
 header_is bs front last small h a b = ap (λ (z : List ℕ). unpacked (z ++ last ∷ [])) a ∙ ap (λ (z : ℕ). unpacked (words_from 7 bs 0 ++ z ∷ [])) b ∙ text_back bs small 8 (omega (arith, h))
+
+pub are_bytes : (bs : List ℕ) → ((i : ℕ) → get_or bs i 0 < 256) → AreBytes bs
+are_bytes [] small = tt
+are_bytes (b ∷ bs) small = (small 0, are_bytes bs (λ i. small (suc i)))

@@ -5,7 +5,7 @@ use Rattle.std.proofs.lemmas.List.{length-take-le}
 use Rattle.std.proofs.Math.Seq.{take-append_seam}
 use Rattle.list_table.specs.Entries.{Entry, word}
 use Rattle.cell_pool.specs.declared.marks.Mark.{Mark}
-use Rattle.cell_pool.specs.Names.{packed}
+use Rattle.cell_pool.specs.Names.{packed, AreTexts}
 use Rattle.cell_pool.specs.Pools.{Pool, mark_items, uses, meets, without_first, with_first, extended, retracted}
 use Rattle.cell_pool.specs.Kept.{extent_of, cell_item, cell_items, set_items, label_of, pool_of, IsSound}
 use Rattle.cell_pool.specs.Marks.{all_marks, mark_of, is_marked, IsMarked, IsNoted}
@@ -60,6 +60,7 @@ module _ (x : Entry) (sound : IsSound x) where
       long = ap (λ (p : Pool). word x.words 4 + all_marks p.extents) (taken_all h) ∙ sound.long;
       size = sound.size;
       named = ap label_of (taken_shape m room items h) ∙ sym (ap label_of (sh m room).are) ∙ noted_label x has mid cell free noted ∙ sound.named ∙ ap (λ (p : Pool). packed p.name) (sym (taken_all h));
+      texts = (let T : Pool → Type 0 = λ p. AreTexts p.name p.header in subst T (sym (taken_all h)) sound.texts);
       marked =
           (let P : Pool → Type 0 = λ p. IsMarked p (drop (5 + count_of x) items) in
           subst P (sym (taken_all h)) (taken_marked (pool_of x) big x.items mid items (5 + count_of x) (5 + front_of x) cell free within sound.marked is_noted
@@ -75,6 +76,7 @@ module _ (x : Entry) (sound : IsSound x) where
       long = ap (λ (p : Pool). word x.words 4 + all_marks p.extents) (put_all h) ∙ sound.long;
       size = sound.size;
       named = ap label_of (put_shape m room items (cell_item cell) h) ∙ sym (ap label_of (sh m room).are) ∙ noted_label x has mid cell free noted ∙ sound.named ∙ ap (λ (p : Pool). packed p.name) (sym (put_all h));
+      texts = (let T : Pool → Type 0 = λ p. AreTexts p.name p.header in subst T (sym (put_all h)) sound.texts);
       marked =
           (let P : Pool → Type 0 = λ p. IsMarked p (drop (5 + count_of x) items) in
           subst P (sym (put_all h)) (put_marked (pool_of x) big x.items mid items (5 + count_of x) (5 + front_of x) cell free within sound.marked is_noted
@@ -96,6 +98,7 @@ module _ (x : Entry) (sound : IsSound x) where
       long = ap (λ (p : Pool). word words 4 + all_marks p.extents) grown_all ∙ omega (arith, all_more (pool_of x).extents (record { start = start; count = count }), sound.long, marks, more);
       size = (let P : List ℕ → Type 0 = λ z. 0 < word z 1 in subst P (sym same) sound.size);
       named = grown_label x has first middle items start count item is words same marks more one two three ∙ sound.named ∙ ap (λ (p : Pool). packed p.name) (sym grown_all);
+      texts = (let T : Pool → Type 0 = λ p. AreTexts p.name p.header in subst T (sym grown_all) sound.texts);
       marked =
           (let P : Pool → Type 0 = λ p. IsMarked p (drop (5 + word words 4) items) in
           subst P (sym grown_all) (grown_marked (pool_of x) big start count (drop (5 + count_of x) x.items) (cell_items (word x.words 1) start count) (drop (5 + word words 4) items) sound.marked clear
@@ -118,6 +121,7 @@ module _ (x : Entry) (sound : IsSound x) where
       long = ap (λ (p : Pool). word words 4 + all_marks p.extents) is_rest ∙ omega (arith, long_rest, sound.long, marks, less, w1);
       size = (let P : List ℕ → Type 0 = λ z. 0 < word z 1 in subst P (sym same) sound.size);
       named = cut_label x has middle items end n w j words less w1 same marks some behind parts first second ∙ sound.named ∙ ap (λ (p : Pool). packed p.name) (sym cut_all);
+      texts = (let T : Pool → Type 0 = λ p. AreTexts p.name p.header in subst T (sym cut_all) sound.texts);
       marked =
           (let P : Pool → Type 0 = λ p. IsMarked p (drop (5 + word words 4) items) in
           let Q : Pool → Type 0 = λ p. IsMarked p (drop (5 + count_of x) x.items) in

@@ -11,7 +11,7 @@ use Rattle.list_table.specs.declared.table.ListTable.{ListTable}
 use Rattle.cell_pool.specs.declared.label.Label.{Label}
 use Rattle.cell_pool.specs.declared.settings.Settings.{Settings}
 use Rattle.cell_pool.specs.declared.settings.Extent.{Extent}
-use Rattle.cell_pool.specs.Names.{packed, spelled, side_in, header_in}
+use Rattle.cell_pool.specs.Names.{packed, spelled, side_in, header_in, AreTexts}
 use Rattle.cell_pool.specs.Pools.{Pool, Single, cells_from}
 use Rattle.cell_pool.specs.Marks.{all_marks, IsMarked}
 
@@ -57,12 +57,13 @@ pool_of e =
 abbrev pub pools_of : List Entry → List Pool
 pools_of es = map pool_of es
 
--- the row has its texts, its extents and their marks, cells of some size, and just the words of its name
+-- the row has its texts, its extents and their marks, cells of some size, and just the words of its name, which is text
 pub record IsSound (e : Entry) : Type 0 where
   pub room : 5 + word e.words 3 ≤ length e.items
   pub long : word e.words 4 + all_marks (pool_of e).extents ≡ word e.words 3
   pub size : 0 < word e.words 1
   pub named : label_of e.items ≡ packed (pool_of e).name
+  pub texts : AreTexts (pool_of e).name (pool_of e).header
   pub marked : IsMarked (pool_of e) (drop (5 + word e.words 4) e.items)
 
 abbrev pub AllSound : List Entry → Type 0

@@ -1,7 +1,7 @@
 -- Names and headers as words of elements: three bytes to a word, each as a digit from 1 to 256, and 0 where none is.
 -- So the words tell how long the text is.
-use Rattle.std.specs.Prelude.{ℕ, zero, suc, ◌+◌, ◌*◌, ◌/◌, ◌%◌, Bool, ◌==◌, ◌&&◌, if◌then◌else◌}
-use Rattle.std.specs.Prelude.{List, [], ◌∷◌, ◌++◌, Option, Some, None, slice_get}
+use Rattle.std.specs.Prelude.{ℕ, zero, suc, ◌+◌, ◌*◌, ◌/◌, ◌%◌, ◌<◌, Bool, ◌==◌, ◌&&◌, if◌then◌else◌}
+use Rattle.std.specs.Prelude.{List, [], ◌∷◌, ◌++◌, Option, Some, None, IfSome, IsUtf8, slice_get}
 use Rattle.list_table.specs.Entries.{word}
 use Rattle.cell_pool.specs.declared.label.Label.{Label}
 use Rattle.cell_pool.specs.declared.settings.Side.{Side}
@@ -64,3 +64,14 @@ side_in form = if word form 0 == 0 then Below else Above
 -- The header in seven words and the third one of a form, where the second one says that there is one.
 abbrev pub header_in : List ℕ → List ℕ → Option (List ℕ)
 header_in front form = if word form 1 == 0 then None else Some (unpacked (front ++ word form 2 ∷ []))
+
+-- each is a byte
+abbrev pub AreBytes : List ℕ → Type 0
+AreBytes [] = Unit {0}
+AreBytes (b ∷ bs) = (b < 256) × AreBytes bs
+
+-- The name is a text, and a header has bytes alone.
+pub record AreTexts (name : List ℕ) (header : Option (List ℕ)) : Type 0 where
+  pub text : IsUtf8 name
+  pub bytes : AreBytes name
+  pub header_bytes : IfSome header AreBytes

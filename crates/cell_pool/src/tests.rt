@@ -25,7 +25,9 @@ fn build(rt: &impl Abort, elements: &mut Elements, pools: &mut CellPools, text: 
         secondary: 1,
         side: Side::Below,
     };
-    let id = pools.build(elements, &name, settings, None);
+    let mut header = Header::new();
+    header.push(b'H');
+    let id = pools.build(elements, &name, settings, Some(header));
     pools.extend(elements, id, start, 2);
 }
 
@@ -36,6 +38,17 @@ fn find(rt: &impl Abort, elements: &Elements, pools: &CellPools, text: &str) -> 
     let mut name = Name::new();
     assert!(rt; name.try_push_str(text).is_ok());
     pools.find(elements, &name).expect(rt, "no cell pool")
+}
+
+fn name_after(rt: &impl Abort, elements: &Elements, pools: &CellPools, name: &Name) -> Name
+    requires { IsCellPools elements.now pools.now }
+{
+    let id = pools
+        .pool_after(elements, name)
+        .expect(rt, "no cell pool behind");
+    let header = pools.header(elements, id).expect(rt, "no header");
+    assert_eq!(rt; header.as_slice(), b"H".as_slice());
+    pools.name(elements, id)
 }
 
 fn get(rt: &impl Abort, elements: &mut Elements, pools: &mut CellPools, text: &str) -> u32
@@ -119,6 +132,30 @@ fn the_pools_of_a_subpool_are_parked_and_restored(rt: HostRuntime) -> Result<(),
     free(&rt, &mut elements, &mut pools, "C", 4096);
     let parked = pools.park_pools(&mut elements, 1);
     parked.discard(&mut elements);
+    let rest = pools.park_pools(&mut elements, 2);
+    rest.discard(&mut elements);
+    assert_eq!(rt; elements.spare(), 128);
+    assert_eq!(rt; elements.release(), 1);
+    Ok(())
+}
+
+#[test]
+fn pools_come_in_the_order_of_their_names(rt: HostRuntime) -> Result<(), Fail> {
+    let mut elements = Elements::new(rt.alloc());
+    elements.reserve(60)?;
+    let mut pools = CellPools::new();
+    build(&rt, &mut elements, &mut pools, "B", 8192);
+    build(&rt, &mut elements, &mut pools, "A", 4096);
+    build(&rt, &mut elements, &mut pools, "ABCD", 4096);
+    let first = name_after(&rt, &elements, &pools, &Name::new());
+    assert_eq!(rt; first.as_str(), "A");
+    let second = name_after(&rt, &elements, &pools, &first);
+    assert_eq!(rt; second.as_str(), "ABCD");
+    let third = name_after(&rt, &elements, &pools, &second);
+    assert_eq!(rt; third.as_str(), "B");
+    assert_eq!(rt; pools.pool_after(&elements, &third), None);
+    let rest = pools.park_pools(&mut elements, 1);
+    rest.discard(&mut elements);
     let rest = pools.park_pools(&mut elements, 2);
     rest.discard(&mut elements);
     assert_eq!(rt; elements.spare(), 128);

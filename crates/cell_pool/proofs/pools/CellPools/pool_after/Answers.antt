@@ -1,0 +1,123 @@
+use Rattle.std.proofs.Common.{◌≡◌, ◌∙◌, ap, sym, arith, subst, List, ℕ, Option, Some, None, IsSome, true, length, refl, ◌≤◌, take, ◌+◌}
+use Rattle.std.specs.Prelude.{IfSome, IsUtf8, option_map}
+use Rattle.vsm_elements.specs.Chain.{links}
+use Rattle.list_table.specs.Entries.{Entry}
+use Rattle.list_table.specs.ListTable.{entries, entry_of}
+use Rattle.cell_pool.specs.declared.order.Candidate.{Candidate}
+use Rattle.cell_pool.specs.Names.{spelled, AreBytes}
+use Rattle.cell_pool.specs.Pools.{Pool, first_with, is_named, is_of, id_in}
+use Rattle.cell_pool.specs.Kept.{pool_of, pools_of, IsSound, AllSound}
+use Rattle.cell_pool.specs.CellPools.{pool, by_id, IsCellPools}
+use Rattle.cell_pool.specs.Order.{is_before, is_between, IsNext}
+use Rattle.cell_pool.proofs.ItemLemmas.{length-items}
+use Rattle.cell_pool.proofs.ParkLemmas.{pools_distinct}
+use Rattle.cell_pool.proofs.PoolLemmas.{none_more, none_all, before_is, sound_at, pool_name, pool_id, found_other, one_of, one_named, name_refl, eqb_refl}
+use Rattle.cell_pool.proofs.OrderLemmas.{lies_between, nearer, none_lies, low_passes, between_low}
+use Rattle.cell_pool.proofs.pools.CellPools.pool_after.Goals.{then-is_between, else-is_between}
+use Rattle.cell_pool.proofs.pools.CellPools.pool_after.Goals as goal
+
+pub count-count-requires : goal.count-count-requires
+unfolding IsCellPools
+count-count-requires c = c.requires.table
+
+pub row-row-requires-clause-table : goal.row-row-requires-clause-table
+unfolding IsCellPools
+row-row-requires-clause-table c = c.requires.table
+
+pub label-requires-clause-within : goal.label-requires-clause-within
+unfolding IsCellPools
+label-requires-clause-within c =
+    let P : List Entry → Type 0 = AllSound in
+    let sound : IsSound (entry_of c.args.elements.now c.row-row.result) = sound_at _ _ _ (subst P c.row-row.ensures.parts c.requires.sound) in
+    omega (arith, sound.room, length-items (links c.args.elements.now c.row-row.result.list), c.row-row.ensures.open.list.count)
+
+pub name_of-named-requires-clause-text : goal.name_of-named-requires-clause-text
+unfolding IsCellPools
+name_of-named-requires-clause-text c =
+    let P : List Entry → Type 0 = AllSound in
+    let Q : List ℕ → Type 0 = IsUtf8 in
+    let sound : IsSound (entry_of c.args.elements.now c.row-row.result) = sound_at _ _ _ (subst P c.row-row.ensures.parts c.requires.sound) in
+    subst Q (pool_name (entry_of c.args.elements.now c.row-row.result) ∙ sym (ap spelled c.label.ensures)) sound.texts.text
+
+pub name_of-named-requires-clause-bytes : goal.name_of-named-requires-clause-bytes
+unfolding IsCellPools
+name_of-named-requires-clause-bytes c =
+    let P : List Entry → Type 0 = AllSound in
+    let Q : List ℕ → Type 0 = AreBytes in
+    let sound : IsSound (entry_of c.args.elements.now c.row-row.result) = sound_at _ _ _ (subst P c.row-row.ensures.parts c.requires.sound) in
+    subst Q (pool_name (entry_of c.args.elements.now c.row-row.result) ∙ sym (ap spelled c.label.ensures)) sound.texts.bytes
+
+abbrev high_name : Option Candidate → Option (List ℕ)
+high_name o = option_map (λ c. c.name.bytes) o
+
+abbrev IsFound : List Pool → List ℕ → Option Candidate → Type 0
+IsFound ps low o = IfSome o (λ c. (p : Pool) × (id_in c.id ps ≡ Some p) × (p.name ≡ c.name.bytes) × (is_before low c.name.bytes ≡ true))
+
+pub loop-place-preserved : goal.loop-place-preserved
+unfolding IsCellPools
+loop-place-preserved c =
+    let es : List Entry = entries c.args.elements.now c.args.self.now.table in
+    let e : Entry = entry_of c.args.elements.now c.row-row.result in
+    let p : Pool = pool_of e in
+    let low : List ℕ = c.args.name.now.bytes in
+    let high : Option (List ℕ) = high_name c.loop-place.next in
+    let named : c.name_of-named.result.bytes ≡ p.name = c.name_of-named.ensures ∙ ap spelled c.label.ensures ∙ sym (pool_name e) in
+    let told : c.is_between.result ≡ is_between low high p.name = c.is_between.ensures ∙ ap (is_between low high) named in
+    let F : Option Candidate → Type 0 = IsFound (pools_of es) low in
+    let N : Option Candidate → Type 0 = λ o. first_with (lies_between low (high_name o)) (pools_of (take (c.loop-place.place.index + 1) es)) ≡ None in
+    elim c.if-is_between.branch [
+      | then-is_between w ↦
+          (let hit : is_between low high p.name ≡ true = sym told ∙ w.if-is_between.true in
+          let seen : first_with (lies_between low high) (pools_of es) ≡ Some p = before_is (lies_between low high) es c.loop-place.place.index e c.row-row.ensures.entry c.loop-place.invariant.earlier hit in
+          let own : id_in c.row-row.result.id (pools_of es) ≡ Some p = ap (λ (i : ℕ). id_in i (pools_of es)) (sym (pool_id e)) ∙ found_other (lies_between low high) (is_of p.id) (pools_of es) p seen (one_of p.id (pools_of es) (pools_distinct c.args.elements.now c.args.self.now c.requires)) (eqb_refl p.id) in
+          let M : Option (List ℕ) → Type 0 = λ o. first_with (lies_between low o) (pools_of (take (c.loop-place.place.index + 1) es)) ≡ None in
+          record {
+            place = c.row-row.ensures.next;
+            found = subst F (sym w.next-is) (p, own, sym named, ap (is_before low) named ∙ between_low low high p.name hit);
+            earlier = subst N (sym w.next-is) (subst M (ap Some (sym named)) (nearer low high es c.loop-place.place.index e c.row-row.ensures.entry c.loop-place.invariant.earlier hit));
+          })
+      | else-is_between w ↦ record {
+        place = c.row-row.ensures.next;
+        found = subst F (sym w.next-is) c.loop-place.invariant.found;
+        earlier = subst N (sym w.next-is) (none_more (lies_between low high) es c.loop-place.place.index e c.row-row.ensures.entry c.loop-place.invariant.earlier (sym told ∙ w.if-is_between.false));
+      }
+    ]
+
+pub returns-in-Some-clause-there : goal.returns-in-Some-clause-there
+unfolding by_id
+returns-in-Some-clause-there c =
+    let F : Option Candidate → Type 0 = IsFound (pools_of (entries c.args.elements.now c.args.self.now.table)) c.args.name.now.bytes in
+    let f = subst F c.in-Some.is c.loop-place.invariant.found in
+    let Q : Option Pool → Type 0 = IsSome in
+    subst Q (sym f.1) refl
+
+pub returns-in-Some-clause-next : goal.returns-in-Some-clause-next
+unfolding by_id pool IsCellPools
+returns-in-Some-clause-next c =
+    let es : List Entry = entries c.args.elements.now c.args.self.now.table in
+    let ps : List Pool = pools_of es in
+    let low : List ℕ = c.args.name.now.bytes in
+    let past : length es ≤ c.loop-place.place.index = omega (arith, c.count-count.ensures.count, c.loop-place-test.false) in
+    let F : Option Candidate → Type 0 = IsFound ps low in
+    let f = subst F c.in-Some.is c.loop-place.invariant.found in
+    let p : Pool = f.0 in
+    let none : first_with (lies_between low (high_name c.loop-place.next)) ps ≡ None = none_all (lies_between low (high_name c.loop-place.next)) es c.loop-place.place.index past c.loop-place.invariant.earlier in
+    let N : Option (List ℕ) → Type 0 = λ o. first_with (lies_between low o) ps ≡ None in
+    let near : first_with (lies_between low (Some p.name)) ps ≡ None = subst N (ap high_name c.in-Some.is ∙ ap Some (sym f.2)) none in
+    let Q : Option Pool → Type 0 = IsSome in
+    let G : Option Pool → Type 0 = λ z. IfSome z (λ (p : Pool). IsNext (pool c.args.elements.now c.args.self.now) low p.name) in
+    subst G (sym f.1) (record {
+      there = subst Q (sym (found_other (is_of c.in-Some.candidate.id) (is_named p.name) ps p f.1 (one_named p.name ps c.requires.single) (name_refl p.name))) refl;
+      behind = ap (is_before low) f.2 ∙ f.3;
+      first = λ n there behind. sym (low_passes low p.name n behind) ∙ none_lies low (Some p.name) ps near n there;
+    })
+
+pub returns-in-None-clause-none : goal.returns-in-None-clause-none
+unfolding pool
+returns-in-None-clause-none c =
+    let es : List Entry = entries c.args.elements.now c.args.self.now.table in
+    let low : List ℕ = c.args.name.now.bytes in
+    let past : length es ≤ c.loop-place.place.index = omega (arith, c.count-count.ensures.count, c.loop-place-test.false) in
+    let N : Option (List ℕ) → Type 0 = λ o. first_with (lies_between low o) (pools_of es) ≡ None in
+    let none : first_with (lies_between low None) (pools_of es) ≡ None = subst N (ap high_name c.in-None.is) (none_all (lies_between low (high_name c.loop-place.next)) es c.loop-place.place.index past c.loop-place.invariant.earlier) in
+    λ n there. none_lies low None (pools_of es) none n there
