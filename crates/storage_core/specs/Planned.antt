@@ -1,15 +1,13 @@
 -- Which services can be planned, and which plans can be made into changes.
 use Rattle.std.specs.Prelude.{◌≡◌, ℕ, ◌+◌, ◌^◌, ◌<◌, ◌≤◌, true, IfSome, length, ⊤}
 use Rattle.run_set.specs.Runs.{inside}
-use Rattle.vsm_model.specs.declared.services.Lengths.TheVariants.{Fixed}
-use Rattle.vsm_model.specs.Services.{Service, obtain, release, store, maximum}
+use Rattle.vsm_model.specs.Services.{Service, obtain, release, store}
 use Rattle.storage_changes.specs.State.{StorageState}
 use Rattle.storage_plans.specs.declared.plan.Plan.{Plan}
 
--- An obtain of a fixed length, with a register of the sixteen where one is named; a release; or a store of at most 256
--- bytes.
+-- An obtain, with a register of the sixteen where one is named; a release of an area; or a store of at most 256 bytes.
 abbrev pub CanBePlanned : Service → Type 0
-CanBePlanned (obtain o) = (o.lengths ≡ Fixed (maximum o.lengths)) × IfSome o.register (λ r. r < 16)
+CanBePlanned (obtain o) = IfSome o.register (λ r. r < 16)
 CanBePlanned (release r) = ⊤
 CanBePlanned (store address bytes) = length bytes ≤ 256
 CanBePlanned _ = ⊥

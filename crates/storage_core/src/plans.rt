@@ -10,8 +10,8 @@ use vsm_model::{Cause, Service};
 
 impl Storage {
     /// A plan for the service, or the first cause that refuses it. `names_full` says that the statement defines a name
-    /// for which there is no room. Reads alone, and takes no memory. What can be planned are areas of fixed lengths,
-    /// their releases, and stores.
+    /// for which there is no room. Reads alone, and takes no memory. What can be planned are areas of one length or of
+    /// the greatest between two bounds, releases of areas, and stores.
     ///
     /// The causes of each service and their order are those of `plan_obtain`, `plan_release` and `plan_store`.
     pub fn plan(&self, service: Service<'_>, names_full: bool) -> Result<Plan, Cause>
