@@ -144,7 +144,7 @@ fn pools_come_in_the_order_of_their_names(rt: HostRuntime) -> Result<(), Fail> {
     let mut elements = Elements::new(rt.alloc());
     elements.reserve(60)?;
     let mut pools = CellPools::new();
-    build(&rt, &mut elements, &mut pools, "B", 8192);
+    build(&rt, &mut elements, &mut pools, "B", 4096);
     build(&rt, &mut elements, &mut pools, "A", 4096);
     build(&rt, &mut elements, &mut pools, "ABCD", 4096);
     let first = name_after(&rt, &elements, &pools, &Name::new());
@@ -155,8 +155,6 @@ fn pools_come_in_the_order_of_their_names(rt: HostRuntime) -> Result<(), Fail> {
     assert_eq!(rt; third.as_str(), "B");
     assert_eq!(rt; pools.pool_after(&elements, &third), None);
     let rest = pools.park_pools(&mut elements, 1);
-    rest.discard(&mut elements);
-    let rest = pools.park_pools(&mut elements, 2);
     rest.discard(&mut elements);
     assert_eq!(rt; elements.spare(), 128);
     assert_eq!(rt; elements.release(), 1);
