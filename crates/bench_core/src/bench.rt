@@ -4,7 +4,7 @@ ghost use Rattle.storage_core.specs.Meaning.{settings_of};
 ghost use Rattle.macro_statements.specs.Requests.{written_in, act_in, IsValue, IsValidAct};
 ghost use Rattle.std.proofs.Props.{props};
 ghost use Rattle.vsm_machine.specs.Changes.{machine_fits as fit, machine_fits_prop as fit_prop, DefineNone};
-ghost use Rattle.vsm_machine.specs.Changes.{UndefineNone, IsWhole, IsWhole-prop};
+ghost use Rattle.vsm_machine.specs.Changes.{UndefineNone, IsWhole, IsWhole-prop as whole_prop};
 ghost use Rattle.vsm_machine.specs.Machine.{shown_at};
 ghost use Rattle.vsm_machine.specs.Refusals.{IsRefusedFor};
 
@@ -26,7 +26,7 @@ pub struct Bench {
     history: History<Machine>,
     ghost fits: { fit history.kept machine history.undone } by { fit_prop history.kept machine history.undone },
     // No element and no frame is anyone's but the storage's and its changes', and each is one's.
-    ghost whole: { IsWhole history.kept machine history.undone } by { IsWhole-prop history.kept machine history.undone },
+    ghost whole: { IsWhole history.kept machine history.undone } by { whole_prop history.kept machine history.undone },
     ghost kept_define_none: { DefineNone history.kept } by { Prim.hlevel props },
     ghost undone_undefine_none: { UndefineNone history.undone } by { Prim.hlevel props },
     ghost limit: { history.limit ≡ (settings_of machine.storage).history },
