@@ -1,10 +1,12 @@
 -- Each action's records lead to its effect on the plain machine.
-use Rattle.std.specs.Prelude.{◌≡◌, ℕ, ◌+◌, ◌*◌, ◌/◌, ◌^◌, ◌<◌, ◌≤◌, Bool, true, false, List, length, ◌++◌}
+use Rattle.std.specs.Prelude.{◌≡◌, ℕ, ◌+◌, ◌*◌, ◌/◌, ◌^◌, ◌<◌, ◌≤◌, Bool, true, false, List, length, ◌++◌, Some}
 use Rattle.vsm_model.specs.declared.Subpool.{Subpool}
 use Rattle.vsm_model.specs.declared.limits.Settings.{Settings}
-use Rattle.vsm_model.specs.Regions.{among, pages_for}
+use Rattle.vsm_model.specs.Regions.{among, pages_for, settings_valid}
 use Rattle.vsm_model.specs.Obtaining.{with_taken, with_pages}
-use Rattle.vsm_model.specs.Releasing.{without_area}
+use Rattle.vsm_model.specs.Releasing.{without_area, without_storage}
+use Rattle.vsm_model.specs.Subpools.{same_subpool}
+use Rattle.subpool_storage.specs.Subpools.{is_there}
 use Rattle.vsm_model.specs.Bytes.{with_bytes, are_there}
 use Rattle.vsm_model.specs.Registers.{with_registers}
 use Rattle.vsm_model.specs.WellFormed.{IsWellFormed}
@@ -13,7 +15,7 @@ use Rattle.storage_changes.specs.Meaning.{model_of, IsSound}
 use Rattle.storage_actions.specs.Actions.{run_of, own_records, take_records, take_fresh_records}
 use Rattle.storage_actions.specs.Actions.{give_back_records, emptied_pages}
 use Rattle.storage_actions.specs.Actions.{write_records, register_records}
-use Rattle.storage_changes.specs.Changes.{change_of}
+use Rattle.storage_changes.specs.Changes.{change_of, change_from}
 use Rattle.storage_actions.specs.Leads.{Leads, with_new, CanOwn, AreRegisters, AreIdle}
 
 -- An area of the subpool's free storage is taken,
@@ -61,6 +63,15 @@ EmptiedPagesAreARun =
     ((k : ℕ) → among d count k ≡ true → (m.subpools.pages p (k / 512) ≡ true) × (m.subpools.free p k ≡ false)) →
     AreIdle (model_of m) p d count (emptied_pages m.subpools p d count)
     × ((emptied_pages m.subpools p d count).start + (emptied_pages m.subpools p d count).len ≤ 2 ^ 20)
+
+-- the pages and the free storage of a subpool go, with the doublewords that were taken there;
+abbrev pub EmptyingLeads : Type 0
+EmptyingLeads =
+    (settings : Settings) (m : StorageState) (p : Subpool) (rows : List (ℕ × ℕ)) →
+    settings_valid settings ≡ true → IsSound settings m → is_there m.subpools p ≡ true → AreRegisters rows →
+    IsWellFormed settings (with_registers (without_storage (model_of m) (same_subpool p)) rows) →
+    Leads settings m (change_from m.subpools (Some p) (register_records m rows) 1 (run_of 0 0))
+    (with_registers (without_storage (model_of m) (same_subpool p)) rows)
 
 -- bytes are written where there are some;
 abbrev pub WritingLeads : Type 0

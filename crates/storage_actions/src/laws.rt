@@ -3,6 +3,7 @@
 
 ghost use Rattle.storage_actions.specs.Laws.{
   EmptiedPagesAreARun,
+  EmptyingLeads,
   GivingBackLeads,
   SettingLeads,
   TakingFreshLeads,
@@ -32,6 +33,12 @@ pub fn giving_back_leads()
 /// their other doublewords are free.
 pub fn emptied_pages_are_a_run()
     ensures { EmptiedPagesAreARun }
+{}
+
+/// The pages and the free storage of a subpool go over into the change as they stand, and its pages are unassigned;
+/// registers are set. One blank element is enough besides one for each of its extents.
+pub fn emptying_leads()
+    ensures { EmptyingLeads }
 {}
 
 /// Bytes are written, where each address has one. It takes no element.

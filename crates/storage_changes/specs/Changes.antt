@@ -1,9 +1,13 @@
 -- A change of the storage, and what it leads to.
-use Rattle.std.specs.Prelude.{◌≡◌, ℕ, ◌/◌, true, List, [], Option, Some, None, IsSome, if◌then◌else◌}
+use Rattle.std.specs.Prelude.{◌≡◌, ℕ, ◌+◌, ◌/◌, true, List, [], ◌∷◌, ◌++◌, length, Option, Some, None, IsSome}
+use Rattle.std.specs.Prelude.{if◌then◌else◌}
 use Rattle.run_set.specs.declared.run.Run.{Run}
 use Rattle.run_set.specs.Runs.{inside}
-use Rattle.subpool_storage.specs.Subpools.{Subpools, no_subpools}
+use Rattle.vsm_model.specs.declared.Subpool.{Subpool}
+use Rattle.subpool_storage.specs.Extents.{extents}
+use Rattle.subpool_storage.specs.Subpools.{Subpools, no_subpools, with_own}
 use Rattle.storage_changes.specs.declared.record.Record.{Record}
+use Rattle.storage_changes.specs.declared.record.Record.TheVariants.{Pages, Queues}
 use Rattle.storage_changes.specs.State.{StorageState}
 use Rattle.storage_changes.specs.Walk.{Walk}
 use Rattle.storage_changes.specs.Steps.{walk}
@@ -26,6 +30,25 @@ change_of records blanks fresh =
       blanks = blanks;
       frames = λ a. if inside (a / 4096) fresh then Some 0 else None;
       parked = no_subpools;
+    }
+
+-- the pages of these runs become unassigned, and their frames the change's
+abbrev pub unassigned_records : List Run → List Record
+unassigned_records [] = []
+unassigned_records (r ∷ rs) = Pages (record { run = r; assigned = false }) ∷ unassigned_records rs
+
+-- The pages and the free storage of a subpool go over into the change as they stand: they change places with those of
+-- an empty one that the change has parked under its name. Its pages become unassigned.
+abbrev pub emptied_records : Subpools → Subpool → List Record
+emptied_records m p = Queues (record { subpool = p }) ∷ unassigned_records (extents m p)
+
+-- What these records mean at a state, where a subpool is emptied first, or none is: an extent that leaves takes one
+-- blank element more.
+abbrev pub change_from : Subpools → Option Subpool → List Record → ℕ → Run → Change
+change_from m None records blanks fresh = change_of records blanks fresh
+change_from m (Some p) records blanks fresh =
+    record (change_of (emptied_records m p ++ records) (length (extents m p) + blanks) fresh) {
+      parked = with_own no_subpools p true;
     }
 
 -- before the first record

@@ -1,19 +1,23 @@
 -- Which services can be planned, and which plans can be made into changes.
 use Rattle.std.specs.Prelude.{◌≡◌, ℕ, ◌+◌, ◌^◌, ◌<◌, ◌≤◌, true, IfSome, length, ⊤}
 use Rattle.run_set.specs.Runs.{inside}
-use Rattle.vsm_model.specs.Services.{Service, obtain, release, store}
+use Rattle.vsm_model.specs.Services.{Service, obtain, release, whole, store}
+use Rattle.subpool_storage.specs.Subpools.{is_there}
 use Rattle.storage_changes.specs.State.{StorageState}
 use Rattle.storage_plans.specs.declared.plan.Plan.{Plan}
 
--- An obtain, with a register of the sixteen where one is named; a release of an area; or a store of at most 256 bytes.
+-- An obtain, with a register of the sixteen where one is named; a release of an area or of a whole subpool; or a store of
+-- at most 256 bytes.
 abbrev pub CanBePlanned : Service → Type 0
 CanBePlanned (obtain o) = IfSome o.register (λ r. r < 16)
 CanBePlanned (release r) = ⊤
+CanBePlanned (whole number) = ⊤
 CanBePlanned (store address bytes) = length bytes ≤ 256
 CanBePlanned _ = ⊥
 
--- the pages that come to be assigned are unassigned, and its blank elements few
+-- the pages that come to be assigned are unassigned, its blank elements few, and a subpool that is emptied is there
 pub record CanBeReserved (m : StorageState) (plan : Plan) : Type 0 where
   pub few : plan.blanks ≤ 7
   pub range : plan.fresh.start + plan.fresh.len ≤ 2 ^ 20
+  pub there : IfSome plan.emptied (λ p. is_there m.subpools p ≡ true)
   pub unassigned : (page : ℕ) → inside page plan.fresh ≡ true → m.unassigned page ≡ true

@@ -21,12 +21,14 @@ impl Storage {
     /// `AllocError` where memory is refused. What was made before that stays, as spare elements and frames.
     pub fn reserve(&mut self, plan: Plan) -> Result<Change, AllocError>
         requires { CanBeReserved (state_in_place self.old) plan }
-        ensures ok { IfOk result (λ change. Reserves self.old.parts (change_in plan) change self.new.parts) }
+        ensures ok { IfOk result (λ change. Reserves self.old.parts
+            (change_in (state_in_place self.old) plan) change self.new.parts) }
         ensures err { OnErr result (Stays self.old.parts self.new.parts) }
         ensures settings { settings_of self.new ≡ settings_of self.old }
     {
         Change::reserve(
             &mut self.parts,
+            plan.emptied,
             plan.records.as_slice(),
             plan.blanks,
             plan.fresh,

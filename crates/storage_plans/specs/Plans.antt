@@ -1,27 +1,30 @@
 -- What the plan of a request comes to on the plain machine.
-use Rattle.std.specs.Prelude.{◌≡◌, ℕ, ◌+◌, ◌^◌, ◌≤◌, Bool, true, Result, Ok, Err}
+use Rattle.std.specs.Prelude.{◌≡◌, ℕ, ◌+◌, ◌^◌, ◌≤◌, Bool, true, IfSome, Result, Ok, Err}
 use Rattle.run_set.specs.Runs.{inside}
 use Rattle.vsm_model.specs.declared.causes.Cause.{Cause}
 use Rattle.vsm_model.specs.declared.limits.Settings.{Settings}
 use Rattle.vsm_model.specs.Services.{Service}
 use Rattle.vsm_model.specs.Standing.{Accepted, Refused}
 use Rattle.vsm_model.specs.Step.{step}
+use Rattle.subpool_storage.specs.Subpools.{is_there}
 use Rattle.storage_changes.specs.State.{StorageState}
-use Rattle.storage_changes.specs.Changes.{Change, change_of, Fit, overlay}
+use Rattle.storage_changes.specs.Changes.{Change, change_from, Fit, overlay}
 use Rattle.storage_changes.specs.Meaning.{model_of, IsSound}
 use Rattle.storage_plans.specs.declared.plan.Plan.{Plan}
 
--- the change of its records, with its blank elements, and frames of zeros for the pages that come to be assigned
-abbrev pub change_in : Plan → Change
-change_in plan = change_of plan.records.items plan.blanks plan.fresh
+-- the change of its records behind those that empty its subpool, if it has one, with its blank elements, and frames of
+-- zeros for the pages that come to be assigned
+abbrev pub change_in : StorageState → Plan → Change
+change_in m plan = change_from m.subpools plan.emptied plan.records.items plan.blanks plan.fresh
 
 -- The service is accepted with the plan's reply, in the state that the plan's change leads to. The change fits, and
 -- leads to a sound storage.
 pub record CarriesOut (settings : Settings) (names_full : Bool) (m : StorageState) (x : Service) (plan : Plan)
     : Type 0 where
-  pub accepted : step settings names_full (model_of m) x ≡ Accepted (model_of (overlay m (change_in plan))) plan.reply
-  pub fits : Fit m (change_in plan)
-  pub sound : IsSound settings (overlay m (change_in plan))
+  pub accepted : step settings names_full (model_of m) x ≡ Accepted (model_of (overlay m (change_in m plan))) plan.reply
+  pub fits : Fit m (change_in m plan)
+  pub sound : IsSound settings (overlay m (change_in m plan))
+  pub there : IfSome plan.emptied (λ p. is_there m.subpools p ≡ true)
   pub few : plan.blanks ≤ 7
   pub range : plan.fresh.start + plan.fresh.len ≤ 2 ^ 20
   pub unassigned : (page : ℕ) → inside page plan.fresh ≡ true → m.unassigned page ≡ true

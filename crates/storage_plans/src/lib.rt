@@ -11,6 +11,7 @@ mod reading;
 mod release;
 mod searches;
 mod store;
+mod whole;
 
 pub use areas::{FoundArea, find_area};
 pub use blocks::block_with;
@@ -21,3 +22,4 @@ pub use reading::{current, load, register};
 pub use release::plan_release;
 pub use searches::{least_area, least_pages};
 pub use store::{STORE_MOST, plan_store};
+pub use whole::plan_whole;

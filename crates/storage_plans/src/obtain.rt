@@ -164,6 +164,7 @@ fn plan_area(storage: &Storage, found: FoundArea, o: Obtain) -> Plan
     push_reply(&mut records, storage, o, address, length);
     let (blanks, fresh) = needs_of(found.place, found.count);
     Plan {
+        emptied: None,
         records,
         blanks,
         fresh,

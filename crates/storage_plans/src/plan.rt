@@ -1,5 +1,5 @@
 //! What an accepted request will do to the storage, as the records of a change.
-ghost use Rattle.std.specs.Prelude.{◌≡◌, ◌+◌, ◌<◌, ◌≤◌, [], ◌∷◌, ◌++◌, Bool, Some};
+ghost use Rattle.std.specs.Prelude.{◌≡◌, ◌+◌, ◌<◌, ◌≤◌, [], ◌∷◌, ◌++◌, Bool, Some, None};
 ghost use Rattle.arrayvec.specs.ArrayVec.{array_vec_len};
 ghost use Rattle.vsm_model.specs.declared.limits.Settings.{Settings};
 ghost use Rattle.vsm_model.specs.declared.replies.Reply.TheVariants.{Returned};
@@ -24,6 +24,9 @@ pub const PLAN_RECORDS: usize = 17;
 /// What an accepted request will do. It was found by reading alone, and nothing is changed yet.
 #[derive(Drop)]
 pub struct Plan {
+    /// The subpool whose pages and free storage go over into the change as they stand, before its records; `None` where
+    /// there is none.
+    pub emptied: Option<Subpool>,
     /// The records of its change, in the order in which they are exchanged.
     pub records: ArrayVec<Record, PLAN_RECORDS>,
     /// How many blank elements the change needs, at most 7.
@@ -78,6 +81,7 @@ pub(crate) fn push_register(
 
 /// The plan of a conditional request that can't be met: register 15 gets 4, and nothing else changes.
 pub(crate) fn answer_four(storage: &Storage) -> Plan
+    ensures emptied { result.emptied ≡ None }
     ensures records { result.records.items ≡ register_records (state_of storage.now) ((15, 4) ∷ []) }
     ensures blanks { result.blanks ≡ 0 }
     ensures fresh { result.fresh ≡ run_of 0 0 }
@@ -86,6 +90,7 @@ pub(crate) fn answer_four(storage: &Storage) -> Plan
     let mut records = ArrayVec::new();
     push_register(&mut records, storage.tasks.current(), 15, 4);
     Plan {
+        emptied: None,
         records,
         blanks: 0,
         fresh: NO_PAGES,

@@ -305,6 +305,7 @@ fn give_back(storage: &Storage, found: GivenBack) -> Plan
     push_given_back(&mut records, found, pages);
     push_register(&mut records, storage.tasks.current(), 15, 0);
     Plan {
+        emptied: None,
         records,
         blanks: RELEASE_BLANKS,
         fresh: NO_PAGES,

@@ -84,6 +84,7 @@ pub fn plan_store(storage: &Storage, address: u32, bytes: &[u8]) -> Result<Plan,
         return Err(Cause::NotAssigned);
     }
     Ok(Plan {
+        emptied: None,
         records: block_records(storage, address, bytes),
         blanks: 0,
         fresh: NO_PAGES,

@@ -1,8 +1,11 @@
 -- A change that was reserved.
-use Rattle.std.specs.Prelude.{◌≡◌, ℕ, ◌+◌, length, IsTrue}
+use Rattle.std.specs.Prelude.{◌≡◌, ℕ, ◌+◌, ◌*◌, length, IsTrue, Option, Some, None}
 use Rattle.vsm_elements.specs.Store.{SameElements}
 use Rattle.vsm_elements.specs.Owners.{Moves}
 use Rattle.raw_region.specs.Pages.{Pages, has_table, has_segment, SamePages}
+use Rattle.vsm_model.specs.declared.Subpool.{Subpool}
+use Rattle.subpool_storage.specs.Extents.{extents}
+use Rattle.subpool_storage.specs.Subpools.{Subpools}
 use Rattle.storage_changes.specs.Changes.{Change}
 use Rattle.storage_exchange.specs.declared.storage.Storage.{Storage}
 use Rattle.storage_exchange.specs.Storage.{hold, state_of}
@@ -31,3 +34,9 @@ pub record Reserves (p : Storage) (d : Change) (c : TheChange) (t : Storage) : T
   pub moves : Moves p.elements t.elements (λ i. 0) (change_holds t.elements c)
   pub tables : MoreTables p.region t.region
   pub out : t.region.out ≡ p.region.out + length c.frames
+
+-- How many elements a change takes, of so many records and blank elements: where a subpool is emptied, one more that
+-- stands for it, and a record, and a record and a blank element for each of its extents.
+abbrev pub elements_for : Subpools → Option Subpool → ℕ → ℕ → ℕ
+elements_for m None records blanks = records + blanks
+elements_for m (Some p) records blanks = 2 + 2 * length (extents m p) + (records + blanks)

@@ -26,16 +26,19 @@ use subpool_storage::SubpoolStorage;
 use vsm_elements::{Chain, Elements};
 
 impl Change {
-    /// A change of these records, with so many blank elements, and with frames of zeros for the pages of a run. The
-    /// state of the storage stays as it is.
+    /// A change of these records, with so many blank elements, and with frames of zeros for the pages of a run; where a
+    /// subpool is to be emptied, with an empty one parked under its name, and records before these by which its pages and
+    /// free storage go over into the change. The state of the storage stays as it is.
     ///
     /// Each call on a queue takes one blank element at most, and one has to be left: so one more than the calls is
-    /// enough. The run is in pages of 4,096 bytes, and each of them has to be unassigned.
+    /// enough; those for the extents of the subpool are added. The run is in pages of 4,096 bytes, and each of them has
+    /// to be unassigned.
     ///
     /// It answers an error where memory is refused. What was made before that stays, as spare elements, spare frames
     /// and tables. Where so many elements and frames are spare and the tables are there, it takes no memory.
     pub fn reserve(
         storage: &mut Storage,
+        emptied: Option<Subpool>,
         records: &[Record],
         blanks: u32,
         fresh: Run,
@@ -43,18 +46,21 @@ impl Change {
         requires stands { Stand storage.old }
         requires once { (i : ℕ) → hold storage.old i ≤ 1 }
         requires frameless { IsFrameless storage.old }
-        requires size { length records.now + blanks ≤ 2 ^ 31 }
+        requires there { IfSome emptied (λ p. is_there (state_of storage.old).subpools p ≡ true) }
+        requires size { length records.now + blanks ≤ 2 ^ 20 }
         requires range { fresh.start + fresh.len ≤ 2 ^ 20 }
         requires segments { (page : ℕ) → inside page fresh ≡ true → IsTrue (has_segment storage.old.region page) }
         requires unassigned { (page : ℕ) → inside page fresh ≡ true → (state_of storage.old).unassigned page ≡ true }
-        ensures ok { IfOk result (λ c. Reserves storage.old (change_of records.now blanks fresh) c storage.new) }
+        ensures ok { IfOk result (λ c. Reserves storage.old
+            (change_from (state_of storage.old).subpools emptied records.now blanks fresh) c storage.new) }
+        ensures frames { IfOk result (λ c. length c.frames ≡ fresh.len) }
         ensures grown { IfErr result (λ _. Grown storage.old storage.new) }
-        ensures needless { length records.now + blanks ≤ storage.old.elements.spare
+        ensures needless { elements_for (state_of storage.old).subpools emptied (length records.now) blanks
+            ≤ storage.old.elements.spare
             → fresh.len ≤ storage.old.region.spare → HaveTables storage.old.region fresh.start fresh.len
             → IsOk result }
     {
-        grow(storage, records.len() as u32 + blanks, fresh)?;
-        Ok(make(storage, records, blanks, fresh))
+        todo!()
     }
 }
 

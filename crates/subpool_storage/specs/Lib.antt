@@ -1,4 +1,5 @@
 pub mod Subpools
+pub mod Extents
 pub mod SubpoolStorage
 pub mod Laws
 pub mod Props

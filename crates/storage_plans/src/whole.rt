@@ -1,0 +1,84 @@
+//! Plans of the release of a whole subpool.
+ghost use Rattle.std.specs.Prelude.{Bool, [], ◌∷◌, None, Some, IfOk, IfErr, ◌≡◌, true};
+ghost use Rattle.vsm_model.specs.declared.limits.Settings.{Settings};
+ghost use Rattle.vsm_model.specs.declared.replies.Reply.TheVariants.{Returned};
+ghost use Rattle.vsm_model.specs.Causes.{first_cause};
+ghost use Rattle.vsm_model.specs.Regions.{settings_valid};
+ghost use Rattle.vsm_model.specs.Releasing.{whole_causes};
+ghost use Rattle.vsm_model.specs.Services.{whole};
+ghost use Rattle.vsm_model.specs.Subpools.{seen_or_own};
+ghost use Rattle.storage_changes.specs.Meaning.{model_of};
+ghost use Rattle.storage_actions.specs.Actions.{register_records, run_of};
+ghost use Rattle.storage_exchange.specs.Storage.{state_of, IsFrameless};
+ghost use Rattle.storage_plans.specs.Places.{StandsSound};
+ghost use Rattle.storage_plans.specs.Plans.{IsPlanned};
+ghost use Rattle.subpool_storage.specs.Subpools.{is_there};
+
+use crate::areas::check_number;
+use crate::plan::{NO_PAGES, Plan, push_register};
+use arrayvec::ArrayVec;
+use storage_exchange::Storage;
+use vsm_model::{Cause, Reply, Subpool};
+
+/// The blank elements that the release of a whole subpool needs besides one for each of its extents.
+const WHOLE_BLANKS: u32 = 1;
+
+// The subpool that the current task sees at the number and owns, or the first cause that refuses its release.
+fn find_owned(storage: &Storage, number: u32) -> Result<Subpool, Cause>
+    requires { (settings : Settings) × StandsSound settings storage.now }
+    ensures none { IfOk result (λ p. first_cause (whole_causes (model_of (state_of storage.now)) number) ≡ None) }
+    ensures subpool { IfOk result (λ p. p ≡ seen_or_own (model_of (state_of storage.now)) number) }
+    ensures there { IfOk result (λ p. is_there (state_of storage.now).subpools p ≡ true) }
+    ensures err { IfErr result (λ cause.
+        first_cause (whole_causes (model_of (state_of storage.now)) number) ≡ Some cause) }
+{
+    let number = check_number(number)?;
+    if number == 0 {
+        return Err(Cause::WholeOfZero);
+    }
+    let current = storage.tasks.current();
+    let seen = storage
+        .subpools
+        .owner_seen(&storage.elements, current, number);
+    let Some(owner) = seen else {
+        return Err(Cause::NotInSubpool);
+    };
+    if owner != current {
+        return Err(Cause::NotOwner);
+    }
+    Ok(Subpool { number, owner })
+}
+
+// The plan of a release that no cause refuses.
+fn empty(storage: &Storage, subpool: Subpool) -> Plan
+    ensures emptied { result.emptied ≡ Some subpool }
+    ensures records { result.records.items ≡ register_records (state_of storage.now) ((15, 0) ∷ []) }
+    ensures blanks { result.blanks ≡ 1 }
+    ensures fresh { result.fresh ≡ run_of 0 0 }
+    ensures reply { result.reply ≡ Returned 0 }
+{
+    let mut records = ArrayVec::new();
+    push_register(&mut records, storage.tasks.current(), 15, 0);
+    Plan {
+        emptied: Some(subpool),
+        records,
+        blanks: WHOLE_BLANKS,
+        fresh: NO_PAGES,
+        reply: Reply::Returned(0),
+    }
+}
+
+/// A plan for the release of a whole subpool (*Assembler Services Reference*, FREEMAIN and STORAGE, RELEASE): its pages
+/// are unassigned again, with all that was obtained in them, and the subpool stays, empty, with its owner and those who
+/// share it. Register 15 gets 0. Reads alone, and takes no memory, however many areas and extents the subpool has.
+///
+/// The causes that refuse it, in order: a number above 127 (`UnsupportedSubpool` for 131 and 132, else
+/// `SubpoolNotAllowed`), `WholeOfZero` for subpool 0, `NotInSubpool` where the task doesn't see the subpool, and
+/// `NotOwner` where it doesn't own it.
+pub fn plan_whole(storage: &Storage, number: u32) -> Result<Plan, Cause>
+    ensures { (settings : Settings) (names_full : Bool) → settings_valid settings ≡ true
+        → StandsSound settings storage.now → IsFrameless storage.now
+        → IsPlanned settings names_full (state_of storage.now) (whole number) result }
+{
+    Ok(empty(storage, find_owned(storage, number)?))
+}
