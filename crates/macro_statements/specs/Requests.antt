@@ -1,24 +1,36 @@
 -- What a statement asks for, as it is spelled. The values, places and contents of operands are passed on.
-use Rattle.std.specs.Prelude.{◌≡◌, ℕ, ◌+◌, ◌*◌, ◌^◌, ◌<◌, ◌≤◌, length, Option, Result, Ok, Err, IfSome, ⊤}
+use Rattle.std.specs.Prelude.{◌≡◌, ℕ, ◌+◌, ◌*◌, ◌^◌, ◌<◌, ◌≤◌, length, List, Bool, true, false, ◌==◌}
+use Rattle.std.specs.Prelude.{Option, Some, None, Result, Ok, Err, IfSome, ⊤, ⊥}
 use Rattle.std.specs.Option.{option_map}
 pub use Rattle.operand_texts.specs.Written.{Written, number, named, register, Target, in_name, in_register}
 pub use Rattle.operand_texts.specs.Written.{Stored, spelled, word, written_in, target_in, stored_in}
 pub use Rattle.operand_texts.specs.Written.{is_upper_name, IsValue, IsTarget, IsStored, HasBytes}
 use Rattle.macro_statements.specs.declared.faults.FaultKind.{FaultKind}
+use Rattle.vsm_model.specs.declared.causes.Family.{Family}
 use Rattle.vsm_model.specs.declared.causes.Family.TheVariants as family
 use Rattle.vsm_model.specs.declared.services.Boundary.{Boundary}
+use Rattle.vsm_model.specs.declared.services.Boundary.TheVariants.{Doubleword}
 use Rattle.vsm_model.specs.declared.services.Location.{Location}
+use Rattle.vsm_model.specs.declared.services.Location.TheVariants.{Low}
 use Rattle.macro_statements.specs.declared.requests.Form.{Form}
+use Rattle.macro_statements.specs.declared.requests.Length.{Length}
+use Rattle.macro_statements.specs.declared.requests.Length.TheVariants as code_length
 use Rattle.macro_statements.specs.declared.requests.Statement.{Statement}
 use Rattle.macro_statements.specs.declared.requests.Statement.TheVariants as code_statement
 use Rattle.macro_statements.specs.declared.requests.Request.{Request}
 use Rattle.macro_statements.specs.declared.requests.Request.TheVariants as code_request
 
+-- The length of an area: one, or `between maximum minimum`.
+pub data WrittenLength : Type 0 where
+  fixed : Written → WrittenLength
+  between : Written → Written → WrittenLength
+
 -- A statement that changes storage: `obtain length subpool target boundary location form`, `release length address
--- subpool form`, `poke address content`.
+-- subpool form`, `whole subpool form`, `poke address content`.
 pub data Act : Type 0 where
-  obtain : Written → Written → Option Target → Boundary → Location → Form → Act
+  obtain : WrittenLength → Written → Option Target → Boundary → Location → Form → Act
   release : Written → Written → Written → Form → Act
+  whole : Written → Form → Act
   poke : Written → Stored → Act
 
 -- What a statement asks for: `peek address length` besides, and so many steps.
@@ -29,11 +41,16 @@ pub data Asked : Type 0 where
   forward : ℕ → Asked
 
 -- What the code's statement says.
+abbrev pub length_in : Length → WrittenLength
+length_in (code_length.Fixed length) = fixed (written_in length)
+length_in (code_length.Variable maximum minimum) = between (written_in maximum) (written_in minimum)
+
 abbrev pub act_in : Statement → Act
 act_in (code_statement.Obtain length subpool place boundary location form) =
-    obtain (written_in length) (written_in subpool) (option_map target_in place) boundary location form
+    obtain (length_in length) (written_in subpool) (option_map target_in place) boundary location form
 act_in (code_statement.Release length address subpool form) =
     release (written_in length) (written_in address) (written_in subpool) form
+act_in (code_statement.Whole subpool form) = whole (written_in subpool) form
 act_in (code_statement.Poke address content) = poke (written_in address) (stored_in content)
 
 -- What the code's request says.
@@ -53,6 +70,7 @@ abbrev pub AskedHasBytes : Asked → Type 0
 AskedHasBytes (act (poke address content)) = HasBytes content
 AskedHasBytes (act (obtain length subpool target boundary location form)) = ⊤
 AskedHasBytes (act (release length address subpool form)) = ⊤
+AskedHasBytes (act (whole subpool form)) = ⊤
 AskedHasBytes (peek address len) = ⊤
 AskedHasBytes (back n) = ⊤
 AskedHasBytes (forward n) = ⊤
@@ -66,17 +84,71 @@ HasRoom (act (poke (number n) content)) = ⊤
 HasRoom (act (poke (register n) content)) = ⊤
 HasRoom (act (obtain length subpool target boundary location form)) = ⊤
 HasRoom (act (release length address subpool form)) = ⊤
+HasRoom (act (whole subpool form)) = ⊤
 HasRoom (peek address len) = ⊤
 HasRoom (back n) = ⊤
 HasRoom (forward n) = ⊤
 
--- A statement that can be written: each of its values is one, and its form is of the family of STORAGE. Each boundary
--- and each location can be.
+abbrev pub IsLength : WrittenLength → Type 0
+IsLength (fixed length) = IsValue length
+IsLength (between maximum minimum) = IsValue maximum × IsValue minimum
+
+-- The form R has a register for the length itself, and register 0 isn't one of those.
+abbrev pub is_register_0 : Written → Bool
+is_register_0 (register n) = n == 0
+is_register_0 _ = false
+
+abbrev pub is_named : Written → Bool
+is_named (named name) = true
+is_named _ = false
+
+abbrev pub is_fixed : WrittenLength → Bool
+is_fixed (fixed length) = true
+is_fixed (between maximum minimum) = false
+
+-- GETMAIN R has a length besides register 0, and a subpool, and obtains below the 16 MB line;
+pub record IsRegisterObtain (length : WrittenLength) (target : Option Target) (boundary : Boundary)
+    (location : Location) (conditional : Bool) : Type 0 where
+  pub fixed : is_fixed length ≡ true
+  pub besides : (value : Written) → length ≡ fixed value → is_register_0 value ≡ false
+  pub nowhere : target ≡ None
+  pub boundary : boundary ≡ Doubleword
+  pub location : location ≡ Low
+  pub unconditional : conditional ≡ false
+
+-- and the forms E, which name the place of the address, do so too.
+pub record IsNamedObtain (length : WrittenLength) (target : Option Target) (location : Location) : Type 0 where
+  pub fixed : is_fixed length ≡ true
+  pub place : (name : List ℕ) × (target ≡ Some (in_name name))
+  pub location : location ≡ Low
+
+-- The forms of the family S are those of STORAGE, which has them all.
+abbrev pub IsObtainForm : Family → WrittenLength → Option Target → Boundary → Location → Bool → Type 0
+IsObtainForm family.S length target boundary location conditional = ⊤
+IsObtainForm family.R length target boundary location conditional =
+    IsRegisterObtain length target boundary location conditional
+IsObtainForm family.E length target boundary location conditional = IsNamedObtain length target location
+
+abbrev pub IsReleaseForm : Family → Written → Written → Bool → Type 0
+IsReleaseForm family.S length address conditional = ⊤
+IsReleaseForm family.R length address conditional = (is_register_0 length ≡ false) × (conditional ≡ false)
+IsReleaseForm family.E length address conditional = is_named address ≡ true
+
+-- A whole subpool is released by STORAGE, and by FREEMAIN in the forms R, RC and RU.
+abbrev pub IsWholeForm : Family → Bool → Type 0
+IsWholeForm family.S conditional = ⊤
+IsWholeForm family.R conditional = conditional ≡ false
+IsWholeForm family.E conditional = ⊥
+
+-- A statement that can be written: each of its values is one, and some macro has its form.
 abbrev pub IsValidAct : Act → Type 0
 IsValidAct (obtain length subpool target boundary location form) =
-    IsValue length × IsValue subpool × IfSome target IsTarget × (form.family ≡ family.S)
+    IsLength length × IsValue subpool × IfSome target IsTarget
+    × IsObtainForm form.family length target boundary location form.conditional
 IsValidAct (release length address subpool form) =
-    IsValue length × IsValue address × IsValue subpool × (form.family ≡ family.S)
+    IsValue length × IsValue address × IsValue subpool
+    × IsReleaseForm form.family length address form.conditional
+IsValidAct (whole subpool form) = IsValue subpool × IsWholeForm form.family form.conditional
 IsValidAct (poke address content) = IsValue address × IsStored content
 
 -- A request that can be written: one of 1 to 256 bytes, where it is for bytes.

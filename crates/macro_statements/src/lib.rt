@@ -16,6 +16,6 @@ mod storage;
 
 pub use faults::FaultKind;
 pub use laws::valid_requests_are_spelled;
-pub use requests::{Form, Request, Statement};
+pub use requests::{Form, Length, Request, Statement};
 pub use statements::{from_operands, is_misplaced, statement_with};
 pub use vsm_model::{Boundary, Family, Location};

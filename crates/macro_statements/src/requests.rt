@@ -18,26 +18,35 @@ pub struct Form {
     pub conditional: bool,
 }
 
+/// The length of an area in bytes: one length, or the longest between two bounds.
+#[derive(Clone, Copy, Debug, PartialEq, Eq)]
+pub enum Length {
+    Fixed(Value),
+    Variable { maximum: Value, minimum: Value },
+}
+
 /// A statement that changes storage.
 #[derive(Clone, Debug, PartialEq, Eq, Drop)]
 pub enum Statement {
-    /// STORAGE OBTAIN: so many bytes from a subpool, from such a boundary and on such a side of the 16 MB line. The
-    /// address is stored in `place`, where there is one.
+    /// STORAGE OBTAIN and GETMAIN: so many bytes from a subpool, from such a boundary and on such a side of the 16 MB
+    /// line. The address is stored in `place`, where there is one.
     Obtain {
-        length: Value,
+        length: Length,
         subpool: Value,
         place: Option<Place>,
         boundary: Boundary,
         location: Location,
         form: Form,
     },
-    /// STORAGE RELEASE: so many bytes at an address, back to a subpool.
+    /// STORAGE RELEASE and FREEMAIN: so many bytes at an address, back to a subpool.
     Release {
         length: Value,
         address: Value,
         subpool: Value,
         form: Form,
     },
+    /// STORAGE RELEASE and FREEMAIN with a subpool alone: all that it has.
+    Whole { subpool: Value, form: Form },
     /// POKE: bytes are stored at an address.
     Poke {
         address: Value,

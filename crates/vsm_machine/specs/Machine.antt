@@ -9,7 +9,8 @@ use Rattle.vsm_model.specs.declared.causes.Family.TheVariants.{S}
 use Rattle.vsm_model.specs.declared.replies.Reply.{Reply}
 use Rattle.vsm_model.specs.Bytes.{fullword, load}
 use Rattle.vsm_model.specs.declared.services.Boundary.{Boundary}
-use Rattle.vsm_model.specs.declared.services.Lengths.TheVariants.{Fixed}
+use Rattle.vsm_model.specs.declared.services.Lengths.{Lengths}
+use Rattle.vsm_model.specs.declared.services.Lengths.TheVariants.{Fixed, Variable}
 use Rattle.vsm_model.specs.declared.services.Location.{Location}
 use Rattle.vsm_model.specs.Forms.{formed_step}
 use Rattle.vsm_model.specs.Names.{NamedState, word_of}
@@ -17,7 +18,8 @@ use Rattle.vsm_model.specs.Services as services
 use Rattle.vsm_model.specs.Services.{Service}
 use Rattle.vsm_model.specs.Standing.{Outcome, Accepted, Refused}
 use Rattle.macro_statements.specs.Requests.{Written, number, named, register, Target, in_name, in_register, Stored}
-use Rattle.macro_statements.specs.Requests.{spelled, word, Act, obtain, release, poke}
+use Rattle.macro_statements.specs.Requests.{spelled, word, WrittenLength, fixed, between}
+use Rattle.macro_statements.specs.Requests.{Act, obtain, release, whole, poke}
 
 -- Why the plain machine refuses a statement: a name in a value isn't defined, or a service ends with a completion code.
 pub data Why : Type 0 where
@@ -46,10 +48,6 @@ register_in (Some (in_register r)) = Some r
 register_in _ = None
 
 -- the service in which so many words are looked up; there is none where one of them isn't there
-abbrev pub with_two : (ℕ → ℕ → Service) → Option ℕ → Option ℕ → Option Service
-with_two f (Some a) (Some b) = Some (f a b)
-with_two f _ _ = None
-
 abbrev pub with_three : (ℕ → ℕ → ℕ → Service) → Option ℕ → Option ℕ → Option ℕ → Option Service
 with_three f (Some a) (Some b) (Some c) = Some (f a b c)
 with_three f _ _ _ = None
@@ -58,12 +56,25 @@ abbrev pub with_bytes : Option ℕ → Option (List ℕ) → Option Service
 with_bytes (Some address) (Some bytes) = Some (services.store address bytes)
 with_bytes _ _ = None
 
--- an area of a fixed length
-abbrev pub fixed_area : Option ℕ → Boundary → Location → Bool → ℕ → ℕ → Service
-fixed_area r boundary location conditional bytes subpool =
+-- the length of an area with the words of its bounds
+abbrev pub lengths_with : Option ℕ → Option ℕ → Option Lengths
+lengths_with (Some maximum) (Some minimum) = Some (Variable maximum minimum)
+lengths_with _ _ = None
+
+abbrev pub lengths_asked : NamedState → WrittenLength → Option Lengths
+lengths_asked m (fixed length) = option_map Fixed (looked_up m length)
+lengths_asked m (between maximum minimum) = lengths_with (looked_up m maximum) (looked_up m minimum)
+
+-- an area from a subpool
+abbrev pub with_lengths : (Lengths → ℕ → Service) → Option Lengths → Option ℕ → Option Service
+with_lengths f (Some lengths) (Some number) = Some (f lengths number)
+with_lengths f _ _ = None
+
+abbrev pub area_asked : Option ℕ → Boundary → Location → Bool → Lengths → ℕ → Service
+area_asked r boundary location conditional lengths subpool =
     services.obtain
     (record {
-      lengths = Fixed bytes;
+      lengths = lengths;
       number = subpool;
       boundary = boundary;
       location = location;
@@ -81,17 +92,19 @@ area_back conditional bytes first subpool =
 -- defined.
 abbrev pub service_asked : NamedState → Act → Option Service
 service_asked m (obtain length subpool target boundary location form) =
-    with_two (fixed_area (register_in target) boundary location form.conditional)
-    (looked_up m length) (looked_up m subpool)
+    with_lengths (area_asked (register_in target) boundary location form.conditional)
+    (lengths_asked m length) (looked_up m subpool)
 service_asked m (release length address subpool form) =
     with_three (area_back form.conditional)
     (looked_up m length) (looked_up m address) (looked_up m subpool)
+service_asked m (whole subpool form) = option_map services.whole (looked_up m subpool)
 service_asked m (poke address content) = with_bytes (looked_up m address) (bytes_in m content)
 
 -- the name that is given the address of the area that a statement obtains, if it names one
 abbrev pub name_asked : Act → Option (List ℕ)
 name_asked (obtain length subpool target boundary location form) = name_in target
 name_asked (release length address subpool form) = None
+name_asked (whole subpool form) = None
 name_asked (poke address content) = None
 
 -- The family of a statement's completion codes, by its form. A statement of the bench's own has no form: its codes are
@@ -99,6 +112,7 @@ name_asked (poke address content) = None
 abbrev pub family_asked : Act → Family
 family_asked (obtain length subpool target boundary location form) = form.family
 family_asked (release length address subpool form) = form.family
+family_asked (whole subpool form) = form.family
 family_asked (poke address content) = S
 
 -- a completion code is one of the reasons for which a statement is refused

@@ -3,13 +3,13 @@ ghost use Rattle.std.specs.Prelude.{◌≡◌, IfSome};
 ghost use Rattle.std.specs.Option.{option_map};
 ghost use Rattle.vsm_model.specs.Meaning.{service_in};
 ghost use Rattle.storage_core.specs.Planned.{CanBePlanned};
-ghost use Rattle.macro_statements.specs.Requests.{act_in, target_in, IsValidAct};
+ghost use Rattle.macro_statements.specs.Requests.{act_in, length_in, target_in, IsLength, IsValidAct};
 ghost use Rattle.vsm_machine.specs.Changes.{plain_of};
-ghost use Rattle.vsm_machine.specs.Machine.{service_asked, name_asked, family_asked, register_in};
+ghost use Rattle.vsm_machine.specs.Machine.{service_asked, lengths_asked, name_asked, family_asked, register_in};
 
 use crate::machine::Machine;
 use crate::values::{bytes_of, look_up};
-use macro_statements::{Family, Statement};
+use macro_statements::{Family, Length, Statement};
 use operand_texts::{Name, Place};
 use storage_core::{Lengths, Obtain, Release, Service};
 
@@ -20,6 +20,20 @@ fn register_of(place: &Option<Place>) -> Option<u8>
     match place {
         Some(Place::Register(register)) => Some(*register),
         _ => None,
+    }
+}
+
+/// The length that is asked for, with the words of its values; `None` where a name in one of them isn't defined.
+fn lengths_of(machine: &Machine, length: &Length) -> Option<Lengths>
+    requires { IsLength (length_in length.now) }
+    ensures { result ≡ lengths_asked (plain_of machine.now) (length_in length.now) }
+{
+    match length {
+        Length::Fixed(length) => Some(Lengths::Fixed(look_up(machine, length)?)),
+        Length::Variable { maximum, minimum } => Some(Lengths::Variable {
+            maximum: look_up(machine, maximum)?,
+            minimum: look_up(machine, minimum)?,
+        }),
     }
 }
 
@@ -43,7 +57,7 @@ pub(crate) fn service_of<'a>(
             location,
             form,
         } => Some(Service::Obtain(Obtain {
-            lengths: Lengths::Fixed(look_up(machine, length)?),
+            lengths: lengths_of(machine, length)?,
             number: look_up(machine, subpool)?,
             boundary: *boundary,
             location: *location,
@@ -61,6 +75,9 @@ pub(crate) fn service_of<'a>(
             number: look_up(machine, subpool)?,
             conditional: form.conditional,
         })),
+        Statement::Whole { subpool, .. } => Some(Service::Whole {
+            number: look_up(machine, subpool)?,
+        }),
         Statement::Poke { address, content } => Some(Service::Store {
             address: look_up(machine, address)?,
             bytes: bytes_of(machine, content, room)?,
@@ -86,7 +103,9 @@ pub(crate) fn family_of(statement: &Statement) -> Family
     ensures { result ≡ family_asked (act_in statement.now) }
 {
     match statement {
-        Statement::Obtain { form, .. } | Statement::Release { form, .. } => form.family,
+        Statement::Obtain { form, .. }
+        | Statement::Release { form, .. }
+        | Statement::Whole { form, .. } => form.family,
         Statement::Poke { .. } => Family::S,
     }
 }
