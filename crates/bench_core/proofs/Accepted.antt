@@ -48,14 +48,14 @@ Why-set : IsSet Why
 Why-set = hlevel props
 
 module _ (m : MachineState) (x : Act) (p : Planned) (h : ∥ IsAcceptedBy m x p ∥₁) where
-  pub accepted_of : statement_step m.settings (named_of m) x ≡ Accepted (named_of (overlay m (difference_in p))) p.plan.reply
+  pub accepted_of : statement_step m.settings (named_of m) x ≡ Accepted (named_of (overlay m (difference_in m p))) p.plan.reply
   accepted_of = ∥∥₁_elim h (Outcome-set NamedState-set Reply-set Why-set _ _) (λ a. a.accepted)
 
   pub is_accepted : IsAccepted (statement_step m.settings (named_of m) x)
   is_accepted = subst (λ o. IsAccepted o) (sym accepted_of) tt
 
-  pub fits_of : StorageFits m.settings m.storage (change_in p.plan)
-  fits_of = ∥∥₁_elim h (hlevel (Fit-prop m.storage (change_in p.plan))) (λ a. a.fits)
+  pub fits_of : StorageFits m.settings m.storage (change_in m.storage p.plan)
+  fits_of = ∥∥₁_elim h (hlevel (Fit-prop m.storage (change_in m.storage p.plan))) (λ a. a.fits)
 
   pub is_reservable : CanBeReserved m.storage p.plan
   is_reservable = ∥∥₁_elim h (hlevel props) (λ a. a.reserved)
@@ -86,28 +86,28 @@ module _ (s r : Machine) (settings : settings_of r.storage ≡ settings_of s.sto
   -- a machine beside which a change was made
   module _ (p : Planned) (change : Change) (is : IsChangeOf s p r change) where
     made_apart : (xs : List Change) → Apart s xs → Apart r (change ∷ xs)
-    made_apart xs = reserve-apart s.storage.parts r.storage.parts (change_in p.plan) change.storage is.storage (storages xs)
+    made_apart xs = reserve-apart s.storage.parts r.storage.parts (change_in (state_in_place s.storage) p.plan) change.storage is.storage (storages xs)
 
     made_whole : (ks us : List Change) → Whole s (ks ++ us) → Whole r (ks ++ change ∷ us)
     made_whole ks us h =
         subst (AreWhole r.storage.parts) (sym (storages_at ks us change))
         (whole_put (storages ks) (storages us) change.storage r.storage.parts
-        (reserve-whole s.storage.parts r.storage.parts (change_in p.plan) change.storage is.storage (storages ks ++ storages us)
+        (reserve-whole s.storage.parts r.storage.parts (change_in (state_in_place s.storage) p.plan) change.storage is.storage (storages ks ++ storages us)
         (subst (AreWhole s.storage.parts) (storages_of ks us) h)))
 
     made_readied : Readied s r
     made_readied = record {
       shows = λ i. record { settings = settings i; storage = is.storage.shows i; names = rows i };
-      others = λ x. reserve-others s.storage.parts r.storage.parts (change_in p.plan) change.storage is.storage x.storage;
+      others = λ x. reserve-others s.storage.parts r.storage.parts (change_in (state_in_place s.storage) p.plan) change.storage is.storage x.storage;
       apart = λ xs h. machine_steps.rest xs change r (made_apart xs h);
     }
 
-    made_fits : StorageFits (settings_of s.storage) (state_in_place s.storage) (change_in p.plan) → CanStepBy (rows_of r.names) (knows r.names) (step_of change) →
+    made_fits : StorageFits (settings_of s.storage) (state_in_place s.storage) (change_in (state_in_place s.storage) p.plan) → CanStepBy (rows_of r.names) (knows r.names) (step_of change) →
         fit (shown r) (means r change)
     made_fits h can = (
       subst (λ (d : StorageChange). StorageFits (settings_of r.storage) (state_in_place r.storage) d) (sym is.storage.meaning)
-          (subst (λ (m : StorageState). StorageFits (settings_of r.storage) m (change_in p.plan)) (sym is.storage.shows)
-          (subst (λ (c : Settings). StorageFits c (state_in_place s.storage) (change_in p.plan)) (sym settings) h)),
+          (subst (λ (m : StorageState). StorageFits (settings_of r.storage) m (change_in (state_in_place s.storage) p.plan)) (sym is.storage.shows)
+          (subst (λ (c : Settings). StorageFits c (state_in_place s.storage) (change_in (state_in_place s.storage) p.plan)) (sym settings) h)),
       can_fit r.names (step_of change) can,
     )
 

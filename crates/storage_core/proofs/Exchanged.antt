@@ -31,22 +31,22 @@ module _ (settings : Settings) (names_full : Bool) (m : StorageState) (x : Servi
   where
     pub can_be_reserved : CanBeReserved m plan
     can_be_reserved = ∥∥₁_elim planned (hlevel props)
-        (λ k. record { few = k.few; range = k.range; unassigned = k.unassigned })
+        (λ k. record { few = k.few; range = k.range; there = k.there; unassigned = k.unassigned })
 
-    plan_fits : Fit m (change_in plan)
-    plan_fits = ∥∥₁_elim planned (Fit-prop m (change_in plan)) (λ k. k.fits)
+    plan_fits : Fit m (change_in m plan)
+    plan_fits = ∥∥₁_elim planned (Fit-prop m (change_in m plan)) (λ k. k.fits)
 
-    plan_is_sound : LeadsSound settings m (change_in plan)
+    plan_is_sound : LeadsSound settings m (change_in m plan)
     plan_is_sound = ∥∥₁_map planned (λ k. k.sound)
 
 module _ (settings : Settings) (names_full : Bool) (p t : Parts) (x : Service) (plan : Plan)
     (planned : ∥ CarriesOut settings names_full (state_of p) x plan ∥₁) (c : Change)
-    (made : Reserves p (change_in plan) c t)
+    (made : Reserves p (change_in (state_of p) plan) c t)
   where
     pub reserved_can : CanSwap t c
     reserved_can = record {
       ready = made.ready;
-      fits = (reserved-changes-fit p t (change_in plan) c made (plan_fits settings names_full (state_of p) x plan planned)).0;
+      fits = (reserved-changes-fit p t (change_in (state_of p) plan) c made (plan_fits settings names_full (state_of p) x plan planned)).0;
     }
 
     pub reserved_sound : LeadsSound settings (state_of t) (means t.elements c)

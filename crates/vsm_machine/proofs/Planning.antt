@@ -94,9 +94,9 @@ module _ (m : MachineState) (x : Act) (service : Service) (is : Some service ≡
         accepted =
             ap (served m.settings (named_of m) x) (sym is)
             ∙ ap (λ o. or_abend (with_code (family_asked x) service (named m.names (name_asked x) o))) carried.accepted
-            ∙ (λ i. Accepted (record { storage = model_of (storage.overlay m.storage (change_in p.plan)); names = names i }) reply);
+            ∙ (λ i. Accepted (record { storage = model_of (storage.overlay m.storage (change_in m.storage p.plan)); names = names i }) reply);
         fits = record { fits = carried.fits; before = sound; after = ∣ carried.sound ∣₁ };
-        reserved = record { few = carried.few; range = carried.range; unassigned = carried.unassigned };
+        reserved = record { few = carried.few; range = carried.range; there = carried.there; unassigned = carried.unassigned };
         can = subst (CanStepBy m.names (λ name. true)) (sym named_by) (can_step m.names (name_asked x) reply);
         gives = ap undefines_none named_by ∙ gives m.names (name_asked x) reply;
       }
