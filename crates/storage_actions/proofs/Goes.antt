@@ -17,11 +17,11 @@ pub record Goes (w : Walk) (rs : List Record) (m : StorageState) (brought given 
   pub there : walk w rs ≡ at m brought given (walk w rs).spare
   pub spare : left ≤ (walk w rs).spare
 
-walk_on : (w : Walk) (rs ss : List Record) → walk w (rs ++ ss) ≡ walk (walk w rs) ss
+pub walk_on : (w : Walk) (rs ss : List Record) → walk w (rs ++ ss) ≡ walk (walk w rs) ss
 walk_on w [] ss = refl
 walk_on w (r ∷ rs) ss = walk_on (step w r) rs ss
 
-fits_on : (w : Walk) (rs ss : List Record) → FitInTurn w rs → FitInTurn (walk w rs) ss → FitInTurn w (rs ++ ss)
+pub fits_on : (w : Walk) (rs ss : List Record) → FitInTurn w rs → FitInTurn (walk w rs) ss → FitInTurn w (rs ++ ss)
 fits_on w [] ss h k = k
 fits_on w (r ∷ rs) ss h k = (h.0, fits_on (step w r) rs ss h.1 k)
 

@@ -9,3 +9,5 @@ mod Emptied
 pub mod GivingBack
 pub mod Idle
 pub mod Writing
+mod Unassigned
+pub mod Emptying

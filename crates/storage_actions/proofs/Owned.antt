@@ -5,7 +5,7 @@ use Rattle.std.proofs.lemmas.Bool.{and_from, cond-true, eqb-true, eq-eqb, false_
 use Rattle.vsm_model.specs.declared.Subpool.{Subpool}
 use Rattle.vsm_model.specs.declared.limits.Settings.{Settings}
 use Rattle.vsm_model.specs.Search.{holds}
-use Rattle.subpool_storage.specs.Subpools.{is_there}
+use Rattle.subpool_storage.specs.Subpools.{Subpools, is_there, with_own}
 use Rattle.storage_changes.specs.State.{StorageState}
 use Rattle.storage_changes.specs.Meaning.{model_of, IsSound}
 use Rattle.storage_changes.specs.Laws.{CanBe}
@@ -46,13 +46,17 @@ module _ (settings : Settings) (m : StorageState) (sound : IsSound settings m) (
       (own.1, omega (arith, own.0, current.0), omega (arith, own.0, current.1))
   place_of false there = there_is_named there
 
--- the subpool is there once it is made, if it is new
-pub made_is_there : (m : StorageState) (p : Subpool) (is_new : Bool) → CanOwn m p is_new → is_there (owned m p is_new).subpools p ≡ true
-made_is_there m p true own =
+-- a subpool that is made is there
+pub own_is_there : (u : Subpools) (p : Subpool) → is_there (with_own u p true) p ≡ true
+own_is_there u p =
     ap (holds (λ owner. owner == p.owner))
-    (cond-true ((p.owner == p.owner) && (p.number == p.number)) (Some p.owner) (m.subpools.sight p.owner p.number)
+    (cond-true ((p.owner == p.owner) && (p.number == p.number)) (Some p.owner) (u.sight p.owner p.number)
     (and_from (p.owner == p.owner) (p.number == p.number) (eq-eqb p.owner p.owner refl) (eq-eqb p.number p.number refl)))
     ∙ eq-eqb p.owner p.owner refl
+
+-- the subpool is there once it is made, if it is new
+pub made_is_there : (m : StorageState) (p : Subpool) (is_new : Bool) → CanOwn m p is_new → is_there (owned m p is_new).subpools p ≡ true
+made_is_there m p true own = own_is_there m.subpools p
 made_is_there m p false there = there
 
 there_leads :

@@ -13,14 +13,17 @@ use Rattle.vsm_model.specs.WellFormed.{IsWellFormed}
 use Rattle.subpool_storage.specs.Subpools.{Subpools}
 use Rattle.storage_changes.specs.declared.record.Record.{Record}
 use Rattle.storage_changes.specs.State.{StorageState}
-use Rattle.storage_changes.specs.Changes.{outset, overlay}
+use Rattle.storage_changes.specs.Walk.{Walk}
+use Rattle.storage_changes.specs.Steps.{walk}
+use Rattle.storage_changes.specs.Fits.{FitInTurn}
+use Rattle.storage_changes.specs.Changes.{Change, outset, arrival, overlay}
 use Rattle.storage_changes.specs.Meaning.{model_of, subpool_of, IsSound}
 use Rattle.storage_actions.specs.Actions.{register_records, run_of}
 use Rattle.storage_changes.specs.Changes.{change_of}
 use Rattle.storage_actions.specs.Leads.{Leads, AreRegisters}
 use Rattle.storage_actions.specs.Laws.{SettingLeads}
 use Rattle.storage_actions.proofs.Cases.{inside_in, not_inside}
-use Rattle.storage_actions.proofs.Goes.{at, Goes, goes_nowhere}
+use Rattle.storage_actions.proofs.Goes.{at, Goes}
 
 -- the state once the registers of the current task have these words
 abbrev pub with_word : StorageState → ℕ → ℕ → StorageState
@@ -35,17 +38,27 @@ abbrev pub with_rows : StorageState → List (ℕ × ℕ) → StorageState
 with_rows m [] = m
 with_rows m (row ∷ rows) = with_rows (with_word m row.0 row.1) rows
 
+-- on any walk the records fit, and set the registers alone
+pub rows_fit : (w : Walk) (rows : List (ℕ × ℕ)) → IsSome (w.state.tasks.parents w.state.tasks.current) → AreRegisters rows → FitInTurn w (register_records w.state rows)
+rows_fit w [] task are = tt
+rows_fit w (row ∷ rows) task are = (
+  record { task = task; register = are 0 row (omega arith) },
+  rows_fit (record w { state = with_word w.state row.0 row.1 }) rows task (λ j d below. are (suc j) d (omega (arith, below))),
+)
+
+pub rows_walk : (w : Walk) (rows : List (ℕ × ℕ)) → walk w (register_records w.state rows) ≡ record w { state = with_rows w.state rows }
+rows_walk w [] = refl
+rows_walk w (row ∷ rows) = rows_walk (record w { state = with_word w.state row.0 row.1 }) rows
+
 pub rows_go :
     (m : StorageState) (b g : ℕ → Option ℕ) (s left : ℕ) (rows : List (ℕ × ℕ)) → IsSome (m.tasks.parents m.tasks.current) → AreRegisters rows → left ≤ s
     → Goes (at m b g s) (register_records m rows) (with_rows m rows) b g left
-rows_go m b g s left [] task are less = goes_nowhere m b g s left less
-rows_go m b g s left (row ∷ rows) task are less =
-    let next = rows_go (with_word m row.0 row.1) b g s left rows task (λ j d below. are (suc j) d (omega (arith, below))) less in
-    let first = are 0 row (omega arith) in
+rows_go m b g s left rows task are less =
+    let walks = rows_walk (at m b g s) rows in
     record {
-      fits = (record { task = task; register = first }, next.fits);
-      there = next.there;
-      spare = next.spare;
+      fits = rows_fit (at m b g s) rows task are;
+      there = walks ∙ ap (λ (v : Walk). at (with_rows m rows) b g v.spare) (sym walks);
+      spare = let P : Walk → Type 0 = λ v. left ≤ v.spare in subst P (sym walks) less;
     }
 
 rows_lead : (m : StorageState) (rows : List (ℕ × ℕ)) → model_of (with_rows m rows) ≡ with_registers (model_of m) rows
@@ -74,31 +87,34 @@ task_is_there settings m h = h.well_formed.tasks.current_is_task
 sound_of : (settings : Settings) (m : StorageState) → Stands settings m.subpools m.unassigned → IsWellFormed settings (model_of m) → IsSound settings m
 sound_of settings m h w = record { apart = h.apart; named = h.named; rest = h.rest; free = h.free; well_formed = w }
 
-fresh_of : (m : StorageState) (fresh : Run) (a : ℕ) (b : Bool) → inside (a / 4096) fresh ≡ b → (inside (a / 4096) fresh ≡ true → m.unassigned (a / 4096) ≡ true)
+pub fresh_of : (m : StorageState) (fresh : Run) (a : ℕ) (b : Bool) → inside (a / 4096) fresh ≡ b → (inside (a / 4096) fresh ≡ true → m.unassigned (a / 4096) ≡ true)
     → IsSome {T = ℕ} (if b then Some 0 else None) → m.unassigned (a / 4096) ≡ true
 fresh_of m fresh a true e h s = h e
 fresh_of m fresh a false e h s = cc
 
--- records whose last ones set registers lead to what the others lead to, with the registers set
+-- a change whose last records set registers leads to what the others lead to, with the registers set
+pub leads_to :
+    (settings : Settings) (m n : StorageState) (d : Change) (rows : List (ℕ × ℕ)) (s : State) → FitInTurn (outset m d) d.records
+    → overlay m d ≡ with_rows n rows → ((a : ℕ) → (arrival m d).brought a ≡ None) → ((a : ℕ) → IsSome (d.frames a) → m.unassigned (a / 4096) ≡ true)
+    → Stands settings n.subpools n.unassigned → model_of n ≡ s → IsWellFormed settings (with_registers s rows) → Leads settings m d (with_registers s rows)
+leads_to settings m n d rows s fits there none fresh stands leads formed =
+    let model : model_of (with_rows n rows) ≡ with_registers s rows = rows_lead n rows ∙ ap (λ t. with_registers t rows) leads in
+    let sound : IsSound settings (with_rows n rows) = sound_of settings (with_rows n rows) (rows_stand settings n rows stands) (subst (IsWellFormed settings) (sym model) formed) in
+    record {
+      fits = record { in_turn = fits; fresh = fresh; brought = none };
+      sound = subst (IsSound settings) (sym there) sound;
+      leads = ap model_of there ∙ model;
+    }
+
+-- a change of these records and new frames, where they go there
 pub leads_with_rows :
     (settings : Settings) (m n : StorageState) (records : List Record) (blanks : ℕ) (fresh : Run) (b g : ℕ → Option ℕ) (left : ℕ) (rows : List (ℕ × ℕ))
     (s : State) → Goes (outset m (change_of records blanks fresh)) records (with_rows n rows) b g left → ((a : ℕ) → b a ≡ None)
     → ((k : ℕ) → inside k fresh ≡ true → m.unassigned k ≡ true) → Stands settings n.subpools n.unassigned → model_of n ≡ s
     → IsWellFormed settings (with_registers s rows) → Leads settings m (change_of records blanks fresh) (with_registers s rows)
 leads_with_rows settings m n records blanks fresh b g left rows s go none new stands leads formed =
-    let d = change_of records blanks fresh in
-    let there : overlay m d ≡ with_rows n rows = ap (λ v. v.state) go.there in
-    let model : model_of (with_rows n rows) ≡ with_registers s rows = rows_lead n rows ∙ ap (λ t. with_registers t rows) leads in
-    let sound : IsSound settings (with_rows n rows) = sound_of settings (with_rows n rows) (rows_stand settings n rows stands) (subst (IsWellFormed settings) (sym model) formed) in
-    record {
-      fits = record {
-        in_turn = go.fits;
-        fresh = λ a is. fresh_of m fresh a (inside (a / 4096) fresh) refl (new (a / 4096)) is;
-        brought = λ a. ap (λ v. v.brought a) go.there ∙ none a;
-      };
-      sound = subst (IsSound settings) (sym there) sound;
-      leads = ap model_of there ∙ model;
-    }
+    leads_to settings m n (change_of records blanks fresh) rows s go.fits (ap (λ v. v.state) go.there) (λ a. ap (λ v. v.brought a) go.there ∙ none a)
+    (λ a. fresh_of m fresh a (inside (a / 4096) fresh) refl (new (a / 4096))) stands leads formed
 
 -- no page is in an empty run
 pub none_fresh : (m : StorageState) (k : ℕ) → inside k (run_of 0 0) ≡ true → m.unassigned k ≡ true

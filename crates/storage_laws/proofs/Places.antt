@@ -64,7 +64,7 @@ size_most most size e =
     leb-true size most (and_parts (nat_le 4 size) (nat_le size most) (and_parts (nat_le 4 size && nat_le size most) ((size % 4) == 0) e).0).1
 
 -- each page of a region is below that of the address 2 ^ 32 - 4096
-page_is_low : (settings : Settings) (k : ℕ) → settings_valid settings ≡ true → in_a_region settings k ≡ true → k < 1048575
+pub page_is_low : (settings : Settings) (k : ℕ) → settings_valid settings ≡ true → in_a_region settings k ≡ true → k < 1048575
 page_is_low settings k valid e =
     let sizes = (and_parts (size_valid 16360 settings.low_k && size_valid 1572864 settings.high_k) (nat_le 1 settings.history && nat_le settings.history 65536) valid).0 in
     let both = and_parts (size_valid 16360 settings.low_k) (size_valid 1572864 settings.high_k) sizes in

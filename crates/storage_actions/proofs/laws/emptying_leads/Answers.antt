@@ -1,0 +1,5 @@
+use Rattle.storage_actions.proofs.Emptying.{emptying_leads}
+use Rattle.storage_actions.proofs.laws.emptying_leads.Goals as goal
+
+pub returns : goal.returns
+returns c = emptying_leads
