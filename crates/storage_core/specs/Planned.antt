@@ -1,8 +1,10 @@
 -- Which services can be planned, and which plans can be made into changes.
-use Rattle.std.specs.Prelude.{◌≡◌, ℕ, ◌+◌, ◌^◌, ◌<◌, ◌≤◌, true, IfSome, length, ⊤}
+use Rattle.std.specs.Prelude.{◌≡◌, ℕ, ◌+◌, ◌^◌, ◌<◌, ◌≤◌, true, IfSome, length, Option, Some, None, ⊤}
 use Rattle.run_set.specs.Runs.{inside}
 use Rattle.vsm_model.specs.Services.{Service, obtain, release, whole, store}
-use Rattle.subpool_storage.specs.Subpools.{is_there}
+use Rattle.vsm_model.specs.declared.Subpool.{Subpool}
+use Rattle.subpool_storage.specs.Extents.{extents}
+use Rattle.subpool_storage.specs.Subpools.{Subpools, is_there}
 use Rattle.storage_changes.specs.State.{StorageState}
 use Rattle.storage_plans.specs.declared.plan.Plan.{Plan}
 
@@ -14,6 +16,11 @@ CanBePlanned (release r) = ⊤
 CanBePlanned (whole number) = ⊤
 CanBePlanned (store address bytes) = length bytes ≤ 256
 CanBePlanned _ = ⊥
+
+-- how many extents leave with a subpool that is emptied, if one is
+abbrev pub extents_leaving : Subpools → Option Subpool → ℕ
+extents_leaving m None = 0
+extents_leaving m (Some p) = length (extents m p)
 
 -- the pages that come to be assigned are unassigned, its blank elements few, and a subpool that is emptied is there
 pub record CanBeReserved (m : StorageState) (plan : Plan) : Type 0 where

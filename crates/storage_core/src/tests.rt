@@ -31,6 +31,18 @@ fn exchange(storage: &mut Storage, change: &mut Change)
     storage.swap(change);
 }
 
+// The change that carries the service out.
+fn change_for(storage: &mut Storage, service: Service<'_>) -> Result<Change, Fail>
+    requires { CanBePlanned (service_in service) }
+    ensures can { IfOk result (λ change. CanSwap storage.new.parts change) }
+    ensures sound { IfOk result (λ change. ∥ IsSound (settings_of storage.new)
+        (overlay (state_in_place storage.new) (means storage.new.parts.elements change)) ∥₁) }
+{
+    let plan = storage.plan(service, false)?;
+    let change = storage.reserve(plan)?;
+    Ok(change)
+}
+
 // The storage carries the service out. What is left takes it back.
 fn carry_out(storage: &mut Storage, service: Service<'_>) -> Result<Change, Fail>
     requires { CanBePlanned (service_in service) }
@@ -38,10 +50,18 @@ fn carry_out(storage: &mut Storage, service: Service<'_>) -> Result<Change, Fail
     ensures sound { IfOk result (λ change. ∥ IsSound (settings_of storage.new)
         (overlay (state_in_place storage.new) (means storage.new.parts.elements change)) ∥₁) }
 {
-    let plan = storage.plan(service, false)?;
-    let mut change = storage.reserve(plan)?;
+    let mut change = change_for(storage, service)?;
     exchange(storage, &mut change);
     Ok(change)
+}
+
+// The storage carries the service out, for good.
+fn do_for_good(storage: &mut Storage, service: Service<'_>) -> Result<(), Fail>
+    requires { CanBePlanned (service_in service) }
+{
+    let change = carry_out(storage, service)?;
+    storage.discard(change);
+    Ok(())
 }
 
 // The byte at the address, where its page is assigned.
@@ -124,5 +144,57 @@ fn requests_come_and_go(rt: HostRuntime) -> Result<(), Fail> {
     }
     assert_eq!(rt; storage.current(), 1);
     assert_eq!(rt; storage.settings(), SETTINGS);
+    Ok(())
+}
+
+// How many areas of a doubleword are free in the subpool that is released whole.
+const FREE_AREAS: u32 = 10_000;
+
+// Subpool 1 has one area, of whose doublewords every second one is released.
+fn make_free_areas(storage: &mut Storage) -> Result<(), Fail> {
+    let obtain = Obtain {
+        lengths: Lengths::Fixed(16 * FREE_AREAS),
+        number: 1,
+        boundary: Boundary::Doubleword,
+        location: Location::Low,
+        register: None,
+        conditional: false,
+    };
+    do_for_good(storage, Service::Obtain(obtain))?;
+    for k in 0..FREE_AREAS {
+        let release = Release {
+            length: 8,
+            address: 0x6000 + 16 * k,
+            number: 1,
+            conditional: false,
+        };
+        do_for_good(storage, Service::Release(release))?;
+    }
+    Ok(())
+}
+
+// A record for the queues, one for the extent and one for register 15; two blank elements; and the parked subpool. Elements
+// are made 128 at a time.
+#[test]
+fn whole_release_takes_elements_for_extents_alone(rt: HostRuntime) -> Result<(), Fail> {
+    let settings = Settings {
+        low_k: 256,
+        ..SETTINGS
+    };
+    let mut storage = Storage::new(rt.alloc(), settings)?;
+    make_free_areas(&mut storage)?;
+    let before = storage.parts.elements.spare();
+    let mut change = change_for(&mut storage, Service::Whole { number: 1 })?;
+    let behind = storage.parts.elements.spare();
+    assert_eq!(rt; before.wrapping_sub(behind) % 128, 6);
+    exchange(&mut storage, &mut change);
+    assert_eq!(rt; byte_at(&storage, 0x6000), None);
+    exchange(&mut storage, &mut change);
+    assert_eq!(rt; byte_at(&storage, 0x6000), Some(0));
+    storage.discard(change);
+    // The free areas are those that there were.
+    let again = small_area(Location::Low);
+    let reply = storage.plan(again, false)?.reply;
+    assert_eq!(rt; reply, Reply::Obtained { address: 0x2E000, length: 24 });
     Ok(())
 }

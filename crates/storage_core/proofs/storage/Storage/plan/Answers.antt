@@ -16,3 +16,11 @@ returns-in-Store c =
     subst (λ x. IsPlanned (settings_of s) c.args.names_full (state_in_place s) (service_in x) c.plan_store.result)
     (sym c.in-Store.is)
     (c.plan_store.ensures s.settings c.args.names_full (record { stands = s.held.stands; sound = s.held.sound }))
+
+pub returns-in-Whole : goal.returns-in-Whole
+returns-in-Whole c =
+    let s = c.args.self.now in
+    subst (λ x. IsPlanned (settings_of s) c.args.names_full (state_in_place s) (service_in x) c.plan_whole.result)
+    (sym c.in-Whole.is)
+    (c.plan_whole.ensures s.settings c.args.names_full s.held.valid
+    (record { stands = s.held.stands; sound = s.held.sound }))

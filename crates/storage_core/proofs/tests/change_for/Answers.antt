@@ -4,7 +4,7 @@ use Rattle.vsm_model.specs.Meaning.{service_in}
 use Rattle.storage_swap.specs.Swap.{means}
 use Rattle.storage_core.specs.Meaning.{state_in_place, settings_of}
 use Rattle.storage_core.proofs.Exchanged.{LeadsSound, can_be_reserved, reserved_can, reserved_sound}
-use Rattle.storage_core.proofs.tests.carry_out.Goals as goal
+use Rattle.storage_core.proofs.tests.change_for.Goals as goal
 
 pub reserve-requires : goal.reserve-requires
 reserve-requires c =
@@ -12,14 +12,14 @@ reserve-requires c =
     can_be_reserved (settings_of s) false (state_in_place s) (service_in c.args.service) c.in_ok-plan.plan
     c.in_ok-plan.ensures
 
-pub exchange-requires-clause-can : goal.exchange-requires-clause-can
-exchange-requires-clause-can c =
+pub returns-clause-can : goal.returns-clause-can
+returns-clause-can c =
     let s = c.args.storage.now in
     reserved_can (settings_of s) false s.parts c.reserve.new.self.parts (service_in c.args.service) c.in_ok-plan.plan
     c.in_ok-plan.ensures c.in_ok-change.change c.in_ok-change.ensures.ok
 
-pub exchange-requires-clause-sound : goal.exchange-requires-clause-sound
-exchange-requires-clause-sound c =
+pub returns-clause-sound : goal.returns-clause-sound
+returns-clause-sound c =
     let s = c.args.storage.now in
     let t = c.reserve.new.self in
     let P : Settings → Type 0 = λ settings.
