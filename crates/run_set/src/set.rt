@@ -1,5 +1,5 @@
 ghost use Rattle.std.specs.Prelude.{◌≡◌, ℕ, ◌+◌, ◌^◌, ◌<◌, ◌≤◌, ◌||◌, ◌&&◌, not, [], slice_index_or, slice_get, IfSome};
-ghost use Rattle.std.specs.Prelude.{IfNone};
+ghost use Rattle.std.specs.Prelude.{IfNone, length, option_map};
 ghost use Rattle.vsm_elements.specs.Store.{Store};
 ghost use Rattle.vsm_elements.specs.Ownership.{Leaves};
 ghost use Rattle.run_set.specs.Counts.{joins};
@@ -7,7 +7,7 @@ ghost use Rattle.run_set.specs.Runs.{inside, AllIn, NoneIn, AreRunsOf, IsCover};
 ghost use Rattle.run_set.specs.Fits.{Fits, IsLeastFit, IsLongest};
 
 use crate::clip::clipped;
-use crate::places::Place;
+use crate::places::RunPlace;
 use crate::run::{Cover, Run};
 use vsm_elements::{Chain, Elements};
 
@@ -24,9 +24,11 @@ pub struct RunSet {
 // what stands in the elements
 crate::specs::RunSet::runs, crate::specs::RunSet::owned, crate::specs::RunSet::IsRunSet,
 // what a head is
-crate::specs::RunSet::set_of))]
+crate::specs::RunSet::set_of,
+// where a walk stands
+crate::specs::RunSet::place_index, crate::specs::RunSet::IsPlace))]
 impl RunSet {
-    ghost use Rattle.run_set.specs.RunSet.{runs, holds, owned, set_of, IsRunSet};
+    ghost use Rattle.run_set.specs.RunSet.{runs, holds, owned, set_of, place_index, IsRunSet, IsPlace};
 
     /// The empty set. It has no element.
     pub fn new() -> RunSet
@@ -180,6 +182,36 @@ impl RunSet {
         }
     }
 
+    /// How many maximal runs the set has.
+    pub fn count(&self) -> u32
+        ensures { (s : Store) → result ≡ length (runs s self.now) }
+    {
+        self.chain.count
+    }
+
+    /// The place before the first run of any set.
+    pub fn first_place() -> RunPlace
+        ensures place { (s : Store) (q : RunSet) → IsPlace s q result }
+        ensures index { place_index result ≡ 0 }
+    {
+        RunPlace::FRONT
+    }
+
+    /// The maximal run behind the place, and the place behind that run; `None` behind the last. From the first place
+    /// on, the runs come in ascending order, each at the cost of one element.
+    pub fn next_run(&self, elements: &Elements, place: RunPlace) -> Option<(Run, RunPlace)>
+        requires set { IsRunSet elements.now self.now }
+        requires place { IsPlace elements.now self.now place }
+        ensures run { option_map (λ r. r.0) result ≡ slice_get (runs elements.now self.now) (place_index place) }
+        ensures next { IfSome result (λ r. IsPlace elements.now self.now r.1
+            × (place_index r.1 ≡ place_index place + 1)) }
+    {
+        if place.index == self.chain.count {
+            return None;
+        }
+        Some(self.visit(elements, place))
+    }
+
     /// The `i`-th maximal run in ascending order, from 0 on; `None` past the last.
     pub fn run_at(&self, elements: &Elements, i: u32) -> Option<Run>
         requires { IsRunSet elements.now self.now }
@@ -188,7 +220,7 @@ impl RunSet {
         if i >= self.chain.count {
             return None;
         }
-        let mut place = Place::FRONT;
+        let mut place = RunPlace::FRONT;
         while place.index < i {
             (_, place) = self.visit(elements, place);
         }
@@ -213,7 +245,7 @@ impl RunSet {
             (λ n. holds elements.now self.now n) region a len boundary) }
     {
         let count = self.chain.count;
-        let mut place = Place::FRONT;
+        let mut place = RunPlace::FRONT;
         while place.index < count {
             let (run, next) = self.visit(elements, place);
             let (first, end) = clipped(run, boundary, region);
@@ -235,7 +267,7 @@ impl RunSet {
     {
         let count = self.chain.count;
         let mut most = 0;
-        let mut place = Place::FRONT;
+        let mut place = RunPlace::FRONT;
         while place.index < count {
             let (run, next) = self.visit(elements, place);
             let (first, end) = clipped(run, boundary, region);
