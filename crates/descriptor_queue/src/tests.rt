@@ -45,6 +45,21 @@ fn part(rt: &impl Abort, elements: &mut Elements, extents: &mut Extents, page: u
     extents.remove_run(elements, run(page, 1));
 }
 
+// The first three extents.
+fn first_three(elements: &Elements, extents: &Extents) -> [Option<Run>; 3]
+    requires { IsExtents elements.now extents.now }
+{
+    let mut runs = [None; 3];
+    let mut place = Extents::first_place();
+    for i in 0..3 {
+        if let Some((run, behind)) = extents.next_run(elements, place) {
+            runs[i] = Some(run);
+            place = behind;
+        }
+    }
+    runs
+}
+
 #[test]
 fn extents_are_joined_and_split(rt: HostRuntime) -> Result<(), Fail> {
     let mut elements = Elements::new(rt.alloc());
@@ -52,16 +67,20 @@ fn extents_are_joined_and_split(rt: HostRuntime) -> Result<(), Fail> {
     let mut extents = Extents::new();
     join(&rt, &mut elements, &mut extents, 6, 11);
     join(&rt, &mut elements, &mut extents, 0x8000, 0x8002);
-    assert_eq!(rt; extents.run_at(&elements, 0), Some(run(6, 5)));
-    assert_eq!(rt; extents.run_at(&elements, 1), Some(run(0x8000, 2)));
-    assert_eq!(rt; extents.run_at(&elements, 2), None);
+    assert_eq!(rt;
+        first_three(&elements, &extents),
+        [Some(run(6, 5)), Some(run(0x8000, 2)), None]
+    );
+    assert_eq!(rt; extents.count(), 2);
     part(&rt, &mut elements, &mut extents, 8);
     part(&rt, &mut elements, &mut extents, 0x8001);
     assert!(rt; !extents.contains(&elements, 8) && extents.contains(&elements, 9));
     let extents = Extents::from_head(extents.head());
-    assert_eq!(rt; extents.run_at(&elements, 0), Some(run(6, 2)));
-    assert_eq!(rt; extents.run_at(&elements, 1), Some(run(9, 2)));
-    assert_eq!(rt; extents.run_at(&elements, 2), Some(run(0x8000, 1)));
+    assert_eq!(rt;
+        first_three(&elements, &extents),
+        [Some(run(6, 2)), Some(run(9, 2)), Some(run(0x8000, 1))]
+    );
+    assert_eq!(rt; extents.count(), 3);
     assert_eq!(rt; elements.spare(), 125);
     extents.discard(&mut elements);
     assert_eq!(rt; elements.spare(), 128);

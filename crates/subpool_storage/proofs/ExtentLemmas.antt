@@ -1,0 +1,107 @@
+-- The extents of a subpool are the maximal runs of its pages.
+use Rattle.std.proofs.Common.{◌≡◌, ℕ, zero, suc, ◌+◌, ◌-◌, ◌^◌, ◌<◌, ◌≤◌, ◌==◌, ◌⊎◌, inl, inr, Bool, true, false, ◌||◌, if◌then◌else◌, List, [], ◌∷◌, length, map, refl, sym, ap, ◌∙◌, arith, subst}
+use Rattle.std.proofs.lemmas.Bool.{cases_eq, both_ways, eqb-true, eq-eqb, false_from_ne_true}
+use Rattle.run_set.specs.declared.run.Run.{Run}
+use Rattle.run_set.specs.Runs.{inside, contains, Spaced, AreRunsOf}
+use Rattle.run_set.proofs.RunLemmas.{true_inside, Spaced-low, le_or_lt}
+use Rattle.run_set.proofs.PartLemmas.{before, outside}
+use Rattle.vsm_model.specs.Runs.{with_first, runs}
+use Rattle.vsm_model.specs.declared.Subpool.{Subpool}
+use Rattle.subpool_storage.specs.Subpools.{Subpools}
+use Rattle.subpool_storage.specs.Extents.{run_in, extents, ExtentsAreRuns, ExtentsAreFew}
+
+-- one number more in front of the runs: where the first run begins behind it, and where it doesn't
+data Fronted (k : ℕ) (xs ys : List (ℕ × ℕ)) : Type 0 where
+  alone : ys ≡ (k, 1) ∷ xs → Spaced (k + 2) (map run_in xs) → Fronted k xs ys
+  joined : (n : ℕ) (rest : List (ℕ × ℕ)) → xs ≡ (suc k, n) ∷ rest → ys ≡ (k, suc n) ∷ rest → Fronted k xs ys
+
+fronted : (k : ℕ) (xs : List (ℕ × ℕ)) → Spaced (suc k) (map run_in xs) → Fronted k xs (with_first k xs)
+fronted k [] h = alone refl tt
+fronted k (x ∷ xs) h = elim (cases_eq x.0 (suc k)) [
+  | inl e ↦ joined x.1 xs (λ i. (e i, x.1) ∷ xs) (ap (λ (b : Bool). if b then (k, suc x.1) ∷ xs else (k, 1) ∷ x ∷ xs) (eq-eqb x.0 (suc k) e))
+  | inr ne ↦ alone (ap (λ (b : Bool). if b then (k, suc x.1) ∷ xs else (k, 1) ∷ x ∷ xs) (false_from_ne_true (x.0 == suc k) (λ e. ne (eqb-true x.0 (suc k) e))))
+      (omega (arith, h.0, ne), h.1, h.2, h.3)
+]
+
+fronted_spaced : (k : ℕ) (xs ys : List (ℕ × ℕ)) → Fronted k xs ys → k + 1 ≤ 2 ^ 29 → Spaced (suc k) (map run_in xs) → Spaced k (map run_in ys)
+fronted_spaced k xs ys (alone e far) high h =
+    let P : List (ℕ × ℕ) → Type 0 = λ z. Spaced k (map run_in z) in
+    let Q : ℕ → Type 0 = λ z. Spaced z (map run_in xs) in
+    subst P (sym e) (omega arith, omega arith, high, subst Q (omega arith) far)
+fronted_spaced k xs ys (joined n rest e f) high h =
+    let P : List (ℕ × ℕ) → Type 0 = λ z. Spaced k (map run_in z) in
+    let Q : ℕ → Type 0 = λ z. Spaced z (map run_in rest) in
+    let R : List (ℕ × ℕ) → Type 0 = λ z. Spaced (suc k) (map run_in z) in
+    let g : Spaced (suc k) (map run_in ((suc k, n) ∷ rest)) = subst R e h in
+    let top : suc k + n ≤ 2 ^ 29 = g.2 in
+    subst P (sym f) (omega arith, omega arith, omega (arith, top), subst Q (omega arith) g.3)
+
+fronted_first : (k : ℕ) (xs ys : List (ℕ × ℕ)) → Fronted k xs ys → contains k (map run_in ys) ≡ true
+fronted_first k xs ys (alone e far) = ap (λ (z : List (ℕ × ℕ)). contains k (map run_in z)) e ∙ ap (λ (b : Bool). b || contains k (map run_in xs)) (true_inside k (run_in (k, 1)) (omega arith) (omega arith))
+fronted_first k xs ys (joined n rest e f) = ap (λ (z : List (ℕ × ℕ)). contains k (map run_in z)) f ∙ ap (λ (b : Bool). b || contains k (map run_in rest)) (true_inside k (run_in (k, suc n)) (omega arith) (omega arith))
+
+-- behind its first number a run is the one without it
+one_later : (k n m : ℕ) → k < m → inside m (run_in (k, suc n)) ≡ inside m (run_in (suc k, n))
+one_later k n m l = elim (le_or_lt (suc k + n) m) [
+  | inl q ↦ outside m (run_in (k, suc n)) (inr (omega (arith, q))) ∙ sym (outside m (run_in (suc k, n)) (inr q))
+  | inr q ↦ true_inside m (run_in (k, suc n)) (omega (arith, l)) (omega (arith, q)) ∙ sym (true_inside m (run_in (suc k, n)) (omega (arith, l)) q)
+]
+
+fronted_later : (k : ℕ) (xs ys : List (ℕ × ℕ)) (m : ℕ) → Fronted k xs ys → k < m → contains m (map run_in ys) ≡ contains m (map run_in xs)
+fronted_later k xs ys m (alone e far) l = ap (λ (z : List (ℕ × ℕ)). contains m (map run_in z)) e ∙ ap (λ (b : Bool). b || contains m (map run_in xs)) (outside m (run_in (k, 1)) (inr (omega (arith, l))))
+fronted_later k xs ys m (joined n rest e f) l = ap (λ (z : List (ℕ × ℕ)). contains m (map run_in z)) f ∙ ap (λ (b : Bool). b || contains m (map run_in rest)) (one_later k n m l) ∙ sym (ap (λ (z : List (ℕ × ℕ)). contains m (map run_in z)) e)
+
+fronted_length : (k : ℕ) (xs ys : List (ℕ × ℕ)) → Fronted k xs ys → length ys ≤ suc (length xs)
+fronted_length k xs ys (alone e far) = omega (arith, ap length e)
+fronted_length k xs ys (joined n rest e f) = omega (arith, ap length e, ap length f)
+
+module _ (f : ℕ → Bool) where
+  -- the runs of a number more, where it passes and where it doesn't
+  none_more : (k n : ℕ) → f k ≡ false → runs f k (suc n) ≡ runs f (suc k) n
+  none_more k n e = ap (λ (b : Bool). if b then with_first k (runs f (suc k) n) else runs f (suc k) n) e
+
+  one_more : (k n : ℕ) → f k ≡ true → runs f k (suc n) ≡ with_first k (runs f (suc k) n)
+  one_more k n e = ap (λ (b : Bool). if b then with_first k (runs f (suc k) n) else runs f (suc k) n) e
+
+  record Are (k n : ℕ) (xs : List (ℕ × ℕ)) : Type 0 where
+    spaced : Spaced k (map run_in xs)
+    within : (m : ℕ) → k ≤ m → m < k + n → contains m (map run_in xs) ≡ f m
+    behind : (m : ℕ) → k + n ≤ m → contains m (map run_in xs) ≡ false
+
+  without : (k n : ℕ) (xs : List (ℕ × ℕ)) → f k ≡ false → Are (suc k) n xs → Are k (suc n) xs
+  without k n xs e h = record {
+    spaced = Spaced-low (suc k) k (map run_in xs) h.spaced (omega arith);
+    within = λ m l u. elim (cases_eq k m) [
+      | inl q ↦ before (suc k) m (map run_in xs) h.spaced (omega (arith, q)) ∙ sym (sym (ap f q) ∙ e)
+      | inr q ↦ h.within m (omega (arith, l, q)) (omega (arith, u))
+    ];
+    behind = λ m l. h.behind m (omega (arith, l));
+  }
+
+  with : (k n : ℕ) (xs ys : List (ℕ × ℕ)) → f k ≡ true → Fronted k xs ys → k + suc n ≤ 2 ^ 29 → Are (suc k) n xs → Are k (suc n) ys
+  with k n xs ys e t high h = record {
+    spaced = fronted_spaced k xs ys t (omega (arith, high)) h.spaced;
+    within = λ m l u. elim (cases_eq k m) [
+      | inl q ↦ ap (λ (z : ℕ). contains z (map run_in ys)) (sym q) ∙ fronted_first k xs ys t ∙ sym (sym (ap f q) ∙ e)
+      | inr q ↦ fronted_later k xs ys m t (omega (arith, l, q)) ∙ h.within m (omega (arith, l, q)) (omega (arith, u))
+    ];
+    behind = λ m l. fronted_later k xs ys m t (omega (arith, l)) ∙ h.behind m (omega (arith, l));
+  }
+
+  are : (k n : ℕ) → k + n ≤ 2 ^ 29 → Are k n (runs f k n)
+  are k zero high = record { spaced = tt; within = λ m l u. absurd (omega (arith, l, u)); behind = λ m l. refl }
+  are k (suc n) high = go (f k) refl (are (suc k) n (omega (arith, high))) where
+    go : (b : Bool) → f k ≡ b → Are (suc k) n (runs f (suc k) n) → Are k (suc n) (runs f k (suc n))
+    go false e h = let P : List (ℕ × ℕ) → Type 0 = Are k (suc n) in subst P (sym (none_more k n e)) (without k n (runs f (suc k) n) e h)
+    go true e h = let P : List (ℕ × ℕ) → Type 0 = Are k (suc n) in subst P (sym (one_more k n e)) (with k n (runs f (suc k) n) (with_first k (runs f (suc k) n)) e (fronted k (runs f (suc k) n) h.spaced) high h)
+
+  are_below : (n : ℕ) → n ≤ 2 ^ 29 → ((m : ℕ) → n ≤ m → f m ≡ false) → AreRunsOf (map run_in (runs f 0 n)) f
+  are_below n high none =
+      let h : Are 0 n (runs f 0 n) = are 0 n high in
+      record {
+        spaced = h.spaced;
+        holds = λ m. elim (le_or_lt n m) [
+          | inl q ↦ h.behind m q ∙ sym (none m q)
+          | inr q ↦ h.within m (omega arith) q
+        ];
+      }
