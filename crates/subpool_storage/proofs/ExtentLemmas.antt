@@ -1,10 +1,22 @@
 -- The extents of a subpool are the maximal runs of its pages.
-use Rattle.std.proofs.Common.{◌≡◌, ℕ, zero, suc, ◌+◌, ◌-◌, ◌^◌, ◌<◌, ◌≤◌, ◌==◌, ◌⊎◌, inl, inr, Bool, true, false, ◌||◌, if◌then◌else◌, List, [], ◌∷◌, length, map, refl, sym, ap, ◌∙◌, arith, subst}
+use Rattle.std.proofs.Common.{◌≡◌, ℕ, zero, suc, ◌+◌, ◌-◌, ◌^◌, ◌<◌, ◌≤◌, ◌==◌, inl, inr, Bool, true, false, ◌||◌, if◌then◌else◌, List, [], ◌∷◌, length, map, Some, refl, sym, ap, ◌∙◌, arith, subst}
+use Rattle.std.proofs.lemmas.List.{length-map}
 use Rattle.std.proofs.lemmas.Bool.{cases_eq, both_ways, eqb-true, eq-eqb, false_from_ne_true}
 use Rattle.run_set.specs.declared.run.Run.{Run}
 use Rattle.run_set.specs.Runs.{inside, contains, Spaced, AreRunsOf}
 use Rattle.run_set.proofs.RunLemmas.{true_inside, Spaced-low, le_or_lt}
 use Rattle.run_set.proofs.PartLemmas.{before, outside}
+use Rattle.run_set.proofs.OneLemmas.{runs_one}
+use Rattle.vsm_elements.specs.Store.{Store}
+use Rattle.vsm_elements.specs.Owners.{times}
+use Rattle.vsm_elements.proofs.TimesLemmas.{times-append}
+use Rattle.descriptor_queue.specs.Extents
+use Rattle.free_queue.specs.FreeQueue
+use Rattle.subpool_set.specs.Pools.{Pool}
+use Rattle.subpool_set.specs.SubpoolSet.{pool}
+use Rattle.subpool_storage.specs.declared.storage.SubpoolStorage.{SubpoolStorage}
+use Rattle.subpool_storage.specs.SubpoolStorage.{hold, Stands}
+use Rattle.subpool_storage.proofs.PutLemmas.{part_of}
 use Rattle.vsm_model.specs.Runs.{with_first, runs}
 use Rattle.vsm_model.specs.declared.Subpool.{Subpool}
 use Rattle.subpool_storage.specs.Subpools.{Subpools}
@@ -51,9 +63,13 @@ fronted_later : (k : ℕ) (xs ys : List (ℕ × ℕ)) (m : ℕ) → Fronted k xs
 fronted_later k xs ys m (alone e far) l = ap (λ (z : List (ℕ × ℕ)). contains m (map run_in z)) e ∙ ap (λ (b : Bool). b || contains m (map run_in xs)) (outside m (run_in (k, 1)) (inr (omega (arith, l))))
 fronted_later k xs ys m (joined n rest e f) l = ap (λ (z : List (ℕ × ℕ)). contains m (map run_in z)) f ∙ ap (λ (b : Bool). b || contains m (map run_in rest)) (one_later k n m l) ∙ sym (ap (λ (z : List (ℕ × ℕ)). contains m (map run_in z)) e)
 
-fronted_length : (k : ℕ) (xs ys : List (ℕ × ℕ)) → Fronted k xs ys → length ys ≤ suc (length xs)
-fronted_length k xs ys (alone e far) = omega (arith, ap length e)
-fronted_length k xs ys (joined n rest e f) = omega (arith, ap length e, ap length f)
+-- it's one run more at most, whatever the runs
+fronted_length : (k : ℕ) (xs : List (ℕ × ℕ)) → length (with_first k xs) ≤ suc (length xs)
+fronted_length k [] = omega arith
+fronted_length k (x ∷ xs) = go (x.0 == suc k) where
+  go : (b : Bool) → length (if b then (k, suc x.1) ∷ xs else (k, 1) ∷ x ∷ xs) ≤ suc (suc (length xs))
+  go true = omega arith
+  go false = omega arith
 
 module _ (f : ℕ → Bool) where
   -- the runs of a number more, where it passes and where it doesn't
@@ -97,11 +113,63 @@ module _ (f : ℕ → Bool) where
 
   are_below : (n : ℕ) → n ≤ 2 ^ 29 → ((m : ℕ) → n ≤ m → f m ≡ false) → AreRunsOf (map run_in (runs f 0 n)) f
   are_below n high none =
-      let h : Are 0 n (runs f 0 n) = are 0 n high in
+      let h : Are 0 n (runs f 0 n) = are 0 n (omega (arith, high)) in
       record {
         spaced = h.spaced;
         holds = λ m. elim (le_or_lt n m) [
-          | inl q ↦ h.behind m q ∙ sym (none m q)
-          | inr q ↦ h.within m (omega arith) q
+          | inl q ↦ h.behind m (omega (arith, q)) ∙ sym (none m q)
+          | inr q ↦ h.within m (omega arith) (omega (arith, q))
         ];
       }
+
+  few : (k n : ℕ) → length (runs f k n) ≤ n
+  few k zero = omega arith
+  few k (suc n) = go (f k) refl (few (suc k) n) (fronted_length k (runs f (suc k) n)) where
+    go : (b : Bool) → f k ≡ b → length (runs f (suc k) n) ≤ n → length (with_first k (runs f (suc k) n)) ≤ suc (length (runs f (suc k) n)) → length (runs f k (suc n)) ≤ suc n
+    go false e h l = omega (arith, ap length (none_more k n e), h)
+    go true e h l = omega (arith, ap length (one_more k n e), h, l)
+
+  few_below : (top : ℕ) → ((m : ℕ) → top ≤ m → f m ≡ false) → (k n : ℕ) → length (runs f k n) ≤ top - k
+  few_below top none k zero = omega arith
+  few_below top none k (suc n) = go (f k) refl (few_below top none (suc k) n) (fronted_length k (runs f (suc k) n)) where
+    go : (b : Bool) → f k ≡ b → length (runs f (suc k) n) ≤ top - suc k → length (with_first k (runs f (suc k) n)) ≤ suc (length (runs f (suc k) n)) → length (runs f k (suc n)) ≤ top - k
+    go false e h l = omega (arith, ap length (none_more k n e), h)
+    go true e h l = elim (le_or_lt top k) [
+      | inl q ↦ absurd (both_ways (f k) (none k q) e)
+      | inr q ↦ omega (arith, ap length (one_more k n e), h, l, q)
+    ]
+
+  few_runs : (n : ℕ) → length (map run_in (runs f 0 n)) ≤ n
+  few_runs n = omega (arith, length-map (runs f 0 n) run_in, few 0 n)
+
+  few_runs_below : (top n : ℕ) → ((m : ℕ) → top ≤ m → f m ≡ false) → length (map run_in (runs f 0 n)) ≤ top
+  few_runs_below top n none = omega (arith, length-map (runs f 0 n) run_in, few_below top none 0 n)
+
+pub extents_are_runs : ExtentsAreRuns
+unfolding extents
+extents_are_runs m p none = are_below (m.pages p) (2 ^ 29) (omega arith) none
+
+pub extents_are_few : ExtentsAreFew
+unfolding extents
+extents_are_few m p = (few_runs (m.pages p) (2 ^ 29), λ top none. few_runs_below (m.pages p) top (2 ^ 29) none)
+
+-- no run of a set goes beyond 2^29
+pub none_high : (rs : List Run) (set : ℕ → Bool) → AreRunsOf rs set → (n : ℕ) → 2 ^ 29 ≤ n → set n ≡ false
+none_high rs set h n far = sym (h.holds n) ∙ over 0 rs h.spaced where
+  over : (low : ℕ) (zs : List Run) → Spaced low zs → contains n zs ≡ false
+  over low [] k = refl
+  over low (z ∷ zs) k = ap (λ (b : Bool). b || contains n zs) (outside n z (inr (omega (arith, k.2, far)))) ∙ over (z.start + z.len + 1) zs k.3
+
+-- the list of runs of a subpool's pages is that of its extents
+pub runs_are_extents : (m : Subpools) (p : Subpool) (rs : List Run) (set : ℕ → Bool) → AreRunsOf rs set → ((page : ℕ) → set page ≡ m.pages p page) → rs ≡ extents m p
+runs_are_extents m p rs set h same = runs_one set (m.pages p) rs (extents m p) h (extents_are_runs m p (λ page far. sym (same page) ∙ none_high rs set h page far)) same
+
+-- the elements of a subpool's extents are among those that the storage holds
+pub extents_held : (s : Store) (q : SubpoolStorage) (n o : ℕ) (p : Pool) → Stands s q → pool s q.set n o ≡ Some p → (i : ℕ) → times i (Extents.owned s p.queues.extents) ≤ hold s q i
+unfolding Stands hold
+extents_held s q n o p h e i =
+    omega (arith, times-append i (Extents.owned s p.queues.extents) (FreeQueue.owned s p.queues.free), part_of s q.set n o p h.set (h.queues.stand n o p e) e i)
+
+-- no elements are among them
+pub none_held : (s : Store) (q : SubpoolStorage) (ids : List ℕ) → ids ≡ [] → (i : ℕ) → times i ids ≤ hold s q i
+none_held s q ids e i = omega (arith, ap (times i) e)

@@ -5,3 +5,4 @@ pub mod PutLemmas
 pub mod SetLemmas
 pub mod LawLemmas
 pub mod ExchangeLemmas
+pub mod ExtentLemmas

@@ -1,6 +1,6 @@
 -- The extents of a subpool: the longest runs of its pages, ascending.
 -- Assembler Services Guide, "Virtual storage management", "Subpool handling".
-use Rattle.std.specs.Prelude.{◌≡◌, ℕ, ◌^◌, ◌≤◌, false, List, map}
+use Rattle.std.specs.Prelude.{◌≡◌, ℕ, ◌^◌, ◌≤◌, false, List, map, length}
 use Rattle.run_set.specs.declared.run.Run.{Run}
 use Rattle.run_set.specs.Runs.{AreRunsOf}
 use Rattle.vsm_model.specs.declared.Subpool.{Subpool}
@@ -10,11 +10,16 @@ use Rattle.subpool_storage.specs.Subpools.{Subpools}
 abbrev pub run_in : ℕ × ℕ → Run
 run_in r = record { start = r.0; len = r.1 }
 
--- closed, since there may be 2^20 pages
+-- Closed, since they may be many. A page is below 2^20; any number of a set of runs is below 2^29.
 unfoldable pub extents : Subpools → Subpool → List Run
-extents m p = map run_in (runs (m.pages p) 0 (2 ^ 20))
+extents m p = map run_in (runs (m.pages p) 0 (2 ^ 29))
 
--- They are the maximal runs of its pages, where each page is one below 2^20.
+-- They are the maximal runs of its pages, where each page is a number that a set of runs can have.
 abbrev pub ExtentsAreRuns : Type 0
-ExtentsAreRuns = (m : Subpools) (p : Subpool) → ((page : ℕ) → 2 ^ 20 ≤ page → m.pages p page ≡ false)
+ExtentsAreRuns = (m : Subpools) (p : Subpool) → ((page : ℕ) → 2 ^ 29 ≤ page → m.pages p page ≡ false)
     → AreRunsOf (extents m p) (m.pages p)
+
+-- There are no more of them than numbers, and no more than numbers below one from which on no page is the subpool's.
+abbrev pub ExtentsAreFew : Type 0
+ExtentsAreFew = (m : Subpools) (p : Subpool) → (length (extents m p) ≤ 2 ^ 29)
+    × ((top : ℕ) → ((page : ℕ) → top ≤ page → m.pages p page ≡ false) → length (extents m p) ≤ top)

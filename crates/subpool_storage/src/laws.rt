@@ -1,5 +1,6 @@
 //! What follows from the definitions. Each law is the contract of a function that does nothing.
 
+ghost use Rattle.subpool_storage.specs.Extents.{ExtentsAreRuns, ExtentsAreFew};
 ghost use Rattle.subpool_storage.specs.Laws.{StorageOwns, SubpoolsAreThere, StorageStays};
 
 /// No element has two owners among the subpools and their queues, and each is live.
@@ -15,4 +16,14 @@ pub fn subpools_are_there()
 /// A call that leaves its elements alone leaves it alone.
 pub fn storage_stays()
     ensures { StorageStays }
+{}
+
+/// The extents of a subpool are the maximal runs of its pages, in ascending order.
+pub fn extents_are_runs()
+    ensures { ExtentsAreRuns }
+{}
+
+/// A subpool has no more extents than there are pages: 2^20, where each page is below that.
+pub fn extents_are_few()
+    ensures { ExtentsAreFew }
 {}

@@ -1,10 +1,12 @@
 ghost use Rattle.std.specs.Prelude.{◌≡◌, ℕ, ◌+◌, ◌^◌, ◌<◌, ◌≤◌, true, false, IfSome, IfNone};
 ghost use Rattle.run_set.specs.Runs.{IsCover};
 ghost use Rattle.run_set.specs.Fits.{Fits, IsLeastFit, IsLongest};
-ghost use Rattle.descriptor_queue.specs.Extents.{has_page as extents_have, IsExtents};
+ghost use Rattle.descriptor_queue.specs.Extents.{extents as extents_in, has_page as extents_have, owned as extents_own, IsExtents};
 ghost use Rattle.free_queue.specs.FreeQueue.{is_free, IsFreeQueue};
 ghost use Rattle.subpool_storage.specs.Subpools.{is_there};
-ghost use Rattle.subpool_storage.specs.SubpoolStorage.{subpools_of, Stands};
+ghost use Rattle.subpool_storage.specs.Extents.{extents};
+ghost use Rattle.subpool_storage.specs.SubpoolStorage.{subpools_of, hold, Stands};
+ghost use Rattle.vsm_elements.specs.Owners.{times};
 
 use crate::storage::SubpoolStorage;
 use descriptor_queue::{Extents, Page};
@@ -38,6 +40,7 @@ impl SubpoolStorage {
             ≡ (subpools_of elements.now self.now).pages subpool p }
         ensures areas { (d : ℕ) → is_free elements.now result.free d
             ≡ (subpools_of elements.now self.now).free subpool d }
+        ensures held { (i : ℕ) → times i (extents_own elements.now result.extents) ≤ hold elements.now self.now i }
     {
         if self.has_subpool(elements, subpool) {
             let id = self.id(elements, subpool);
@@ -47,6 +50,20 @@ impl SubpoolStorage {
             extents: Extents::new(),
             free: FreeQueue::new(),
         }
+    }
+
+    /// The extents of the subpool, none where it isn't there: the maximal runs of its pages, below and above the 16 MB
+    /// line, each 4,096 bytes a page. What is answered is the head of a list in the storage's own elements. It is good as
+    /// long as these stay as they are, and not to be changed or discarded.
+    pub fn extents(&self, elements: &Elements, subpool: Subpool) -> Extents
+        requires { Stands elements.now self.now }
+        ensures stands { IsExtents elements.now result }
+        ensures pages { (page : ℕ) → extents_have elements.now result page
+            ≡ (subpools_of elements.now self.now).pages subpool page }
+        ensures held { (i : ℕ) → times i (extents_own elements.now result) ≤ hold elements.now self.now i }
+        ensures runs { extents_in elements.now result ≡ extents (subpools_of elements.now self.now) subpool }
+    {
+        self.queues(elements, subpool).extents
     }
 
     /// Whether the page is the subpool's.

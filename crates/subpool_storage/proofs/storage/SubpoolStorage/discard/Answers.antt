@@ -1,4 +1,4 @@
-use Rattle.std.proofs.Common.{◌≡◌, ℕ, ◌+◌, ◌++◌, [], refl, sym}
+use Rattle.std.proofs.Common.{◌+◌, ◌++◌, [], refl, sym}
 use Rattle.vsm_elements.specs.Owners.{times}
 use Rattle.vsm_elements.proofs.TimesLemmas.{times-append}
 use Rattle.vsm_elements.proofs.MoveLemmas.{moves-of, moves-like}
