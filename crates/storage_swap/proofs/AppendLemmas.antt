@@ -1,12 +1,12 @@
 -- Records are put behind one another into a chain.
-use Rattle.std.proofs.Common.{◌≡◌, ℕ, zero, suc, ◌+◌, ◌<◌, ◌≤◌, Bool, true, false, List, [], ◌∷◌, ◌++◌, length, map, take, drop, Option, Some, None, refl, sym, ap, ◌∙◌, arith, subst}
+use Rattle.std.proofs.Common.{◌≡◌, ℕ, zero, suc, ◌+◌, ◌<◌, ◌≤◌, false, List, [], ◌∷◌, ◌++◌, length, map, take, drop, get_or, Option, Some, None, refl, sym, ap, ◌∙◌, arith, subst}
 use Rattle.std.specs.Prelude.{slice_get}
 use Rattle.std.proofs.lemmas.List.{take_all}
-use Rattle.vsm_elements.specs.Store.{Store, at, among}
-use Rattle.vsm_elements.specs.Chain.{Link, links, owned, ids, follow, last_or, IsChain, IsChainOf}
-use Rattle.vsm_elements.specs.Ownership.{Owns, Leaves, Apart}
+use Rattle.vsm_elements.specs.Store.{Store}
+use Rattle.vsm_elements.specs.Chain.{Link, links, follow, last_or, IsChain, IsChainOf}
+use Rattle.vsm_elements.specs.Ownership.{Leaves, Apart}
 use Rattle.vsm_elements.specs.declared.chain.Chain.{Chain}
-use Rattle.vsm_elements.proofs.OwnerLemmas.{others_stay, calls_follow}
+use Rattle.vsm_elements.proofs.OwnerLemmas.{others_stay}
 use Rattle.run_set.specs.declared.run.Run.{Run}
 use Rattle.descriptor_queue.specs.declared.extents.Extents.{Extents}
 use Rattle.descriptor_queue.specs.Extents.{extents, has_page, IsExtents}
@@ -14,8 +14,7 @@ use Rattle.descriptor_queue.specs.Extents
 use Rattle.descriptor_queue.proofs.PageLemmas.{extents_stand, extents_stay}
 use Rattle.vsm_model.specs.declared.Subpool.{Subpool}
 use Rattle.storage_changes.specs.declared.record.Record.{Record}
-use Rattle.storage_changes.specs.declared.record.Record.TheVariants.{Pages, Queues}
-use Rattle.storage_changes.specs.Records.{record_of}
+use Rattle.storage_changes.specs.declared.record.Record.TheVariants.{Pages}
 use Rattle.storage_changes.specs.Changes.{unassigned_records}
 use Rattle.storage_swap.specs.Beside.{record_at, records_of}
 use Rattle.storage_swap.specs.Reserve.{emptying}
@@ -71,10 +70,10 @@ next-extent (x ∷ rs) zero r e = cc
 next-extent (x ∷ rs) (suc i) r e = ap (λ (z : List Record). Pages (record { run = x; assigned = false }) ∷ z) (next-extent rs i r e)
 
 -- one record more
-next-record : (rs : List Record) (i : ℕ) (r : Record) → slice_get rs i ≡ Some r → take (suc i) rs ≡ take i rs ++ r ∷ []
-next-record [] i r e = cc
-next-record (x ∷ rs) zero r e = cc
-next-record (x ∷ rs) (suc i) r e = ap (λ (z : List Record). x ∷ z) (next-record rs i r e)
+next-record : (rs : List Record) (i : ℕ) (d : Record) → i < length rs → take (suc i) rs ≡ take i rs ++ get_or rs i d ∷ []
+next-record [] i d h = absurd (omega (arith, h))
+next-record (x ∷ rs) zero d h = refl
+next-record (x ∷ rs) (suc i) d h = ap (λ (z : List Record). x ∷ z) (next-record rs i d (omega (arith, h)))
 
 one-more : (i : ℕ) → suc i ≡ i + 1
 one-more i = omega arith
@@ -87,9 +86,9 @@ next-in front now new rs i j r is got put next =
     ∙ ap (λ (z : List Record). front ++ z) (sym (next-extent rs i r got))
     ∙ ap (λ (k : ℕ). front ++ unassigned_records (take k rs)) (one-more i ∙ sym next)
 
-pub next-of : (front now new rs : List Record) (i : ℕ) (r : Record) → now ≡ front ++ take i rs → slice_get rs i ≡ Some r → new ≡ now ++ r ∷ [] → new ≡ front ++ take (i + 1) rs
-next-of front now new rs i r is got put =
-    put ∙ ap (λ (z : List Record). z ++ r ∷ []) is ∙ append-three front (take i rs) (r ∷ []) ∙ ap (λ (z : List Record). front ++ z) (sym (next-record rs i r got))
+pub next-of : (front now new rs : List Record) (i : ℕ) (d : Record) → now ≡ front ++ take i rs → i < length rs → new ≡ now ++ get_or rs i d ∷ [] → new ≡ front ++ take (i + 1) rs
+next-of front now new rs i d is less put =
+    put ∙ ap (λ (z : List Record). z ++ get_or rs i d ∷ []) is ∙ append-three front (take i rs) (get_or rs i d ∷ []) ∙ ap (λ (z : List Record). front ++ z) (sym (next-record rs i d less))
     ∙ ap (λ (k : ℕ). front ++ take k rs) (one-more i)
 
 -- there is none more
@@ -113,3 +112,24 @@ module _ (s e : Store) (had has : List ℕ) (q : Extents) (f : Leaves s e had ha
 
   pub beside-apart : Apart has (Extents.owned e q)
   beside-apart = let P : List ℕ → Type 0 = λ ids. Apart has ids in subst P (sym beside.3) (others_stay s e had has (Extents.owned s q) f (extents_stand s q k).1 apart).1
+
+-- what empties a subpool, by its parts
+pub unassigned-length : (rs : List Run) → length (unassigned_records rs) ≡ length rs
+unassigned-length [] = refl
+unassigned-length (r ∷ rs) = (let k = unassigned-length rs in omega (arith, k))
+
+pub emptying-all : (p : Option Subpool) (rs : List Run) → emptying p [] ++ unassigned_records rs ≡ emptying p rs
+emptying-all None rs = refl
+emptying-all (Some p) rs = refl
+
+pub emptying-length : (p : Option Subpool) (rs : List Run) → length (emptying p rs) ≡ length (emptying p []) + length rs
+emptying-length None rs = (let k = unassigned-length rs in omega (arith, k))
+emptying-length (Some p) rs = (let k = unassigned-length rs in omega (arith, k))
+
+pub all-records : (p : Option Subpool) (a b c : List Record) (rs : List Run) (records : List Record) → a ≡ emptying p [] → b ≡ a ++ unassigned_records rs → c ≡ b ++ records → c ≡ emptying p rs ++ records
+all-records p a b c rs records first second third =
+    third ∙ ap (λ (z : List Record). z ++ records) (second ∙ ap (λ (z : List Record). z ++ unassigned_records rs) first ∙ emptying-all p rs)
+
+-- nothing stands apart from all
+pub none-apart : (xs : List ℕ) → Apart [] xs
+none-apart xs i h = cc

@@ -1,5 +1,5 @@
 -- A change is made of what is spare.
-use Rattle.std.proofs.Common.{◌≡◌, ℕ, zero, suc, ◌+◌, ◌/◌, ◌%◌, ◌<◌, ◌≤◌, Bool, true, false, if◌then◌else◌, List, [], ◌∷◌, ◌++◌, length, map, get_or, replicate, Option, Some, None, IsSome, IsTrue, inl, inr, refl, sym, ap, ◌∙◌, arith, subst}
+use Rattle.std.proofs.Common.{◌≡◌, ℕ, zero, suc, ◌+◌, ◌/◌, ◌%◌, ◌<◌, ◌≤◌, Bool, true, false, if◌then◌else◌, List, [], ◌++◌, length, map, get_or, replicate, Option, Some, None, IsSome, IfSome, IsTrue, ◌==◌, inl, inr, refl, sym, ap, ◌∙◌, arith, subst}
 use Rattle.vsm_elements.specs.Store.{Store, at}
 use Rattle.vsm_elements.specs.declared.element.Element.{Element}
 use Rattle.vsm_elements.specs.Chain.{Link, links, owned, ids, IsChain}
@@ -16,7 +16,10 @@ use Rattle.raw_region.specs.Parked.{held_at}
 use Rattle.raw_region.proofs.ForCallers.{byte_at-same_pages}
 use Rattle.vsm_model.specs.declared.Subpool.{Subpool}
 use Rattle.subpool_storage.specs.declared.storage.SubpoolStorage.{SubpoolStorage as TheParked}
-use Rattle.subpool_storage.specs.Subpools.{Subpools}
+use Rattle.vsm_model.specs.Search.{holds}
+use Rattle.subpool_storage.specs.Extents.{extents}
+use Rattle.subpool_storage.specs.Subpools.{Subpools, is_there}
+use Rattle.subpool_storage.proofs.LawLemmas.{subpools_are_there}
 use Rattle.subpool_storage.specs.SubpoolStorage.{subpools_of, Stands}
 use Rattle.subpool_storage.specs.SubpoolStorage
 use Rattle.storage_changes.specs.declared.record.Record.{Record}
@@ -28,7 +31,8 @@ use Rattle.storage_exchange.specs.Storage.{hold, state_of, byte_held, Stand, IsF
 use Rattle.storage_swap.specs.declared.change.Change.{Change as TheChange}
 use Rattle.storage_swap.specs.Beside.{record_at, records_of}
 use Rattle.storage_swap.specs.Swap.{change_holds}
-use Rattle.storage_swap.specs.Reserve.{Grown, Reserves, emptying, emptied_extents, parked_under}
+use Rattle.storage_swap.specs.Reserve.{Grown, Reserves, elements_for, emptying, emptied_extents, parked_under}
+use Rattle.storage_swap.proofs.AppendLemmas.{unassigned-length}
 use Rattle.storage_swap.proofs.FrameLemmas.{none-some}
 use Rattle.storage_swap.proofs.Below.{storage-owns}
 use Rattle.storage_swap.proofs.KeptLemmas.{over, holds-live, same-hold, same-stands, same-state, region-stands}
@@ -198,7 +202,7 @@ module _ (m : Subpools) (records : List Record) (blanks : ℕ) (fresh : Run) whe
   meant-records (Some p) = refl
 
   pub meant-blanks : (emptied : Option Subpool) → (change_from m emptied records blanks fresh).blanks ≡ length (emptied_extents m emptied) + blanks
-  meant-blanks None = refl
+  meant-blanks None = omega arith
   meant-blanks (Some p) = refl
 
   pub meant-parked : (emptied : Option Subpool) → (change_from m emptied records blanks fresh).parked ≡ parked_under emptied
@@ -208,6 +212,28 @@ module _ (m : Subpools) (records : List Record) (blanks : ℕ) (fresh : Run) whe
   pub meant-frames : (emptied : Option Subpool) (a : ℕ) → (change_from m emptied records blanks fresh).frames a ≡ (if inside (a / 4096) fresh then Some 0 else None)
   meant-frames None a = refl
   meant-frames (Some p) a = refl
+
+-- how many elements its parts take
+pub parts-take : (m : Subpools) (emptied : Option Subpool) (n blanks : ℕ)
+    → elements_for m emptied n blanks ≡ (length (emptying emptied (emptied_extents m emptied)) + n) + (length (emptied_extents m emptied) + blanks) + length (emptying emptied [])
+parts-take m None n blanks = omega arith
+parts-take m (Some p) n blanks = (let k = unassigned-length (extents m p) in omega (arith, k))
+
+pub room-parked : (emptied : Option Subpool) (spare : ℕ) → length (emptying emptied []) ≤ spare → IfSome emptied (λ _. 0 < spare)
+room-parked None spare h = tt
+room-parked (Some p) spare h = omega (arith, h)
+
+-- a subpool that is there has a name that one can have
+there-some : (m : Subpools) (p : Subpool) → is_there m p ≡ true → IsSome (m.sight p.owner p.number)
+there-some m p h = go (m.sight p.owner p.number) h where
+  go : (o : Option ℕ) → holds (λ owner. owner == p.owner) o ≡ true → IsSome o
+  go None e = cc
+  go (Some x) e = refl
+
+pub parked-range : (s : Store) (q : TheParked) → Stands s q → (emptied : Option Subpool) → IfSome emptied (λ p. is_there (subpools_of s q) p ≡ true)
+    → IfSome emptied (λ p. (1 ≤ p.owner) × (p.owner ≤ 64) × (p.number ≤ 127))
+parked-range s q k None h = tt
+parked-range s q k (Some p) h = (subpools_are_there s q k).0 p.owner p.number (there-some (subpools_of s q) p h)
 
 -- the growth before it
 module _ (p m : Storage) (k : Stand p) (one : (i : ℕ) → hold p i ≤ 1) (g : Grown p m) where
@@ -219,6 +245,9 @@ module _ (p m : Storage) (k : Stand p) (one : (i : ℕ) → hold p i ≤ 1) (g :
 
   pub grown-state : state_of m ≡ state_of p
   grown-state = ap state_of g.same ∙ moved-state p m.elements m.region k one no_ids still g.pages
+
+  pub grown-subpools : subpools_of m.elements m.subpools ≡ subpools_of p.elements p.subpools
+  grown-subpools = ap (λ (z : StorageState). z.subpools) grown-state
 
   grown-hold : (i : ℕ) → hold m i ≡ hold p i
   grown-hold i = ap (λ (z : Storage). hold z i) g.same ∙ moved-hold p m.elements m.region k one no_ids still g.pages i

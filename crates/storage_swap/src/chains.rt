@@ -28,6 +28,8 @@ pub(crate) fn take_records(
     ensures records { records_of elements.new result
         ≡ emptying emptied (extents elements.old emptied_extents) ++ records.now }
     ensures owned { Leaves elements.old elements.new [] (owned elements.new result) }
+    ensures spare { elements.new.spare + (length (emptying emptied (extents elements.old emptied_extents))
+        + length records.now) ≡ elements.old.spare }
 {
     let mut chain = Chain::new();
     let last = append_emptying(elements, &mut chain, emptied);
@@ -112,6 +114,7 @@ fn append_records(elements: &mut Elements, chain: &mut Chain, last: Id, records:
     ensures chain { IsChain elements.new chain.new }
     ensures records { records_of elements.new chain.new ≡ records_of elements.old chain.old ++ records.now }
     ensures owned { Leaves elements.old elements.new (owned elements.old chain.old) (owned elements.new chain.new) }
+    ensures spare { elements.new.spare + length records.now ≡ elements.old.spare }
 {
     let mut before = last;
     for k in 0..records.len() {

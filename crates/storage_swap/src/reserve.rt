@@ -79,7 +79,6 @@ fn elements_needed(storage: &Storage, emptied: Option<Subpool>, records: u32, bl
     requires size { records + blanks ≤ 2 ^ 20 }
     ensures { result ≡ elements_for (state_of storage.now).subpools emptied records blanks }
 {
-    extents_are_few();
     let extents = extents_emptied(storage, emptied).count();
     match emptied {
         Some(_) => 2 + 2 * extents + (records + blanks),
@@ -92,7 +91,9 @@ fn extents_emptied(storage: &Storage, emptied: Option<Subpool>) -> Extents
     requires { Stand storage.now }
     ensures extents { IsExtents storage.now.elements result }
     ensures runs { extents storage.now.elements result ≡ emptied_extents (state_of storage.now).subpools emptied }
+    ensures few { length (extents storage.now.elements result) ≤ 2 ^ 29 }
 {
+    extents_are_few();
     match emptied {
         Some(subpool) => storage.subpools.extents(&storage.elements, subpool),
         None => Extents::new(),
@@ -127,7 +128,8 @@ fn make(
     requires once { (i : ℕ) → hold storage.old i ≤ 1 }
     requires frameless { IsFrameless storage.old }
     requires there { IfSome emptied (λ p. is_there (state_of storage.old).subpools p ≡ true) }
-    requires size { elements_for (state_of storage.old).subpools emptied (length records.now) blanks
+    requires size { length records.now + blanks ≤ 2 ^ 20 }
+    requires spare { elements_for (state_of storage.old).subpools emptied (length records.now) blanks
         ≤ storage.old.elements.spare }
     requires range { fresh.start + fresh.len ≤ 2 ^ 20 }
     requires spare_frames { fresh.len ≤ storage.old.region.spare }

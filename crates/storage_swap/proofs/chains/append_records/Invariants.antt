@@ -1,4 +1,4 @@
-use Rattle.std.proofs.Common.{◌≡◌, ◌+◌, ◌≤◌, ◌++◌, take}
+use Rattle.std.proofs.Common.{◌≡◌, ◌+◌, ◌++◌, take}
 use Rattle.vsm_elements.specs.Chain.{last_or, links, owned, IsChain}
 use Rattle.vsm_elements.specs.Ownership.{Leaves}
 use Rattle.storage_swap.specs.Beside.{records_of}
