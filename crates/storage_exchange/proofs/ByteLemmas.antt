@@ -126,5 +126,6 @@ module _ (p : Storage) (r : BytesRecord) (region : Tables) (new : List ℕ) (swa
     );
     out = ap (λ (z : ℕ). z + length given) counts.out_is;
     tables = tables;
+    frames = record { spare = counts.spare_is; made = counts.made_is };
     places = λ places page some. (let P : Bool → Type 0 = λ z. IsTrue z in subst P (sym (tables.tables page)) (places page some));
   }

@@ -93,6 +93,7 @@ module _ (p : Storage) (e : Store) (q : PageSet) (run : Run) (owned : Leaves p.e
       steps = λ kept le h. (omega (arith, spares, le, h.room_after), assigned-steps kept le h);
       out = refl;
       tables = tables-same p.region;
+      frames = record { spare = refl; made = refl };
       places = λ places. places;
     }
 
@@ -207,6 +208,7 @@ module _ (p : Storage) (e : Store) (q : PageSet) (run : Run) (owned : Leaves p.e
       steps = λ kept le h. (omega (arith, spares, le, h.room), out-steps kept le h);
       out = omega (arith, counts.out_is, count, parks.count);
       tables = tables;
+      frames = record { spare = counts.spare_is; made = counts.made_is };
       places = out-places;
     }
 

@@ -55,6 +55,7 @@ module _ (p : Storage) (e : Store) (q parked : Head) (k : StandsWith p parked) (
     steps = λ kept le fits. (let s = h kept le fits in (s.0, walk-now given kept ∙ s.1));
     out = refl;
     tables = tables-same p.region;
+    frames = record { spare = refl; made = refl };
     places = λ places. places;
   }
 

@@ -72,6 +72,7 @@ module _ (p : Storage) (e : Store) (r : RegisterRecord) (low : r.register < 16) 
       steps = λ kept le fits. (omega (arith, le, spares), register-steps kept);
       out = refl;
       tables = tables-same p.region;
+      frames = record { spare = refl; made = refl };
       places = λ places. places;
     }
 
@@ -103,5 +104,6 @@ module _ (p : Storage) (parked : Head) (k : StandsWith p parked) (e : Store) (r 
     steps = λ kept le fits. (omega (arith, le, spares), queues-steps given kept);
     out = refl;
     tables = tables-same p.region;
+    frames = record { spare = refl; made = refl };
     places = λ places. places;
   }

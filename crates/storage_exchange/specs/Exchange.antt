@@ -2,7 +2,7 @@
 use Rattle.std.specs.Prelude.{◌≡◌, ℕ, ◌+◌, ◌≤◌, List, length, IsSome, IsTrue}
 use Rattle.vsm_elements.specs.Owners.{Moves}
 use Rattle.raw_region.specs.Frames.{PageFrame}
-use Rattle.raw_region.specs.Pages.{has_table, SameTables}
+use Rattle.raw_region.specs.Pages.{Pages, has_table, SameTables}
 use Rattle.raw_region.specs.Parked.{held_at}
 use Rattle.subpool_storage.specs.declared.storage.SubpoolStorage.{SubpoolStorage}
 use Rattle.storage_changes.specs.declared.record.Record.{Record}
@@ -15,6 +15,11 @@ use Rattle.storage_exchange.specs.Storage.{hold_with, walk_of, StandsWith}
 abbrev pub HavePlaces : Storage → List PageFrame → Type 0
 HavePlaces p frames = (page : ℕ) → IsSome (held_at frames page) → IsTrue (has_table p.region page)
 
+-- no frame is made, and as many are spare
+pub record SameFrames (old new : Pages) : Type 0 where
+  pub spare : new.spare ≡ old.spare
+  pub made : new.made ≡ old.made
+
 -- The storage took the record's step, whatever elements are kept. The frames that the change was given before and after
 -- are `given` and `given'`, the subpools that it has parked `parked` and `parked'`.
 pub record Exchanges (p t : Storage) (given given' : List PageFrame) (parked parked' : SubpoolStorage) (r : Record)
@@ -26,4 +31,5 @@ pub record Exchanges (p t : Storage) (given given' : List PageFrame) (parked par
       → (kept ≤ t.elements.spare) × (walk_of t given' parked' kept ≡ step (walk_of p given parked kept) r)
   pub out : t.region.out + length given ≡ p.region.out + length given'
   pub tables : SameTables p.region t.region
+  pub frames : SameFrames p.region t.region
   pub places : HavePlaces p given → HavePlaces t given'

@@ -5,6 +5,7 @@ mod LoopLemmas
 pub mod FrameLemmas
 pub mod SwapLemmas
 mod DiscardLemmas
+mod AppendLemmas
 pub mod ReserveLemmas
 mod SettingsLemmas
 pub mod FreshLemmas

@@ -1,6 +1,7 @@
 -- A change is made of what is spare.
-use Rattle.std.proofs.Common.{◌≡◌, ℕ, zero, suc, ◌+◌, ◌/◌, ◌%◌, ◌<◌, ◌≤◌, Bool, true, false, if◌then◌else◌, List, [], length, map, get_or, replicate, Option, Some, None, IsSome, IsTrue, inl, inr, refl, sym, ap, ◌∙◌, arith, subst}
+use Rattle.std.proofs.Common.{◌≡◌, ℕ, zero, suc, ◌+◌, ◌/◌, ◌%◌, ◌<◌, ◌≤◌, Bool, true, false, if◌then◌else◌, List, [], ◌++◌, length, map, get_or, replicate, Option, Some, None, IsSome, IfSome, IsTrue, ◌==◌, inl, inr, refl, sym, ap, ◌∙◌, arith, subst}
 use Rattle.vsm_elements.specs.Store.{Store, at}
+use Rattle.vsm_elements.specs.declared.element.Element.{Element}
 use Rattle.vsm_elements.specs.Chain.{Link, links, owned, ids, IsChain}
 use Rattle.vsm_elements.specs.Ownership.{Leaves}
 use Rattle.vsm_elements.specs.declared.chain.Chain.{Chain}
@@ -13,23 +14,27 @@ use Rattle.raw_region.specs.Frames.{PageFrame, zeros}
 use Rattle.raw_region.specs.Pages.{Pages as Tables, byte_of, byte_at, has_table, HaveTables, SamePages, SameTables}
 use Rattle.raw_region.specs.Parked.{held_at}
 use Rattle.raw_region.proofs.ForCallers.{byte_at-same_pages}
+use Rattle.vsm_model.specs.declared.Subpool.{Subpool}
 use Rattle.subpool_storage.specs.declared.storage.SubpoolStorage.{SubpoolStorage as TheParked}
-use Rattle.subpool_storage.specs.Subpools.{no_subpools}
+use Rattle.vsm_model.specs.Search.{holds}
+use Rattle.subpool_storage.specs.Extents.{extents}
+use Rattle.subpool_storage.specs.Subpools.{Subpools, is_there}
+use Rattle.subpool_storage.proofs.LawLemmas.{subpools_are_there}
 use Rattle.subpool_storage.specs.SubpoolStorage.{subpools_of, Stands}
 use Rattle.subpool_storage.specs.SubpoolStorage
 use Rattle.storage_changes.specs.declared.record.Record.{Record}
 use Rattle.storage_changes.specs.State.{StorageState}
-use Rattle.storage_changes.specs.Changes.{Change}
+use Rattle.storage_changes.specs.Changes.{Change, change_from}
 use Rattle.storage_changes.proofs.Cases.{state-same}
 use Rattle.storage_exchange.specs.declared.storage.Storage.{Storage}
-use Rattle.storage_exchange.specs.Storage.{hold, state_of, byte_held, Stand}
+use Rattle.storage_exchange.specs.Storage.{hold, state_of, byte_held, Stand, IsFrameless}
 use Rattle.storage_swap.specs.declared.change.Change.{Change as TheChange}
 use Rattle.storage_swap.specs.Beside.{record_at, records_of}
 use Rattle.storage_swap.specs.Swap.{change_holds}
-use Rattle.storage_exchange.specs.Storage.{IsFrameless}
-use Rattle.storage_changes.specs.Changes.{change_of}
-use Rattle.storage_swap.specs.Reserve.{Grown, Reserves}
+use Rattle.storage_swap.specs.Reserve.{Grown, Reserves, elements_for, emptying, emptied_extents, parked_under}
+use Rattle.storage_swap.proofs.AppendLemmas.{unassigned-length}
 use Rattle.storage_swap.proofs.FrameLemmas.{none-some}
+use Rattle.storage_swap.proofs.Below.{storage-owns}
 use Rattle.storage_swap.proofs.KeptLemmas.{over, holds-live, same-hold, same-stands, same-state, region-stands}
 
 abbrev no_ids : ℕ → ℕ
@@ -76,12 +81,13 @@ module _ (p : Storage) (e : Store) (region : Tables) (k : Stand p) (one : (i : �
   pub moved-frameless : IsFrameless p → IsFrameless u
   moved-frameless b page h = pages page ∙ b page (sym (ap (λ (z : StorageState). z.unassigned page) moved-state) ∙ h)
 
-module _ (p : Storage) (records : List Record) (blanks : ℕ) (fresh : Run) (k : Stand p) (one : (i : ℕ) → hold p i ≤ 1) (frameless : IsFrameless p) (tables : HaveTables p.region fresh.start fresh.len)
-    (e : Store) (chain : Chain) (stand : IsChain e chain) (is : records_of e chain ≡ records) (f : Leaves p.elements e [] (owned e chain))
-    (end : Store) (spares : Chain) (stand' : IsChain end spares) (count : spares.count ≡ blanks) (g : Leaves e end [] (owned end spares))
+module _ (p : Storage) (m : Change) (fresh : Run) (k : Stand p) (one : (i : ℕ) → hold p i ≤ 1) (frameless : IsFrameless p) (tables : HaveTables p.region fresh.start fresh.len)
+    (bring : (a : ℕ) → m.frames a ≡ (if inside (a / 4096) fresh then Some 0 else None))
+    (e : Store) (chain : Chain) (stand : IsChain e chain) (is : records_of e chain ≡ m.records) (f : Leaves p.elements e [] (owned e chain))
+    (e' : Store) (spares : Chain) (stand' : IsChain e' spares) (count : spares.count ≡ m.blanks) (g : Leaves e e' [] (owned e' spares))
+    (end : Store) (parked : TheParked) (parked-stands : Stands end parked) (parked-is : subpools_of end parked ≡ m.parked) (h : Moves e' end no_ids (SubpoolStorage.hold end parked))
     (region : Tables) (frames : List PageFrame) (held : (page : ℕ) → held_at frames page ≡ (if inside page fresh then Some zeros else None)) (pages : SamePages p.region region) (same : SameTables p.region region)
-    (long : length frames ≡ fresh.len) (out : region.out ≡ p.region.out + fresh.len)
-    (parked : TheParked) (parked-stands : (s : Store) → Stands s parked) (parked-is : (s : Store) → subpools_of s parked ≡ no_subpools) (parked-hold : (s : Store) (i : ℕ) → SubpoolStorage.hold s parked i ≡ 0) where
+    (long : length frames ≡ fresh.len) (out : region.out ≡ p.region.out + fresh.len) where
   abbrev c : TheChange
   c = record { records = chain; blanks = spares; frames = frames; parked = parked }
 
@@ -92,13 +98,14 @@ module _ (p : Storage) (records : List Record) (blanks : ℕ) (fresh : Run) (k :
   chain-ids i = times i (owned e chain)
 
   abbrev spare-ids : ℕ → ℕ
-  spare-ids i = times i (owned end spares)
+  spare-ids i = times i (owned e' spares)
 
+  abbrev parked-ids : ℕ → ℕ
+  parked-ids i = SubpoolStorage.hold end parked i
+
+  -- the records
   first : Moves p.elements e no_ids chain-ids
   first = moves-of p.elements e [] (owned e chain) f
-
-  second : Moves e end no_ids spare-ids
-  second = moves-of e end [] (owned end spares) g
 
   same-first : (i : ℕ) → 0 < hold p i → at e i ≡ at p.elements i
   same-first = rest-same p.elements e no_ids chain-ids first (hold p) (λ i. omega (arith, one i)) (holds-live p k)
@@ -106,58 +113,127 @@ module _ (p : Storage) (records : List Record) (blanks : ℕ) (fresh : Run) (k :
   once-first : (i : ℕ) → chain-ids i + hold p i ≤ 1
   once-first = once-after p.elements e no_ids chain-ids first (hold p) (λ i. omega (arith, one i)) (holds-live p k) (chain-once e chain stand)
 
-  hold-mid : (i : ℕ) → hold (over p e) i ≡ hold p i
-  hold-mid = same-hold p e k same-first
+  hold-first : (i : ℕ) → hold (over p e) i ≡ hold p i
+  hold-first = same-hold p e k same-first
 
-  live-mid : (i : ℕ) → 0 < chain-ids i + hold p i → IsSome (at e i)
-  live-mid i h = elim (none-or-some (chain-ids i)) [
-    | inl z ↦ holds-live (over p e) (same-stands p e k same-first) i (omega (arith, h, z, hold-mid i))
+  live-first : (i : ℕ) → 0 < chain-ids i + hold p i → IsSome (at e i)
+  live-first i n = elim (none-or-some (chain-ids i)) [
+    | inl z ↦ holds-live (over p e) (same-stands p e k same-first) i (omega (arith, n, z, hold-first i))
     | inr z ↦ chain-live e chain stand i z
   ]
 
+  -- the blank elements
+  second : Moves e e' no_ids spare-ids
+  second = moves-of e e' [] (owned e' spares) g
+
   once-second : (i : ℕ) → spare-ids i + (chain-ids i + hold p i) ≤ 1
-  once-second = once-after e end no_ids spare-ids second (λ i. chain-ids i + hold p i) (λ i. omega (arith, once-first i)) live-mid (chain-once end spares stand')
+  once-second = once-after e e' no_ids spare-ids second (λ i. chain-ids i + hold p i) (λ i. omega (arith, once-first i)) live-first (chain-once e' spares stand')
+
+  same-second : (i : ℕ) → 0 < chain-ids i + hold p i → at e' i ≡ at e i
+  same-second = rest-same e e' no_ids spare-ids second (λ i. chain-ids i + hold p i) (λ i. omega (arith, once-first i)) live-first
+
+  live-second : (i : ℕ) → 0 < spare-ids i + (chain-ids i + hold p i) → IsSome (at e' i)
+  live-second i n = elim (none-or-some (spare-ids i)) [
+    | inl z ↦ (let w : 0 < chain-ids i + hold p i = omega (arith, n, z) in let P : Option Element → Type 0 = λ o. IsSome o in subst P (sym (same-second i w)) (live-first i w))
+    | inr z ↦ chain-live e' spares stand' i z
+  ]
+
+  -- the subpools that are parked
+  once-third : (i : ℕ) → parked-ids i + (spare-ids i + (chain-ids i + hold p i)) ≤ 1
+  once-third = once-after e' end no_ids parked-ids h (λ i. spare-ids i + (chain-ids i + hold p i)) (λ i. omega (arith, once-second i)) live-second (storage-owns end parked parked-stands).0
+
+  same-third : (i : ℕ) → 0 < spare-ids i + (chain-ids i + hold p i) → at end i ≡ at e' i
+  same-third = rest-same e' end no_ids parked-ids h (λ i. spare-ids i + (chain-ids i + hold p i)) (λ i. omega (arith, once-second i)) live-second
 
   chain-stays : IsChain end chain × (links end chain ≡ links e chain)
-  chain-stays = chain-kept e end chain stand (λ i h. rest-same e end no_ids spare-ids second chain-ids (λ j. omega (arith, once-first j)) (chain-live e chain stand) i h)
+  chain-stays = chain-kept e end chain stand (λ i n. same-third i (omega (arith, n)) ∙ same-second i (omega (arith, n)))
 
-  ids-stay : (i : ℕ) → times i (owned end chain) ≡ chain-ids i
-  ids-stay i = ap (λ (ns : List Link). times i (ids ns)) chain-stays.1
+  spares-stay : IsChain end spares × (links end spares ≡ links e' spares)
+  spares-stay = chain-kept e' end spares stand' (λ i n. same-third i (omega (arith, n)))
+
+  chain-ids-stay : (i : ℕ) → times i (owned end chain) ≡ chain-ids i
+  chain-ids-stay i = ap (λ (ns : List Link). times i (ids ns)) chain-stays.1
+
+  spare-ids-stay : (i : ℕ) → times i (owned end spares) ≡ spare-ids i
+  spare-ids-stay i = ap (λ (ns : List Link). times i (ids ns)) spares-stay.1
 
   moved : Moves p.elements end no_ids (change_holds end c)
-  moved = moves-follow p.elements e end no_ids chain-ids (change_holds end c) first (moves-by e end no_ids spare-ids chain-ids (change_holds end c) second (λ i. omega arith) (λ i. omega (arith, ids-stay i, parked-hold end i)))
+  moved = moves-follow p.elements e end no_ids chain-ids (change_holds end c) first
+      (moves-follow e e' end chain-ids (λ i. chain-ids i + spare-ids i) (change_holds end c)
+      (moves-by e e' no_ids spare-ids chain-ids (λ i. chain-ids i + spare-ids i) second (λ i. omega arith) (λ i. omega arith))
+      (moves-by e' end no_ids parked-ids (λ i. chain-ids i + spare-ids i) (change_holds end c) h (λ i. omega arith) (λ i. omega (arith, chain-ids-stay i, spare-ids-stay i))))
 
   hold-end : (i : ℕ) → hold t i ≡ hold p i
   hold-end = moved-hold p end region k one (change_holds end c) moved pages
 
   have-places : (page : ℕ) → IsSome (held_at frames page) → IsTrue (has_table region page)
-  have-places page h = go (inside page fresh) refl where
+  have-places page n = go (inside page fresh) refl where
     go : (b : Bool) → inside page fresh ≡ b → IsTrue (has_table region page)
     go true i = let b : (fresh.start ≤ page) × (page < fresh.start + fresh.len) = inside_true page fresh i in let P : Bool → Type 0 = λ z. IsTrue z in subst P (sym (same.tables page)) (tables page b.0 b.1)
-    go false o = absurd (none-some (held_at frames page) (held page ∙ ap (λ (b : Bool). if b then Some zeros else None) o) h)
+    go false o = absurd (none-some (held_at frames page) (held page ∙ ap (λ (b : Bool). if b then Some zeros else None) o) n)
 
-  pub reserves : Reserves p (change_of records blanks fresh) c t
+  pub reserves : Reserves p m c t
   reserves = record {
     ready = record {
       stands = record {
         storage = moved-stands p end region k one (change_holds end c) moved pages;
-        parked = parked-stands end;
-        once = λ i. omega (arith, hold-end i, one i, parked-hold end i);
+        parked = parked-stands;
+        once = λ i. omega (arith, hold-end i, once-third i);
       };
       records = chain-stays.0;
-      blanks = stand';
-      once = λ i. omega (arith, hold-end i, once-second i, ids-stay i, parked-hold end i);
+      blanks = spares-stay.0;
+      once = λ i. omega (arith, hold-end i, once-third i, chain-ids-stay i, spare-ids-stay i);
       frameless = moved-frameless p end region k one (change_holds end c) moved pages frameless;
       out = omega (arith, out, long);
       places = have-places;
     };
     shows = moved-state p end region k one (change_holds end c) moved pages;
-    meaning = λ i. record { records = (ap (map record_at) chain-stays.1 ∙ is) i; blanks = count i; frames = λ a. byte-fresh frames fresh held a i; parked = parked-is end i };
+    meaning = λ i. record { records = (ap (map record_at) chain-stays.1 ∙ is) i; blanks = count i; frames = λ a. (byte-fresh frames fresh held a ∙ sym (bring a)) i; parked = parked-is i };
     held = hold-end;
     moves = moved;
-    tables = record { tables = λ page h. (let P : Bool → Type 0 = λ z. IsTrue z in subst P (sym (same.tables page)) h); segments = same.segments };
+    tables = record { tables = λ page n. (let P : Bool → Type 0 = λ z. IsTrue z in subst P (sym (same.tables page)) n); segments = same.segments };
     out = omega (arith, out, long);
   }
+
+-- what the change means, by its parts
+module _ (m : Subpools) (records : List Record) (blanks : ℕ) (fresh : Run) where
+  pub meant-records : (emptied : Option Subpool) → (change_from m emptied records blanks fresh).records ≡ emptying emptied (emptied_extents m emptied) ++ records
+  meant-records None = refl
+  meant-records (Some p) = refl
+
+  pub meant-blanks : (emptied : Option Subpool) → (change_from m emptied records blanks fresh).blanks ≡ length (emptied_extents m emptied) + blanks
+  meant-blanks None = omega arith
+  meant-blanks (Some p) = refl
+
+  pub meant-parked : (emptied : Option Subpool) → (change_from m emptied records blanks fresh).parked ≡ parked_under emptied
+  meant-parked None = refl
+  meant-parked (Some p) = refl
+
+  pub meant-frames : (emptied : Option Subpool) (a : ℕ) → (change_from m emptied records blanks fresh).frames a ≡ (if inside (a / 4096) fresh then Some 0 else None)
+  meant-frames None a = refl
+  meant-frames (Some p) a = refl
+
+-- how many elements its parts take
+pub parts-take : (m : Subpools) (emptied : Option Subpool) (n blanks : ℕ)
+    → elements_for m emptied n blanks ≡ (length (emptying emptied (emptied_extents m emptied)) + n) + (length (emptied_extents m emptied) + blanks) + length (emptying emptied [])
+parts-take m None n blanks = omega arith
+parts-take m (Some p) n blanks = (let k = unassigned-length (extents m p) in omega (arith, k))
+
+pub room-parked : (emptied : Option Subpool) (spare : ℕ) → length (emptying emptied []) ≤ spare → IfSome emptied (λ _. 0 < spare)
+room-parked None spare h = tt
+room-parked (Some p) spare h = omega (arith, h)
+
+-- a subpool that is there has a name that one can have
+there-some : (m : Subpools) (p : Subpool) → is_there m p ≡ true → IsSome (m.sight p.owner p.number)
+there-some m p h = go (m.sight p.owner p.number) h where
+  go : (o : Option ℕ) → holds (λ owner. owner == p.owner) o ≡ true → IsSome o
+  go None e = cc
+  go (Some x) e = refl
+
+pub parked-range : (s : Store) (q : TheParked) → Stands s q → (emptied : Option Subpool) → IfSome emptied (λ p. is_there (subpools_of s q) p ≡ true)
+    → IfSome emptied (λ p. (1 ≤ p.owner) × (p.owner ≤ 64) × (p.number ≤ 127))
+parked-range s q k None h = tt
+parked-range s q k (Some p) h = (subpools_are_there s q k).0 p.owner p.number (there-some (subpools_of s q) p h)
 
 -- the growth before it
 module _ (p m : Storage) (k : Stand p) (one : (i : ℕ) → hold p i ≤ 1) (g : Grown p m) where
@@ -169,6 +245,9 @@ module _ (p m : Storage) (k : Stand p) (one : (i : ℕ) → hold p i ≤ 1) (g :
 
   pub grown-state : state_of m ≡ state_of p
   grown-state = ap state_of g.same ∙ moved-state p m.elements m.region k one no_ids still g.pages
+
+  pub grown-subpools : subpools_of m.elements m.subpools ≡ subpools_of p.elements p.subpools
+  grown-subpools = ap (λ (z : StorageState). z.subpools) grown-state
 
   grown-hold : (i : ℕ) → hold m i ≡ hold p i
   grown-hold i = ap (λ (z : Storage). hold z i) g.same ∙ moved-hold p m.elements m.region k one no_ids still g.pages i

@@ -1,12 +1,15 @@
 -- A change that was reserved.
-use Rattle.std.specs.Prelude.{◌≡◌, ℕ, ◌+◌, ◌*◌, length, IsTrue, Option, Some, None}
+use Rattle.std.specs.Prelude.{◌≡◌, ℕ, ◌+◌, ◌*◌, true, List, [], ◌∷◌, length, IsTrue, Option, Some, None}
 use Rattle.vsm_elements.specs.Store.{SameElements}
 use Rattle.vsm_elements.specs.Owners.{Moves}
 use Rattle.raw_region.specs.Pages.{Pages, has_table, has_segment, SamePages}
+use Rattle.run_set.specs.declared.run.Run.{Run}
 use Rattle.vsm_model.specs.declared.Subpool.{Subpool}
 use Rattle.subpool_storage.specs.Extents.{extents}
-use Rattle.subpool_storage.specs.Subpools.{Subpools}
-use Rattle.storage_changes.specs.Changes.{Change}
+use Rattle.subpool_storage.specs.Subpools.{Subpools, no_subpools, with_own}
+use Rattle.storage_changes.specs.declared.record.Record.{Record}
+use Rattle.storage_changes.specs.declared.record.Record.TheVariants.{Queues}
+use Rattle.storage_changes.specs.Changes.{Change, unassigned_records}
 use Rattle.storage_exchange.specs.declared.storage.Storage.{Storage}
 use Rattle.storage_exchange.specs.Storage.{hold, state_of}
 use Rattle.storage_swap.specs.declared.change.Change.{Change as TheChange}
@@ -40,3 +43,18 @@ pub record Reserves (p : Storage) (d : Change) (c : TheChange) (t : Storage) : T
 abbrev pub elements_for : Subpools → Option Subpool → ℕ → ℕ → ℕ
 elements_for m None records blanks = records + blanks
 elements_for m (Some p) records blanks = 2 + 2 * length (extents m p) + (records + blanks)
+
+-- the extents of the subpool that is emptied; none where none is
+abbrev pub emptied_extents : Subpools → Option Subpool → List Run
+emptied_extents m None = []
+emptied_extents m (Some p) = extents m p
+
+-- the records that stand before those that are given, where the extents are these
+abbrev pub emptying : Option Subpool → List Run → List Record
+emptying None runs = unassigned_records runs
+emptying (Some p) runs = Queues (record { subpool = p }) ∷ unassigned_records runs
+
+-- the subpools that are parked: an empty one under the name of the one that is emptied, or none
+abbrev pub parked_under : Option Subpool → Subpools
+parked_under None = no_subpools
+parked_under (Some p) = with_own no_subpools p true

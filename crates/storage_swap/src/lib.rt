@@ -3,6 +3,7 @@
 #![tactic(auto)]
 
 mod beginning;
+mod chains;
 mod change;
 mod ending;
 pub mod laws;

@@ -1,29 +1,35 @@
 //! Changes that are made of spare elements and spare frames. The growth of both comes first, and is all that takes
 //! memory.
 
-ghost use Rattle.std.specs.Prelude.{◌≡◌, ℕ, ◌+◌, ◌^◌, ◌<◌, ◌≤◌, true, None, Some, List, [], length, IsTrue, IsOk};
-ghost use Rattle.std.specs.Prelude.{OnOk, IfOk, IfErr, if◌then◌else◌};
+ghost use Rattle.std.specs.Prelude.{◌≡◌, ℕ, ◌+◌, ◌^◌, ◌<◌, ◌≤◌, true, None, Some, [], length, IsTrue, IsOk};
+ghost use Rattle.std.specs.Prelude.{OnOk, IfOk, IfErr, IfSome, if◌then◌else◌};
 ghost use Rattle.vsm_elements.specs.Chain.{owned, IsChain};
 ghost use Rattle.vsm_elements.specs.Ownership.{Leaves};
+ghost use Rattle.vsm_elements.specs.Owners.{Moves};
 ghost use Rattle.run_set.specs.Runs.{inside};
+ghost use Rattle.descriptor_queue.specs.Extents.{extents, IsExtents};
 ghost use Rattle.raw_region.specs.Frames.{zeros};
 ghost use Rattle.raw_region.specs.Pages.{bytes_at, has_segment, HaveTables, SamePages, SameTables};
 ghost use Rattle.raw_region.specs.Parked.{held_at};
-ghost use Rattle.storage_exchange.specs.Storage.{hold, state_of, Stand};
-ghost use Rattle.storage_swap.specs.Beside.{records_of};
-ghost use Rattle.storage_exchange.specs.Storage.{IsFrameless};
-ghost use Rattle.storage_changes.specs.Changes.{change_of};
-ghost use Rattle.storage_swap.specs.Reserve.{Grown, Reserves};
+ghost use Rattle.subpool_storage.specs.Subpools.{is_there};
+ghost use Rattle.subpool_storage.specs.SubpoolStorage.{subpools_of, hold as held_parked, Stands};
+ghost use Rattle.storage_changes.specs.Changes.{change_from};
+ghost use Rattle.storage_exchange.specs.Storage.{hold, state_of, Stand, IsFrameless};
+ghost use Rattle.storage_swap.specs.Reserve.{Grown, Reserves, elements_for, emptied_extents, parked_under};
 
+use crate::chains::take_records;
 use crate::change::Change;
 use crate::records::fill;
+use descriptor_queue::Extents;
 use raw_region::{Parked, Region};
 use run_set::Run;
 use std::alloc::AllocError;
 use storage_changes::Record;
 use storage_exchange::Storage;
 use subpool_storage::SubpoolStorage;
+use subpool_storage::laws::{extents_are_few, subpools_are_there};
 use vsm_elements::{Chain, Elements};
+use vsm_model::Subpool;
 
 impl Change {
     /// A change of these records, with so many blank elements, and with frames of zeros for the pages of a run; where a
@@ -60,7 +66,37 @@ impl Change {
             → fresh.len ≤ storage.old.region.spare → HaveTables storage.old.region fresh.start fresh.len
             → IsOk result }
     {
-        todo!()
+        let count = records.len() as u32;
+        let elements = elements_needed(storage, emptied, count, blanks);
+        grow(storage, elements, fresh)?;
+        Ok(make(storage, emptied, records, blanks, fresh))
+    }
+}
+
+// How many elements the change takes.
+fn elements_needed(storage: &Storage, emptied: Option<Subpool>, records: u32, blanks: u32) -> u32
+    requires stands { Stand storage.now }
+    requires size { records + blanks ≤ 2 ^ 20 }
+    ensures { result ≡ elements_for (state_of storage.now).subpools emptied records blanks }
+{
+    let extents = extents_emptied(storage, emptied).count();
+    match emptied {
+        Some(_) => 2 + 2 * extents + (records + blanks),
+        None => records + blanks,
+    }
+}
+
+// The extents of the subpool that is emptied; none where none is.
+fn extents_emptied(storage: &Storage, emptied: Option<Subpool>) -> Extents
+    requires { Stand storage.now }
+    ensures extents { IsExtents storage.now.elements result }
+    ensures runs { extents storage.now.elements result ≡ emptied_extents (state_of storage.now).subpools emptied }
+    ensures few { length (extents storage.now.elements result) ≤ 2 ^ 29 }
+{
+    extents_are_few();
+    match emptied {
+        Some(subpool) => storage.subpools.extents(&storage.elements, subpool),
+        None => Extents::new(),
     }
 }
 
@@ -81,43 +117,40 @@ fn grow(storage: &mut Storage, elements: u32, fresh: Run) -> Result<(), AllocErr
 }
 
 // The change, of what is spare.
-fn make(storage: &mut Storage, records: &[Record], blanks: u32, fresh: Run) -> Change
+fn make(
+    storage: &mut Storage,
+    emptied: Option<Subpool>,
+    records: &[Record],
+    blanks: u32,
+    fresh: Run,
+) -> Change
     requires stands { Stand storage.old }
     requires once { (i : ℕ) → hold storage.old i ≤ 1 }
     requires frameless { IsFrameless storage.old }
-    requires size { length records.now + blanks ≤ storage.old.elements.spare }
+    requires there { IfSome emptied (λ p. is_there (state_of storage.old).subpools p ≡ true) }
+    requires size { length records.now + blanks ≤ 2 ^ 20 }
+    requires spare { elements_for (state_of storage.old).subpools emptied (length records.now) blanks
+        ≤ storage.old.elements.spare }
     requires range { fresh.start + fresh.len ≤ 2 ^ 20 }
-    requires frames { fresh.len ≤ storage.old.region.spare }
+    requires spare_frames { fresh.len ≤ storage.old.region.spare }
     requires tables { HaveTables storage.old.region fresh.start fresh.len }
     requires unassigned { (page : ℕ) → inside page fresh ≡ true → (state_of storage.old).unassigned page ≡ true }
-    ensures { Reserves storage.old (change_of records.now blanks fresh) result storage.new }
+    ensures reserves { Reserves storage.old
+        (change_from (state_of storage.old).subpools emptied records.now blanks fresh) result storage.new }
+    ensures frames { length result.frames ≡ fresh.len }
 {
-    let chain = take_records(&mut storage.elements, records);
-    let blanks = take_blanks(&mut storage.elements, blanks);
+    subpools_are_there();
+    let extents = extents_emptied(storage, emptied);
+    let records = take_records(&mut storage.elements, emptied, extents, records);
+    let blanks = take_blanks(&mut storage.elements, extents.count() + blanks);
+    let parked = park_empty(&mut storage.elements, emptied);
     let frames = take_frames(&mut storage.region, fresh);
     Change {
-        records: chain,
+        records,
         blanks,
         frames,
-        parked: SubpoolStorage::new(),
+        parked,
     }
-}
-
-// The records as a chain.
-fn take_records(elements: &mut Elements, records: &[Record]) -> Chain
-    requires room { length records.now ≤ elements.old.spare }
-    ensures chain { IsChain elements.new result }
-    ensures records { records_of elements.new result ≡ records.now }
-    ensures owned { Leaves elements.old elements.new [] (owned elements.new result) }
-    ensures spare { elements.new.spare + length records.now ≡ elements.old.spare }
-{
-    let mut chain = Chain::new();
-    let mut rest = records.len();
-    while rest > 0 {
-        rest -= 1;
-        chain.insert(elements, 0, 0, records[rest].words());
-    }
-    chain
 }
 
 // So many blank elements.
@@ -126,9 +159,25 @@ fn take_blanks(elements: &mut Elements, n: u32) -> Chain
     ensures chain { IsChain elements.new result }
     ensures owned { Leaves elements.old elements.new [] (owned elements.new result) }
     ensures count { result.count ≡ n }
+    ensures spare { elements.new.spare + n ≡ elements.old.spare }
 {
     let keep = elements.spare() - n;
     fill(elements, keep)
+}
+
+// An empty subpool of this name; none where none is emptied.
+fn park_empty(elements: &mut Elements, emptied: Option<Subpool>) -> SubpoolStorage
+    requires range { IfSome emptied (λ p. (1 ≤ p.owner) × (p.owner ≤ 64) × (p.number ≤ 127)) }
+    requires room { IfSome emptied (λ _. 0 < elements.old.spare) }
+    ensures stands { Stands elements.new result }
+    ensures subpools { subpools_of elements.new result ≡ parked_under emptied }
+    ensures moves { Moves elements.old elements.new (λ i. 0) (λ i. held_parked elements.new result i) }
+{
+    let mut parked = SubpoolStorage::new();
+    if let Some(subpool) = emptied {
+        parked.create(elements, subpool);
+    }
+    parked
 }
 
 // Frames of zeros for the pages of a run. The pages themselves stay as they are.

@@ -45,7 +45,7 @@ fn obtained_pages_come_and_go(rt: HostRuntime) -> Result<(), Fail> {
         }),
     ];
     let mut storage = fresh(rt.alloc(), SETTINGS)?;
-    let mut change = Change::reserve(&mut storage, &records, 4, RUN)?;
+    let mut change = Change::reserve(&mut storage, None, &records, 4, RUN)?;
     assert!(rt; !storage.region.assigned(6));
     change.swap(&mut storage);
     assert!(rt;

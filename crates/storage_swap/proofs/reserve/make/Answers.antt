@@ -1,9 +1,42 @@
-use Rattle.storage_swap.proofs.ReserveLemmas.{reserves}
+use Rattle.std.proofs.Common.{ℕ, ◌+◌, List, ◌++◌, length, ap, sym, ◌∙◌, arith}
+use Rattle.run_set.specs.declared.run.Run.{Run}
+use Rattle.subpool_storage.specs.SubpoolStorage.{subpools_of}
+use Rattle.storage_changes.specs.Changes.{change_from}
+use Rattle.storage_swap.specs.Reserve.{emptying}
+use Rattle.storage_swap.proofs.ReserveLemmas.{reserves, meant-records, meant-blanks, meant-parked, meant-frames, parts-take, room-parked, parked-range}
 use Rattle.storage_swap.proofs.reserve.make.Goals as goal
 
-pub returns : goal.returns
-returns c = reserves c.args.storage.now c.args.records.now c.args.blanks c.args.fresh c.requires.stands c.requires.once c.requires.frameless c.requires.tables
-    c.take_records-chain.new.elements c.take_records-chain.result c.take_records-chain.ensures.chain c.take_records-chain.ensures.records c.take_records-chain.ensures.owned
-    c.take_blanks-blanks.new.elements c.take_blanks-blanks.result c.take_blanks-blanks.ensures.chain c.take_blanks-blanks.ensures.count c.take_blanks-blanks.ensures.owned
+pub take_records-records-requires-clause-room : goal.take_records-records-requires-clause-room
+take_records-records-requires-clause-room c =
+    omega (arith, c.requires.spare, parts-take (subpools_of c.args.storage.now.elements c.args.storage.now.subpools) c.args.emptied (length c.args.records.now) c.args.blanks, ap (λ (rs : List Run). length (emptying c.args.emptied rs)) c.extents_emptied-extents.ensures.runs)
+
+pub overflow_add-count : goal.overflow_add-count
+overflow_add-count c = omega (arith, c.requires.size, c.count.ensures c.args.storage.now.elements, c.extents_emptied-extents.ensures.few)
+
+pub take_blanks-blanks-requires : goal.take_blanks-blanks-requires
+take_blanks-blanks-requires c = record {
+  room = omega (arith, c.requires.spare, c.take_records-records.ensures.spare, c.count.ensures c.args.storage.now.elements, parts-take (subpools_of c.args.storage.now.elements c.args.storage.now.subpools) c.args.emptied (length c.args.records.now) c.args.blanks, ap (λ (rs : List Run). length rs) c.extents_emptied-extents.ensures.runs, ap (λ (rs : List Run). length (emptying c.args.emptied rs)) c.extents_emptied-extents.ensures.runs);
+}
+
+pub park_empty-parked-requires-clause-range : goal.park_empty-parked-requires-clause-range
+park_empty-parked-requires-clause-range c = parked-range c.args.storage.now.elements c.args.storage.now.subpools c.requires.stands.subpools c.args.emptied c.requires.there
+
+pub park_empty-parked-requires-clause-room : goal.park_empty-parked-requires-clause-room
+park_empty-parked-requires-clause-room c = room-parked c.args.emptied c.take_blanks-blanks.new.elements.spare
+    (omega (arith, c.requires.spare, c.take_records-records.ensures.spare, c.take_blanks-blanks.ensures.spare, c.count.ensures c.args.storage.now.elements, parts-take (subpools_of c.args.storage.now.elements c.args.storage.now.subpools) c.args.emptied (length c.args.records.now) c.args.blanks, ap (λ (rs : List Run). length rs) c.extents_emptied-extents.ensures.runs, ap (λ (rs : List Run). length (emptying c.args.emptied rs)) c.extents_emptied-extents.ensures.runs))
+
+pub returns-clause-reserves : goal.returns-clause-reserves
+returns-clause-reserves c =
+    let m = (subpools_of c.args.storage.now.elements c.args.storage.now.subpools) in
+    reserves c.args.storage.now (change_from m c.args.emptied c.args.records.now c.args.blanks c.args.fresh) c.args.fresh c.requires.stands c.requires.once c.requires.frameless c.requires.tables
+    (meant-frames m c.args.records.now c.args.blanks c.args.fresh c.args.emptied)
+    c.take_records-records.new.elements c.take_records-records.result c.take_records-records.ensures.chain
+    (c.take_records-records.ensures.records ∙ ap (λ (rs : List Run). emptying c.args.emptied rs ++ c.args.records.now) c.extents_emptied-extents.ensures.runs ∙ sym (meant-records m c.args.records.now c.args.blanks c.args.fresh c.args.emptied))
+    c.take_records-records.ensures.owned
+    c.take_blanks-blanks.new.elements c.take_blanks-blanks.result c.take_blanks-blanks.ensures.chain
+    (c.take_blanks-blanks.ensures.count ∙ ap (λ (n : ℕ). n + c.args.blanks) (c.count.ensures c.args.storage.now.elements ∙ ap (λ (rs : List Run). length rs) c.extents_emptied-extents.ensures.runs) ∙ sym (meant-blanks m c.args.records.now c.args.blanks c.args.fresh c.args.emptied))
+    c.take_blanks-blanks.ensures.owned
+    c.park_empty-parked.new.elements c.park_empty-parked.result c.park_empty-parked.ensures.stands
+    (c.park_empty-parked.ensures.subpools ∙ sym (meant-parked m c.args.records.now c.args.blanks c.args.fresh c.args.emptied))
+    c.park_empty-parked.ensures.moves
     c.take_frames-frames.new.region c.take_frames-frames.result c.take_frames-frames.ensures.frames c.take_frames-frames.ensures.pages c.take_frames-frames.ensures.tables c.take_frames-frames.ensures.count c.take_frames-frames.ensures.out
-    c.new.result c.new.ensures.stands c.new.ensures.subpools c.new.ensures.owned

@@ -1,5 +1,9 @@
-use Rattle.storage_changes.specs.Changes.{change_of}
-use Rattle.storage_swap.proofs.ReserveLemmas.{grown-stands, grown-once, grown-frameless, grown-unassigned, grown-reserves}
+use Rattle.std.proofs.Common.{◌≡◌, ◌≤◌, true, length, IfSome, sym, subst, arith}
+use Rattle.subpool_storage.specs.Subpools.{Subpools, is_there}
+use Rattle.subpool_storage.specs.SubpoolStorage.{subpools_of}
+use Rattle.storage_changes.specs.Changes.{change_from}
+use Rattle.storage_swap.specs.Reserve.{Reserves, elements_for}
+use Rattle.storage_swap.proofs.ReserveLemmas.{grown-stands, grown-once, grown-frameless, grown-unassigned, grown-subpools, grown-reserves}
 use Rattle.storage_swap.proofs.change.Change.reserve.Goals as goal
 
 pub make-requires-clause-stands : goal.make-requires-clause-stands
@@ -14,5 +18,18 @@ make-requires-clause-frameless c = grown-frameless c.args.storage.now c.grow.new
 pub make-requires-clause-unassigned : goal.make-requires-clause-unassigned
 make-requires-clause-unassigned c = grown-unassigned c.args.storage.now c.grow.new.storage c.requires.stands c.requires.once c.grow.ensures.grown c.args.fresh c.requires.unassigned
 
+pub make-requires-clause-there : goal.make-requires-clause-there
+make-requires-clause-there c =
+    let P : Subpools → Type 0 = λ m. IfSome c.args.emptied (λ p. is_there m p ≡ true) in
+    subst P (sym (grown-subpools c.args.storage.now c.grow.new.storage c.requires.stands c.requires.once c.grow.ensures.grown)) c.requires.there
+
+pub make-requires-clause-spare : goal.make-requires-clause-spare
+make-requires-clause-spare c =
+    let P : Subpools → Type 0 = λ m. elements_for m c.args.emptied (length c.args.records.now) c.args.blanks ≤ c.grow.new.storage.elements.spare in
+    subst P (sym (grown-subpools c.args.storage.now c.grow.new.storage c.requires.stands c.requires.once c.grow.ensures.grown)) (omega (arith, c.elements_needed-elements.ensures, c.in_ok-grow.ensures.elements))
+
 pub returns-clause-ok : goal.returns-clause-ok
-returns-clause-ok c = grown-reserves c.args.storage.now c.grow.new.storage c.requires.stands c.requires.once c.grow.ensures.grown (change_of c.args.records.now c.args.blanks c.args.fresh) c.make.result c.make.new.storage c.make.ensures
+returns-clause-ok c =
+    let P : Subpools → Type 0 = λ m. Reserves c.grow.new.storage (change_from m c.args.emptied c.args.records.now c.args.blanks c.args.fresh) c.make.result c.make.new.storage in
+    grown-reserves c.args.storage.now c.grow.new.storage c.requires.stands c.requires.once c.grow.ensures.grown (change_from (subpools_of c.args.storage.now.elements c.args.storage.now.subpools) c.args.emptied c.args.records.now c.args.blanks c.args.fresh) c.make.result c.make.new.storage
+    (subst P (grown-subpools c.args.storage.now c.grow.new.storage c.requires.stands c.requires.once c.grow.ensures.grown) c.make.ensures.reserves)
