@@ -19,7 +19,7 @@ abbrev pub ExtentsAreRuns : Type 0
 ExtentsAreRuns = (m : Subpools) (p : Subpool) → ((page : ℕ) → 2 ^ 29 ≤ page → m.pages p page ≡ false)
     → AreRunsOf (extents m p) (m.pages p)
 
--- There are no more of them than numbers, and no more than numbers below one from which on no page is the subpool's.
+-- There are not too many to be counted, and, where each of its pages is below some number, no more than that.
 abbrev pub ExtentsAreFew : Type 0
 ExtentsAreFew = (m : Subpools) (p : Subpool) → (length (extents m p) ≤ 2 ^ 29)
     × ((top : ℕ) → ((page : ℕ) → top ≤ page → m.pages p page ≡ false) → length (extents m p) ≤ top)

@@ -23,7 +23,7 @@ pub fn extents_are_runs()
     ensures { ExtentsAreRuns }
 {}
 
-/// A subpool has no more extents than there are pages: 2^20, where each page is below that.
+/// A subpool has 2^29 extents at most, and no more than there are pages: 2^20, where each of its pages is below that.
 pub fn extents_are_few()
     ensures { ExtentsAreFew }
 {}

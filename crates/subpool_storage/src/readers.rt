@@ -1,12 +1,13 @@
 ghost use Rattle.std.specs.Prelude.{◌≡◌, ℕ, ◌+◌, ◌^◌, ◌<◌, ◌≤◌, true, false, IfSome, IfNone};
+ghost use Rattle.vsm_elements.specs.Owners.{times};
 ghost use Rattle.run_set.specs.Runs.{IsCover};
 ghost use Rattle.run_set.specs.Fits.{Fits, IsLeastFit, IsLongest};
-ghost use Rattle.descriptor_queue.specs.Extents.{extents as extents_in, has_page as extents_have, owned as extents_own, IsExtents};
+ghost use Rattle.descriptor_queue.specs.Extents.{extents as extents_in, has_page as extents_have, owned as extents_own};
+ghost use Rattle.descriptor_queue.specs.Extents.{IsExtents};
 ghost use Rattle.free_queue.specs.FreeQueue.{is_free, IsFreeQueue};
 ghost use Rattle.subpool_storage.specs.Subpools.{is_there};
 ghost use Rattle.subpool_storage.specs.Extents.{extents};
 ghost use Rattle.subpool_storage.specs.SubpoolStorage.{subpools_of, hold, Stands};
-ghost use Rattle.vsm_elements.specs.Owners.{times};
 
 use crate::storage::SubpoolStorage;
 use descriptor_queue::{Extents, Page};
@@ -52,9 +53,11 @@ impl SubpoolStorage {
         }
     }
 
-    /// The extents of the subpool, none where it isn't there: the maximal runs of its pages, below and above the 16 MB
-    /// line, each 4,096 bytes a page. What is answered is the head of a list in the storage's own elements. It is good as
-    /// long as these stay as they are, and not to be changed or discarded.
+    /// The extents of the subpool: the maximal runs of its pages of 4,096 bytes, below and above the 16 MB line. A
+    /// subpool that isn't there has none. (z/OS MVS Programming: Assembler Services Guide, "Subpool handling".)
+    ///
+    /// Nothing is copied: it is the head of what the storage itself holds, to be read as long as the storage's elements
+    /// stay as they are, and not to be changed or discarded.
     pub fn extents(&self, elements: &Elements, subpool: Subpool) -> Extents
         requires { Stands elements.now self.now }
         ensures stands { IsExtents elements.now result }

@@ -4,7 +4,7 @@ ghost use Rattle.std.specs.Prelude.{◌≡◌, ℕ, ◌+◌, ◌≤◌};
 ghost use Rattle.subpool_storage.specs.SubpoolStorage.{hold, Stands};
 
 use super::*;
-use descriptor_queue::Run;
+use descriptor_queue::{Extents, Run};
 use free_queue::{Area, Cover};
 use std::process::Abort;
 use std::test::Fail;
@@ -174,6 +174,15 @@ fn carve_out(rt: &impl Abort, elements: &mut Elements, storage: &SubpoolStorage)
     free(rt, elements, storage, FIRST, part);
 }
 
+// The extent of a subpool that has one; `None` where it has none or more.
+fn only_extent(elements: &Elements, storage: &SubpoolStorage, subpool: Subpool) -> Option<Run>
+    requires { Stands elements.now storage.now }
+{
+    let extents = storage.extents(elements, subpool);
+    let (run, _) = extents.next_run(elements, Extents::first_place())?;
+    (extents.count() == 1).then_some(run)
+}
+
 #[test]
 fn pages_and_areas_come_and_go(rt: HostRuntime) -> Result<(), Fail> {
     let mut elements = Elements::new(rt.alloc());
@@ -186,6 +195,14 @@ fn pages_and_areas_come_and_go(rt: HostRuntime) -> Result<(), Fail> {
     fill(&rt, &mut elements, &storage, SECOND, 7);
     fill(&rt, &mut elements, &storage, FIRST, 6);
     assert_eq!(rt; elements.spare(), 122);
+    assert_eq!(rt;
+        only_extent(&elements, &storage, FIRST),
+        Some(Run { start: 5, len: 2 })
+    );
+    assert_eq!(rt;
+        only_extent(&elements, &storage, SECOND),
+        Some(Run { start: 7, len: 1 })
+    );
     carve_out(&rt, &mut elements, &storage);
     empty(&rt, &mut elements, &storage, FIRST, 5);
     empty(&rt, &mut elements, &storage, SECOND, 7);
@@ -194,6 +211,7 @@ fn pages_and_areas_come_and_go(rt: HostRuntime) -> Result<(), Fail> {
     assert_eq!(rt; storage.owner_seen(&elements, 3, 2), Some(3));
     assert_eq!(rt; storage.owner_seen(&elements, 1, 2), None);
     assert_eq!(rt; storage.subpool_of_page(&elements, 5), None);
+    assert_eq!(rt; only_extent(&elements, &storage, FIRST), None);
     Ok(())
 }
 
