@@ -91,7 +91,7 @@ fn minimum_of(lengths: Lengths) -> u32
 }
 
 // The most doublewords that the request can be given, between its rounded bounds, and where they go; `None` where not
-// even the fewest have a place.
+// even the fewest have a place. The maximum is tried first: a fixed length that has a place is looked for once.
 fn find_place(
     storage: &Storage,
     settings: Settings,
