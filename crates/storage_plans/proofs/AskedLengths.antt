@@ -1,6 +1,6 @@
 -- The causes of a request, and how long an area it gets.
-use Rattle.std.proofs.Common.{◌≡◌, ℕ, suc, ◌-◌, ◌<◌, ◌≤◌, min, Bool, true, false, not, ◌||◌, nat_le, nat_lt, ◌==◌, Some, None, is_none, [], ◌∷◌, ◌++◌, arith, refl, sym, ap, ◌∙◌}
-use Rattle.std.proofs.lemmas.Bool.{cond-false, cond-true, false_from_ne_true, le-leb, leb-true}
+use Rattle.std.proofs.Common.{◌≡◌, ℕ, suc, ◌-◌, ◌<◌, ◌≤◌, Bool, true, false, not, ◌||◌, nat_le, nat_lt, ◌==◌, Option, Some, None, is_some, is_none, inl, inr, true≢false, [], ◌∷◌, ◌++◌, arith, refl, sym, ap, ◌∙◌}
+use Rattle.std.proofs.lemmas.Bool.{cases_lt, cond-false, cond-true, false_from_ne_true, le-leb, leb-true}
 use Rattle.std.proofs.lemmas.Bool.Decides.{nat_tests}
 use Rattle.vsm_model.specs.declared.Subpool.{Subpool}
 use Rattle.vsm_model.specs.declared.causes.Cause.{Cause}
@@ -38,26 +38,42 @@ number_allowed n rows h =
     skip ((n == 131) || (n == 132)) UnsupportedSubpool ((nat_lt 127 n, SubpoolNotAllowed) ∷ rows) (not_131 n h)
     ∙ skip (nat_lt 127 n) SubpoolNotAllowed rows (not_above n h)
 
--- The greatest count that passes, where just those up to a bound do.
-module _ (f : ℕ → Bool) (least most top count : ℕ) (some : 0 < least) (up_to : IsUpTo f top) (is : count ≡ min most top) where
+-- The greatest count that passes, where just those up to a bound do, and the most doesn't.
+module _ (f : ℕ → Bool) (least most top : ℕ) (some : 0 < least) (ordered : least ≤ most) (up_to : IsUpTo f top) (not_most : f most ≡ false) where
+  less : top < most
+  less =
+      elim (cases_lt top most) [
+        | inl below ↦ below
+        | inr from ↦ absurd (true≢false (sym (up_to most (omega (arith, some, ordered)) ∙ le-leb most top from) ∙ not_most))
+      ]
+
   too_long : (k : ℕ) → top < k → f k ≡ false
   too_long k h = up_to k (omega (arith, h)) ∙ false_from_ne_true (nat_le k top) (λ e. let low = leb-true k top e in omega (arith, h, low))
 
-  pub greatest_up_to : least ≤ count → greatest f least (suc most - least) ≡ Some count
+  greatest_up_to : least ≤ top → greatest f least (suc most - least) ≡ Some top
   greatest_up_to enough =
-      sym (greatest_by f least (suc most - least) (Some count) (
-        up_to count (omega (arith, some, enough)) ∙ le-leb count top (omega (arith, is)),
+      sym (greatest_by f least (suc most - least) (Some top) (
+        up_to top (omega (arith, some, enough)) ∙ le-leb top top (omega arith),
         enough,
-        omega (arith, is, enough),
-        λ k above below. too_long k (omega (arith, is, enough, above, below)),
+        omega (arith, less, enough),
+        λ k above below. too_long k above,
       ))
 
-  pub greatest_none : count < least → greatest f least (suc most - least) ≡ None
-  greatest_none few = sym (greatest_by f least (suc most - least) None (λ k from below. too_long k (omega (arith, is, few, from, below))))
+  greatest_none : top < least → greatest f least (suc most - least) ≡ None
+  greatest_none few = sym (greatest_by f least (suc most - least) None (λ k from below. too_long k (omega (arith, few, from))))
+
+-- The most is the greatest where it passes.
+greatest_is_most : (f : ℕ → Bool) (least most : ℕ) → least ≤ most → f most ≡ true → greatest f least (suc most - least) ≡ Some most
+greatest_is_most f least most ordered e =
+    sym (greatest_by f least (suc most - least) (Some most) (e, ordered, omega (arith, ordered), λ k above below. absurd (omega (arith, above, below, ordered))))
 
 pub is_somewhere : (x : AreaPlace) → is_nowhere (place_of (Some x)) ≡ false
 is_somewhere (areas.Inside d) = refl
 is_somewhere (areas.Fresh page) = refl
+
+is_found : (x : Option AreaPlace) → not (is_nowhere (place_of x)) ≡ is_some x
+is_found None = refl
+is_found (Some x) = ap not (is_somewhere x)
 
 module _ (settings : Settings) (s : State) (o : Obtain) where
   pub place_is : (sd : Residence) (p : Subpool) (sp : ℕ) → sd ≡ side settings o.location → p ≡ seen_or_own s o.number → sp ≡ spacing o.boundary →
@@ -73,16 +89,35 @@ module _ (settings : Settings) (s : State) (o : Obtain) where
   up_to_for sd p sp top is_side is_subpool is_spacing h n some =
       ap (λ (z : Place). not (is_nowhere z)) (sym (place_is sd p sp is_side is_subpool is_spacing n)) ∙ h n some
 
-  module _ (top count : ℕ) (some : 0 < minimum o.lengths) (up_to : IsUpTo (λ n. not (is_nowhere (place_for settings s o n))) top) (is : count ≡ min (doublewords (maximum o.lengths)) top) where
-    pub longest_is : doublewords (minimum o.lengths) ≤ count → longest settings s o ≡ Some count
-    longest_is enough =
-        greatest_up_to (λ n. not (is_nowhere (place_for settings s o n))) (doublewords (minimum o.lengths)) (doublewords (maximum o.lengths)) top count
-        (omega (arith, some)) up_to is enough
+  -- whether so many doublewords have a place
+  pub has_place : (sd : Residence) (p : Subpool) (sp : ℕ) → sd ≡ side settings o.location → p ≡ seen_or_own s o.number → sp ≡ spacing o.boundary →
+      (count : ℕ) (found : Option AreaPlace) → place_of found ≡ place s (regions_for settings sd) p count sp → not (is_nowhere (place_for settings s o count)) ≡ is_some found
+  has_place sd p sp is_side is_subpool is_spacing count found e =
+      ap (λ (z : Place). not (is_nowhere z)) (sym (e ∙ place_is sd p sp is_side is_subpool is_spacing count)) ∙ is_found found
 
-    pub longest_none : count < doublewords (minimum o.lengths) → longest settings s o ≡ None
-    longest_none few =
-        greatest_none (λ n. not (is_nowhere (place_for settings s o n))) (doublewords (minimum o.lengths)) (doublewords (maximum o.lengths)) top count
-        (omega (arith, some)) up_to is few
+  -- The most that is asked for is the length where it has a place; and where it has none, the bound of those that have one is.
+  module _ (most : ℕ) (is_most : most ≡ doublewords (maximum o.lengths)) (ordered : minimum o.lengths ≤ maximum o.lengths) where
+    abbrev passes : ℕ → Bool
+    passes n = not (is_nowhere (place_for settings s o n))
+
+    abbrev fewest : ℕ
+    fewest = doublewords (minimum o.lengths)
+
+    in_order : fewest ≤ doublewords (maximum o.lengths)
+    in_order = omega (arith, ordered)
+
+    pub longest_is_most : not (is_nowhere (place_for settings s o most)) ≡ true → longest settings s o ≡ Some most
+    longest_is_most e = greatest_is_most passes fewest (doublewords (maximum o.lengths)) in_order (ap passes (sym is_most) ∙ e) ∙ ap Some (sym is_most)
+
+    module _ (top : ℕ) (some : 0 < minimum o.lengths) (up_to : IsUpTo (λ n. not (is_nowhere (place_for settings s o n))) top)
+        (none : not (is_nowhere (place_for settings s o most)) ≡ false) where
+      pub longest_is : doublewords (minimum o.lengths) ≤ top → longest settings s o ≡ Some top
+      longest_is enough =
+          greatest_up_to passes fewest (doublewords (maximum o.lengths)) top (omega (arith, some)) in_order up_to (ap passes (sym is_most) ∙ none) enough
+
+      pub longest_none : top < doublewords (minimum o.lengths) → longest settings s o ≡ None
+      longest_none few =
+          greatest_none passes fewest (doublewords (maximum o.lengths)) top (omega (arith, some)) in_order up_to (ap passes (sym is_most) ∙ none) few
 
   bad : minimum o.lengths ≤ maximum o.lengths → 0 < minimum o.lengths → ((minimum o.lengths == 0) || nat_lt (maximum o.lengths) (minimum o.lengths)) ≡ false
   bad ordered some = grind (arith, nat_tests)

@@ -8,3 +8,4 @@ pub mod Regions
 mod Stores
 mod OwnedAreas
 mod GivenBack
+mod Emptied

@@ -3,6 +3,7 @@ use Rattle.std.proofs.Common.{◌≡◌, ℕ, ◌+◌, ◌-◌, ◌*◌, ◌/◌
 use Rattle.std.specs.Prelude.{unwrap_or}
 use Rattle.std.proofs.lemmas.Bool.{and_parts, and_from, cond-false, cond-true, eq-eqb, not-false, not-true}
 use Rattle.std.proofs.lemmas.List.{append_assoc}
+use Rattle.run_set.specs.declared.run.Run.{Run}
 use Rattle.run_set.specs.Runs.{inside}
 use Rattle.vsm_model.specs.declared.Subpool.{Subpool}
 use Rattle.vsm_model.specs.declared.limits.Settings.{Settings}
@@ -52,17 +53,17 @@ use Rattle.storage_plans.proofs.Carried.{carries_out, no_registers, register_and
 use Rattle.storage_plans.proofs.AskedLengths.{is_somewhere}
 
 -- the records of new pages, pushed one by one
-pub fresh_pushed : (p : Subpool) (page count n : ℕ) (old one two all : List Record) → n ≡ pages_for count → one ≡ old ++ Pages (record { run = run_of page n; assigned = true }) ∷ [] →
-    two ≡ one ++ Extent (record { subpool = p; run = run_of page n; present = true }) ∷ [] → all ≡ two ++ area_records p (512 * page + count) (512 * n - count) true →
+pub fresh_pushed : (p : Subpool) (page count : ℕ) (run : Run) (old one two all : List Record) → run ≡ run_of page (pages_for count) → one ≡ old ++ Pages (record { run = run; assigned = true }) ∷ [] →
+    two ≡ one ++ Extent (record { subpool = p; run = run; present = true }) ∷ [] → all ≡ two ++ area_records p (512 * page + count) (512 * run.len - count) true →
     all ≡ old ++ take_fresh_records p page count
-fresh_pushed p page count n old one two all is_n first second third =
-    let pages : ℕ → Record = λ n. Pages (record { run = run_of page n; assigned = true }) in
-    let extent : ℕ → Record = λ n. Extent (record { subpool = p; run = run_of page n; present = true }) in
-    let area : ℕ → List Record = λ n. area_records p (512 * page + count) (512 * n - count) true in
-    third ∙ ap (λ (xs : List Record). xs ++ area n) (second ∙ ap (λ (xs : List Record). xs ++ extent n ∷ []) first)
-    ∙ append_assoc (old ++ pages n ∷ []) (extent n ∷ []) (area n)
-    ∙ append_assoc old (pages n ∷ []) (extent n ∷ area n)
-    ∙ ap (λ n. old ++ pages n ∷ extent n ∷ area n) is_n
+fresh_pushed p page count run old one two all is first second third =
+    let pages : Run → Record = λ r. Pages (record { run = r; assigned = true }) in
+    let extent : Run → Record = λ r. Extent (record { subpool = p; run = r; present = true }) in
+    let area : Run → List Record = λ r. area_records p (512 * page + count) (512 * r.len - count) true in
+    third ∙ ap (λ (xs : List Record). xs ++ area run) (second ∙ ap (λ (xs : List Record). xs ++ extent run ∷ []) first)
+    ∙ append_assoc (old ++ pages run ∷ []) (extent run ∷ []) (area run)
+    ∙ append_assoc old (pages run ∷ []) (extent run ∷ area run)
+    ∙ ap (λ (r : Run). old ++ pages r ∷ extent r ∷ area r) is
 
 -- the register that is named is one of the sixteen
 is_register : (named : Option ℕ) → IfSome named (λ r. r < 16) → IsRegister named
@@ -224,10 +225,10 @@ module _ (settings : Settings) (names_full : Bool) (m : StorageState) (o : Obtai
       ∙ ap (outcome (with_own (model_of m) o.number) found.count) (sym is.place)
       ∙ ap (λ (t : State). outcome t found.count goes) (made settings m o sound found.is_new is.is_new)
 
-  pub obtain_carried_out : IsSound settings m → IfSome o.register (λ r. r < 16) → (plan : Plan) → plan.records.items ≡ obtain_records m found o →
+  pub obtain_carried_out : IsSound settings m → IfSome o.register (λ r. r < 16) → (plan : Plan) → plan.emptied ≡ None → plan.records.items ≡ obtain_records m found o →
       plan.blanks ≡ place_blanks found.place → plan.fresh ≡ place_pages found.count found.place →
       plan.reply ≡ Obtained (place_address found.place) (8 * found.count) → CarriesOut settings names_full m (obtain o) plan
-  obtain_carried_out sound register plan records blanks fresh reply =
+  obtain_carried_out sound register plan emptied records blanks fresh reply =
       let its = goes_at settings m o is.valid found.count some goes is.place in
       let may = obtain_allowed settings names_full (model_of m) o is.none in
       let formed = obtain_leaves_well_formed settings names_full (model_of m) after o (Obtained (place_address found.place) (8 * found.count)) is.valid (is_register o.register register)
@@ -236,6 +237,6 @@ module _ (settings : Settings) (names_full : Bool) (m : StorageState) (o : Obtai
       (are_registers o.lengths o.register (place_address found.place) (8 * found.count) register) formed in
       carries_out settings names_full m (obtain o) plan (own_records own found.is_new ++ place_records own found.count found.place ++ register_records m rows)
       (place_blanks found.place) (place_pages found.count found.place) after
-      (records ∙ ap (λ (p : Subpool). own_records p found.is_new ++ place_records p found.count found.place ++ register_records m rows) is.subpool) blanks fresh
+      emptied (records ∙ ap (λ (p : Subpool). own_records p found.is_new ++ place_records p found.count found.place ++ register_records m rows) is.subpool) blanks fresh
       (accepted sound ∙ ap (λ r. Accepted after r) (sym reply)) leads (few_blanks found.place)
       (pages_in_range settings m o is.valid found.count some found.place its) (pages_unassigned settings m o is.valid found.count some sound found.place its)

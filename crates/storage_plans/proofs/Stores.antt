@@ -98,14 +98,14 @@ are_bytes (x ∷ xs) fits (suc k) d below = are_bytes xs (λ i. fits (suc i)) k 
 -- the plan of a store
 pub store_carried :
     (settings : Settings) (names_full : Bool) (m : StorageState) (address : ℕ) (bytes : List ℕ) (plan : Plan) → are_there (model_of m) address (length bytes) ≡ true
-    → All (λ byte. byte < 256) bytes → plan.records.items ≡ write_records m address bytes → plan.blanks ≡ 0 → plan.fresh ≡ run_of 0 0 → plan.reply ≡ Stored
+    → All (λ byte. byte < 256) bytes → plan.emptied ≡ None → plan.records.items ≡ write_records m address bytes → plan.blanks ≡ 0 → plan.fresh ≡ run_of 0 0 → plan.reply ≡ Stored
     → ∥ IsSound settings m ∥₁ → ∥ CarriesOut settings names_full m (store address bytes) plan ∥₁
-store_carried settings names_full m address bytes plan there are records blanks fresh reply sound =
+store_carried settings names_full m address bytes plan there are emptied records blanks fresh reply sound =
     let after : State = with_bytes (model_of m) address bytes in
     let outcome : Reply → Stepped = λ r. Accepted after r in
     let accepted : step settings names_full (model_of m) (store address bytes) ≡ Accepted after Stored = store_accepted settings names_full (model_of m) address bytes there in
     ∥∥₁_map sound (λ h.
-    carries_out settings names_full m (store address bytes) plan (write_records m address bytes) 0 (run_of 0 0) after records blanks fresh (accepted ∙ ap outcome (sym reply))
+    carries_out settings names_full m (store address bytes) plan (write_records m address bytes) 0 (run_of 0 0) after emptied records blanks fresh (accepted ∙ ap outcome (sym reply))
     (writing_leads settings m address bytes h there
     (store_leaves_well_formed settings names_full (model_of m) after address bytes Stored are h.well_formed accepted))
     (omega arith) (omega arith) (none_fresh m))

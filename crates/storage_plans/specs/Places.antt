@@ -1,4 +1,5 @@
--- Where an area goes, in terms of the plain machine.
+-- Where an area goes, in terms of the plain machine. Assembler Services Guide, "Virtual storage management", "Explicit
+-- requests for virtual storage"; Assembler Services Reference, STORAGE, LOC and BNDRY.
 use Rattle.std.specs.Prelude.{◌≡◌, ℕ, ◌<◌, Bool, nat_le, Option, Some, None}
 use Rattle.vsm_model.specs.declared.limits.Residence.{Residence}
 use Rattle.vsm_model.specs.declared.limits.Residence.TheVariants.{Below, Above}

@@ -1,4 +1,6 @@
--- What the plan of a request comes to on the plain machine.
+-- What the plan of a request comes to on the plain machine. Assembler Services Guide, "Virtual storage management",
+-- "Explicit requests for virtual storage" and "Subpool handling"; Assembler Services Reference, STORAGE, GETMAIN and
+-- FREEMAIN.
 use Rattle.std.specs.Prelude.{◌≡◌, ℕ, ◌+◌, ◌^◌, ◌≤◌, Bool, true, IfSome, Result, Ok, Err}
 use Rattle.run_set.specs.Runs.{inside}
 use Rattle.vsm_model.specs.declared.causes.Cause.{Cause}

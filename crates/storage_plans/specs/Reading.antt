@@ -1,4 +1,4 @@
--- Bytes that are put over others.
+-- Bytes that are put over others. Principles of Operation, "Storage", "Information formats".
 use Rattle.std.specs.Prelude.{ℕ, ◌+◌, ◌-◌, List, length, slice_index_or, if◌then◌else◌}
 use Rattle.vsm_model.specs.Regions.{among}
 

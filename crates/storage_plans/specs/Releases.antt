@@ -1,5 +1,6 @@
--- What of a release depends on where its area lies.
-use Rattle.std.specs.Prelude.{◌≡◌, ℕ, false, List, [], ◌∷◌, ◌++◌}
+-- What of a release depends on where its area lies. Assembler Services Guide, "Virtual storage management", "Subpool
+-- handling"; Assembler Services Reference, STORAGE, RELEASE, and FREEMAIN.
+use Rattle.std.specs.Prelude.{◌≡◌, ℕ, false, None, List, [], ◌∷◌, ◌++◌}
 use Rattle.vsm_model.specs.declared.Subpool.{Subpool}
 use Rattle.vsm_model.specs.declared.causes.Cause.TheVariants.{NotInSubpool, OverlapsFree, OverlapsCells}
 use Rattle.vsm_model.specs.declared.limits.Settings.{Settings}

@@ -4,7 +4,7 @@ ghost use Rattle.vsm_model.specs.Areas.{spacing};
 ghost use Rattle.vsm_model.specs.Causes.{first_cause, number_causes};
 ghost use Rattle.vsm_model.specs.Obtaining.{longest, obtain_causes, place_for};
 ghost use Rattle.vsm_model.specs.Regions.{settings_valid, side};
-ghost use Rattle.vsm_model.specs.Services.{minimum};
+ghost use Rattle.vsm_model.specs.Services.{maximum, minimum};
 ghost use Rattle.vsm_model.specs.Subpools.{seen_or_own, sees_one};
 ghost use Rattle.storage_changes.specs.Meaning.{model_of};
 ghost use Rattle.storage_exchange.specs.Storage.{state_of};
@@ -16,14 +16,14 @@ use vsm_model::{Boundary, Cause, Lengths, Location, Obtain, Residence, Settings,
 
 /// An area that was found for a request.
 #[derive(Clone, Copy, Debug, PartialEq, Eq)]
-pub struct FoundArea {
+pub(crate) struct FoundArea {
     /// The subpool that gets it: the one that the task sees at the number, or a new one of its own.
-    pub subpool: Subpool,
+    pub(crate) subpool: Subpool,
     /// Whether the subpool is a new one.
-    pub is_new: bool,
+    pub(crate) is_new: bool,
     /// In doublewords.
-    pub count: u32,
-    pub place: AreaPlace,
+    pub(crate) count: u32,
+    pub(crate) place: AreaPlace,
 }
 
 /// The subpool number, or the cause that refuses it.
@@ -91,7 +91,7 @@ fn minimum_of(lengths: Lengths) -> u32
 }
 
 // The most doublewords that the request can be given, between its rounded bounds, and where they go; `None` where not
-// even the fewest have a place.
+// even the fewest have a place. The maximum is tried first: a fixed length that has a place is looked for once.
 fn find_place(
     storage: &Storage,
     settings: Settings,
@@ -102,6 +102,7 @@ fn find_place(
     requires valid { settings_valid settings ≡ true }
     requires subpool { subpool ≡ seen_or_own (model_of (state_of storage.now)) o.number }
     requires some { 0 < minimum o.lengths }
+    requires ordered { minimum o.lengths ≤ maximum o.lengths }
     ensures count { IfSome result (λ found.
         longest settings (model_of (state_of storage.now)) o ≡ Some found.0) }
     ensures place { IfSome result (λ found. place_of (Some found.1)
@@ -112,8 +113,10 @@ fn find_place(
     let most = o.lengths.maximum().div_ceil(8);
     let side = side_of(settings, o.location);
     let spacing = spacing_of(o.boundary);
-    let longest = longest_place(storage, settings, side, subpool, spacing);
-    let count = most.min(longest);
+    if let Some(place) = area_place(storage, settings, side, subpool, most, spacing) {
+        return Some((most, place));
+    }
+    let count = longest_place(storage, settings, side, subpool, spacing);
     if count < least {
         return None;
     }
@@ -130,7 +133,7 @@ fn find_place(
 /// The causes, in order: a number above 127 (`UnsupportedSubpool` for 131 and 132, else `SubpoolNotAllowed`),
 /// `BadLength` for a minimum of zero bytes or one above the maximum, `TooManyNames`, and `NoStorage` where not even the
 /// minimum has a place.
-pub fn find_area(
+pub(crate) fn find_area(
     storage: &Storage,
     settings: Settings,
     o: Obtain,

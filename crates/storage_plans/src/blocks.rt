@@ -30,7 +30,7 @@ fn put_over(held: &mut [u8], first: usize, address: usize, bytes: &[u8])
 
 /// The record of a block, once the bytes from the address on are these: its other bytes are those of the storage. Each
 /// address of the block has to lie in an assigned page.
-pub fn block_with(storage: &Storage, block: u32, address: u32, bytes: &[u8]) -> BytesRecord
+pub(crate) fn block_with(storage: &Storage, block: u32, address: u32, bytes: &[u8]) -> BytesRecord
     requires frameless { IsFrameless storage.now }
     requires there { (a : ℕ) → a / 16 ≡ block → IsSome ((model_of (state_of storage.now)).bytes a) }
     ensures { result ≡ record {

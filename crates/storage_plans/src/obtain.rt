@@ -1,10 +1,10 @@
 //! Plans of STORAGE OBTAIN.
-ghost use Rattle.std.specs.Prelude.{◌≡◌, ◌+◌, ◌*◌, ◌<◌, ◌≤◌, ◌^◌, ◌++◌, true, IfSome};
+ghost use Rattle.std.specs.Prelude.{◌≡◌, ◌+◌, ◌*◌, ◌<◌, ◌≤◌, ◌^◌, ◌++◌, true, None, IfSome};
 ghost use Rattle.arrayvec.specs.ArrayVec.{array_vec_len};
 ghost use Rattle.vsm_model.specs.declared.replies.Reply.TheVariants.{Obtained};
-ghost use Rattle.vsm_model.specs.Regions.{settings_valid};
+ghost use Rattle.vsm_model.specs.Regions.{pages_for, settings_valid};
 ghost use Rattle.vsm_model.specs.Services.{obtain};
-ghost use Rattle.storage_actions.specs.Actions.{own_records, register_records, take_fresh_records};
+ghost use Rattle.storage_actions.specs.Actions.{own_records, register_records, run_of, take_fresh_records};
 ghost use Rattle.storage_exchange.specs.Storage.{state_of};
 ghost use Rattle.storage_plans.specs.ObtainPlans.{reply_registers, obtain_records, place_address, place_blanks};
 ghost use Rattle.storage_plans.specs.ObtainPlans.{place_pages, place_records};
@@ -39,6 +39,16 @@ fn push_own(records: &mut ArrayVec<Record, PLAN_RECORDS>, subpool: Subpool, is_n
     }
 }
 
+// The pages from this one on that an area of `count` doublewords takes.
+fn pages_from(page: Page, count: u32) -> Run
+    ensures { result ≡ run_of page (pages_for count) }
+{
+    Run {
+        start: page,
+        len: count.div_ceil(PAGE_DOUBLEWORDS),
+    }
+}
+
 // Up to three more records: an area of `count` doublewords is taken from the first byte of unassigned pages on.
 fn push_fresh(
     records: &mut ArrayVec<Record, PLAN_RECORDS>,
@@ -51,10 +61,7 @@ fn push_fresh(
     ensures records { records.new.items ≡ records.old.items ++ take_fresh_records subpool page count }
     ensures few { array_vec_len records.new ≤ array_vec_len records.old + 3 }
 {
-    let run = Run {
-        start: page,
-        len: count.div_ceil(PAGE_DOUBLEWORDS),
-    };
+    let run = pages_from(page, count);
     records.push(Record::Pages(PagesRecord {
         run,
         assigned: true,
@@ -138,19 +145,14 @@ fn needs_of(place: AreaPlace, count: u32) -> (u32, Run)
 {
     match place {
         AreaPlace::Inside(_) => (3, NO_PAGES),
-        AreaPlace::Fresh(page) => {
-            let pages = Run {
-                start: page,
-                len: count.div_ceil(PAGE_DOUBLEWORDS),
-            };
-            (5, pages)
-        }
+        AreaPlace::Fresh(page) => (5, pages_from(page, count)),
     }
 }
 
 // The plan that takes the area that was found, with its address and its length in the registers.
 fn plan_area(storage: &Storage, found: FoundArea, o: Obtain) -> Plan
     requires { (place_address found.place < 2 ^ 32) × (0 < found.count) × (found.count < 2 ^ 29) }
+    ensures emptied { result.emptied ≡ None }
     ensures records { result.records.items ≡ obtain_records (state_of storage.now) found o }
     ensures blanks { result.blanks ≡ place_blanks found.place }
     ensures fresh { result.fresh ≡ place_pages found.count found.place }

@@ -49,7 +49,7 @@ fn area_on(settings: Settings, side: Residence) -> Run
 
 /// The least doubleword of the region on that side of the line from which `count` doublewords are free storage of the
 /// subpool, as a multiple of `spacing`. Reads alone.
-pub fn least_area(
+pub(crate) fn least_area(
     storage: &Storage,
     settings: Settings,
     side: Residence,
@@ -69,7 +69,7 @@ pub fn least_area(
 }
 
 /// The least page of the region on that side of the line from which `count` pages are nobody's. Reads alone.
-pub fn least_pages(
+pub(crate) fn least_pages(
     storage: &Storage,
     settings: Settings,
     side: Residence,

@@ -9,10 +9,9 @@ ghost use Rattle.vsm_model.specs.Services.{whole};
 ghost use Rattle.vsm_model.specs.Subpools.{seen_or_own};
 ghost use Rattle.storage_changes.specs.Meaning.{model_of};
 ghost use Rattle.storage_actions.specs.Actions.{register_records, run_of};
-ghost use Rattle.storage_exchange.specs.Storage.{state_of, IsFrameless};
+ghost use Rattle.storage_exchange.specs.Storage.{state_of, Stand};
 ghost use Rattle.storage_plans.specs.Places.{StandsSound};
 ghost use Rattle.storage_plans.specs.Plans.{IsPlanned};
-ghost use Rattle.subpool_storage.specs.Subpools.{is_there};
 
 use crate::areas::check_number;
 use crate::plan::{NO_PAGES, Plan, push_register};
@@ -25,10 +24,9 @@ const WHOLE_BLANKS: u32 = 1;
 
 // The subpool that the current task sees at the number and owns, or the first cause that refuses its release.
 fn find_owned(storage: &Storage, number: u32) -> Result<Subpool, Cause>
-    requires { (settings : Settings) × StandsSound settings storage.now }
+    requires { Stand storage.now }
     ensures none { IfOk result (λ p. first_cause (whole_causes (model_of (state_of storage.now)) number) ≡ None) }
     ensures subpool { IfOk result (λ p. p ≡ seen_or_own (model_of (state_of storage.now)) number) }
-    ensures there { IfOk result (λ p. is_there (state_of storage.now).subpools p ≡ true) }
     ensures err { IfErr result (λ cause.
         first_cause (whole_causes (model_of (state_of storage.now)) number) ≡ Some cause) }
 {
@@ -76,8 +74,9 @@ fn empty(storage: &Storage, subpool: Subpool) -> Plan
 /// `SubpoolNotAllowed`), `WholeOfZero` for subpool 0, `NotInSubpool` where the task doesn't see the subpool, and
 /// `NotOwner` where it doesn't own it.
 pub fn plan_whole(storage: &Storage, number: u32) -> Result<Plan, Cause>
+    requires { Stand storage.now }
     ensures { (settings : Settings) (names_full : Bool) → settings_valid settings ≡ true
-        → StandsSound settings storage.now → IsFrameless storage.now
+        → StandsSound settings storage.now
         → IsPlanned settings names_full (state_of storage.now) (whole number) result }
 {
     Ok(empty(storage, find_owned(storage, number)?))

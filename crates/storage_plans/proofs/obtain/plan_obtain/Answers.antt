@@ -25,7 +25,7 @@ returns-in-Ok c =
       is_new = c.in-Ok.ensures.is_new;
       count = c.in-Ok.ensures.count;
       place = c.in-Ok.ensures.place;
-    }) h c.requires.register c.plan_area.result c.plan_area.ensures.records c.plan_area.ensures.blanks c.plan_area.ensures.fresh c.plan_area.ensures.reply)
+    }) h c.requires.register c.plan_area.result c.plan_area.ensures.emptied c.plan_area.ensures.records c.plan_area.ensures.blanks c.plan_area.ensures.fresh c.plan_area.ensures.reply)
 
 pub returns-in-Err : goal.returns-in-Err
 returns-in-Err c =

@@ -1,0 +1,10 @@
+use Rattle.storage_exchange.specs.Storage.{state_of}
+use Rattle.storage_plans.proofs.Emptied.{emptying_carried_out}
+use Rattle.storage_plans.proofs.whole.plan_whole.Goals as goal
+
+pub returns : goal.returns
+returns c settings names_full valid stands =
+    let its = c.in_ok-find_owned.ensures in
+    let plan = c.empty in
+    emptying_carried_out settings names_full (state_of c.args.storage.now) c.args.number its.none valid stands.sound c.in_ok-find_owned.field-0 its.subpool
+    plan.result plan.ensures.emptied plan.ensures.records plan.ensures.blanks plan.ensures.fresh plan.ensures.reply
