@@ -1,14 +1,17 @@
 -- A change is let go.
-use Rattle.std.proofs.Common.{◌≡◌, ℕ, ◌+◌, ◌≤◌, List, [], ap, arith}
+use Rattle.std.proofs.Common.{◌≡◌, ℕ, ◌+◌, ◌≤◌, List, [], ◌++◌, length, ap, arith}
 use Rattle.vsm_elements.specs.Store.{Store}
 use Rattle.vsm_elements.specs.Chain.{Link, links, owned, ids, IsChain}
 use Rattle.vsm_elements.specs.declared.chain.Chain.{Chain}
 use Rattle.vsm_elements.specs.Ownership.{Leaves}
 use Rattle.vsm_elements.specs.Owners.{times, Moves}
+use Rattle.std.proofs.lemmas.List.{length-append}
+use Rattle.vsm_elements.proofs.TimesLemmas.{times-append}
 use Rattle.vsm_elements.proofs.MoveLemmas.{moves-of, moves-follow, moves-by, rest-same, chain-live, chain-kept}
 use Rattle.subpool_storage.specs.declared.storage.SubpoolStorage.{SubpoolStorage as TheParked}
 use Rattle.subpool_storage.specs.SubpoolStorage.{subpools_of, Stands}
 use Rattle.subpool_storage.specs.SubpoolStorage
+use Rattle.subpool_storage.specs.Held.{GivenBack}
 use Rattle.storage_swap.specs.Swap.{held_by}
 use Rattle.storage_swap.proofs.Below.{storage-owns, storage-stays}
 
@@ -53,3 +56,10 @@ module _ (s : Store) (records blanks : Chain) (parked : TheParked) (chain : IsCh
     discarded end h = moves-follow s e' end (held_by s records blanks parked) parked_ids no_ids
         (moves-by s e' both_ids no_ids (held_by s records blanks parked) parked_ids both (λ i. omega arith) (λ i. omega arith))
         (moves-by e' end (SubpoolStorage.hold e' parked) no_ids parked_ids no_ids h (λ i. omega (arith, parked-kept.2 i)) (λ i. omega (arith, parked-kept.2 i)))
+
+    pub all-back : (end : Store) → GivenBack (SubpoolStorage.hold e' parked) e' end → GivenBack (held_by s records blanks parked) s end
+    all-back end h = record {
+      ids = (owned s records ++ owned e blanks) ++ h.ids;
+      held = λ i. omega (arith, times-append i (owned s records ++ owned e blanks) h.ids, times-append i (owned s records) (owned e blanks), ap (λ (ns : List Link). times i (ids ns)) blanks-kept.1, h.held i, parked-kept.2 i);
+      spare = omega (arith, f.spare, g.spare, h.spare, length-append (owned s records ++ owned e blanks) h.ids, length-append (owned s records) (owned e blanks));
+    }

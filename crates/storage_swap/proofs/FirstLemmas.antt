@@ -84,6 +84,7 @@ module _ (p m : Storage) (e : Store) (given given' : List PageFrame) (q q' : Sub
     steps = λ kept le h. go kept le h;
     out = x.out;
     tables = x.tables;
+    frames = x.frames;
     places = x.places;
   } where
     first : (record_at n ≡ r) × (map record_at (drop 1 (links p.elements c)) ≡ rs)

@@ -19,7 +19,7 @@ use Rattle.storage_changes.specs.Fits.{Fits, FitInTurn}
 use Rattle.subpool_storage.specs.declared.storage.SubpoolStorage.{SubpoolStorage}
 use Rattle.storage_exchange.specs.declared.storage.Storage.{Storage}
 use Rattle.storage_exchange.specs.Storage.{hold_with, state_of, walk_of, StandsWith}
-use Rattle.storage_exchange.specs.Exchange.{HavePlaces}
+use Rattle.storage_exchange.specs.Exchange.{HavePlaces, SameFrames}
 use Rattle.storage_swap.specs.Beside.{record_at, records_of, hold_beside, Beside, SwapsFirst, SwapsAll}
 use Rattle.storage_swap.proofs.KeptLemmas.{over, kept-hold-with, kept-stands}
 use Rattle.storage_swap.proofs.FirstLemmas.{kept-walk}
@@ -41,6 +41,7 @@ pub record Going (p : Storage) (given : List PageFrame) (q : SubpoolStorage) (c 
       → back_onto (walk_of s given' q' kept) (records_of s.elements done) (records_of s.elements rest) ≡ back_onto (walk_of p given q kept) [] (records_of p.elements c)
   pub out : s.region.out + length given ≡ p.region.out + length given'
   pub tables : SameTables p.region s.region
+  pub frames : SameFrames p.region s.region
   pub places : HavePlaces p given → HavePlaces s given'
 
 -- at the start
@@ -59,6 +60,7 @@ begins p given q c done b first count =
       back = λ kept le h. ap (λ (ns : List Link). back_onto (walk_of p given q kept) (map record_at ns) (records_of p.elements c)) none;
       out = refl;
       tables = record { tables = λ x. refl; segments = λ x. refl };
+      frames = record { spare = refl; made = refl };
       places = λ h. h;
     }
 
@@ -76,6 +78,7 @@ ends p s given given' q q' c rest done g count =
       );
       out = g.out;
       tables = g.tables;
+      frames = g.frames;
       places = g.places;
     }
 
@@ -190,6 +193,7 @@ module _ (p s m : Storage) (e : Store) (given given' given'' : List PageFrame) (
             ∙ ap (back_onto (walk_of s given' q' kept) (records_of s.elements done)) (sym l) ∙ g.back kept le h);
         out = omega (arith, g.out, x.out);
         tables = record { tables = λ z. x.tables.tables z ∙ g.tables.tables z; segments = λ z. x.tables.segments z ∙ g.tables.segments z };
+        frames = record { spare = x.frames.spare ∙ g.frames.spare; made = x.frames.made ∙ g.frames.made };
         places = λ h. x.places (g.places h);
       }
 

@@ -23,7 +23,7 @@ use Rattle.storage_changes.specs.Changes.{outset, arrival, Fit, inverse}
 use Rattle.storage_changes.proofs.Cases.{state-same, walk-same}
 use Rattle.storage_exchange.specs.declared.storage.Storage.{Storage}
 use Rattle.storage_exchange.specs.Storage.{hold_with, state_of, walk_of, byte_held}
-use Rattle.storage_exchange.specs.Exchange.{HavePlaces}
+use Rattle.storage_exchange.specs.Exchange.{HavePlaces, SameFrames}
 use Rattle.storage_swap.specs.declared.change.Change.{Change as TheChange}
 use Rattle.storage_swap.specs.Beside.{record_at, records_of, hold_beside, Beside, SwapsAll}
 use Rattle.storage_swap.specs.Swap.{means, both_hold, Ready, Swaps}
@@ -47,7 +47,7 @@ can-enter p c r fit page h = (r.places page h, r.frameless page (fresh-page p c 
 -- the blank elements are given back, and the frames stand in the tables
 module _ (p : Storage) (c : TheChange) (r : Ready p c) (fit : Fit (state_of p) (means p.elements c)) (e : Store) (region : Tables) (given : List PageFrame)
     (f : Leaves p.elements e (owned p.elements c.blanks) []) (spares : e.spare ≡ p.elements.spare + c.blanks.count)
-    (pages : (x : ℕ) → bytes_at region x ≡ option_or (held_at c.frames x) (bytes_at p.region x)) (tables : SameTables p.region region) (out : region.out + length c.frames ≡ p.region.out) (empty : given ≡ []) where
+    (pages : (x : ℕ) → bytes_at region x ≡ option_or (held_at c.frames x) (bytes_at p.region x)) (tables : SameTables p.region region) (out : region.out + length c.frames ≡ p.region.out) (empty : given ≡ []) (counts : SameFrames p.region region) where
   abbrev m : Storage
   m = record p { elements = e; region = region }
 
@@ -190,6 +190,7 @@ module _ (p : Storage) (c : TheChange) (r : Ready p c) (fit : Fit (state_of p) (
         spare = spare;
         out = omega (arith, w.out, out, ap length empty);
         tables = record { tables = λ x. w.tables.tables x ∙ tables.tables x; segments = λ x. w.tables.segments x ∙ tables.segments x };
+        frames = record { spare = w.frames.spare ∙ counts.spare; made = w.frames.made ∙ counts.made };
       } where
         end-parked : subpools_of end parked' ≡ subpools_of s.elements parked'
         end-parked = kept-parked s parked' end w.beside.stands no_ids (λ i. times i (owned end blanks')) filled apart-none

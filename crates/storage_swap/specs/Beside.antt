@@ -14,7 +14,7 @@ use Rattle.storage_changes.specs.Turned.{turned, back_onto}
 use Rattle.storage_changes.specs.Fits.{Fits, FitInTurn}
 use Rattle.storage_exchange.specs.declared.storage.Storage.{Storage}
 use Rattle.storage_exchange.specs.Storage.{hold_with, state_of, walk_of, StandsWith}
-use Rattle.storage_exchange.specs.Exchange.{HavePlaces}
+use Rattle.storage_exchange.specs.Exchange.{HavePlaces, SameFrames}
 
 abbrev pub record_at : Link → Record
 record_at n = record_of n.words
@@ -45,6 +45,7 @@ pub record SwapsFirst (p t : Storage) (given given' : List PageFrame) (q q' : Su
       → (kept ≤ t.elements.spare) × (walk_of t given' q' kept ≡ step (walk_of p given q kept) r)
   pub out : t.region.out + length given ≡ p.region.out + length given'
   pub tables : SameTables p.region t.region
+  pub frames : SameFrames p.region t.region
   pub places : HavePlaces p given → HavePlaces t given'
 
 -- all records did, in their order
@@ -59,4 +60,5 @@ pub record SwapsAll (p t : Storage) (given given' : List PageFrame) (q q' : Subp
       × (records_of t.elements c' ≡ back_onto (walk_of p given q kept) [] (records_of p.elements c))
   pub out : t.region.out + length given ≡ p.region.out + length given'
   pub tables : SameTables p.region t.region
+  pub frames : SameFrames p.region t.region
   pub places : HavePlaces p given → HavePlaces t given'

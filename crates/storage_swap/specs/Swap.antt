@@ -8,10 +8,11 @@ use Rattle.raw_region.specs.Pages.{bytes_at, SamePages, SameTables}
 use Rattle.subpool_storage.specs.declared.storage.SubpoolStorage.{SubpoolStorage}
 use Rattle.subpool_storage.specs.SubpoolStorage.{subpools_of}
 use Rattle.subpool_storage.specs.SubpoolStorage
+use Rattle.subpool_storage.specs.Held.{GivenBack}
 use Rattle.storage_changes.specs.Changes.{Change, overlay, inverse}
 use Rattle.storage_exchange.specs.declared.storage.Storage.{Storage}
 use Rattle.storage_exchange.specs.Storage.{hold, state_of, byte_held, StandsWith}
-use Rattle.storage_exchange.specs.Exchange.{HavePlaces}
+use Rattle.storage_exchange.specs.Exchange.{HavePlaces, SameFrames}
 use Rattle.storage_swap.specs.declared.change.Change.{Change as TheChange}
 use Rattle.storage_swap.specs.Beside.{records_of}
 
@@ -51,7 +52,7 @@ pub record Ready (p : Storage) (c : TheChange) : Type 0 where
   pub places : HavePlaces p c.frames
 
 -- The storage is what the change means, and the change the one that leads back. Elements and frames went from the one
--- to the other, and nothing else changed.
+-- to the other, and nothing else changed: as many elements and frames are spare, and no frame was made.
 pub record Swaps (p : Storage) (c : TheChange) (t : Storage) (d : TheChange) : Type 0 where
   pub before : Ready p c
   pub after : Ready t d
@@ -61,8 +62,10 @@ pub record Swaps (p : Storage) (c : TheChange) (t : Storage) (d : TheChange) : T
   pub spare : t.elements.spare ≡ p.elements.spare
   pub out : t.region.out + length c.frames ≡ p.region.out + length d.frames
   pub tables : SameTables p.region t.region
+  pub frames : SameFrames p.region t.region
 
--- The change's elements are spare and its frames too, and nothing else changed.
+-- The change's elements are spare and its frames too, and nothing else changed: just as many more of both are spare as
+-- the change had.
 pub record Discards (p : Storage) (c : TheChange) (t : Storage) : Type 0 where
   pub before : Ready p c
   pub same : t ≡ record p { elements = t.elements; region = t.region }
@@ -70,3 +73,6 @@ pub record Discards (p : Storage) (c : TheChange) (t : Storage) : Type 0 where
   pub pages : SamePages p.region t.region
   pub tables : SameTables p.region t.region
   pub out : t.region.out + length c.frames ≡ p.region.out
+  pub spare : GivenBack (change_holds p.elements c) p.elements t.elements
+  pub spare_frames : t.region.spare ≡ p.region.spare + length c.frames
+  pub made : t.region.made ≡ p.region.made

@@ -1,6 +1,7 @@
 ghost use Rattle.std.specs.Prelude.{ℕ, ◌≤◌};
 ghost use Rattle.vsm_elements.specs.Chain.{IsChain};
 ghost use Rattle.vsm_elements.specs.Owners.{Moves};
+ghost use Rattle.subpool_storage.specs.Held.{GivenBack};
 ghost use Rattle.subpool_storage.specs.SubpoolStorage.{Stands};
 ghost use Rattle.storage_changes.specs.Changes.{Fit};
 ghost use Rattle.storage_exchange.specs.Storage.{state_of};
@@ -73,7 +74,8 @@ fn discard_elements(elements: &mut Elements, records: Chain, blanks: Chain, park
     requires blanks { IsChain elements.old blanks }
     requires parked { Stands elements.old parked }
     requires once { (i : ℕ) → held_by elements.old records blanks parked i ≤ 1 }
-    ensures { Moves elements.old elements.new (held_by elements.old records blanks parked) (λ i. 0) }
+    ensures moves { Moves elements.old elements.new (held_by elements.old records blanks parked) (λ i. 0) }
+    ensures spares { GivenBack (held_by elements.old records blanks parked) elements.old elements.new }
 {
     records.discard(elements);
     blanks.discard(elements);

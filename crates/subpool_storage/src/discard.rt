@@ -1,5 +1,6 @@
 ghost use Rattle.std.specs.Prelude.{ℕ};
 ghost use Rattle.vsm_elements.specs.Owners.{Moves};
+ghost use Rattle.subpool_storage.specs.Held.{GivenBack};
 ghost use Rattle.subpool_storage.specs.SubpoolStorage.{hold, Stands};
 
 use crate::storage::SubpoolStorage;
@@ -10,7 +11,8 @@ impl SubpoolStorage {
     /// Gives back every element: those of the subpools, and those of their pages and free storage.
     pub fn discard(self, elements: &mut Elements)
         requires { Stands elements.old self }
-        ensures { Moves elements.old elements.new (hold elements.old self) (λ i. 0) }
+        ensures moves { Moves elements.old elements.new (hold elements.old self) (λ i. 0) }
+        ensures spares { GivenBack (hold elements.old self) elements.old elements.new }
     {
         self.set.discard(elements);
     }

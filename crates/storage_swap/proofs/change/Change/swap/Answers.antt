@@ -16,7 +16,7 @@ swap_records-requires-clause-beside c =
     let b : (x : ℕ) → bytes_at c.restore.new.self x ≡ option_or (held_at c.args.self.now.frames x) (bytes_at c.args.storage.now.region x) = λ x. c.restore.ensures.pages x ∙ ap (λ (z : List PageFrame). option_or (held_at z x) (bytes_at c.args.storage.now.region x)) c.replace-frames.ensures.value in
     let o : c.restore.new.self.out + length c.args.self.now.frames ≡ c.args.storage.now.region.out = ap (λ (z : List PageFrame). c.restore.new.self.out + length z) (sym c.replace-frames.ensures.value) ∙ c.restore.ensures.out in
     let n : c.replace-frames.new.dest ≡ [] = c.replace-frames.ensures.after ∙ c.empty.ensures in
-    beside c.args.storage.now c.args.self.now c.requires.ready c.requires.fits c.discard.new.elements c.restore.new.self c.replace-frames.new.dest f s b c.restore.ensures.tables o n
+    beside c.args.storage.now c.args.self.now c.requires.ready c.requires.fits c.discard.new.elements c.restore.new.self c.replace-frames.new.dest f s b c.restore.ensures.tables o n (record { spare = c.restore.ensures.spares; made = c.restore.ensures.made })
 
 pub swap_records-requires-clause-fits : goal.swap_records-requires-clause-fits
 swap_records-requires-clause-fits c =
@@ -25,7 +25,7 @@ swap_records-requires-clause-fits c =
     let b : (x : ℕ) → bytes_at c.restore.new.self x ≡ option_or (held_at c.args.self.now.frames x) (bytes_at c.args.storage.now.region x) = λ x. c.restore.ensures.pages x ∙ ap (λ (z : List PageFrame). option_or (held_at z x) (bytes_at c.args.storage.now.region x)) c.replace-frames.ensures.value in
     let o : c.restore.new.self.out + length c.args.self.now.frames ≡ c.args.storage.now.region.out = ap (λ (z : List PageFrame). c.restore.new.self.out + length z) (sym c.replace-frames.ensures.value) ∙ c.restore.ensures.out in
     let n : c.replace-frames.new.dest ≡ [] = c.replace-frames.ensures.after ∙ c.empty.ensures in
-    fits-turn c.args.storage.now c.args.self.now c.requires.ready c.requires.fits c.discard.new.elements c.restore.new.self c.replace-frames.new.dest f s b c.restore.ensures.tables o n
+    fits-turn c.args.storage.now c.args.self.now c.requires.ready c.requires.fits c.discard.new.elements c.restore.new.self c.replace-frames.new.dest f s b c.restore.ensures.tables o n (record { spare = c.restore.ensures.spares; made = c.restore.ensures.made })
 
 pub fill-self-requires : goal.fill-self-requires
 fill-self-requires c =
@@ -34,7 +34,7 @@ fill-self-requires c =
     let b : (x : ℕ) → bytes_at c.restore.new.self x ≡ option_or (held_at c.args.self.now.frames x) (bytes_at c.args.storage.now.region x) = λ x. c.restore.ensures.pages x ∙ ap (λ (z : List PageFrame). option_or (held_at z x) (bytes_at c.args.storage.now.region x)) c.replace-frames.ensures.value in
     let o : c.restore.new.self.out + length c.args.self.now.frames ≡ c.args.storage.now.region.out = ap (λ (z : List PageFrame). c.restore.new.self.out + length z) (sym c.replace-frames.ensures.value) ∙ c.restore.ensures.out in
     let n : c.replace-frames.new.dest ≡ [] = c.replace-frames.ensures.after ∙ c.empty.ensures in
-    let k : c.args.storage.now.elements.spare ≤ c.swap_records.new.storage.elements.spare = room c.args.storage.now c.args.self.now c.requires.ready c.requires.fits c.discard.new.elements c.restore.new.self c.replace-frames.new.dest f s b c.restore.ensures.tables o n c.swap_records.new.storage c.swap_records.new.given c.swap_records.new.parked c.swap_records.new.records c.swap_records.ensures in
+    let k : c.args.storage.now.elements.spare ≤ c.swap_records.new.storage.elements.spare = room c.args.storage.now c.args.self.now c.requires.ready c.requires.fits c.discard.new.elements c.restore.new.self c.replace-frames.new.dest f s b c.restore.ensures.tables o n (record { spare = c.restore.ensures.spares; made = c.restore.ensures.made }) c.swap_records.new.storage c.swap_records.new.given c.swap_records.new.parked c.swap_records.new.records c.swap_records.ensures in
     let P : ℕ → Type 0 = λ x. x ≤ c.swap_records.new.storage.elements.spare in
     record { room = subst P (sym c.spare-kept.ensures) k }
 
@@ -45,7 +45,7 @@ returns c =
     let b : (x : ℕ) → bytes_at c.restore.new.self x ≡ option_or (held_at c.args.self.now.frames x) (bytes_at c.args.storage.now.region x) = λ x. c.restore.ensures.pages x ∙ ap (λ (z : List PageFrame). option_or (held_at z x) (bytes_at c.args.storage.now.region x)) c.replace-frames.ensures.value in
     let o : c.restore.new.self.out + length c.args.self.now.frames ≡ c.args.storage.now.region.out = ap (λ (z : List PageFrame). c.restore.new.self.out + length z) (sym c.replace-frames.ensures.value) ∙ c.restore.ensures.out in
     let n : c.replace-frames.new.dest ≡ [] = c.replace-frames.ensures.after ∙ c.empty.ensures in
-    swaps c.args.storage.now c.args.self.now c.requires.ready c.requires.fits c.discard.new.elements c.restore.new.self c.replace-frames.new.dest f s b c.restore.ensures.tables o n c.swap_records.new.storage c.swap_records.new.given c.swap_records.new.parked c.swap_records.new.records c.swap_records.ensures
+    swaps c.args.storage.now c.args.self.now c.requires.ready c.requires.fits c.discard.new.elements c.restore.new.self c.replace-frames.new.dest f s b c.restore.ensures.tables o n (record { spare = c.restore.ensures.spares; made = c.restore.ensures.made }) c.swap_records.new.storage c.swap_records.new.given c.swap_records.new.parked c.swap_records.new.records c.swap_records.ensures
     c.fill-self.new.elements c.fill-self.result c.fill-self.ensures.chain c.fill-self.ensures.owned (c.fill-self.ensures.spare ∙ c.spare-kept.ensures) (ap (λ (x : ℕ). c.fill-self.result.count + x) (sym c.spare-kept.ensures) ∙ c.fill-self.ensures.count)
 
 pub restore-requires-clause-enters : goal.restore-requires-clause-enters
