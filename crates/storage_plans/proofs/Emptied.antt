@@ -1,5 +1,5 @@
 -- The release of a whole subpool, and its plan on the plain machine.
-use Rattle.std.proofs.Common.{◌≡◌, ℕ, Bool, true, Option, Some, None, [], ◌∷◌, sym, ap, ◌∙◌, arith}
+use Rattle.std.proofs.Common.{◌≡◌, ℕ, Bool, true, Some, None, [], ◌∷◌, sym, ap, ◌∙◌, arith}
 use Rattle.std.specs.Prelude.{unwrap_or}
 use Rattle.std.proofs.Math.Logic.{∥∥₁_map}
 use Rattle.vsm_model.specs.declared.Subpool.{Subpool}
