@@ -1,0 +1,56 @@
+-- How many elements a reserved change has.
+use Rattle.std.proofs.Common.{◌≡◌, ℕ, zero, suc, ◌+◌, ◌*◌, ◌<◌, ◌≤◌, List, [], ◌∷◌, ◌++◌, length, Option, Some, None, Result, Ok, Err, IfOk, refl, sym, ap, ◌∙◌, arith}
+use Rattle.std.proofs.lemmas.List.{length-map, length-append}
+use Rattle.run_set.specs.declared.run.Run.{Run}
+use Rattle.vsm_model.specs.declared.Subpool.{Subpool}
+use Rattle.vsm_elements.specs.Store.{Store}
+use Rattle.vsm_elements.specs.Chain.{Link, element, follow, links}
+use Rattle.vsm_elements.specs.declared.chain.Chain.{Chain}
+use Rattle.subpool_storage.specs.Extents.{extents}
+use Rattle.subpool_storage.specs.Subpools.{Subpools}
+use Rattle.storage_changes.specs.declared.record.Record.{Record}
+use Rattle.storage_changes.specs.Changes.{Change as Meaning, unassigned_records, change_from}
+use Rattle.storage_exchange.specs.declared.storage.Storage.{Storage as Parts}
+use Rattle.storage_swap.specs.declared.change.Change.{Change}
+use Rattle.storage_swap.specs.Beside.{record_at, records_of}
+use Rattle.storage_swap.specs.Reserve.{Reserves}
+use Rattle.storage_core.specs.Planned.{extents_leaving}
+
+follow-length : (s : Store) (id n : ℕ) → length (follow s id n) ≡ n
+follow-length s id zero = refl
+follow-length s id (suc n) = ap suc (follow-length s ((element s id).next) n)
+
+records-length : (s : Store) (c : Chain) → length (records_of s c) ≡ c.count
+records-length s c = length-map (links s c) record_at ∙ follow-length s c.first c.count
+
+unassigned-length : (rs : List Run) → length (unassigned_records rs) ≡ length rs
+unassigned-length [] = refl
+unassigned-length (r ∷ rs) = ap suc (unassigned-length rs)
+
+abbrev records_in : Meaning → ℕ
+records_in d = length d.records
+
+-- of a change with at most 17 records of its own and 7 blank elements
+few_from : (m : Subpools) (emptied : Option Subpool) (records : List Record) (blanks : ℕ) (fresh : Run) → length records ≤ 17 → blanks ≤ 7 →
+    records_in (change_from m emptied records blanks fresh) + (change_from m emptied records blanks fresh).blanks < 32 + 8 * extents_leaving m emptied
+few_from m None records blanks fresh few blank = let h : length records + blanks < 32 + 8 * 0 = omega (arith, few, blank) in h
+few_from m (Some p) records blanks fresh few blank =
+    let n = length (extents m p) in
+    let h : suc (length (unassigned_records (extents m p) ++ records)) + (n + blanks) < 32 + 8 * n =
+    omega (arith, few, blank, length-append (unassigned_records (extents m p)) records, unassigned-length (extents m p)) in
+    h
+
+pub few_reserved : (p t : Parts) (m : Subpools) (emptied : Option Subpool) (records : List Record) (blanks : ℕ) (fresh : Run) (c : Change) →
+    Reserves p (change_from m emptied records blanks fresh) c t → length records ≤ 17 → blanks ≤ 7 →
+    c.records.count + c.blanks.count < 32 + 8 * extents_leaving m emptied
+few_reserved p t m emptied records blanks fresh c made few blank =
+    let d = change_from m emptied records blanks fresh in
+    let same_records : length (records_of t.elements c.records) ≡ records_in d = ap records_in made.meaning in
+    let same_blanks : c.blanks.count ≡ d.blanks = ap (λ (x : Meaning). x.blanks) made.meaning in
+    omega (arith, few_from m emptied records blanks fresh few blank, records-length t.elements c.records, same_records, same_blanks)
+
+pub few_answered : {E : Type 0} (p t : Parts) (m : Subpools) (emptied : Option Subpool) (records : List Record) (blanks : ℕ) (fresh : Run) (r : Result Change E) →
+    IfOk r (λ c. Reserves p (change_from m emptied records blanks fresh) c t) → length records ≤ 17 → blanks ≤ 7 →
+    IfOk r (λ c. c.records.count + c.blanks.count < 32 + 8 * extents_leaving m emptied)
+few_answered p t m emptied records blanks fresh (Ok c) made few blank = few_reserved p t m emptied records blanks fresh c made few blank
+few_answered p t m emptied records blanks fresh (Err e) made few blank = made
