@@ -4,22 +4,22 @@ use Rattle.std.specs.Option.{option_map}
 use Rattle.operand_texts.specs.Words.{is_word}
 use Rattle.operand_texts.specs.Written.{Written, number, Target, Stored}
 use Rattle.operand_texts.specs.Values.{number_of, value_of, target_of, content_of, size_of}
-use Rattle.macro_statements.specs.Rows.{position, keyword}
-use Rattle.macro_statements.specs.Operands.{first_fault, text_at, value_at, unless_fault}
-use Rattle.macro_statements.specs.Locations.{boundary_of, location_of}
+use Rattle.macro_operands.specs.Rows.{position, keyword}
+use Rattle.macro_operands.specs.Operands.{first_fault, text_at, value_at, unless_fault}
+use Rattle.macro_operands.specs.Locations.{boundary_of, location_of}
 use Rattle.macro_statements.specs.Storage.{obtain_row, release_row, subpool_at, says_yes, storage_form, obtain_of, release_of, obtain_with, release_with}
 use Rattle.macro_statements.specs.Poke.{poke_row, poke_of, poke_with}
 use Rattle.macro_statements.specs.Peek.{peek_row, peek_of, peek_with}
 use Rattle.macro_statements.specs.Steps.{steps_row, count_in, count_with}
-use Rattle.macro_statements.specs.Said.{value, place, condition, content, size, count, boundary, location, said_of}
+use Rattle.macro_operands.specs.Said.{value, place, condition, content, size, count, boundary, location, said_of}
 use Rattle.macro_statements.specs.Slots.{as_value, as_place, as_condition, as_content, as_size, as_count, as_boundary, as_location, form_by, subpool_by, boundary_by, location_by, readings, obtain_by, release_by, poke_by, peek_by, count_by}
-use Rattle.macro_statements.specs.declared.faults.FaultKind.{FaultKind}
+use Rattle.macro_operands.specs.declared.faults.FaultKind.{FaultKind}
 use Rattle.macro_statements.specs.declared.requests.Form.{Form}
 use Rattle.vsm_model.specs.declared.services.Boundary.{Boundary}
 use Rattle.vsm_model.specs.declared.services.Boundary.TheVariants.{Doubleword}
 use Rattle.vsm_model.specs.declared.services.Location.{Location}
 use Rattle.vsm_model.specs.declared.services.Location.TheVariants.{Caller}
-use Rattle.macro_statements.specs.declared.rows.Kind.TheVariants as kind
+use Rattle.macro_operands.specs.declared.rows.Kind.TheVariants as kind
 
 value_back : (v : Option Written) → as_value (option_map value v) ≡ v
 value_back None = refl

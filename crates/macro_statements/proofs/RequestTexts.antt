@@ -10,19 +10,19 @@ use Rattle.operand_texts.specs.Words.{is_name, is_word}
 use Rattle.operand_texts.specs.Written.{Written, number, named, register, Target, Stored, spelled, word, IsValue, IsTarget, IsStored, HasBytes}
 use Rattle.macro_statements.specs.Requests.{obtain, release, poke, Asked, act, peek, back, forward, IsValidAsked, AskedHasBytes, HasRoom, seen, asked_in}
 use Rattle.operand_texts.specs.Values.{number_of, value_of, target_of, content_of, within_size, size_of}
-use Rattle.macro_statements.specs.Rows.{Key, position, keyword, is_among, Entry, entry, Row}
-use Rattle.macro_statements.specs.Operands.{entry_for, is_excluded, unknown_fault, first_fault, text_at, value_at, target_at, unless_fault}
-use Rattle.macro_statements.specs.Locations.{boundary_of, location_of}
+use Rattle.macro_operands.specs.Rows.{Key, position, keyword, is_among, Entry, entry, Row}
+use Rattle.macro_operands.specs.Operands.{entry_for, is_excluded, unknown_fault, first_fault, text_at, value_at, target_at, unless_fault}
+use Rattle.macro_operands.specs.Locations.{boundary_of, location_of}
 use Rattle.macro_statements.specs.Storage.{obtain_row, release_row, storage_left_out, subpool_at, boundary_at, location_at, says_yes, storage_form, obtain_of, release_of, obtain_with, release_with, storage}
 use Rattle.macro_statements.specs.Poke.{poke_row, poke_of, poke_with}
 use Rattle.macro_statements.specs.Peek.{peek_row, peek_of, peek_with}
 use Rattle.macro_statements.specs.Steps.{steps_row, count_with, step_with, count_in}
 use Rattle.macro_statements.specs.Statements.{asked_of, SpellsRequest}
-use Rattle.macro_statements.specs.Keywords.{operand_at}
-use Rattle.macro_statements.specs.Said.{said_of, value, place, content, size, count}
+use Rattle.macro_operands.specs.Keywords.{operand_at}
+use Rattle.macro_operands.specs.Said.{said_of, value, place, content, size, count}
 use Rattle.std.proofs.lemmas.List.{length-append}
-use Rattle.macro_statements.specs.declared.faults.FaultKind.{FaultKind}
-use Rattle.macro_statements.specs.declared.faults.FaultKind.TheVariants as fault
+use Rattle.macro_operands.specs.declared.faults.FaultKind.{FaultKind}
+use Rattle.macro_operands.specs.declared.faults.FaultKind.TheVariants as fault
 use Rattle.vsm_model.specs.declared.causes.Family.{Family}
 use Rattle.vsm_model.specs.declared.causes.Family.TheVariants as family
 use Rattle.vsm_model.specs.declared.services.Boundary.{Boundary}
@@ -31,16 +31,16 @@ use Rattle.vsm_model.specs.declared.services.Location.{Location}
 use Rattle.vsm_model.specs.declared.services.Location.TheVariants.{Low, Either, Caller}
 use Rattle.macro_statements.specs.declared.requests.Form.{Form}
 use Rattle.macro_statements.specs.declared.requests.Request.{Request}
-use Rattle.macro_statements.specs.declared.rows.Kind.{Kind}
-use Rattle.macro_statements.specs.declared.rows.Kind.TheVariants as kind
+use Rattle.macro_operands.specs.declared.rows.Kind.{Kind}
+use Rattle.macro_operands.specs.declared.rows.Kind.TheVariants as kind
 use Rattle.macro_statements.specs.declared.statements.Operation.{Operation}
 use Rattle.macro_statements.specs.declared.statements.Operation.TheVariants as operation
 use Rattle.operand_texts.proofs.OperandTexts.{IsOperand, goes_plain, plain_name, joined, balanced_joined, operands_joined}
 use Rattle.operand_texts.proofs.ValueTexts.{ValueText, ContentText, value_text_of, place_text_of, content_text_of, number_text}
 use Rattle.operand_texts.proofs.Spelling.{written, below, spelled_is_valid, spelled_place_is_valid}
 use Rattle.operand_texts.proofs.SpelledBytes.{spelled_content_is_valid}
-use Rattle.macro_statements.proofs.WrittenOperands.{keyed, placed, Item, item, operand_text, Fits, AllFit, no_fault_from, lookup, finds, stand, AllFew, long}
-use Rattle.macro_statements.proofs.WrittenOperands as operands
+use Rattle.macro_operands.proofs.WrittenOperands.{keyed, placed, Item, item, operand_text, Fits, AllFit, no_fault_from, lookup, finds, stand, AllFew, long}
+use Rattle.macro_operands.proofs.WrittenOperands as operands
 
 -- operands that a row has, each once and of its kind
 abbrev Good : Row → List Item → Type 0

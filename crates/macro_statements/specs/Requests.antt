@@ -5,7 +5,7 @@ use Rattle.std.specs.Option.{option_map}
 pub use Rattle.operand_texts.specs.Written.{Written, number, named, register, Target, in_name, in_register}
 pub use Rattle.operand_texts.specs.Written.{Stored, spelled, word, written_in, target_in, stored_in}
 pub use Rattle.operand_texts.specs.Written.{is_upper_name, IsValue, IsTarget, IsStored, HasBytes}
-use Rattle.macro_statements.specs.declared.faults.FaultKind.{FaultKind}
+use Rattle.macro_operands.specs.declared.faults.FaultKind.{FaultKind}
 use Rattle.vsm_model.specs.declared.causes.Family.{Family}
 use Rattle.vsm_model.specs.declared.causes.Family.TheVariants as family
 use Rattle.vsm_model.specs.declared.services.Boundary.{Boundary}

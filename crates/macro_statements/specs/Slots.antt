@@ -7,17 +7,17 @@ use Rattle.std.specs.Option.{option_map}
 use Rattle.std.specs.Char.{to_ascii_uppercase}
 use Rattle.operand_texts.specs.Written.{Written, number, Target, Stored, written_in, target_in}
 use Rattle.operand_texts.specs.Values.{content_of}
-use Rattle.macro_statements.specs.Rows as rows
-use Rattle.macro_statements.specs.Rows.{position, keyword, same_key, is_among}
-use Rattle.macro_statements.specs.Operands.{unknown_fault, text_at}
+use Rattle.macro_operands.specs.Rows as rows
+use Rattle.macro_operands.specs.Rows.{position, keyword, same_key, is_among}
+use Rattle.macro_operands.specs.Operands.{unknown_fault, text_at}
 use Rattle.macro_statements.specs.Storage.{obtain_with, release_with}
 use Rattle.macro_statements.specs.Poke.{poke_with}
 use Rattle.macro_statements.specs.Peek.{peek_with}
 use Rattle.macro_statements.specs.Steps.{count_with}
-use Rattle.macro_statements.specs.Keywords as keywords
-use Rattle.macro_statements.specs.Keywords.{operand_at}
-use Rattle.macro_statements.specs.Said as says
-use Rattle.macro_statements.specs.Said.{said_of, unsaid_fault}
+use Rattle.macro_operands.specs.Keywords as keywords
+use Rattle.macro_operands.specs.Keywords.{operand_at}
+use Rattle.macro_operands.specs.Said as says
+use Rattle.macro_operands.specs.Said.{said_of, unsaid_fault}
 use Rattle.macro_statements.specs.Requests.{Asked}
 use Rattle.vsm_model.specs.declared.causes.Family.TheVariants as family
 use Rattle.vsm_model.specs.declared.services.Boundary.{Boundary}
@@ -25,15 +25,15 @@ use Rattle.vsm_model.specs.declared.services.Boundary.TheVariants.{Doubleword}
 use Rattle.vsm_model.specs.declared.services.Location.{Location}
 use Rattle.vsm_model.specs.declared.services.Location.TheVariants.{Caller}
 use Rattle.macro_statements.specs.declared.requests.Form.{Form}
-use Rattle.macro_statements.specs.declared.faults.FaultKind.{FaultKind}
-use Rattle.macro_statements.specs.declared.faults.FaultKind.TheVariants as fault
-use Rattle.macro_statements.specs.declared.rows.Key.{Key}
-use Rattle.macro_statements.specs.declared.rows.Key.TheVariants as code_key
-use Rattle.macro_statements.specs.declared.rows.Entry.{Entry}
-use Rattle.macro_statements.specs.declared.rows.Row.{Row}
-use Rattle.macro_statements.specs.declared.operands.Operand.{Operand}
-use Rattle.macro_statements.specs.declared.said.Said.{Said}
-use Rattle.macro_statements.specs.declared.said.Said.TheVariants as code_said
+use Rattle.macro_operands.specs.declared.faults.FaultKind.{FaultKind}
+use Rattle.macro_operands.specs.declared.faults.FaultKind.TheVariants as fault
+use Rattle.macro_operands.specs.declared.rows.Key.{Key}
+use Rattle.macro_operands.specs.declared.rows.Key.TheVariants as code_key
+use Rattle.macro_operands.specs.declared.rows.Entry.{Entry}
+use Rattle.macro_operands.specs.declared.rows.Row.{Row}
+use Rattle.macro_operands.specs.declared.operands.Operand.{Operand}
+use Rattle.macro_operands.specs.declared.said.Said.{Said}
+use Rattle.macro_operands.specs.declared.said.Said.TheVariants as code_said
 
 -- The key that an entry has.
 abbrev pub key_in : Key → rows.Key

@@ -8,10 +8,10 @@ use Rattle.macro_statements.specs.Storage.{storage}
 use Rattle.macro_statements.specs.Poke.{poke_of}
 use Rattle.macro_statements.specs.Peek.{peek_of}
 use Rattle.macro_statements.specs.Steps.{count_in, step_with}
-use Rattle.macro_statements.specs.declared.faults.FaultKind.{FaultKind}
-use Rattle.macro_statements.specs.declared.faults.FaultKind.TheVariants as fault
-use Rattle.macro_statements.specs.declared.rows.Behind.{Behind}
-use Rattle.macro_statements.specs.declared.rows.Behind.TheVariants as behind
+use Rattle.macro_operands.specs.declared.faults.FaultKind.{FaultKind}
+use Rattle.macro_operands.specs.declared.faults.FaultKind.TheVariants as fault
+use Rattle.macro_operands.specs.declared.rows.Behind.{Behind}
+use Rattle.macro_operands.specs.declared.rows.Behind.TheVariants as behind
 use Rattle.macro_statements.specs.declared.statements.Operation.{Operation}
 use Rattle.macro_statements.specs.declared.statements.Operation.TheVariants as operation
 

@@ -3,15 +3,15 @@ use Rattle.std.specs.Prelude.{ℕ, Bool, false, if◌then◌else◌, List, [], �
 use Rattle.std.specs.Prelude.{codes, unwrap_or, option_and_then}
 use Rattle.operand_texts.specs.Words.{is_word}
 use Rattle.operand_texts.specs.Written.{Written, number, Target}
-use Rattle.macro_statements.specs.Rows.{keyword, entry, Row}
-use Rattle.macro_statements.specs.Keywords.{operand_at}
-use Rattle.macro_statements.specs.Locations.{boundary_of, location_of}
-use Rattle.macro_statements.specs.Operands.{unknown_fault, first_fault, unless_fault, text_at, value_at, target_at}
+use Rattle.macro_operands.specs.Rows.{keyword, entry, Row}
+use Rattle.macro_operands.specs.Keywords.{operand_at}
+use Rattle.macro_operands.specs.Locations.{boundary_of, location_of}
+use Rattle.macro_operands.specs.Operands.{unknown_fault, first_fault, unless_fault, text_at, value_at, target_at}
 use Rattle.macro_statements.specs.Requests.{obtain, release, Asked, act}
-use Rattle.macro_statements.specs.declared.faults.FaultKind.{FaultKind}
-use Rattle.macro_statements.specs.declared.faults.FaultKind.TheVariants as fault
+use Rattle.macro_operands.specs.declared.faults.FaultKind.{FaultKind}
+use Rattle.macro_operands.specs.declared.faults.FaultKind.TheVariants as fault
 use Rattle.macro_statements.specs.declared.requests.Form.{Form}
-use Rattle.macro_statements.specs.declared.rows.Kind.TheVariants as kind
+use Rattle.macro_operands.specs.declared.rows.Kind.TheVariants as kind
 use Rattle.vsm_model.specs.declared.causes.Family.TheVariants as family
 use Rattle.vsm_model.specs.declared.services.Boundary.{Boundary}
 use Rattle.vsm_model.specs.declared.services.Boundary.TheVariants.{Doubleword}

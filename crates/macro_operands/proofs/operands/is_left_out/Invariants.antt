@@ -1,7 +1,7 @@
 use Rattle.std.proofs.Common.{◌≡◌, map, drop}
-use Rattle.macro_statements.specs.Operands.{is_left_out}
-use Rattle.macro_statements.specs.Slots.{upper_key}
-use Rattle.macro_statements.proofs.operands.is_left_out.Given as goal
+use Rattle.macro_operands.specs.Operands.{is_left_out}
+use Rattle.macro_operands.specs.Slots.{upper_key}
+use Rattle.macro_operands.proofs.operands.is_left_out.Given as goal
 
 abbrev pub invariant-loop-word : goal.invariant-loop-word
 invariant-loop-word l =

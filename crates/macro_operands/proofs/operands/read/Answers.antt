@@ -1,8 +1,8 @@
 use Rattle.std.proofs.Common.{◌∙◌, sym}
 use Rattle.operand_texts.specs.Field.{outside, operands_from}
-use Rattle.macro_statements.specs.Slots.{row_in, slots_in}
-use Rattle.macro_statements.proofs.ReadSlots.{fault_read, said_read}
-use Rattle.macro_statements.proofs.operands.read.Goals as goal
+use Rattle.macro_operands.specs.Slots.{row_in, slots_in}
+use Rattle.macro_operands.proofs.ReadSlots.{fault_read, said_read}
+use Rattle.macro_operands.proofs.operands.read.Goals as goal
 
 pub returns-in-Some-take_all-clause-fault : goal.returns-in-Some-take_all-clause-fault
 returns-in-Some-take_all-clause-fault c =

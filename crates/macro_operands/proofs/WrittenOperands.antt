@@ -9,12 +9,12 @@ use Rattle.std.proofs.lemmas.Bool.Decides.{nat_tests}
 use Rattle.operand_texts.specs.Field.{outside}
 use Rattle.operand_texts.specs.Words.{is_name}
 use Rattle.operand_texts.proofs.OperandTexts.{IsPlain, IsOperand, goes_append, goes_plain, plain_name, joined}
-use Rattle.macro_statements.specs.Rows.{Key, position, keyword, same_key, is_among, Entry, Row}
-use Rattle.macro_statements.specs.Operands.{entry_for, is_excluded, entry_fault, operand_fault, earlier, with_key, fault_from, text_or, text_from}
-use Rattle.macro_statements.specs.Keywords.{has_equals, key_text, value_text, is_keyword_operand, Operand, operand_at}
-use Rattle.macro_statements.specs.Said.{said_of, unsaid_fault, value_fault}
-use Rattle.macro_statements.specs.declared.faults.FaultKind.TheVariants as fault
-use Rattle.macro_statements.proofs.ReadSlots.{key_is, same_self}
+use Rattle.macro_operands.specs.Rows.{Key, position, keyword, same_key, is_among, Entry, Row}
+use Rattle.macro_operands.specs.Operands.{entry_for, is_excluded, entry_fault, operand_fault, earlier, with_key, fault_from, text_or, text_from}
+use Rattle.macro_operands.specs.Keywords.{has_equals, key_text, value_text, is_keyword_operand, Operand, operand_at}
+use Rattle.macro_operands.specs.Said.{said_of, unsaid_fault, value_fault}
+use Rattle.macro_operands.specs.declared.faults.FaultKind.TheVariants as fault
+use Rattle.macro_operands.proofs.ReadSlots.{key_is, same_self}
 
 -- the equals sign behind a name
 at_equals : (k t : List ℕ) → AllByRecursion IsPlain k → position_or_len (λ c. c == 61) (k ++ 61 ∷ t) ≡ length k

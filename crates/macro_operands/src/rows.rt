@@ -61,26 +61,25 @@ pub struct Row {
 }
 
 /// An operand with a keyword, in upper case.
+#[macro_export]
 macro_rules! keyword {
     ($word:literal, $kind:ident) => {
-        Entry {
-            key: Key::Keyword($word),
-            kind: Kind::$kind,
+        $crate::rows::Entry {
+            key: $crate::rows::Key::Keyword($word),
+            kind: $crate::rows::Kind::$kind,
             excluded: None,
         }
     };
 }
 
 /// An operand in a position.
+#[macro_export]
 macro_rules! position {
     ($place:literal, $kind:ident) => {
-        Entry {
-            key: Key::Position($place),
-            kind: Kind::$kind,
+        $crate::rows::Entry {
+            key: $crate::rows::Key::Position($place),
+            kind: $crate::rows::Kind::$kind,
             excluded: None,
         }
     };
 }
-
-pub(crate) use keyword;
-pub(crate) use position;

@@ -1,6 +1,6 @@
 use Rattle.std.proofs.Common.{◌≡◌, map, drop}
-use Rattle.macro_statements.specs.Slots.{upper_key, entry_in, found}
-use Rattle.macro_statements.proofs.operands.find.Given as goal
+use Rattle.macro_operands.specs.Slots.{upper_key, entry_in, found}
+use Rattle.macro_operands.proofs.operands.find.Given as goal
 
 abbrev pub invariant-loop-i : goal.invariant-loop-i
 invariant-loop-i l =

@@ -2,7 +2,7 @@
 use Rattle.std.specs.Prelude.{ℕ, Bool, false, ◌==◌, List, Option, None}
 use Rattle.std.specs.List.{list_any}
 use Rattle.std.specs.Str.{bytes_eq}
-use Rattle.macro_statements.specs.declared.rows.Kind.{Kind}
+use Rattle.macro_operands.specs.declared.rows.Kind.{Kind}
 
 -- An operand is known by its place among all operands, counted from 0, or by its keyword.
 pub data Key : Type 0 where

@@ -1,9 +1,9 @@
 use Rattle.std.proofs.Common.{◌∙◌, Some, Ok, ap}
 use Rattle.std.proofs.lemmas.List.{map-set}
 use Rattle.std.specs.Option.{option_map}
-use Rattle.macro_statements.specs.Said.{unsaid_fault}
-use Rattle.macro_statements.specs.Slots.{said_in, slots_in, filled}
-use Rattle.macro_statements.proofs.operands.fill.Goals as goal
+use Rattle.macro_operands.specs.Said.{unsaid_fault}
+use Rattle.macro_operands.specs.Slots.{said_in, slots_in, filled}
+use Rattle.macro_operands.proofs.operands.fill.Goals as goal
 
 pub returns-in-Some : goal.returns-in-Some
 returns-in-Some c =

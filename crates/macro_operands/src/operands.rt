@@ -4,13 +4,13 @@ ghost use Rattle.std.specs.Prelude.{◌≡◌, ◌==◌, ◌<◌, IsTrue, IfSome
 ghost use Rattle.std.specs.Prelude.{is_some, length, map, position};
 ghost use Rattle.std.specs.Option.{option_copied, option_map};
 ghost use Rattle.operand_texts.specs.Field.{outside, operands, operands_from, operands_behind};
-ghost use Rattle.macro_statements.specs.Rows.{same_key};
-ghost use Rattle.macro_statements.specs.Operands.{is_left_out, unknown_fault, first_fault};
-ghost use Rattle.macro_statements.specs.Keywords.{operand_at};
-ghost use Rattle.macro_statements.specs.Slots.{key_in, upper_key, entry_in, row_in, operand_in, slots_in, found};
-ghost use Rattle.macro_statements.specs.Slots.{slot, is_barred, filled, with_operand, with_operands, answered};
-ghost use Rattle.macro_statements.specs.Slots.{are_apart, no_slots, readings};
-ghost use Rattle.macro_statements.specs.Said.{said_of, unsaid_fault};
+ghost use Rattle.macro_operands.specs.Rows.{same_key};
+ghost use Rattle.macro_operands.specs.Operands.{is_left_out, unknown_fault, first_fault};
+ghost use Rattle.macro_operands.specs.Keywords.{operand_at};
+ghost use Rattle.macro_operands.specs.Slots.{key_in, upper_key, entry_in, row_in, operand_in, slots_in, found};
+ghost use Rattle.macro_operands.specs.Slots.{slot, is_barred, filled, with_operand, with_operands, answered};
+ghost use Rattle.macro_operands.specs.Slots.{are_apart, no_slots, readings};
+ghost use Rattle.macro_operands.specs.Said.{said_of, unsaid_fault};
 
 use crate::faults::FaultKind;
 use crate::rows::{Entry, Key, Kind, Row};
@@ -33,7 +33,7 @@ fn equals_at(text: &[u8]) -> Option<usize>
 }
 
 /// The operand that a text at this place among the operands is. An empty text is none.
-pub(crate) fn operand_at(place: usize, text: &[u8]) -> Option<Operand<'_>>
+pub fn operand_at(place: usize, text: &[u8]) -> Option<Operand<'_>>
     ensures { option_map operand_in result ≡ operand_at place text.now }
 {
     if let Some(i) = equals_at(text) {
@@ -100,7 +100,7 @@ fn is_left_out(left_out: &[&[u8]], key: Key<'_>) -> bool
 }
 
 /// What is wrong with an operand that a row hasn't.
-pub(crate) fn unknown_fault(left_out: &[&[u8]], operand: Option<Operand<'_>>) -> FaultKind
+pub fn unknown_fault(left_out: &[&[u8]], operand: Option<Operand<'_>>) -> FaultKind
     ensures { result ≡ unknown_fault (map (λ w. w.now) left_out.now) (option_map operand_in operand.entry) }
 {
     match operand {
@@ -199,7 +199,7 @@ fn take_all<'a>(row: &Row, text: &'a [u8], said: &mut [Option<Said<'a>>]) -> Opt
 
 /// Reads the operands of a statement, each once, into the places of their entries, of which nothing was read before,
 /// and lends these places; or tells the first fault.
-pub(crate) fn read<'s, 'a>(
+pub fn read<'s, 'a>(
     row: &Row,
     text: Option<&'a [u8]>,
     said: &'s mut [Option<Said<'a>>],
@@ -222,7 +222,7 @@ pub(crate) fn read<'s, 'a>(
 }
 
 /// An operand field, where it isn't empty.
-pub(crate) fn some_field(field: &[u8]) -> Option<&[u8]>
+pub fn some_field(field: &[u8]) -> Option<&[u8]>
     ensures { operands_behind (option_copied result) ≡ operands field.now }
 {
     if field.is_empty() { None } else { Some(field) }

@@ -4,11 +4,11 @@ use Rattle.std.specs.Option.{option_map}
 use Rattle.operand_texts.specs.Words.{is_word}
 use Rattle.operand_texts.specs.Written.{Written, Target}
 use Rattle.operand_texts.specs.Values.{number_of, value_of, is_pair, target_of, content_of, size_of}
-use Rattle.macro_statements.specs.Locations.{boundary_of, location_of, is_explicit}
-use Rattle.macro_statements.specs.declared.faults.FaultKind.{FaultKind}
-use Rattle.macro_statements.specs.declared.faults.FaultKind.TheVariants as fault
-use Rattle.macro_statements.specs.declared.rows.Kind.{Kind}
-use Rattle.macro_statements.specs.declared.rows.Kind.TheVariants as kind
+use Rattle.macro_operands.specs.Locations.{boundary_of, location_of, is_explicit}
+use Rattle.macro_operands.specs.declared.faults.FaultKind.{FaultKind}
+use Rattle.macro_operands.specs.declared.faults.FaultKind.TheVariants as fault
+use Rattle.macro_operands.specs.declared.rows.Kind.{Kind}
+use Rattle.macro_operands.specs.declared.rows.Kind.TheVariants as kind
 use Rattle.vsm_model.specs.declared.services.Boundary.{Boundary}
 use Rattle.vsm_model.specs.declared.services.Location.{Location}
 

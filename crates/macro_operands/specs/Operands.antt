@@ -5,11 +5,11 @@ use Rattle.std.specs.List.{list_any}
 use Rattle.std.specs.Str.{bytes_eq}
 use Rattle.operand_texts.specs.Values.{value_of, target_of}
 use Rattle.operand_texts.specs.Written.{Written, Target}
-use Rattle.macro_statements.specs.Rows.{Key, position, keyword, same_key, is_among, Entry, Row}
-use Rattle.macro_statements.specs.Keywords.{Operand, operand_at}
-use Rattle.macro_statements.specs.Said.{value_fault}
-use Rattle.macro_statements.specs.declared.faults.FaultKind.{FaultKind}
-use Rattle.macro_statements.specs.declared.faults.FaultKind.TheVariants as fault
+use Rattle.macro_operands.specs.Rows.{Key, position, keyword, same_key, is_among, Entry, Row}
+use Rattle.macro_operands.specs.Keywords.{Operand, operand_at}
+use Rattle.macro_operands.specs.Said.{value_fault}
+use Rattle.macro_operands.specs.declared.faults.FaultKind.{FaultKind}
+use Rattle.macro_operands.specs.declared.faults.FaultKind.TheVariants as fault
 
 -- The entry of a row that has this key.
 abbrev pub entry_for : List Entry → Key → Option Entry

@@ -1,7 +1,7 @@
 use Rattle.std.proofs.Common.{◌≡◌, ◌+◌, ◌≤◌, length}
 use Rattle.operand_texts.specs.Field.{outside, operands_from}
-use Rattle.macro_statements.specs.Slots.{row_in, slots_in, with_operands}
-use Rattle.macro_statements.proofs.operands.take_all.Given as goal
+use Rattle.macro_operands.specs.Slots.{row_in, slots_in, with_operands}
+use Rattle.macro_operands.proofs.operands.take_all.Given as goal
 
 abbrev pub invariant-operands : goal.invariant-operands
 invariant-operands l =

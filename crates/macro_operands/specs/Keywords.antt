@@ -3,7 +3,7 @@ use Rattle.std.specs.Prelude.{ℕ, Bool, ◌&&◌, ◌==◌, nat_lt, if◌then�
 use Rattle.std.specs.List.{position_or_len, before_first, after_first}
 use Rattle.std.specs.Char.{to_ascii_uppercase}
 use Rattle.operand_texts.specs.Words.{is_name}
-use Rattle.macro_statements.specs.Rows.{Key, position, keyword}
+use Rattle.macro_operands.specs.Rows.{Key, position, keyword}
 
 -- An operand has an equals sign.
 abbrev pub has_equals : List ℕ → Bool

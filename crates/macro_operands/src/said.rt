@@ -3,10 +3,10 @@
 ghost use Rattle.std.specs.Prelude.{◌≡◌, ◌<◌, length};
 ghost use Rattle.std.specs.Option.{option_map};
 ghost use Rattle.operand_texts.specs.Written.{written_in, target_in, stored_in};
-ghost use Rattle.macro_statements.specs.Said.{condition_of, condition_word_of, said_of, is_unsupported};
-ghost use Rattle.macro_statements.specs.Said.{wrong_fault, unsaid_fault};
-ghost use Rattle.macro_statements.specs.Slots.{said_in, slots_in, slot, as_value, as_place, as_condition, as_content};
-ghost use Rattle.macro_statements.specs.Slots.{as_size, as_count, as_boundary, as_location};
+ghost use Rattle.macro_operands.specs.Said.{condition_of, condition_word_of, said_of, is_unsupported};
+ghost use Rattle.macro_operands.specs.Said.{wrong_fault, unsaid_fault};
+ghost use Rattle.macro_operands.specs.Slots.{said_in, slots_in, slot, as_value, as_place, as_condition, as_content};
+ghost use Rattle.macro_operands.specs.Slots.{as_size, as_count, as_boundary, as_location};
 
 use crate::faults::FaultKind;
 use crate::locations::{boundary_of, is_explicit, location_of};
@@ -31,7 +31,7 @@ pub enum Said<'a> {
 }
 
 /// Nothing that was read.
-pub(crate) const NOTHING: Option<Said<'static>> = None;
+pub const NOTHING: Option<Said<'static>> = None;
 
 /// Whether a text is YES, and nothing where it's neither YES nor NO.
 fn condition_of(text: &[u8]) -> Option<bool>
@@ -60,7 +60,7 @@ fn condition_word_of(text: &[u8]) -> Option<bool>
 }
 
 /// What a text says as a value of this kind, where it's one that is supported.
-pub(crate) fn said_of(kind: Kind, text: &[u8]) -> Option<Said<'_>>
+pub fn said_of(kind: Kind, text: &[u8]) -> Option<Said<'_>>
     ensures { option_map said_in result ≡ said_of kind text.now }
 {
     match kind {
@@ -123,7 +123,7 @@ fn wrong_fault(kind: Kind) -> FaultKind
 }
 
 /// What is wrong with a text that says nothing of this kind.
-pub(crate) fn unsaid_fault(kind: Kind, text: &[u8]) -> FaultKind
+pub fn unsaid_fault(kind: Kind, text: &[u8]) -> FaultKind
     ensures { result ≡ unsaid_fault kind text.now }
 {
     if is_unsupported(kind, text) {
@@ -134,7 +134,7 @@ pub(crate) fn unsaid_fault(kind: Kind, text: &[u8]) -> FaultKind
 }
 
 /// The value that was read at a place.
-pub(crate) fn value_at(said: &[Option<Said>], i: usize) -> Option<Value>
+pub fn value_at(said: &[Option<Said>], i: usize) -> Option<Value>
     requires { i < length said.now }
     ensures { option_map written_in result ≡ as_value (slot (slots_in said.now) i) }
 {
@@ -145,7 +145,7 @@ pub(crate) fn value_at(said: &[Option<Said>], i: usize) -> Option<Value>
 }
 
 /// The place of storage that was read at a place.
-pub(crate) fn place_at(said: &[Option<Said>], i: usize) -> Option<Place>
+pub fn place_at(said: &[Option<Said>], i: usize) -> Option<Place>
     requires { i < length said.now }
     ensures { option_map target_in result ≡ as_place (slot (slots_in said.now) i) }
 {
@@ -156,7 +156,7 @@ pub(crate) fn place_at(said: &[Option<Said>], i: usize) -> Option<Place>
 }
 
 /// Whether YES was read at a place.
-pub(crate) fn condition_at(said: &[Option<Said>], i: usize) -> bool
+pub fn condition_at(said: &[Option<Said>], i: usize) -> bool
     requires { i < length said.now }
     ensures { result ≡ as_condition (slot (slots_in said.now) i) }
 {
@@ -167,7 +167,7 @@ pub(crate) fn condition_at(said: &[Option<Said>], i: usize) -> bool
 }
 
 /// What was read at a place to be stored.
-pub(crate) fn content_at(said: &[Option<Said>], i: usize) -> Option<Content>
+pub fn content_at(said: &[Option<Said>], i: usize) -> Option<Content>
     requires { i < length said.now }
     ensures { option_map stored_in result ≡ as_content (slot (slots_in said.now) i) }
 {
@@ -178,7 +178,7 @@ pub(crate) fn content_at(said: &[Option<Said>], i: usize) -> Option<Content>
 }
 
 /// The size that was read at a place.
-pub(crate) fn size_at(said: &[Option<Said>], i: usize) -> Option<u16>
+pub fn size_at(said: &[Option<Said>], i: usize) -> Option<u16>
     requires { i < length said.now }
     ensures { result ≡ as_size (slot (slots_in said.now) i) }
 {
@@ -189,7 +189,7 @@ pub(crate) fn size_at(said: &[Option<Said>], i: usize) -> Option<u16>
 }
 
 /// The count that was read at a place.
-pub(crate) fn count_at(said: &[Option<Said>], i: usize) -> Option<u32>
+pub fn count_at(said: &[Option<Said>], i: usize) -> Option<u32>
     requires { i < length said.now }
     ensures { result ≡ as_count (slot (slots_in said.now) i) }
 {
@@ -200,7 +200,7 @@ pub(crate) fn count_at(said: &[Option<Said>], i: usize) -> Option<u32>
 }
 
 /// The boundary that was read at a place.
-pub(crate) fn boundary_at(said: &[Option<Said>], i: usize) -> Option<Boundary>
+pub fn boundary_at(said: &[Option<Said>], i: usize) -> Option<Boundary>
     requires { i < length said.now }
     ensures { result ≡ as_boundary (slot (slots_in said.now) i) }
 {
@@ -211,7 +211,7 @@ pub(crate) fn boundary_at(said: &[Option<Said>], i: usize) -> Option<Boundary>
 }
 
 /// The location that was read at a place.
-pub(crate) fn location_at(said: &[Option<Said>], i: usize) -> Option<Location>
+pub fn location_at(said: &[Option<Said>], i: usize) -> Option<Location>
     requires { i < length said.now }
     ensures { result ≡ as_location (slot (slots_in said.now) i) }
 {

@@ -4,13 +4,13 @@ use Rattle.std.specs.Prelude.{slice_set}
 use Rattle.std.proofs.lemmas.Slice.Eq.{bytes_eq-Decides}
 use Rattle.std.proofs.lemmas.Bool.{eq-eqb}
 use Rattle.std.proofs.lemmas.List.{get_or-set_same, get_or-set_other, length-set, length-map, get_or-map, ext_get_or}
-use Rattle.macro_statements.specs.Rows.{Key, position, keyword, same_key, is_among, Entry, Row}
-use Rattle.macro_statements.specs.Operands.{entry_for, is_excluded, entry_fault, operand_fault, earlier, with_key, fault_from, first_fault, text_or, text_from, text_at}
-use Rattle.macro_statements.specs.Keywords.{Operand, operand_at}
-use Rattle.macro_statements.specs.Said.{Said, said_of, unsaid_fault, value_fault}
-use Rattle.macro_statements.specs.Slots.{Slots, found, slot, is_filled, is_barred, filled, with_entry, with_operand, with_operands, no_slots, readings, are_apart, answered}
-use Rattle.macro_statements.specs.declared.faults.FaultKind.{FaultKind}
-use Rattle.macro_statements.specs.declared.faults.FaultKind.TheVariants as fault
+use Rattle.macro_operands.specs.Rows.{Key, position, keyword, same_key, is_among, Entry, Row}
+use Rattle.macro_operands.specs.Operands.{entry_for, is_excluded, entry_fault, operand_fault, earlier, with_key, fault_from, first_fault, text_or, text_from, text_at}
+use Rattle.macro_operands.specs.Keywords.{Operand, operand_at}
+use Rattle.macro_operands.specs.Said.{Said, said_of, unsaid_fault, value_fault}
+use Rattle.macro_operands.specs.Slots.{Slots, found, slot, is_filled, is_barred, filled, with_entry, with_operand, with_operands, no_slots, readings, are_apart, answered}
+use Rattle.macro_operands.specs.declared.faults.FaultKind.{FaultKind}
+use Rattle.macro_operands.specs.declared.faults.FaultKind.TheVariants as fault
 
 pub key_is : (a b : Key) → same_key a b ≡ true → a ≡ b
 key_is (position i) (position j) h = ap position (eqb-true i j h)

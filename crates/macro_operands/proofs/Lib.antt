@@ -1,0 +1,2 @@
+pub mod ReadSlots
+pub mod WrittenOperands
