@@ -5,6 +5,7 @@ pub use Rattle.operand_texts.specs.Values
 pub mod Rows
 pub mod Keywords
 pub mod Locations
+pub mod Lengths
 pub mod Said
 pub mod Operands
 pub mod Slots

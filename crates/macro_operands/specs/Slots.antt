@@ -5,6 +5,7 @@ use Rattle.std.specs.Option.{option_map}
 use Rattle.std.specs.Char.{to_ascii_uppercase}
 use Rattle.operand_texts.specs.Written.{Written, Target, Stored, written_in, target_in}
 use Rattle.operand_texts.specs.Values.{content_of}
+use Rattle.macro_operands.specs.Lengths.{pair_of}
 use Rattle.macro_operands.specs.Rows as rows
 use Rattle.macro_operands.specs.Rows.{position, keyword, same_key, is_among}
 use Rattle.macro_operands.specs.Operands.{unknown_fault, text_at}
@@ -46,6 +47,7 @@ operand_in o = record { key = upper_key o.key; text = o.text.now }
 -- What the code's word for it says.
 abbrev pub said_in : Said → says.Said
 said_in (code_said.Value v) = says.value (written_in v)
+said_in (code_said.Pair text) = says.pair text.now
 said_in (code_said.Place p) = says.place (target_in p)
 said_in (code_said.Condition b) = says.condition b
 said_in (code_said.Content text) = says.content text.now
@@ -53,6 +55,7 @@ said_in (code_said.Size n) = says.size n
 said_in (code_said.Count n) = says.count n
 said_in (code_said.Boundary b) = says.boundary b
 said_in (code_said.Location l) = says.location l
+said_in code_said.Anything = says.anything
 
 -- For each entry of a row what was read of it, or nothing.
 abbrev pub Slots : Type 0
@@ -127,6 +130,10 @@ answered (Some wrong) slots = Err wrong
 abbrev pub as_value : Option says.Said → Option Written
 as_value (Some (says.value v)) = Some v
 as_value _ = None
+
+abbrev pub as_pair : Option says.Said → Option (Written × Written)
+as_pair (Some (says.pair text)) = pair_of text
+as_pair _ = None
 
 abbrev pub as_place : Option says.Said → Option Target
 as_place (Some (says.place p)) = Some p

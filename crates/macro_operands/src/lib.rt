@@ -2,6 +2,7 @@
 #![tactic(auto)]
 
 mod faults;
+pub mod lengths;
 pub mod locations;
 pub mod operands;
 pub mod rows;

@@ -5,10 +5,18 @@
 pub enum Kind {
     /// A number, a name or a register.
     Value,
-    /// A value. A pair of values, a maximum and a minimum, isn't supported.
+    /// A value, or a pair of values: a maximum and a minimum.
     Length,
+    /// A pair of values: a maximum and a minimum.
+    Pair,
+    /// A value. That in register 0 isn't supported.
+    RegisterLength,
+    /// A name, whose word is the value.
+    NamedValue,
     /// A name, or a register from 1 to 12.
     Place,
+    /// A name.
+    NamedPlace,
     /// YES or NO.
     Condition,
     /// COND or C, or UNCOND or U, as a word in a position. Any other word there is no operand of the statement.
@@ -23,6 +31,10 @@ pub enum Kind {
     Boundary,
     /// BELOW, 24, ANY, 31 or RES, or a pair that begins with one of these. EXPLICIT isn't supported.
     Location,
+    /// Any text that isn't empty.
+    Any,
+    /// What other forms of the macro have and this one hasn't: it's no operand of the statement, whatever it says.
+    OtherForm,
 }
 
 /// What an operand is known by.

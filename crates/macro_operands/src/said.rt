@@ -3,24 +3,27 @@
 ghost use Rattle.std.specs.Prelude.{◌≡◌, ◌<◌, length};
 ghost use Rattle.std.specs.Option.{option_map};
 ghost use Rattle.operand_texts.specs.Written.{written_in, target_in, stored_in};
-ghost use Rattle.macro_operands.specs.Said.{condition_of, condition_word_of, said_of, is_unsupported};
-ghost use Rattle.macro_operands.specs.Said.{wrong_fault, unsaid_fault};
-ghost use Rattle.macro_operands.specs.Slots.{said_in, slots_in, slot, as_value, as_place, as_condition, as_content};
-ghost use Rattle.macro_operands.specs.Slots.{as_size, as_count, as_boundary, as_location};
+ghost use Rattle.operand_texts.specs.Values.{value_of};
+ghost use Rattle.macro_operands.specs.Said.{condition_of, condition_word_of, pair_said, value_or_pair, said_of};
+ghost use Rattle.macro_operands.specs.Said.{is_unsupported, wrong_fault, unsaid_fault};
+ghost use Rattle.macro_operands.specs.Slots.{said_in, slots_in, slot, as_value, as_pair, as_place, as_condition};
+ghost use Rattle.macro_operands.specs.Slots.{as_content, as_size, as_count, as_boundary, as_location};
 
 use crate::faults::FaultKind;
+use crate::lengths::{name_of, pair_of, spells_register_0, value_besides_0};
 use crate::locations::{boundary_of, is_explicit, location_of};
 use crate::rows::Kind;
 use operand_texts::contents::{Content, content_of, is_content, size_of};
 use operand_texts::numbers::number_of;
-use operand_texts::values::{Place, Value, is_pair, place_of, value_of};
+use operand_texts::values::{Place, Value, place_of, value_of};
 use operand_texts::words::is_word;
 use vsm_model::{Boundary, Location};
 
-/// What an operand says, by the kind of its value. What is stored stays in its text, which is lent.
+/// What an operand says, by the kind of its value. A pair, and what is stored, stays in its text, which is lent.
 #[derive(Clone, Copy)]
 pub enum Said<'a> {
     Value(Value),
+    Pair(&'a [u8]),
     Place(Place),
     Condition(bool),
     Content(&'a [u8]),
@@ -28,6 +31,7 @@ pub enum Said<'a> {
     Count(u32),
     Boundary(Boundary),
     Location(Location),
+    Anything,
 }
 
 /// Nothing that was read.
@@ -59,45 +63,50 @@ fn condition_word_of(text: &[u8]) -> Option<bool>
     }
 }
 
+/// What a text says as a pair.
+fn pair_said(text: &[u8]) -> Option<Said<'_>>
+    ensures { option_map said_in result ≡ pair_said text.now }
+{
+    if pair_of(text).is_some() {
+        Some(Said::Pair(text))
+    } else {
+        None
+    }
+}
+
+/// What a text says as a value, or else as a pair.
+fn length_said(text: &[u8]) -> Option<Said<'_>>
+    ensures { option_map said_in result ≡ value_or_pair (value_of text.now) text.now }
+{
+    match value_of(text) {
+        Some(value) => Some(Said::Value(value)),
+        None => pair_said(text),
+    }
+}
+
 /// What a text says as a value of this kind, where it's one that is supported.
 pub fn said_of(kind: Kind, text: &[u8]) -> Option<Said<'_>>
     ensures { option_map said_in result ≡ said_of kind text.now }
 {
     match kind {
-        Kind::Value | Kind::Length => match value_of(text) {
-            Some(value) => Some(Said::Value(value)),
-            None => None,
-        },
-        Kind::Place => match place_of(text) {
-            Some(place) => Some(Said::Place(place)),
-            None => None,
-        },
-        Kind::Condition => match condition_of(text) {
-            Some(condition) => Some(Said::Condition(condition)),
-            None => None,
-        },
-        Kind::ConditionWord => match condition_word_of(text) {
-            Some(condition) => Some(Said::Condition(condition)),
-            None => None,
-        },
+        Kind::Value => Some(Said::Value(value_of(text)?)),
+        Kind::Length => length_said(text),
+        Kind::Pair => pair_said(text),
+        Kind::RegisterLength => Some(Said::Value(value_besides_0(text)?)),
+        Kind::NamedValue => Some(Said::Value(Value::Named(name_of(text)?))),
+        Kind::Place => Some(Said::Place(place_of(text)?)),
+        Kind::NamedPlace => Some(Said::Place(Place::Named(name_of(text)?))),
+        Kind::Condition => Some(Said::Condition(condition_of(text)?)),
+        Kind::ConditionWord => Some(Said::Condition(condition_word_of(text)?)),
         Kind::Content if is_content(text) => Some(Said::Content(text)),
         Kind::Content => None,
-        Kind::Size => match size_of(text) {
-            Some(size) => Some(Said::Size(size)),
-            None => None,
-        },
-        Kind::Count => match number_of(text) {
-            Some(count) => Some(Said::Count(count)),
-            None => None,
-        },
-        Kind::Boundary => match boundary_of(text) {
-            Some(boundary) => Some(Said::Boundary(boundary)),
-            None => None,
-        },
-        Kind::Location => match location_of(text) {
-            Some(location) => Some(Said::Location(location)),
-            None => None,
-        },
+        Kind::Size => Some(Said::Size(size_of(text)?)),
+        Kind::Count => Some(Said::Count(number_of(text)?)),
+        Kind::Boundary => Some(Said::Boundary(boundary_of(text)?)),
+        Kind::Location => Some(Said::Location(location_of(text)?)),
+        Kind::Any if text.is_empty() => None,
+        Kind::Any => Some(Said::Anything),
+        Kind::OtherForm => None,
     }
 }
 
@@ -106,7 +115,7 @@ fn is_unsupported(kind: Kind, text: &[u8]) -> bool
     ensures { result ≡ is_unsupported kind text.now }
 {
     match kind {
-        Kind::Length => is_pair(text),
+        Kind::RegisterLength => spells_register_0(text),
         Kind::Location => is_explicit(text),
         _ => false,
     }
@@ -117,7 +126,7 @@ fn wrong_fault(kind: Kind) -> FaultKind
     ensures { result ≡ wrong_fault kind }
 {
     match kind {
-        Kind::ConditionWord => FaultKind::Operand,
+        Kind::ConditionWord | Kind::OtherForm => FaultKind::Operand,
         _ => FaultKind::Value,
     }
 }
@@ -140,6 +149,17 @@ pub fn value_at(said: &[Option<Said>], i: usize) -> Option<Value>
 {
     match &said[i] {
         Some(Said::Value(value)) => Some(*value),
+        _ => None,
+    }
+}
+
+/// The pair of values that was read at a place: a maximum and a minimum.
+pub fn pair_at(said: &[Option<Said>], i: usize) -> Option<(Value, Value)>
+    requires { i < length said.now }
+    ensures { option_map (λ p. (written_in p.0, written_in p.1)) result ≡ as_pair (slot (slots_in said.now) i) }
+{
+    match &said[i] {
+        Some(Said::Pair(text)) => pair_of(text),
         _ => None,
     }
 }
