@@ -1,4 +1,3 @@
-pub mod ReadSlots
-pub mod ReadRequests
-pub mod WrittenOperands
-pub mod RequestTexts
+mod FormRows
+mod ReadRequests
+mod ValidForms

@@ -97,7 +97,7 @@ location_by f location = unwrap_or location (usual_location f)
 
 -- A form is conditional by its word, or where COND says YES.
 abbrev pub form_by : Form → Bool → Form
-form_by form yes = record { family = form.family; conditional = form.conditional || yes }
+form_by form condition = record { family = form.family; conditional = form.conditional || condition }
 
 -- The forms of the family E have a place for the address.
 abbrev pub lacks_place : Family → Option Target → Bool

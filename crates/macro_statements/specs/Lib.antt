@@ -16,3 +16,4 @@ pub mod Peek
 pub mod Steps
 pub mod Statements
 pub mod Slots
+pub mod Validity

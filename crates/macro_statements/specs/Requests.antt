@@ -1,6 +1,6 @@
 -- What a statement asks for, as it is spelled. The values, places and contents of operands are passed on.
 use Rattle.std.specs.Prelude.{◌≡◌, ℕ, ◌+◌, ◌*◌, ◌^◌, ◌<◌, ◌≤◌, length, List, Bool, true, false, ◌==◌}
-use Rattle.std.specs.Prelude.{Option, Some, None, Result, Ok, Err, IfSome, ⊤, ⊥}
+use Rattle.std.specs.Prelude.{Option, Some, None, Result, Ok, Err, IfSome, ⊤}
 use Rattle.std.specs.Option.{option_map}
 pub use Rattle.operand_texts.specs.Written.{Written, number, named, register, Target, in_name, in_register}
 pub use Rattle.operand_texts.specs.Written.{Stored, spelled, word, written_in, target_in, stored_in}
@@ -101,18 +101,18 @@ is_fixed (between maximum minimum) = false
 -- GETMAIN R has one length, which isn't in register 0, and a subpool, and obtains below the 16 MB line;
 pub record IsRegisterObtain (length : WrittenLength) (target : Option Target) (boundary : Boundary)
     (location : Location) (conditional : Bool) : Type 0 where
-  pub fixed : is_fixed length ≡ true
+  pub single : is_fixed length ≡ true
   pub besides : (value : Written) → length ≡ fixed value → is_register_0 value ≡ false
   pub nowhere : target ≡ None
-  pub boundary : boundary ≡ Doubleword
-  pub location : location ≡ Low
+  pub bounded : boundary ≡ Doubleword
+  pub low : location ≡ Low
   pub unconditional : conditional ≡ false
 
 -- and the forms E, which name the place of the address, do so too.
 pub record IsNamedObtain (length : WrittenLength) (target : Option Target) (location : Location) : Type 0 where
-  pub fixed : is_fixed length ≡ true
+  pub single : is_fixed length ≡ true
   pub place : (name : List ℕ) × (target ≡ Some (in_name name))
-  pub location : location ≡ Low
+  pub low : location ≡ Low
 
 -- The forms of the family S are those of STORAGE, which has them all.
 abbrev pub IsObtainForm : Family → WrittenLength → Option Target → Boundary → Location → Bool → Type 0
