@@ -1,5 +1,5 @@
 -- Operands as they are written: what each is read as, that together they have no fault, and that each is found by its key.
-use Rattle.std.proofs.Common.{◌≡◌, ℕ, ◌+◌, ◌*◌, ◌≤◌, ◌==◌, Bool, true, false, ◌&&◌, ◌||◌, List, [], ◌∷◌, ◌++◌, length, map, take, drop, Option, Some, None, is_some, if◌then◌else◌, arith, refl, ap, ◌∙◌}
+use Rattle.std.proofs.Common.{◌≡◌, ℕ, ◌+◌, ◌*◌, ◌≤◌, ◌==◌, Bool, true, false, ◌&&◌, ◌||◌, List, [], ◌∷◌, ◌++◌, length, map, take, drop, Option, Some, None, is_some, if◌then◌else◌, option_and_then, arith, refl, ap, ◌∙◌}
 use Rattle.std.proofs.Math.Seq.{take-append_seam, drop-append-add}
 use Rattle.std.specs.List.{AllByRecursion, position_or_len}
 use Rattle.std.specs.Option.{IfSome}
@@ -14,6 +14,7 @@ use Rattle.macro_operands.specs.Operands.{entry_for, is_excluded, entry_fault, o
 use Rattle.macro_operands.specs.Keywords.{has_equals, key_text, value_text, is_keyword_operand, Operand, operand_at}
 use Rattle.macro_operands.specs.Said.{said_of, unsaid_fault, value_fault}
 use Rattle.macro_operands.specs.declared.faults.FaultKind.TheVariants as fault
+use Rattle.macro_operands.specs.Slots.{readings}
 use Rattle.macro_operands.proofs.ReadSlots.{key_is, same_self}
 
 -- the equals sign behind a name
@@ -210,3 +211,21 @@ long o (item key (Some t) ∷ items) h =
     let rest = long (operand_text key t) items h.1 in
     let all = length-append o (44 ∷ joined (operand_text key t) (written items)) in
     omega (arith, few, rest, all)
+
+-- so they are where the first is a pair
+pub long_first : (o : List ℕ) (key : Key) (text : Option (List ℕ)) (items : List Item) → IfSome text (λ t. length (operand_text key t) ≤ 140) → AllFew items
+    → length (joined o (written (item key text ∷ items))) ≤ length o + 141 + 71 * length items
+long_first o key None items h few = let rest = long o items few in omega (arith, rest)
+long_first o key (Some t) items h few =
+    let first : length (operand_text key t) ≤ 140 = h in
+    let rest = long (operand_text key t) items few in
+    let all = length-append o (44 ∷ joined (operand_text key t) (written items)) in
+    omega (arith, first, rest, all)
+
+-- what is read of them for the entries of a row
+pub read_back : (row : Row) (items : List Item) → AllFit row [] 0 items → (es : List Entry)
+    → readings es (written items) ≡ map (λ (e : Entry). option_and_then (said_of e.kind) (lookup e.key items)) es
+read_back row items h [] = refl
+read_back row items h (e ∷ es) =
+    ap (λ t. option_and_then (said_of e.kind) t ∷ readings es (written items)) (finds row [] e.key 0 items h)
+    ∙ ap (λ rest. option_and_then (said_of e.kind) (lookup e.key items) ∷ rest) (read_back row items h es)
