@@ -1,3 +1,6 @@
 mod FormRows
 mod ReadRequests
-mod ValidForms
+pub mod ValidForms
+mod FormTexts
+mod ReadForms
+pub mod RequestTexts
