@@ -7,8 +7,8 @@ use Rattle.macro_reader.specs.Columns.{Line, used, is_continued, is_skipped}
 use Rattle.macro_reader.specs.Continuation.{Joined, begun, with_line, with_lines}
 use Rattle.macro_statements.specs.Requests.{Asked}
 use Rattle.macro_statements.specs.Statements.{statement_with}
-use Rattle.macro_statements.specs.declared.faults.FaultKind.{FaultKind}
-use Rattle.macro_statements.specs.declared.faults.FaultKind.TheVariants as kind
+use Rattle.macro_operands.specs.declared.faults.FaultKind.{FaultKind}
+use Rattle.macro_operands.specs.declared.faults.FaultKind.TheVariants as kind
 use Rattle.macro_reader.specs.Scripts.{Answer, number_behind, EndsDropping, IsDropping, Part, skipped, whole, broken, IsPart, IsGroup, IsBreak, AllContinued, said_by, lines_of, answer_to, answers_behind, Reads, Gathers, Drops, Between, Mode, awaiting, dropping, gathering, idle_with, gathered_with, behind_break, moved, Kept, IsBehind}
 
 pub each_push : {X : Type 0} (P : X → Type 0) (xs : List X) (x : X) → AllByRecursion P xs → P x → AllByRecursion P (xs ++ x ∷ [])

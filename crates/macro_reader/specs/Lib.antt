@@ -3,10 +3,10 @@ pub use Rattle.operand_texts.specs.Field
 pub use Rattle.operand_texts.specs.Written
 pub use Rattle.operand_texts.specs.Values
 pub use Rattle.macro_statements.specs.Requests
-pub use Rattle.macro_statements.specs.Rows
-pub use Rattle.macro_statements.specs.Keywords
-pub use Rattle.macro_statements.specs.Said
-pub use Rattle.macro_statements.specs.Operands
+pub use Rattle.macro_operands.specs.Rows
+pub use Rattle.macro_operands.specs.Keywords
+pub use Rattle.macro_operands.specs.Said
+pub use Rattle.macro_operands.specs.Operands
 pub use Rattle.macro_statements.specs.Storage
 pub use Rattle.macro_statements.specs.Poke
 pub use Rattle.macro_statements.specs.Peek

@@ -4,7 +4,7 @@ use Rattle.macro_reader.specs.Continuation.{Joined}
 use Rattle.macro_reader.specs.Scripts as grammar
 use Rattle.macro_reader.specs.Scripts.{Answer}
 use Rattle.macro_statements.specs.Statements.{statement_with}
-use Rattle.macro_statements.specs.declared.faults.FaultKind.TheVariants as kind
+use Rattle.macro_operands.specs.declared.faults.FaultKind.TheVariants as kind
 use Rattle.macro_reader.specs.declared.modes.OpenField.{OpenField}
 use Rattle.macro_reader.specs.declared.modes.OpenStatement.{OpenStatement}
 use Rattle.macro_reader.specs.declared.modes.Due.{Due}

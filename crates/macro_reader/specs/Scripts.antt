@@ -6,8 +6,8 @@ use Rattle.macro_reader.specs.Columns.{Line, used, is_continued, is_skipped}
 use Rattle.macro_statements.specs.Requests.{Asked, asked_in, IsValidAsked}
 use Rattle.macro_statements.specs.Statements.{statement_with}
 use Rattle.macro_reader.specs.Continuation.{Joined, begun, with_line, with_lines}
-use Rattle.macro_statements.specs.declared.faults.FaultKind.{FaultKind}
-use Rattle.macro_statements.specs.declared.faults.FaultKind.TheVariants as kind
+use Rattle.macro_operands.specs.declared.faults.FaultKind.{FaultKind}
+use Rattle.macro_operands.specs.declared.faults.FaultKind.TheVariants as kind
 use Rattle.macro_reader.specs.declared.reading.Fault.{Fault}
 use Rattle.macro_reader.specs.declared.reading.Fed.{Fed}
 use Rattle.macro_reader.specs.declared.reading.Fed.TheVariants as fed

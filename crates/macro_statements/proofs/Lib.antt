@@ -1,4 +1,6 @@
-pub mod ReadSlots
-pub mod ReadRequests
-pub mod WrittenOperands
+mod FormRows
+mod ReadRequests
+pub mod ValidForms
+mod FormTexts
+mod ReadForms
 pub mod RequestTexts

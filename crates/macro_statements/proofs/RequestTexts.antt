@@ -1,46 +1,52 @@
 -- The requests that operand fields spell are those that are valid.
-use Rattle.std.proofs.Common.{◌≡◌, ℕ, suc, ◌^◌, ◌<◌, ◌≤◌, ◌↔◌, ◌==◌, Bool, true, false, ◌&&◌, List, [], ◌∷◌, length, map, Option, Some, None, Result, Ok, Err, is_some, nat_le, codes, unwrap_or, option_and_then, if◌then◌else◌, decimal, arith, refl, ap, sym, subst, ◌∙◌, ◌+◌}
+use Rattle.std.proofs.Common.{◌≡◌, ℕ, suc, ◌^◌, ◌<◌, ◌≤◌, ◌↔◌, ◌==◌, Bool, true, false, ◌&&◌, ◌||◌, List, [], ◌∷◌, length, map, Option, Some, None, Result, Ok, Err, is_some, nat_le, codes, unwrap_or, option_and_then, if◌then◌else◌, decimal, arith, refl, ap, sym, subst, ◌∙◌, ◌+◌}
 use Rattle.std.specs.List.{AllByRecursion}
 use Rattle.std.specs.Option.{IfSome, option_map}
 use Rattle.std.specs.Prelude.{IfOk}
-use Rattle.std.specs.Char.{to_ascii_uppercase}
 use Rattle.std.proofs.lemmas.Bool.Decides.{nat_tests}
+use Rattle.std.proofs.lemmas.List.{length-append}
 use Rattle.operand_texts.specs.Field.{outside, is_balanced, operands}
 use Rattle.operand_texts.specs.Words.{is_name, is_word}
-use Rattle.operand_texts.specs.Written.{Written, number, named, register, Target, Stored, spelled, word, IsValue, IsTarget, IsStored, HasBytes}
-use Rattle.macro_statements.specs.Requests.{obtain, release, poke, Asked, act, peek, back, forward, IsValidAsked, AskedHasBytes, HasRoom, seen, asked_in}
-use Rattle.operand_texts.specs.Values.{number_of, value_of, target_of, content_of, within_size, size_of}
-use Rattle.macro_statements.specs.Rows.{Key, position, keyword, is_among, Entry, entry, Row}
-use Rattle.macro_statements.specs.Operands.{entry_for, is_excluded, unknown_fault, first_fault, text_at, value_at, target_at, unless_fault}
-use Rattle.macro_statements.specs.Locations.{boundary_of, location_of}
-use Rattle.macro_statements.specs.Storage.{obtain_row, release_row, storage_left_out, subpool_at, boundary_at, location_at, says_yes, storage_form, obtain_of, release_of, obtain_with, release_with, storage}
+use Rattle.operand_texts.specs.Written.{Written, number, named, register, Target, in_name, in_register, Stored, spelled, word, is_upper_name, IsValue, IsTarget, IsStored, HasBytes}
+use Rattle.operand_texts.specs.Values.{number_of, value_of, content_of, within_size, size_of}
+use Rattle.macro_operands.specs.Rows.{Key, position, keyword, is_among, Entry, entry, Row}
+use Rattle.macro_operands.specs.Operands.{entry_for, is_excluded, first_fault, text_at, value_at, unless_fault}
+use Rattle.macro_operands.specs.Lengths.{is_register_0, is_named}
+use Rattle.macro_operands.specs.Said.{Said, said_of, value, place, content, size, count, boundary, location, condition}
+use Rattle.macro_operands.specs.Slots.{Slots, as_place, as_boundary, as_location, as_condition}
+use Rattle.macro_operands.specs.declared.faults.FaultKind.{FaultKind}
+use Rattle.macro_operands.specs.declared.faults.FaultKind.TheVariants as fault
+use Rattle.macro_operands.specs.declared.rows.Kind.{Kind}
+use Rattle.macro_operands.specs.declared.rows.Kind.TheVariants as kind
+use Rattle.macro_statements.specs.Requests.{WrittenLength, fixed, between, IsLength, is_fixed, obtain, release, whole, poke, Asked, act, peek, back, forward, IsRegisterObtain, IsNamedObtain, IsObtainForm, IsReleaseForm, IsWholeForm, IsValidAsked, AskedHasBytes, HasRoom, seen, asked_in}
+use Rattle.macro_statements.specs.Forms.{StorageForm, obtaining, releasing, lacks_place, obtain_with, obtain_by, asked_by, form_with, boundary_by, location_by, form_by, as_length}
+use Rattle.macro_statements.specs.Storage.{obtain_row, release_row, storage_macro}
+use Rattle.macro_statements.specs.Getmain as getmain
+use Rattle.macro_statements.specs.Getmain.{getmain_macro}
+use Rattle.macro_statements.specs.Freemain as freemain
+use Rattle.macro_statements.specs.Freemain.{freemain_macro}
 use Rattle.macro_statements.specs.Poke.{poke_row, poke_of, poke_with}
 use Rattle.macro_statements.specs.Peek.{peek_row, peek_of, peek_with}
 use Rattle.macro_statements.specs.Steps.{steps_row, count_with, step_with, count_in}
 use Rattle.macro_statements.specs.Statements.{asked_of, SpellsRequest}
-use Rattle.macro_statements.specs.Keywords.{operand_at}
-use Rattle.macro_statements.specs.Said.{said_of, value, place, content, size, count}
-use Rattle.std.proofs.lemmas.List.{length-append}
-use Rattle.macro_statements.specs.declared.faults.FaultKind.{FaultKind}
-use Rattle.macro_statements.specs.declared.faults.FaultKind.TheVariants as fault
+use Rattle.macro_statements.specs.declared.requests.Form.{Form}
+use Rattle.macro_statements.specs.declared.requests.Request.{Request}
+use Rattle.macro_statements.specs.declared.statements.Operation.{Operation}
+use Rattle.macro_statements.specs.declared.statements.Operation.TheVariants as operation
 use Rattle.vsm_model.specs.declared.causes.Family.{Family}
 use Rattle.vsm_model.specs.declared.causes.Family.TheVariants as family
 use Rattle.vsm_model.specs.declared.services.Boundary.{Boundary}
 use Rattle.vsm_model.specs.declared.services.Boundary.TheVariants.{Doubleword, Page}
 use Rattle.vsm_model.specs.declared.services.Location.{Location}
 use Rattle.vsm_model.specs.declared.services.Location.TheVariants.{Low, Either, Caller}
-use Rattle.macro_statements.specs.declared.requests.Form.{Form}
-use Rattle.macro_statements.specs.declared.requests.Request.{Request}
-use Rattle.macro_statements.specs.declared.rows.Kind.{Kind}
-use Rattle.macro_statements.specs.declared.rows.Kind.TheVariants as kind
-use Rattle.macro_statements.specs.declared.statements.Operation.{Operation}
-use Rattle.macro_statements.specs.declared.statements.Operation.TheVariants as operation
-use Rattle.operand_texts.proofs.OperandTexts.{IsOperand, goes_plain, plain_name, joined, balanced_joined, operands_joined}
-use Rattle.operand_texts.proofs.ValueTexts.{ValueText, ContentText, value_text_of, place_text_of, content_text_of, number_text}
-use Rattle.operand_texts.proofs.Spelling.{written, below, spelled_is_valid, spelled_place_is_valid}
+use Rattle.operand_texts.proofs.OperandTexts.{IsOperand, joined, balanced_joined, operands_joined}
+use Rattle.operand_texts.proofs.ValueTexts.{ValueText, ContentText, value_text_of, content_text_of, number_text}
+use Rattle.operand_texts.proofs.Spelling.{written, below}
 use Rattle.operand_texts.proofs.SpelledBytes.{spelled_content_is_valid}
-use Rattle.macro_statements.proofs.WrittenOperands.{keyed, placed, Item, item, operand_text, Fits, AllFit, no_fault_from, lookup, finds, stand, AllFew, long}
-use Rattle.macro_statements.proofs.WrittenOperands as operands
+use Rattle.macro_operands.proofs.WrittenOperands.{placed, Item, item, Fits, AllFit, no_fault_from, lookup, finds}
+use Rattle.macro_operands.proofs.WrittenOperands as operands
+use Rattle.macro_statements.proofs.FormTexts.{unsaid, value_spelled, fixed_spelled, besides_0_spelled, length_spelled, place_spelled, named_value_spelled, named_place_spelled, name_stands, condition_spelled, boundary_spelled, location_spelled, WrittenForm, six_said, length_form, lv_form}
+use Rattle.macro_statements.proofs.ReadForms.{some_value, ReadsValid, AllReadValid, macro_valid, obtains_s, releases_s, obtains_r, releases_r, obtains_e, releases_e, any_length, values_length, pairs_length, places, no_places}
 
 -- operands that a row has, each once and of its kind
 abbrev Good : Row → List Item → Type 0
@@ -52,32 +58,12 @@ no_fault row items h = no_fault_from row [] [] (λ k e. e) 0 items h
 text : (row : Row) (key : Key) (items : List Item) → Good row items → text_at key (operands.written items) ≡ lookup key items
 text row key items h = finds row [] key 0 items h
 
-with_keyword : (row : Row) (before : List Key) (i : ℕ) (k : List ℕ) (e : Entry) (t : Option (List ℕ)) → is_name k ≡ true → map to_ascii_uppercase k ≡ k
-    → entry_for row.entries (keyword k) ≡ Some e → is_excluded before e.excluded ≡ false → is_among before (keyword k) ≡ false
-    → IfSome t (λ t. (is_some (said_of e.kind t) ≡ true) × IsOperand t) → Fits row before i (keyword k) t
-with_keyword row before i k e None n u has free once says = record { entry = e; has = has; free = free; once = once; says = tt }
-with_keyword row before i k e (Some t) n u has free once says =
-    record { entry = e; has = has; free = free; once = once; says = (says.0, keyed i k t n u says.1) }
-
 in_position : (row : Row) (before : List Key) (i : ℕ) (e : Entry) (t : List ℕ)
     → entry_for row.entries (position i) ≡ Some e → is_excluded before e.excluded ≡ false → is_among before (position i) ≡ false
     → is_some (said_of e.kind t) ≡ true → 1 ≤ length t → AllByRecursion (λ c. (c == 61) ≡ false) t → IsOperand t
     → Fits row before i (position i) (Some t)
 in_position row before i e t has free once says some no_equals stands =
     record { entry = e; has = has; free = free; once = once; says = (says, placed i t some no_equals stands) }
-
-obtain_is : (os : List (List ℕ)) (l s : Written) (p : Option Target) (y : Boundary) (o : Location) (c : Bool)
-    → first_fault obtain_row os ≡ None → value_at (keyword (codes "LENGTH")) os ≡ Some l → subpool_at os ≡ s
-    → target_at (keyword (codes "ADDR")) os ≡ p → boundary_at os ≡ y → location_at os ≡ o
-    → says_yes (text_at (keyword (codes "COND")) os) ≡ c
-    → obtain_of os ≡ Ok (act (obtain l s p y o (record { family = family.S; conditional = c })))
-obtain_is os l s p y o c f a b d g h e = rw (f, a, b, d, g, h, e) refl
-
-release_is : (os : List (List ℕ)) (l a s : Written) (c : Bool) → first_fault release_row os ≡ None
-    → value_at (keyword (codes "LENGTH")) os ≡ Some l → value_at (keyword (codes "ADDR")) os ≡ Some a → subpool_at os ≡ s
-    → says_yes (text_at (keyword (codes "COND")) os) ≡ c
-    → release_of os ≡ Ok (act (release l a s (record { family = family.S; conditional = c })))
-release_is os l a s c f e g b d = rw (f, e, g, b, d) refl
 
 poke_is : (os : List (List ℕ)) (a : Written) (c : Stored) → first_fault poke_row os ≡ None
     → value_at (position 0) os ≡ Some a → option_and_then content_of (text_at (position 1) os) ≡ Some c → poke_of os ≡ Ok (act (poke a c))
@@ -97,62 +83,11 @@ size_is n h k =
     let most : nat_le n 256 ≡ true = grind (arith, nat_tests) in
     rw (written n (omega (arith, k)), least, most) refl
 
--- a condition
-abbrev condition_text : Bool → List ℕ
-condition_text true = codes "YES"
-condition_text false = codes "NO"
-
--- a word that is a value of this kind
-record IsWord (k : Kind) (t : List ℕ) : Type 0 where
-  says : is_some (said_of k t) ≡ true
-  name : is_name t ≡ true
-  few : length t ≤ 63
-
-condition_word : (c : Bool) → IsWord kind.Condition (condition_text c)
-condition_word true = record { says = refl; name = refl; few = omega arith }
-condition_word false = record { says = refl; name = refl; few = omega arith }
-
--- a boundary, and a location
-abbrev boundary_text : Boundary → List ℕ
-boundary_text Doubleword = codes "DBLWD"
-boundary_text Page = codes "PAGE"
-
-boundary_spelled : (b : Boundary) → boundary_of (boundary_text b) ≡ Some b
-boundary_spelled Doubleword = refl
-boundary_spelled Page = refl
-
-boundary_word : (b : Boundary) → IsWord kind.Boundary (boundary_text b)
-boundary_word Doubleword = record { says = refl; name = refl; few = omega arith }
-boundary_word Page = record { says = refl; name = refl; few = omega arith }
-
-abbrev location_text : Location → List ℕ
-location_text Low = codes "BELOW"
-location_text Either = codes "ANY"
-location_text Caller = codes "RES"
-
-location_spelled : (l : Location) → location_of (location_text l) ≡ Some l
-location_spelled Low = refl
-location_spelled Either = refl
-location_spelled Caller = refl
-
-location_word : (l : Location) → IsWord kind.Location (location_text l)
-location_word Low = record { says = refl; name = refl; few = omega arith }
-location_word Either = record { says = refl; name = refl; few = omega arith }
-location_word Caller = record { says = refl; name = refl; few = omega arith }
-
-abbrev form_of : Family → Bool → Form
-form_of f c = record { family = f; conditional = c }
-
-form_back : (f : Family) (c : Bool) → f ≡ family.S → form_of family.S (is_word (condition_text c) (codes "YES")) ≡ form_of f c
-form_back f true e = ap (λ x. form_of x true) (sym e)
-form_back f false e = ap (λ x. form_of x false) (sym e)
-
-word_stands : (w : List ℕ) → is_name w ≡ true → IsOperand w
-word_stands w h = goes_plain outside w (plain_name w h)
-
 -- how many bytes of operands have room behind the operation on a first line, less one and all
 abbrev pub less : Operation → ℕ
 less operation.Storage = 61
+less operation.Getmain = 61
+less operation.Freemain = 60
 less operation.Poke = 64
 less operation.Peek = 64
 less operation.Back = 64
@@ -190,129 +125,182 @@ poke_fits a (word v) ta tc h r =
 value_says : (t : List ℕ) (v : Written) → value_of t ≡ Some v → is_some (said_of kind.Value t) ≡ true
 value_says t v e = ap (λ x. is_some (option_map value x)) e
 
--- a place that may be written
-record PlaceText (p : Option Target) : Type 0 where
-  text : Option (List ℕ)
-  spells : option_and_then target_of text ≡ p
-  says : IfSome text (λ t. (is_some (said_of kind.Place t) ≡ true) × IsOperand t)
-  few : IfSome text (λ t. length t ≤ 63)
+abbrev form_of : Family → Bool → Form
+form_of f c = record { family = f; conditional = c }
 
-optional_place : (p : Option Target) → IfSome p IsTarget → PlaceText p
-optional_place None h = record { text = None; spells = refl; says = tt; few = tt }
-optional_place (Some p) h =
-    let t = place_text_of p h in
-    record { text = Some t.text; spells = t.spells; says = (ap (λ x. is_some (option_map place x)) t.spells, t.neat.goes 0); few = t.neat.few }
+-- a form's word with its operands
+form_operands : (asked : Asked) (o : Operation) (first : List ℕ) (f : StorageForm) (slots : Slots) → 1 ≤ length first → length first ≤ 8 → is_name first ≡ true
+    → 61 ≤ room o → (w : WrittenForm f slots) → asked_of o (first ∷ w.rest) ≡ form_with f w.rest → asked_by f slots ≡ Ok asked → Operands asked
+form_operands asked o first f slots some few name wide w leads asks = record {
+  operation = o;
+  first = first;
+  rest = w.rest;
+  some = some;
+  stands = name_stands first name;
+  stand = w.stand;
+  reads = leads ∙ w.reads ∙ asks;
+  fits = λ r. (let all = w.few first in omega (arith, all, few, wide));
+}
 
-keyed_few : (k t : List ℕ) → length k ≤ 6 → length t ≤ 63 → length (operand_text (keyword k) t) ≤ 70
-keyed_few k t h few = let a = length-append k (61 ∷ t) in omega (arith, a, h, few)
+-- what is obtained
+obtain_is : (form : Form) (ls ps bs : Option Said) (l : WrittenLength) (s : Written) (p : Option Target) (y : Boundary) (o : Location) (os : Option Said) (cs : Option Said) (c : Bool)
+    → as_length ls ≡ Some l → as_place ps ≡ p → boundary_by (as_boundary bs) ≡ y → location_by form.family (as_location os) ≡ o → form_by form (as_condition cs) ≡ form_of form.family c
+    → lacks_place form.family p ≡ false
+    → obtain_by form (six_said ls (Some (value s)) ps bs os cs) ≡ Ok (act (obtain l s p y o (form_of form.family c)))
+obtain_is form ls ps bs l s p y o os cs c a b d e g h =
+    ap (λ x. obtain_with x s (as_place ps) (boundary_by (as_boundary bs)) (location_by form.family (as_location os)) (form_by form (as_condition cs))) a
+    ∙ ap (λ x. obtain_with (Some l) s x (boundary_by (as_boundary bs)) (location_by form.family (as_location os)) (form_by form (as_condition cs))) b
+    ∙ ap (λ x. obtain_with (Some l) s p x (location_by form.family (as_location os)) (form_by form (as_condition cs))) d
+    ∙ ap (λ x. obtain_with (Some l) s p y x (form_by form (as_condition cs))) e
+    ∙ ap (λ x. obtain_with (Some l) s p y o x) g
+    ∙ ap (λ x. if x then Err fault.Missing else Ok (act (obtain l s p y o (form_of form.family c)))) h
 
-optional_few : (k : List ℕ) (t : Option (List ℕ)) → length k ≤ 6 → IfSome t (λ t. length t ≤ 63) → IfSome t (λ t. length (operand_text (keyword k) t) ≤ 70)
-optional_few k None h few = tt
-optional_few k (Some t) h few = keyed_few k t h few
+place_back : (p : Option Target) → as_place (option_map place p) ≡ p
+place_back None = refl
+place_back (Some p) = refl
 
-obtain_operands : (l s : Written) (p : Option Target) (y : Boundary) (o : Location) (form : Form)
-    → IsValidAsked (act (obtain l s p y o form)) → Operands (act (obtain l s p y o form))
-obtain_operands l s p y o form h =
-    let tl = value_text_of l h.0 in
-    let ts = value_text_of s h.1 in
-    let tp = optional_place p h.2 in
-    let ty = boundary_text y in
-    let wy = boundary_word y in
-    let to = location_text o in
-    let wo = location_word o in
-    let tc = condition_text form.conditional in
-    let wc = condition_word form.conditional in
-    let items : List Item = item (keyword (codes "LENGTH")) (Some tl.text) ∷ item (keyword (codes "SP")) (Some ts.text)
-    ∷ item (keyword (codes "ADDR")) tp.text ∷ item (keyword (codes "BNDRY")) (Some ty) ∷ item (keyword (codes "LOC")) (Some to)
-    ∷ item (keyword (codes "COND")) (Some tc) ∷ [] in
-    let fit : Good obtain_row items = (
-      with_keyword obtain_row _ _ (codes "LENGTH") (entry (keyword (codes "LENGTH")) kind.Length) (Some tl.text) refl refl refl refl refl (value_says tl.text l tl.spells, tl.neat.goes 0),
-      (
-        with_keyword obtain_row _ _ (codes "SP") (entry (keyword (codes "SP")) kind.Value) (Some ts.text) refl refl refl refl refl (value_says ts.text s ts.spells, ts.neat.goes 0),
-        (
-          with_keyword obtain_row _ _ (codes "ADDR") (entry (keyword (codes "ADDR")) kind.Place) tp.text refl refl refl refl refl tp.says,
-          (
-            with_keyword obtain_row _ _ (codes "BNDRY") (entry (keyword (codes "BNDRY")) kind.Boundary) (Some ty) refl refl refl refl refl (wy.says, word_stands ty wy.name),
-            (
-              with_keyword obtain_row _ _ (codes "LOC") (entry (keyword (codes "LOC")) kind.Location) (Some to) refl refl refl refl refl (wo.says, word_stands to wo.name),
-              (with_keyword obtain_row _ _ (codes "COND") (entry (keyword (codes "COND")) kind.Condition) (Some tc) refl refl refl refl refl (wc.says, word_stands tc wc.name), tt),
-            ),
-          ),
-        ),
-      ),
-    ) in
-    let few : AllFew items = (
-      keyed_few (codes "LENGTH") tl.text (omega arith) tl.neat.few,
-      (
-        keyed_few (codes "SP") ts.text (omega arith) ts.neat.few,
-        (
-          optional_few (codes "ADDR") tp.text (omega arith) tp.few,
-          (
-            keyed_few (codes "BNDRY") ty (omega arith) wy.few,
-            (keyed_few (codes "LOC") to (omega arith) wo.few, (keyed_few (codes "COND") tc (omega arith) wc.few, tt)),
-          ),
-        ),
-      ),
-    ) in
-    record {
-      operation = operation.Storage;
-      first = codes "OBTAIN";
-      rest = operands.written items;
-      some = omega arith;
-      stands = word_stands (codes "OBTAIN") refl;
-      stand = stand obtain_row [] 0 items fit;
-      reads = obtain_is (operands.written items) l s p y o (is_word tc (codes "YES")) (no_fault obtain_row items fit)
-          (ap (λ t. option_and_then value_of t) (text obtain_row (keyword (codes "LENGTH")) items fit) ∙ tl.spells)
-          (ap (λ t. unwrap_or (option_and_then value_of t) (number 0)) (text obtain_row (keyword (codes "SP")) items fit) ∙ ap (λ v. unwrap_or v (number 0)) ts.spells)
-          (ap (λ t. option_and_then target_of t) (text obtain_row (keyword (codes "ADDR")) items fit) ∙ tp.spells)
-          (ap (λ t. unwrap_or (option_and_then boundary_of t) Doubleword) (text obtain_row (keyword (codes "BNDRY")) items fit) ∙ ap (λ v. unwrap_or v Doubleword) (boundary_spelled y))
-          (ap (λ t. unwrap_or (option_and_then location_of t) Caller) (text obtain_row (keyword (codes "LOC")) items fit) ∙ ap (λ v. unwrap_or v Caller) (location_spelled o))
-          (ap says_yes (text obtain_row (keyword (codes "COND")) items fit))
-          ∙ ap (λ f. Ok (act (obtain l s p y o f))) (form_back form.family form.conditional h.3);
-      fits = λ r. (let all = long (codes "OBTAIN") items few in omega (arith, all));
-    }
+storage_obtain : (l : WrittenLength) (s : Written) (p : Option Target) (y : Boundary) (o : Location) (c : Bool) → IsLength l → IsValue s → IfSome p IsTarget
+    → Operands (act (obtain l s p y o (form_of family.S c)))
+storage_obtain l s p y o c hl hs hp =
+    let x = length_spelled l hl in
+    let form : Form = form_of family.S false in
+    form_operands _ operation.Storage (codes "OBTAIN") (obtaining (codes "OBTAIN") obtain_row family.S false)
+    (six_said x.said (Some (value s)) (option_map place p) (Some (boundary y)) (Some (location o)) (Some (condition c)))
+    (omega arith) (omega arith) refl (omega arith)
+    (length_form (codes "OBTAIN") true form kind.Length kind.Place kind.Boundary kind.Location kind.Condition _ _ _ _ _ _
+    x.spelled (value_spelled s hs) (place_spelled p hp) (boundary_spelled y) (location_spelled o) (condition_spelled c))
+    refl (obtain_is form x.said (option_map place p) (Some (boundary y)) l s p y o (Some (location o)) (Some (condition c)) c x.is (place_back p) refl refl refl refl)
 
-release_operands : (l a s : Written) (form : Form) → IsValidAsked (act (release l a s form)) → Operands (act (release l a s form))
-release_operands l a s form h =
-    let tl = value_text_of l h.0 in
-    let ta = value_text_of a h.1 in
-    let ts = value_text_of s h.2 in
-    let tc = condition_text form.conditional in
-    let wc = condition_word form.conditional in
-    let items : List Item = item (keyword (codes "LENGTH")) (Some tl.text) ∷ item (keyword (codes "ADDR")) (Some ta.text)
-    ∷ item (keyword (codes "SP")) (Some ts.text) ∷ item (keyword (codes "COND")) (Some tc) ∷ [] in
-    let fit : Good release_row items = (
-      with_keyword release_row _ _ (codes "LENGTH") (entry (keyword (codes "LENGTH")) kind.Value) (Some tl.text) refl refl refl refl refl (value_says tl.text l tl.spells, tl.neat.goes 0),
-      (
-        with_keyword release_row _ _ (codes "ADDR") (entry (keyword (codes "ADDR")) kind.Value) (Some ta.text) refl refl refl refl refl (value_says ta.text a ta.spells, ta.neat.goes 0),
-        (
-          with_keyword release_row _ _ (codes "SP") (entry (keyword (codes "SP")) kind.Value) (Some ts.text) refl refl refl refl refl (value_says ts.text s ts.spells, ts.neat.goes 0),
-          (with_keyword release_row _ _ (codes "COND") (entry (keyword (codes "COND")) kind.Condition) (Some tc) refl refl refl refl refl (wc.says, word_stands tc wc.name), tt),
-        ),
-      ),
-    ) in
-    let few : AllFew items = (
-      keyed_few (codes "LENGTH") tl.text (omega arith) tl.neat.few,
-      (
-        keyed_few (codes "ADDR") ta.text (omega arith) ta.neat.few,
-        (keyed_few (codes "SP") ts.text (omega arith) ts.neat.few, (keyed_few (codes "COND") tc (omega arith) wc.few, tt)),
-      ),
-    ) in
-    record {
-      operation = operation.Storage;
-      first = codes "RELEASE";
-      rest = operands.written items;
-      some = omega arith;
-      stands = word_stands (codes "RELEASE") refl;
-      stand = stand release_row [] 0 items fit;
-      reads = release_is (operands.written items) l a s (is_word tc (codes "YES")) (no_fault release_row items fit)
-          (ap (λ t. option_and_then value_of t) (text release_row (keyword (codes "LENGTH")) items fit) ∙ tl.spells)
-          (ap (λ t. option_and_then value_of t) (text release_row (keyword (codes "ADDR")) items fit) ∙ ta.spells)
-          (ap (λ t. unwrap_or (option_and_then value_of t) (number 0)) (text release_row (keyword (codes "SP")) items fit) ∙ ap (λ v. unwrap_or v (number 0)) ts.spells)
-          (ap says_yes (text release_row (keyword (codes "COND")) items fit))
-          ∙ ap (λ f. Ok (act (release l a s f))) (form_back form.family form.conditional h.3);
-      fits = λ r. (let all = long (codes "RELEASE") items few in omega (arith, all));
-    }
+register_obtain : (l : WrittenLength) (s : Written) (p : Option Target) (y : Boundary) (o : Location) (c : Bool) → IsLength l → IsValue s
+    → IsRegisterObtain l p y o c → Operands (act (obtain l s p y o (form_of family.R c)))
+register_obtain (between a b) s p y o c hl hs r = let e : is_fixed (between a b) ≡ true = r.single in cc
+register_obtain (fixed v) s (Some p) y o c hl hs r = let e : Some p ≡ None = r.nowhere in cc
+register_obtain (fixed v) s None Page o c hl hs r = let e : Page ≡ Doubleword = r.bounded in cc
+register_obtain (fixed v) s None Doubleword Either c hl hs r = let e : Either ≡ Low = r.low in cc
+register_obtain (fixed v) s None Doubleword Caller c hl hs r = let e : Caller ≡ Low = r.low in cc
+register_obtain (fixed v) s None Doubleword Low true hl hs r = let e : true ≡ false = r.unconditional in cc
+register_obtain (fixed v) s None Doubleword Low false hl hs r =
+    let form : Form = form_of family.R false in
+    form_operands _ operation.Getmain (codes "R") (obtaining (codes "R") getmain.register_row family.R false)
+    (six_said (Some (value v)) (Some (value s)) None None None None)
+    (omega arith) (omega arith) refl (omega arith)
+    (lv_form (codes "R") true form kind.RegisterLength kind.OtherForm kind.OtherForm kind.OtherForm kind.OtherForm _ _ _ _ _ _
+    (besides_0_spelled v hl (r.besides v refl)) (value_spelled s hs) (unsaid 63 kind.OtherForm) (unsaid 63 kind.OtherForm) (unsaid 63 kind.OtherForm) (unsaid 63 kind.OtherForm))
+    refl refl
+
+-- the word of a form that is conditional or not
+abbrev named_word : Bool → List ℕ
+named_word true = codes "EC"
+named_word false = codes "EU"
+
+some_word : (c : Bool) → 1 ≤ length (named_word c)
+some_word true = omega arith
+some_word false = omega arith
+
+few_word : (c : Bool) → length (named_word c) ≤ 8
+few_word true = omega arith
+few_word false = omega arith
+
+name_word : (c : Bool) → is_name (named_word c) ≡ true
+name_word true = refl
+name_word false = refl
+
+leads_obtain : (c : Bool) (os : List (List ℕ)) → asked_of operation.Getmain (named_word c ∷ os) ≡ form_with (obtaining (named_word c) getmain.named_row family.E c) os
+leads_obtain true os = refl
+leads_obtain false os = refl
+
+leads_release : (c : Bool) (os : List (List ℕ)) → asked_of operation.Freemain (named_word c ∷ os) ≡ form_with (releasing (named_word c) freemain.named_row family.E c) os
+leads_release true os = refl
+leads_release false os = refl
+
+or_no : (c : Bool) → (c || false) ≡ c
+or_no true = refl
+or_no false = refl
+
+same_form : (f : Family) (c : Bool) → form_by (form_of f c) false ≡ form_of f c
+same_form f c = ap (λ x. form_of f x) (or_no c)
+
+named_obtain : (l : WrittenLength) (s : Written) (n : List ℕ) (y : Boundary) (o : Location) (c : Bool) → IsLength l → IsValue s → is_upper_name n ≡ true
+    → is_fixed l ≡ true → o ≡ Low → Operands (act (obtain l s (Some (in_name n)) y o (form_of family.E c)))
+named_obtain (between a b) s n y o c hl hs hn single low = cc
+named_obtain (fixed v) s n y Either c hl hs hn single low = cc
+named_obtain (fixed v) s n y Caller c hl hs hn single low = cc
+named_obtain (fixed v) s n y Low c hl hs hn single low =
+    let form : Form = form_of family.E c in
+    let w = lv_form (named_word c) true form kind.Value kind.NamedPlace kind.Boundary kind.OtherForm kind.OtherForm _ _ _ _ _ _
+    (fixed_spelled v hl) (value_spelled s hs) (named_place_spelled n hn) (boundary_spelled y) (unsaid 63 kind.OtherForm) (unsaid 63 kind.OtherForm) in
+    form_operands _ operation.Getmain (named_word c) (obtaining (named_word c) getmain.named_row family.E c)
+    (six_said (Some (value v)) (Some (value s)) (Some (place (in_name n))) (Some (boundary y)) None None)
+    (some_word c) (few_word c) (name_word c) (omega arith) w (leads_obtain c w.rest)
+    (ap (λ x. Ok (act (obtain (fixed v) s (Some (in_name n)) y Low x))) (same_form family.E c))
+
+named_of : (l : WrittenLength) (s : Written) (p : Option Target) (y : Boundary) (o : Location) (c : Bool) → IsLength l → IsValue s → IfSome p IsTarget
+    → IsNamedObtain l p o → Operands (act (obtain l s p y o (form_of family.E c)))
+named_of l s None y o c hl hs hp r = let e : None ≡ Some (in_name r.place.0) = r.place.1 in cc
+named_of l s (Some (in_register n)) y o c hl hs hp r = let e : Some (in_register n) ≡ Some (in_name r.place.0) = r.place.1 in cc
+named_of l s (Some (in_name n)) y o c hl hs hp r = named_obtain l s n y o c hl hs hp r.single r.low
+
+obtain_operands : (l : WrittenLength) (s : Written) (p : Option Target) (y : Boundary) (o : Location) (f : Family) (c : Bool) → IsLength l → IsValue s → IfSome p IsTarget
+    → IsObtainForm f l p y o c → Operands (act (obtain l s p y o (form_of f c)))
+obtain_operands l s p y o family.S c hl hs hp r = storage_obtain l s p y o c hl hs hp
+obtain_operands l s p y o family.R c hl hs hp r = register_obtain l s p y o c hl hs r
+obtain_operands l s p y o family.E c hl hs hp r = named_of l s p y o c hl hs hp r
+
+-- what is released
+storage_release : (l a s : Written) (c : Bool) → IsValue l → IsValue a → IsValue s → Operands (act (release l a s (form_of family.S c)))
+storage_release l a s c hl ha hs =
+    form_operands _ operation.Storage (codes "RELEASE") (releasing (codes "RELEASE") release_row family.S false)
+    (six_said (Some (value l)) (Some (value s)) (Some (value a)) None None (Some (condition c)))
+    (omega arith) (omega arith) refl (omega arith)
+    (length_form (codes "RELEASE") false (form_of family.S false) kind.Value kind.Value kind.OtherForm kind.OtherForm kind.Condition _ _ _ _ _ _
+    (fixed_spelled l hl) (value_spelled s hs) (value_spelled a ha) (unsaid 63 kind.OtherForm) (unsaid 63 kind.OtherForm) (condition_spelled c))
+    refl refl
+
+register_release : (l a s : Written) (c : Bool) → IsValue l → IsValue a → IsValue s → is_register_0 l ≡ false → c ≡ false
+    → Operands (act (release l a s (form_of family.R c)))
+register_release l a s true hl ha hs n u = cc
+register_release l a s false hl ha hs n u =
+    form_operands _ operation.Freemain (codes "R") (releasing (codes "R") freemain.register_row family.R false)
+    (six_said (Some (value l)) (Some (value s)) (Some (value a)) None None None)
+    (omega arith) (omega arith) refl (omega arith)
+    (lv_form (codes "R") false (form_of family.R false) kind.RegisterLength kind.Value kind.OtherForm kind.OtherForm kind.OtherForm _ _ _ _ _ _
+    (besides_0_spelled l hl n) (value_spelled s hs) (value_spelled a ha) (unsaid 63 kind.OtherForm) (unsaid 63 kind.OtherForm) (unsaid 63 kind.OtherForm))
+    refl refl
+
+named_release : (l a s : Written) (c : Bool) → IsValue l → IsValue a → IsValue s → is_named a ≡ true → Operands (act (release l a s (form_of family.E c)))
+named_release l (number n) s c hl ha hs e = cc
+named_release l (register n) s c hl ha hs e = cc
+named_release l (named n) s c hl ha hs e =
+    let w = lv_form (named_word c) false (form_of family.E c) kind.Value kind.NamedValue kind.OtherForm kind.OtherForm kind.OtherForm _ _ _ _ _ _
+    (fixed_spelled l hl) (value_spelled s hs) (named_value_spelled n ha) (unsaid 63 kind.OtherForm) (unsaid 63 kind.OtherForm) (unsaid 63 kind.OtherForm) in
+    form_operands _ operation.Freemain (named_word c) (releasing (named_word c) freemain.named_row family.E c)
+    (six_said (Some (value l)) (Some (value s)) (Some (value (named n))) None None None)
+    (some_word c) (few_word c) (name_word c) (omega arith) w (leads_release c w.rest)
+    (ap (λ x. Ok (act (release l (named n) s x))) (same_form family.E c))
+
+release_operands : (l a s : Written) (f : Family) (c : Bool) → IsValue l → IsValue a → IsValue s → IsReleaseForm f l a c → Operands (act (release l a s (form_of f c)))
+release_operands l a s family.S c hl ha hs r = storage_release l a s c hl ha hs
+release_operands l a s family.R c hl ha hs r = register_release l a s c hl ha hs r.0 r.1
+release_operands l a s family.E c hl ha hs r = named_release l a s c hl ha hs r
+
+-- all of a subpool
+whole_operands : (s : Written) (f : Family) (c : Bool) → IsValue s → IsWholeForm f c → Operands (act (whole s (form_of f c)))
+whole_operands s family.S c hs r =
+    form_operands _ operation.Storage (codes "RELEASE") (releasing (codes "RELEASE") release_row family.S false)
+    (six_said None (Some (value s)) None None None (Some (condition c)))
+    (omega arith) (omega arith) refl (omega arith)
+    (length_form (codes "RELEASE") false (form_of family.S false) kind.Value kind.Value kind.OtherForm kind.OtherForm kind.Condition _ _ _ _ _ _
+    (unsaid 129 kind.Value) (value_spelled s hs) (unsaid 63 kind.Value) (unsaid 63 kind.OtherForm) (unsaid 63 kind.OtherForm) (condition_spelled c))
+    refl refl
+whole_operands s family.R true hs r = cc
+whole_operands s family.R false hs r =
+    form_operands _ operation.Freemain (codes "R") (releasing (codes "R") freemain.register_row family.R false)
+    (six_said None (Some (value s)) None None None None)
+    (omega arith) (omega arith) refl (omega arith)
+    (lv_form (codes "R") false (form_of family.R false) kind.RegisterLength kind.Value kind.OtherForm kind.OtherForm kind.OtherForm _ _ _ _ _ _
+    (unsaid 129 kind.RegisterLength) (value_spelled s hs) (unsaid 63 kind.Value) (unsaid 63 kind.OtherForm) (unsaid 63 kind.OtherForm) (unsaid 63 kind.OtherForm))
+    refl refl
+whole_operands s family.E c hs r = absurd r
 
 poke_operands : (a : Written) (c : Stored) → HasBytes c → IsValidAsked (act (poke a c)) → Operands (act (poke a c))
 poke_operands a c b h =
@@ -376,8 +364,9 @@ step_operands o n asked h e =
     record { operation = o; first = decimal n; rest = []; some = neat.some; stands = neat.goes 0; stand = tt; reads = e; fits = λ r. (let few = neat.few in omega (arith, few)) }
 
 pub operands_of : (asked : Asked) → AskedHasBytes asked → IsValidAsked asked → Operands asked
-operands_of (act (obtain l s p y o form)) b h = obtain_operands l s p y o form h
-operands_of (act (release l a s form)) b h = release_operands l a s form h
+operands_of (act (obtain l s p y o form)) b h = obtain_operands l s p y o form.family form.conditional h.0 h.1 h.2 h.3
+operands_of (act (release l a s form)) b h = release_operands l a s form.family form.conditional h.0 h.1 h.2 h.3
+operands_of (act (whole s form)) b h = whole_operands s form.family form.conditional h.0 h.1
 operands_of (act (poke a c)) b h = poke_operands a c b h
 operands_of (peek a n) b h = peek_operands a n h
 operands_of (back n) b h = step_operands operation.Back n (back n) h (ap (λ r. step_with back r) (counted n h))
@@ -387,21 +376,9 @@ pub field_reads : (asked : Asked) (o : Operands asked) → SpellsRequest o.opera
 field_reads asked o = rw (balanced_joined o.first o.rest o.stands o.stand, operands_joined o.first o.rest o.some o.stands o.stand) o.reads
 
 -- what a field spells is valid
-some_value : (t : List ℕ) (v : Option Written) → value_of t ≡ v → IfSome v IsValue
-some_value t None e = tt
-some_value t (Some v) e = spelled_is_valid t v e
-
 value_valid : (o : Option (List ℕ)) → IfSome (option_and_then value_of o) IsValue
 value_valid None = tt
 value_valid (Some t) = some_value t (value_of t) refl
-
-some_place : (t : List ℕ) (p : Option Target) → target_of t ≡ p → IfSome p IsTarget
-some_place t None e = tt
-some_place t (Some p) e = spelled_place_is_valid t p e
-
-place_valid : (o : Option (List ℕ)) → IfSome (option_and_then target_of o) IsTarget
-place_valid None = tt
-place_valid (Some t) = some_place t (target_of t) refl
 
 some_content : (t : List ℕ) (c : Option Stored) → content_of t ≡ c → IfSome c IsStored
 some_content t None e = tt
@@ -431,23 +408,6 @@ size_valid : (o : Option (List ℕ)) → IfSome (option_and_then size_of o) (λ 
 size_valid None = tt
 size_valid (Some t) = some_size (number_of t) (size_of t) refl
 
-or_zero : (o : Option Written) → IfSome o IsValue → IsValue (unwrap_or o (number 0))
-or_zero None h = omega arith
-or_zero (Some v) h = h
-
-obtain_valid : (f : Option FaultKind) (l : Option Written) (s : Written) (p : Option Target) (y : Boundary) (o : Location) (form : Form) (asked : Asked)
-    → IfSome l IsValue → IsValue s → IfSome p IsTarget → form.family ≡ family.S → unless_fault f (obtain_with l s p y o form) ≡ Ok asked → IsValidAsked asked
-obtain_valid (Some f) l s p y o form asked a b c d h = cc
-obtain_valid None None s p y o form asked a b c d h = cc
-obtain_valid None (Some l) s p y o form asked a b c d h = let same : act (obtain l s p y o form) ≡ asked = cc in subst IsValidAsked same (a, b, c, d)
-
-release_valid : (f : Option FaultKind) (l a : Option Written) (s : Written) (form : Form) (asked : Asked) → IfSome l IsValue → IfSome a IsValue → IsValue s
-    → form.family ≡ family.S → unless_fault f (release_with l a s form) ≡ Ok asked → IsValidAsked asked
-release_valid (Some f) l a s form asked v w b d h = cc
-release_valid None None a s form asked v w b d h = cc
-release_valid None (Some l) None s form asked v w b d h = cc
-release_valid None (Some l) (Some a) s form asked v w b d h = let same : act (release l a s form) ≡ asked = cc in subst IsValidAsked same (v, w, b, d)
-
 poke_valid : (f : Option FaultKind) (a : Option Written) (c : Option Stored) (asked : Asked) → IfSome a IsValue → IfSome c IsStored
     → unless_fault f (poke_with a c) ≡ Ok asked → IsValidAsked asked
 poke_valid (Some f) a c asked v w h = cc
@@ -474,31 +434,46 @@ forward_valid (Some f) n asked v h = cc
 forward_valid None None asked v h = cc
 forward_valid None (Some n) asked v h = let same : forward n ≡ asked = cc in subst IsValidAsked same v
 
-obtain_of_valid : (os : List (List ℕ)) (asked : Asked) → obtain_of os ≡ Ok asked → IsValidAsked asked
-obtain_of_valid os asked h =
-    obtain_valid (first_fault obtain_row os) (value_at (keyword (codes "LENGTH")) os) (subpool_at os) (target_at (keyword (codes "ADDR")) os) (boundary_at os) (location_at os) (storage_form os) asked
-    (value_valid (text_at (keyword (codes "LENGTH")) os)) (or_zero (value_at (keyword (codes "SP")) os) (value_valid (text_at (keyword (codes "SP")) os)))
-    (place_valid (text_at (keyword (codes "ADDR")) os)) refl h
+-- the forms of each macro read what is valid
+storage_forms : AllReadValid storage_macro.forms
+storage_forms = (
+  obtains_s (codes "OBTAIN") (codes "LENGTH") (codes "ADDR") kind.Length kind.Place kind.Boundary kind.Location kind.Condition false any_length places,
+  (releases_s (codes "RELEASE") (codes "LENGTH") (codes "ADDR") kind.OtherForm kind.OtherForm kind.Condition false, tt),
+)
 
-release_of_valid : (os : List (List ℕ)) (asked : Asked) → release_of os ≡ Ok asked → IsValidAsked asked
-release_of_valid os asked h =
-    release_valid (first_fault release_row os) (value_at (keyword (codes "LENGTH")) os) (value_at (keyword (codes "ADDR")) os) (subpool_at os) (storage_form os) asked
-    (value_valid (text_at (keyword (codes "LENGTH")) os)) (value_valid (text_at (keyword (codes "ADDR")) os))
-    (or_zero (value_at (keyword (codes "SP")) os) (value_valid (text_at (keyword (codes "SP")) os))) refl h
+fixed_valid : (first : List ℕ) (c : Bool) → ReadsValid (obtaining first getmain.fixed_row family.S c)
+fixed_valid first c = obtains_s first (codes "LV") (codes "A") kind.Value kind.OtherForm kind.Boundary kind.Location kind.OtherForm c values_length no_places
 
-storage_if : (b c : Bool) (wrong : FaultKind) (os : List (List ℕ)) (asked : Asked)
-    → (if b then obtain_of os else if c then release_of os else Err wrong) ≡ Ok asked → IsValidAsked asked
-storage_if true c wrong os asked h = obtain_of_valid os asked h
-storage_if false true wrong os asked h = release_of_valid os asked h
-storage_if false false wrong os asked h = cc
+variable_valid : (first : List ℕ) (c : Bool) → ReadsValid (obtaining first getmain.variable_row family.S c)
+variable_valid first c = obtains_s first (codes "LV") (codes "A") kind.Pair kind.OtherForm kind.Boundary kind.Location kind.OtherForm c pairs_length no_places
 
-storage_valid : (os : List (List ℕ)) (asked : Asked) → storage os ≡ Ok asked → IsValidAsked asked
-storage_valid [] asked h = cc
-storage_valid (form ∷ os) asked h =
-    storage_if (is_word form (codes "OBTAIN")) (is_word form (codes "RELEASE")) (unknown_fault storage_left_out (operand_at 0 form)) os asked h
+named_valid : (first : List ℕ) (c : Bool) → ReadsValid (obtaining first getmain.named_row family.E c)
+named_valid first c = obtains_e first (codes "LV") (codes "A") kind.Boundary kind.OtherForm c
+
+getmain_forms : AllReadValid getmain_macro.forms
+getmain_forms = (
+  obtains_r (codes "R") (codes "LV") (codes "A"),
+  (fixed_valid (codes "RC") true, (fixed_valid (codes "RU") false, (variable_valid (codes "VRC") true, (variable_valid (codes "VRU") false,
+  (named_valid (codes "EC") true, (named_valid (codes "EU") false, tt)))))),
+)
+
+fixed_freed : (first : List ℕ) (c : Bool) → ReadsValid (releasing first freemain.fixed_row family.S c)
+fixed_freed first c = releases_s first (codes "LV") (codes "A") kind.OtherForm kind.OtherForm kind.OtherForm c
+
+named_freed : (first : List ℕ) (c : Bool) → ReadsValid (releasing first freemain.named_row family.E c)
+named_freed first c = releases_e first (codes "LV") (codes "A") kind.OtherForm kind.OtherForm kind.OtherForm c
+
+freemain_forms : AllReadValid freemain_macro.forms
+freemain_forms = (
+  releases_r (codes "R") (codes "LV") (codes "A") kind.OtherForm kind.OtherForm,
+  (fixed_freed (codes "RC") true, (fixed_freed (codes "RU") false, (named_freed (codes "E") false, (named_freed (codes "EC") true,
+  (named_freed (codes "EU") false, tt))))),
+)
 
 asked_valid : (o : Operation) (os : List (List ℕ)) (asked : Asked) → asked_of o os ≡ Ok asked → IsValidAsked asked
-asked_valid operation.Storage os asked h = storage_valid os asked h
+asked_valid operation.Storage os asked h = macro_valid storage_macro storage_forms os asked h
+asked_valid operation.Getmain os asked h = macro_valid getmain_macro getmain_forms os asked h
+asked_valid operation.Freemain os asked h = macro_valid freemain_macro freemain_forms os asked h
 asked_valid operation.Poke os asked h =
     poke_valid (first_fault poke_row os) _ _ asked (value_valid (text_at (position 0) os)) (content_valid (text_at (position 1) os)) h
 asked_valid operation.Peek os asked h =

@@ -2,12 +2,12 @@
 use Rattle.std.specs.Prelude.{ℕ, List, [], ◌∷◌, Option, Some, None, Result, Ok, Err, option_and_then}
 use Rattle.operand_texts.specs.Values.{content_of}
 use Rattle.operand_texts.specs.Written.{Written, Stored}
-use Rattle.macro_statements.specs.Rows.{position, entry, Row}
-use Rattle.macro_statements.specs.Operands.{first_fault, unless_fault, text_at, value_at}
+use Rattle.macro_operands.specs.Rows.{position, entry, Row}
+use Rattle.macro_operands.specs.Operands.{first_fault, unless_fault, text_at, value_at}
 use Rattle.macro_statements.specs.Requests.{poke, Asked, act}
-use Rattle.macro_statements.specs.declared.faults.FaultKind.{FaultKind}
-use Rattle.macro_statements.specs.declared.faults.FaultKind.TheVariants as fault
-use Rattle.macro_statements.specs.declared.rows.Kind.TheVariants as kind
+use Rattle.macro_operands.specs.declared.faults.FaultKind.{FaultKind}
+use Rattle.macro_operands.specs.declared.faults.FaultKind.TheVariants as fault
+use Rattle.macro_operands.specs.declared.rows.Kind.TheVariants as kind
 
 -- POKE, a statement of the bench's own, has an address and what is stored there.
 abbrev pub poke_row : Row

@@ -1,11 +1,12 @@
 -- What a statement asks for, as it is spelled. The values, places and contents of operands are passed on.
 use Rattle.std.specs.Prelude.{◌≡◌, ℕ, ◌+◌, ◌*◌, ◌^◌, ◌<◌, ◌≤◌, length, List, Bool, true, false, ◌==◌}
-use Rattle.std.specs.Prelude.{Option, Some, None, Result, Ok, Err, IfSome, ⊤, ⊥}
+use Rattle.std.specs.Prelude.{Option, Some, None, Result, Ok, Err, IfSome, ⊤}
 use Rattle.std.specs.Option.{option_map}
 pub use Rattle.operand_texts.specs.Written.{Written, number, named, register, Target, in_name, in_register}
 pub use Rattle.operand_texts.specs.Written.{Stored, spelled, word, written_in, target_in, stored_in}
 pub use Rattle.operand_texts.specs.Written.{is_upper_name, IsValue, IsTarget, IsStored, HasBytes}
-use Rattle.macro_statements.specs.declared.faults.FaultKind.{FaultKind}
+pub use Rattle.macro_operands.specs.Lengths.{is_register_0, is_named}
+use Rattle.macro_operands.specs.declared.faults.FaultKind.{FaultKind}
 use Rattle.vsm_model.specs.declared.causes.Family.{Family}
 use Rattle.vsm_model.specs.declared.causes.Family.TheVariants as family
 use Rattle.vsm_model.specs.declared.services.Boundary.{Boundary}
@@ -93,34 +94,25 @@ abbrev pub IsLength : WrittenLength → Type 0
 IsLength (fixed length) = IsValue length
 IsLength (between maximum minimum) = IsValue maximum × IsValue minimum
 
--- The form R has a register for the length itself, and register 0 isn't one of those.
-abbrev pub is_register_0 : Written → Bool
-is_register_0 (register n) = n == 0
-is_register_0 _ = false
-
-abbrev pub is_named : Written → Bool
-is_named (named name) = true
-is_named _ = false
-
 abbrev pub is_fixed : WrittenLength → Bool
 is_fixed (fixed length) = true
 is_fixed (between maximum minimum) = false
 
--- GETMAIN R has a length besides register 0, and a subpool, and obtains below the 16 MB line;
+-- GETMAIN R has one length, which isn't in register 0, and a subpool, and obtains below the 16 MB line;
 pub record IsRegisterObtain (length : WrittenLength) (target : Option Target) (boundary : Boundary)
     (location : Location) (conditional : Bool) : Type 0 where
-  pub fixed : is_fixed length ≡ true
+  pub single : is_fixed length ≡ true
   pub besides : (value : Written) → length ≡ fixed value → is_register_0 value ≡ false
   pub nowhere : target ≡ None
-  pub boundary : boundary ≡ Doubleword
-  pub location : location ≡ Low
+  pub bounded : boundary ≡ Doubleword
+  pub low : location ≡ Low
   pub unconditional : conditional ≡ false
 
 -- and the forms E, which name the place of the address, do so too.
 pub record IsNamedObtain (length : WrittenLength) (target : Option Target) (location : Location) : Type 0 where
-  pub fixed : is_fixed length ≡ true
+  pub single : is_fixed length ≡ true
   pub place : (name : List ℕ) × (target ≡ Some (in_name name))
-  pub location : location ≡ Low
+  pub low : location ≡ Low
 
 -- The forms of the family S are those of STORAGE, which has them all.
 abbrev pub IsObtainForm : Family → WrittenLength → Option Target → Boundary → Location → Bool → Type 0

@@ -1,194 +1,20 @@
--- Rows as the code keeps them, and what was read of operands, by the places of a row's entries. No public clause cites
--- this module.
-use Rattle.std.specs.Prelude.{ℕ, ◌+◌, Bool, false, if◌then◌else◌, List, [], ◌∷◌, map, slice_index_or, slice_set}
-use Rattle.std.specs.Prelude.{Option, Some, None, is_some, Result, Ok, Err, option_and_then, true, not, ◌&&◌}
-use Rattle.std.specs.Prelude.{unwrap_or}
-use Rattle.std.specs.Option.{option_map}
-use Rattle.std.specs.Char.{to_ascii_uppercase}
-use Rattle.operand_texts.specs.Written.{Written, number, Target, Stored, written_in, target_in}
-use Rattle.operand_texts.specs.Values.{content_of}
-use Rattle.macro_statements.specs.Rows as rows
-use Rattle.macro_statements.specs.Rows.{position, keyword, same_key, is_among}
-use Rattle.macro_statements.specs.Operands.{unknown_fault, text_at}
-use Rattle.macro_statements.specs.Storage.{obtain_with, release_with}
+-- Tables of forms as the code keeps them, and what POKE, PEEK and steps ask for by what was read.
+use Rattle.std.specs.Prelude.{ℕ, map, Result}
+use Rattle.macro_operands.specs.Slots.{Slots, slot, row_in, as_value, as_content, as_size, as_count}
+use Rattle.macro_operands.specs.declared.faults.FaultKind.{FaultKind}
+use Rattle.macro_statements.specs.Forms as forms
 use Rattle.macro_statements.specs.Poke.{poke_with}
 use Rattle.macro_statements.specs.Peek.{peek_with}
 use Rattle.macro_statements.specs.Steps.{count_with}
-use Rattle.macro_statements.specs.Keywords as keywords
-use Rattle.macro_statements.specs.Keywords.{operand_at}
-use Rattle.macro_statements.specs.Said as says
-use Rattle.macro_statements.specs.Said.{said_of, unsaid_fault}
 use Rattle.macro_statements.specs.Requests.{Asked}
-use Rattle.vsm_model.specs.declared.causes.Family.TheVariants as family
-use Rattle.vsm_model.specs.declared.services.Boundary.{Boundary}
-use Rattle.vsm_model.specs.declared.services.Boundary.TheVariants.{Doubleword}
-use Rattle.vsm_model.specs.declared.services.Location.{Location}
-use Rattle.vsm_model.specs.declared.services.Location.TheVariants.{Caller}
-use Rattle.macro_statements.specs.declared.requests.Form.{Form}
-use Rattle.macro_statements.specs.declared.faults.FaultKind.{FaultKind}
-use Rattle.macro_statements.specs.declared.faults.FaultKind.TheVariants as fault
-use Rattle.macro_statements.specs.declared.rows.Key.{Key}
-use Rattle.macro_statements.specs.declared.rows.Key.TheVariants as code_key
-use Rattle.macro_statements.specs.declared.rows.Entry.{Entry}
-use Rattle.macro_statements.specs.declared.rows.Row.{Row}
-use Rattle.macro_statements.specs.declared.operands.Operand.{Operand}
-use Rattle.macro_statements.specs.declared.said.Said.{Said}
-use Rattle.macro_statements.specs.declared.said.Said.TheVariants as code_said
+use Rattle.macro_statements.specs.declared.forms.StorageForm.{StorageForm}
+use Rattle.macro_statements.specs.declared.forms.StorageMacro.{StorageMacro}
 
--- The key that an entry has.
-abbrev pub key_in : Key → rows.Key
-key_in (code_key.Position i) = position i
-key_in (code_key.Keyword word) = keyword word.now
+abbrev pub form_in : StorageForm → forms.StorageForm
+form_in f = record { word = f.word.now; obtains = f.obtains; row = row_in f.row.now; form = f.form }
 
--- The key that an operand has, whose keyword may be in either case.
-abbrev pub upper_key : Key → rows.Key
-upper_key (code_key.Position i) = position i
-upper_key (code_key.Keyword name) = keyword (map to_ascii_uppercase name.now)
-
-abbrev pub entry_in : Entry → rows.Entry
-entry_in e = record { key = key_in e.key; kind = e.kind; excluded = option_map upper_key e.excluded }
-
-abbrev pub row_in : Row → rows.Row
-row_in row = record { entries = map entry_in row.entries.now; left_out = map (λ w. w.now) row.left_out.now }
-
-abbrev pub operand_in : Operand → keywords.Operand
-operand_in o = record { key = upper_key o.key; text = o.text.now }
-
--- What the code's word for it says.
-abbrev pub said_in : Said → says.Said
-said_in (code_said.Value v) = says.value (written_in v)
-said_in (code_said.Place p) = says.place (target_in p)
-said_in (code_said.Condition b) = says.condition b
-said_in (code_said.Content text) = says.content text.now
-said_in (code_said.Size n) = says.size n
-said_in (code_said.Count n) = says.count n
-said_in (code_said.Boundary b) = says.boundary b
-said_in (code_said.Location l) = says.location l
-
--- For each entry of a row what was read of it, or nothing.
-abbrev pub Slots : Type 0
-Slots = List (Option says.Said)
-
-abbrev pub slots_in : List (Option Said) → Slots
-slots_in said = map (option_map said_in) said
-
--- The place of a key's entry, counted from this number, and the entry.
-abbrev pub found : ℕ → List rows.Entry → rows.Key → Option (ℕ × rows.Entry)
-found i [] key = None
-found i (e ∷ entries) key = if same_key e.key key then Some (i, e) else found (i + 1) entries key
-
--- What was read at a place.
-abbrev pub slot : Slots → ℕ → Option says.Said
-slot slots i = slice_index_or slots i None
-
--- Something was read for the entry that was found.
-abbrev pub is_filled : Slots → Option (ℕ × rows.Entry) → Bool
-is_filled slots None = false
-is_filled slots (Some f) = is_some (slot slots f.0)
-
--- An entry's excluded operand was read.
-abbrev pub is_barred : List rows.Entry → Slots → Option rows.Key → Bool
-is_barred entries slots None = false
-is_barred entries slots (Some key) = is_filled slots (found 0 entries key)
-
--- The slots with what one operand says, or its fault.
-abbrev pub filled : Slots → ℕ → FaultKind → Option says.Said → Result Slots FaultKind
-filled slots i wrong None = Err wrong
-filled slots i wrong (Some said) = Ok (slice_set slots i (Some said))
-
-abbrev pub with_entry : rows.Row → Slots → keywords.Operand → Option (ℕ × rows.Entry) → Result Slots FaultKind
-with_entry row slots o None = Err (unknown_fault row.left_out (Some o))
-with_entry row slots o (Some f) =
-    if is_barred row.entries slots f.1.excluded then Err fault.Operand
-    else if is_some (slot slots f.0) then Err fault.Repeated
-    else filled slots f.0 (unsaid_fault f.1.kind o.text) (said_of f.1.kind o.text)
-
-abbrev pub with_operand : rows.Row → Slots → Option keywords.Operand → Result Slots FaultKind
-with_operand row slots None = Err fault.Operand
-with_operand row slots (Some o) = with_entry row slots o (found 0 row.entries o.key)
-
--- The slots with what the operands say, the first of which stands at this place, or the first fault.
-abbrev pub with_operands : rows.Row → Slots → ℕ → List (List ℕ) → Result Slots FaultKind
-with_operands row slots place [] = Ok slots
-with_operands row slots place (text ∷ texts) =
-    elim (with_operand row slots (operand_at place text)) [
-      | Ok more ↦ with_operands row more (place + 1) texts
-      | Err wrong ↦ Err wrong
-    ]
-
--- Slots in which nothing was read.
-abbrev pub no_slots : List rows.Entry → Slots
-no_slots entries = map (λ e. None) entries
-
--- What the operands say for each entry.
-abbrev pub readings : List rows.Entry → List (List ℕ) → Slots
-readings entries texts = map (λ e. option_and_then (said_of e.kind) (text_at e.key texts)) entries
-
--- The entries have keys of their own.
-abbrev pub are_apart : List rows.Entry → Bool
-are_apart [] = true
-are_apart (e ∷ entries) = not (is_among (map (λ f. f.key) entries) e.key) && are_apart entries
-
--- What the code answers, with the slots as it leaves them.
-abbrev pub answered : Option FaultKind → Slots → Result Slots FaultKind
-answered None slots = Ok slots
-answered (Some wrong) slots = Err wrong
-
--- What was said, where it's of this kind.
-abbrev pub as_value : Option says.Said → Option Written
-as_value (Some (says.value v)) = Some v
-as_value _ = None
-
-abbrev pub as_place : Option says.Said → Option Target
-as_place (Some (says.place p)) = Some p
-as_place _ = None
-
-abbrev pub as_condition : Option says.Said → Bool
-as_condition (Some (says.condition b)) = b
-as_condition _ = false
-
-abbrev pub as_content : Option says.Said → Option Stored
-as_content (Some (says.content text)) = content_of text
-as_content _ = None
-
-abbrev pub as_size : Option says.Said → Option ℕ
-as_size (Some (says.size n)) = Some n
-as_size _ = None
-
-abbrev pub as_count : Option says.Said → Option ℕ
-as_count (Some (says.count n)) = Some n
-as_count _ = None
-
-abbrev pub as_boundary : Option says.Said → Option Boundary
-as_boundary (Some (says.boundary b)) = Some b
-as_boundary _ = None
-
-abbrev pub as_location : Option says.Said → Option Location
-as_location (Some (says.location l)) = Some l
-as_location _ = None
-
--- What each statement asks for by what was read.
-abbrev pub form_by : Bool → Form
-form_by conditional = record { family = family.S; conditional = conditional }
-
-abbrev pub subpool_by : Option says.Said → Written
-subpool_by said = unwrap_or (as_value said) (number 0)
-
-abbrev pub boundary_by : Option says.Said → Boundary
-boundary_by said = unwrap_or (as_boundary said) Doubleword
-
-abbrev pub location_by : Option says.Said → Location
-location_by said = unwrap_or (as_location said) Caller
-
-abbrev pub obtain_by : Slots → Result Asked FaultKind
-obtain_by slots =
-    obtain_with (as_value (slot slots 0)) (subpool_by (slot slots 1)) (as_place (slot slots 2))
-    (boundary_by (slot slots 3)) (location_by (slot slots 4)) (form_by (as_condition (slot slots 5)))
-
-abbrev pub release_by : Slots → Result Asked FaultKind
-release_by slots =
-    release_with (as_value (slot slots 0)) (as_value (slot slots 1)) (subpool_by (slot slots 2))
-    (form_by (as_condition (slot slots 3)))
+abbrev pub macro_in : StorageMacro → forms.StorageMacro
+macro_in m = record { forms = map form_in m.forms.now; left_out = map (λ w. w.now) m.left_out.now }
 
 abbrev pub poke_by : Slots → Result Asked FaultKind
 poke_by slots = poke_with (as_value (slot slots 0)) (as_content (slot slots 1))

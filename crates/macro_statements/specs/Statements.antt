@@ -4,14 +4,17 @@ use Rattle.std.specs.Prelude.{[], Result, Ok, Err, codes}
 use Rattle.operand_texts.specs.Words.{is_word, is_name, word, word_len, after_word, after_blanks}
 use Rattle.operand_texts.specs.Field.{outside, operands, is_balanced}
 use Rattle.macro_statements.specs.Requests.{Asked, back, forward}
-use Rattle.macro_statements.specs.Storage.{storage}
+use Rattle.macro_statements.specs.Forms.{macro_of}
+use Rattle.macro_statements.specs.Storage.{storage_macro}
+use Rattle.macro_statements.specs.Getmain.{getmain_macro}
+use Rattle.macro_statements.specs.Freemain.{freemain_macro}
 use Rattle.macro_statements.specs.Poke.{poke_of}
 use Rattle.macro_statements.specs.Peek.{peek_of}
 use Rattle.macro_statements.specs.Steps.{count_in, step_with}
-use Rattle.macro_statements.specs.declared.faults.FaultKind.{FaultKind}
-use Rattle.macro_statements.specs.declared.faults.FaultKind.TheVariants as fault
-use Rattle.macro_statements.specs.declared.rows.Behind.{Behind}
-use Rattle.macro_statements.specs.declared.rows.Behind.TheVariants as behind
+use Rattle.macro_operands.specs.declared.faults.FaultKind.{FaultKind}
+use Rattle.macro_operands.specs.declared.faults.FaultKind.TheVariants as fault
+use Rattle.macro_operands.specs.declared.rows.Behind.{Behind}
+use Rattle.macro_operands.specs.declared.rows.Behind.TheVariants as behind
 use Rattle.macro_statements.specs.declared.statements.Operation.{Operation}
 use Rattle.macro_statements.specs.declared.statements.Operation.TheVariants as operation
 
@@ -19,6 +22,8 @@ use Rattle.macro_statements.specs.declared.statements.Operation.TheVariants as o
 abbrev pub operation_of : List ℕ → Option Operation
 operation_of text =
     if is_word text (codes "STORAGE") then Some operation.Storage
+    else if is_word text (codes "GETMAIN") then Some operation.Getmain
+    else if is_word text (codes "FREEMAIN") then Some operation.Freemain
     else if is_word text (codes "POKE") then Some operation.Poke
     else if is_word text (codes "PEEK") then Some operation.Peek
     else if is_word text (codes "BACK") then Some operation.Back
@@ -27,7 +32,9 @@ operation_of text =
 
 -- What an operation asks for with these operands.
 abbrev pub asked_of : Operation → List (List ℕ) → Result Asked FaultKind
-asked_of operation.Storage os = storage os
+asked_of operation.Storage os = macro_of storage_macro os
+asked_of operation.Getmain os = macro_of getmain_macro os
+asked_of operation.Freemain os = macro_of freemain_macro os
 asked_of operation.Poke os = poke_of os
 asked_of operation.Peek os = peek_of os
 asked_of operation.Back os = step_with back (count_in os)
@@ -50,6 +57,8 @@ from_operation card = after_blanks (after_word card)
 abbrev pub behind_of : Option Operation → Behind
 behind_of None = behind.Operands
 behind_of (Some operation.Storage) = behind.Operands
+behind_of (Some operation.Getmain) = behind.Operands
+behind_of (Some operation.Freemain) = behind.Operands
 behind_of (Some operation.Poke) = behind.Operands
 behind_of (Some operation.Peek) = behind.Operands
 behind_of (Some operation.Back) = behind.Operands

@@ -1,12 +1,12 @@
 -- BACK and FORWARD, and their row.
 use Rattle.std.specs.Prelude.{ℕ, List, [], ◌∷◌, Option, Some, None, Result, Ok, Err, option_and_then}
 use Rattle.operand_texts.specs.Values.{number_of}
-use Rattle.macro_statements.specs.Rows.{position, entry, Row}
-use Rattle.macro_statements.specs.Operands.{first_fault, unless_fault, text_at}
+use Rattle.macro_operands.specs.Rows.{position, entry, Row}
+use Rattle.macro_operands.specs.Operands.{first_fault, unless_fault, text_at}
 use Rattle.macro_statements.specs.Requests.{Asked}
-use Rattle.macro_statements.specs.declared.faults.FaultKind.{FaultKind}
-use Rattle.macro_statements.specs.declared.faults.FaultKind.TheVariants as fault
-use Rattle.macro_statements.specs.declared.rows.Kind.TheVariants as kind
+use Rattle.macro_operands.specs.declared.faults.FaultKind.{FaultKind}
+use Rattle.macro_operands.specs.declared.faults.FaultKind.TheVariants as fault
+use Rattle.macro_operands.specs.declared.rows.Kind.TheVariants as kind
 
 -- BACK and FORWARD, statements of the bench's own, have a number.
 abbrev pub steps_row : Row

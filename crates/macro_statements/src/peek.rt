@@ -3,14 +3,15 @@
 ghost use Rattle.std.specs.Prelude.{◌≡◌, length};
 ghost use Rattle.operand_texts.specs.Field.{operands};
 ghost use Rattle.macro_statements.specs.Requests.{seen};
-ghost use Rattle.macro_statements.specs.Slots.{slots_in, peek_by};
+ghost use Rattle.macro_operands.specs.Slots.{slots_in};
+ghost use Rattle.macro_statements.specs.Slots.{peek_by};
 ghost use Rattle.macro_statements.specs.Peek.{peek_of};
 
-use crate::faults::FaultKind;
-use crate::operands::{read, some_field};
 use crate::requests::Request;
-use crate::rows::{Entry, Key, Kind, Row, position};
-use crate::said::{NOTHING, Said, size_at, value_at};
+use macro_operands::operands::{read, some_field};
+use macro_operands::rows::Row;
+use macro_operands::said::{NOTHING, Said, size_at, value_at};
+use macro_operands::{FaultKind, position};
 
 /// PEEK.
 pub const PEEK: Row = Row {

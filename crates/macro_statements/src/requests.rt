@@ -2,8 +2,10 @@
 
 ghost use Rattle.std.specs.Prelude.{◌≡◌, ◌↔◌, IsTrue, IfSome};
 ghost use Rattle.std.specs.Option.{option_map};
-ghost use Rattle.operand_texts.specs.Written.{target_in, IsTarget};
-ghost use Rattle.macro_statements.specs.Requests.{act_in, IsValidAct};
+ghost use Rattle.operand_texts.specs.Written.{written_in, target_in, IsTarget};
+ghost use Rattle.macro_statements.specs.Requests.{length_in, act_in, is_register_0, IsLength, IsValidAct};
+ghost use Rattle.macro_statements.specs.Validity.{is_register_length, is_named_target, is_obtain_form};
+ghost use Rattle.macro_statements.specs.Validity.{is_release_form, is_whole_form};
 
 use operand_texts::contents::Content;
 use operand_texts::values::{Place, Value};
@@ -46,7 +48,10 @@ pub enum Statement {
         form: Form,
     },
     /// STORAGE RELEASE and FREEMAIN with a subpool alone: all that it has.
-    Whole { subpool: Value, form: Form },
+    Whole {
+        subpool: Value,
+        form: Form,
+    },
     /// POKE: bytes are stored at an address.
     Poke {
         address: Value,
@@ -77,9 +82,100 @@ fn is_valid_place(place: &Option<Place>) -> bool
     }
 }
 
+/// Whether a statement can spell this length.
+fn is_valid_length(length: &Length) -> bool
+    ensures { IsTrue result ↔ IsLength (length_in length.now) }
+{
+    match length {
+        Length::Fixed(value) => value.valid(),
+        Length::Variable { maximum, minimum } => maximum.valid() && minimum.valid(),
+    }
+}
+
+/// Whether a value is the one in register 0.
+fn is_register_0(value: &Value) -> bool
+    ensures { result ≡ is_register_0 (written_in value.now) }
+{
+    match *value {
+        Value::Register(register) => register == 0,
+        _ => false,
+    }
+}
+
+/// Whether a length is one value, and not the one in register 0.
+fn is_register_length(length: &Length) -> bool
+    ensures { result ≡ is_register_length (length_in length.now) }
+{
+    match length {
+        Length::Fixed(value) => !is_register_0(value),
+        Length::Variable { .. } => false,
+    }
+}
+
+/// Whether a place is a name's.
+fn is_named_place(place: &Option<Place>) -> bool
+    ensures { result ≡ is_named_target (option_map target_in place.now) }
+{
+    match place {
+        Some(Place::Named(_)) => true,
+        Some(Place::Register(_)) => false,
+        None => false,
+    }
+}
+
+/// Whether a form that obtains storage can spell this.
+fn is_obtain_form(
+    length: &Length,
+    place: &Option<Place>,
+    boundary: Boundary,
+    location: Location,
+    form: Form,
+) -> bool
+    ensures { result ≡ is_obtain_form form.family (length_in length.now) (option_map target_in place.now)
+        boundary location form.conditional }
+{
+    match form.family {
+        Family::S => true,
+        Family::R => {
+            is_register_length(length)
+                && !place.is_some()
+                && matches!(boundary, Boundary::Doubleword)
+                && matches!(location, Location::Low)
+                && !form.conditional
+        }
+        Family::E => {
+            matches!(length, Length::Fixed(_))
+                && is_named_place(place)
+                && matches!(location, Location::Low)
+        }
+    }
+}
+
+/// Whether a form that releases an area can spell this.
+fn is_release_form(form: Form, length: &Value, address: &Value) -> bool
+    ensures { result ≡ is_release_form form.family (written_in length.now) (written_in address.now) form.conditional }
+{
+    match form.family {
+        Family::S => true,
+        Family::R => !is_register_0(length) && !form.conditional,
+        Family::E => matches!(*address, Value::Named(_)),
+    }
+}
+
+/// Whether a form that releases all of a subpool can spell this.
+fn is_whole_form(form: Form) -> bool
+    ensures { result ≡ is_whole_form form.family form.conditional }
+{
+    match form.family {
+        Family::S => true,
+        Family::R => !form.conditional,
+        Family::E => false,
+    }
+}
+
 impl Statement {
-    /// Whether a line can spell this statement: whether it can spell each of its values, and the form is one that the
-    /// statement has.
+    /// Whether a line can spell this statement: whether it can spell each of its values, and some macro has its form.
+    #[tactic(auto, using(crate::proofs::ValidForms::obtain_form))]
     pub fn valid(&self) -> bool
         ensures { IsTrue result ↔ IsValidAct (act_in self.now) }
     {
@@ -88,13 +184,14 @@ impl Statement {
                 length,
                 subpool,
                 place,
+                boundary,
+                location,
                 form,
-                ..
             } => {
-                length.valid()
+                is_valid_length(length)
                     && subpool.valid()
                     && is_valid_place(place)
-                    && form.family == Family::S
+                    && is_obtain_form(length, place, *boundary, *location, *form)
             }
             Statement::Release {
                 length,
@@ -102,8 +199,12 @@ impl Statement {
                 subpool,
                 form,
             } => {
-                length.valid() && address.valid() && subpool.valid() && form.family == Family::S
+                length.valid()
+                    && address.valid()
+                    && subpool.valid()
+                    && is_release_form(*form, length, address)
             }
+            Statement::Whole { subpool, form } => subpool.valid() && is_whole_form(*form),
             Statement::Poke { address, content } => address.valid() && content.valid(),
         }
     }

@@ -7,13 +7,16 @@ ghost use Rattle.macro_statements.specs.Statements.{operation_of, asked_of, from
 ghost use Rattle.macro_statements.specs.Statements.{behind_of, operands_in};
 ghost use Rattle.macro_statements.specs.Statements.{is_misplaced, statement_with};
 
-use crate::faults::FaultKind;
+use crate::forms::request_of;
+use crate::freemain::FREEMAIN;
+use crate::getmain::GETMAIN;
 use crate::peek::peek;
 use crate::poke::poke;
 use crate::requests::Request;
-use crate::rows::Behind;
 use crate::steps::count_in;
-use crate::storage::storage;
+use crate::storage::STORAGE;
+use macro_operands::FaultKind;
+use macro_operands::rows::Behind;
 use operand_texts::nesting::is_balanced;
 use operand_texts::words::{after_blanks, after_word, is_name, is_word, word, word_len};
 
@@ -21,6 +24,8 @@ use operand_texts::words::{after_blanks, after_word, is_name, is_word, word, wor
 #[derive(Clone, Copy)]
 pub enum Operation {
     Storage,
+    Getmain,
+    Freemain,
     Poke,
     Peek,
     Back,
@@ -33,6 +38,10 @@ fn operation_of(text: &[u8]) -> Option<Operation>
 {
     if is_word(text, b"STORAGE") {
         Some(Operation::Storage)
+    } else if is_word(text, b"GETMAIN") {
+        Some(Operation::Getmain)
+    } else if is_word(text, b"FREEMAIN") {
+        Some(Operation::Freemain)
     } else if is_word(text, b"POKE") {
         Some(Operation::Poke)
     } else if is_word(text, b"PEEK") {
@@ -51,7 +60,9 @@ fn asked_of(operation: Operation, field: &[u8]) -> Result<Request, FaultKind>
     ensures { seen result ≡ asked_of operation (operands field.now) }
 {
     match operation {
-        Operation::Storage => storage(field),
+        Operation::Storage => request_of(&STORAGE, field),
+        Operation::Getmain => request_of(&GETMAIN, field),
+        Operation::Freemain => request_of(&FREEMAIN, field),
         Operation::Poke => poke(field),
         Operation::Peek => peek(field),
         Operation::Back => Ok(Request::Back(count_in(field)?)),
@@ -73,6 +84,8 @@ fn behind_of(operation: Option<Operation>) -> Behind
     match operation {
         Some(
             Operation::Storage
+            | Operation::Getmain
+            | Operation::Freemain
             | Operation::Poke
             | Operation::Peek
             | Operation::Back

@@ -2,13 +2,14 @@
 
 ghost use Rattle.std.specs.Prelude.{◌≡◌, length};
 ghost use Rattle.operand_texts.specs.Field.{operands};
-ghost use Rattle.macro_statements.specs.Slots.{slots_in, count_by};
+ghost use Rattle.macro_operands.specs.Slots.{slots_in};
+ghost use Rattle.macro_statements.specs.Slots.{count_by};
 ghost use Rattle.macro_statements.specs.Steps.{count_in};
 
-use crate::faults::FaultKind;
-use crate::operands::{read, some_field};
-use crate::rows::{Entry, Key, Kind, Row, position};
-use crate::said::{NOTHING, Said, count_at};
+use macro_operands::operands::{read, some_field};
+use macro_operands::rows::Row;
+use macro_operands::said::{NOTHING, Said, count_at};
+use macro_operands::{FaultKind, position};
 
 /// BACK and FORWARD.
 pub const STEPS: Row = Row {

@@ -53,13 +53,13 @@ spelled_back bytes h some few =
     rw (least, most, even, bytes_back bytes h) refl
 
 -- the last byte, and what stands in front of it
-last_is : (xs : List ℕ) (z : ℕ) → slice_index (xs ++ z ∷ []) (length (xs ++ z ∷ []) - 1) ≡ z
+pub last_is : (xs : List ℕ) (z : ℕ) → slice_index (xs ++ z ∷ []) (length (xs ++ z ∷ []) - 1) ≡ z
 last_is xs z = get_or_at xs z [] 0 (length (xs ++ z ∷ []) - 1) (omega (arith, length_push xs z))
 
-front_is : (xs : List ℕ) (z n : ℕ) → n ≡ length xs → take n (xs ++ z ∷ []) ≡ xs
+pub front_is : (xs : List ℕ) (z n : ℕ) → n ≡ length xs → take n (xs ++ z ∷ []) ≡ xs
 front_is xs z n e = take-append-le n xs (z ∷ []) (omega (arith, e)) ∙ take_all n xs (omega (arith, e))
 
-all_both : (a b c : Bool) → a ≡ true → b ≡ true → c ≡ true → (a && b && c) ≡ true
+pub all_both : (a b c : Bool) → a ≡ true → b ≡ true → c ≡ true → (a && b && c) ≡ true
 all_both true true true h k l = refl
 all_both true true false h k l = l
 all_both true false c h k l = k

@@ -1,0 +1,3 @@
+pub mod ReadSlots
+pub mod WrittenOperands
+pub mod PairTexts

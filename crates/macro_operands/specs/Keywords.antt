@@ -1,0 +1,37 @@
+-- The keywords of operands.
+use Rattle.std.specs.Prelude.{ℕ, Bool, ◌&&◌, ◌==◌, nat_lt, if◌then◌else◌, List, length, map, Option, Some, None}
+use Rattle.std.specs.List.{position_or_len, before_first, after_first}
+use Rattle.std.specs.Char.{to_ascii_uppercase}
+use Rattle.operand_texts.specs.Words.{is_name}
+use Rattle.macro_operands.specs.Rows.{Key, position, keyword}
+
+-- An operand has an equals sign.
+abbrev pub has_equals : List ℕ → Bool
+has_equals text = nat_lt (position_or_len (λ c. c == 61) text) (length text)
+
+-- What stands in front of the first equals sign.
+abbrev pub key_text : List ℕ → List ℕ
+key_text text = before_first (λ c. c == 61) text
+
+-- What stands behind the first equals sign.
+abbrev pub value_text : List ℕ → List ℕ
+value_text text = after_first (λ c. c == 61) text
+
+-- A keyword operand is a name with an equals sign behind it, whether any statement has that keyword or not (High Level
+-- Assembler Language Reference, "Keyword operands").
+abbrev pub is_keyword_operand : List ℕ → Bool
+is_keyword_operand text = has_equals text && is_name (key_text text)
+
+-- An operand's key, and the text of its value.
+pub record Operand : Type 0 where
+  pub key : Key
+  pub text : List ℕ
+
+-- The operand that a text at this place among the operands is: one with a keyword, which counts in upper case, or one
+-- in its position. An empty text is none.
+abbrev pub operand_at : ℕ → List ℕ → Option Operand
+operand_at place text =
+    if is_keyword_operand text then
+    Some (record { key = keyword (map to_ascii_uppercase (key_text text)); text = value_text text })
+    else if length text == 0 then None
+    else Some (record { key = position place; text = text })

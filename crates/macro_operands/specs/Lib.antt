@@ -1,0 +1,11 @@
+pub use Rattle.operand_texts.specs.Words
+pub use Rattle.operand_texts.specs.Field
+pub use Rattle.operand_texts.specs.Written
+pub use Rattle.operand_texts.specs.Values
+pub mod Rows
+pub mod Keywords
+pub mod Locations
+pub mod Lengths
+pub mod Said
+pub mod Operands
+pub mod Slots

@@ -1,0 +1,117 @@
+-- What an operand says, by the kind of its value.
+use Rattle.std.specs.Prelude.{ℕ, Bool, true, false, ◌||◌, ◌==◌, if◌then◌else◌, List, length, Option, Some, None}
+use Rattle.std.specs.Prelude.{is_some, codes}
+use Rattle.std.specs.Option.{option_map}
+use Rattle.operand_texts.specs.Words.{is_word}
+use Rattle.operand_texts.specs.Written.{Written, named, Target, in_name}
+use Rattle.operand_texts.specs.Values.{number_of, value_of, target_of, content_of, size_of}
+use Rattle.macro_operands.specs.Locations.{boundary_of, location_of, is_explicit}
+use Rattle.macro_operands.specs.Lengths.{pair_of, value_besides_0, spells_register_0, name_of}
+use Rattle.macro_operands.specs.declared.faults.FaultKind.{FaultKind}
+use Rattle.macro_operands.specs.declared.faults.FaultKind.TheVariants as fault
+use Rattle.macro_operands.specs.declared.rows.Kind.{Kind}
+use Rattle.macro_operands.specs.declared.rows.Kind.TheVariants as kind
+use Rattle.vsm_model.specs.declared.services.Boundary.{Boundary}
+use Rattle.vsm_model.specs.declared.services.Location.{Location}
+
+-- Of a pair, and of what is stored, that is the text that spells it.
+pub data Said : Type 0 where
+  value : Written → Said
+  pair : List ℕ → Said
+  place : Target → Said
+  condition : Bool → Said
+  content : List ℕ → Said
+  size : ℕ → Said
+  count : ℕ → Said
+  boundary : Boundary → Said
+  location : Location → Said
+  anything : Said
+
+-- A condition is YES or NO, in either case.
+abbrev pub condition_of : List ℕ → Option Bool
+condition_of text =
+    if is_word text (codes "YES") then Some true
+    else if is_word text (codes "NO") then Some false
+    else None
+
+-- A condition in a position is a word of its own, in either case.
+abbrev pub condition_word_of : List ℕ → Option Bool
+condition_word_of text =
+    if is_word text (codes "COND") || is_word text (codes "C") then Some true
+    else if is_word text (codes "UNCOND") || is_word text (codes "U") then Some false
+    else None
+
+abbrev pub pair_said : List ℕ → Option Said
+pair_said text = if is_some (pair_of text) then Some (pair text) else None
+
+-- A value, or else a pair.
+abbrev pub value_or_pair : Option Written → List ℕ → Option Said
+value_or_pair None text = pair_said text
+value_or_pair (Some v) text = Some (value v)
+
+-- What a text says as a value of this kind, where it's one that is supported.
+abbrev pub said_of : Kind → List ℕ → Option Said
+said_of kind.Value text = option_map value (value_of text)
+said_of kind.Length text = value_or_pair (value_of text) text
+said_of kind.Pair text = pair_said text
+said_of kind.RegisterLength text = option_map value (value_besides_0 text)
+said_of kind.NamedValue text = option_map (λ n. value (named n)) (name_of text)
+said_of kind.Place text = option_map place (target_of text)
+said_of kind.NamedPlace text = option_map (λ n. place (in_name n)) (name_of text)
+said_of kind.Condition text = option_map condition (condition_of text)
+said_of kind.ConditionWord text = option_map condition (condition_word_of text)
+said_of kind.Content text = if is_some (content_of text) then Some (content text) else None
+said_of kind.Size text = option_map size (size_of text)
+said_of kind.Count text = option_map count (number_of text)
+said_of kind.Boundary text = option_map boundary (boundary_of text)
+said_of kind.Location text = option_map location (location_of text)
+said_of kind.Any text = if length text == 0 then None else Some anything
+said_of kind.OtherForm text = None
+
+-- A text is a value of this kind that isn't supported: of lengths of the form R that in register 0, of locations
+-- EXPLICIT.
+abbrev pub is_unsupported : Kind → List ℕ → Bool
+is_unsupported kind.Value text = false
+is_unsupported kind.Length text = false
+is_unsupported kind.Pair text = false
+is_unsupported kind.RegisterLength text = spells_register_0 text
+is_unsupported kind.NamedValue text = false
+is_unsupported kind.Place text = false
+is_unsupported kind.NamedPlace text = false
+is_unsupported kind.Condition text = false
+is_unsupported kind.ConditionWord text = false
+is_unsupported kind.Content text = false
+is_unsupported kind.Size text = false
+is_unsupported kind.Count text = false
+is_unsupported kind.Boundary text = false
+is_unsupported kind.Location text = is_explicit text
+is_unsupported kind.Any text = false
+is_unsupported kind.OtherForm text = false
+
+-- What is wrong with a text that is no value of this kind: it's a bad value. But where words stand for themselves, any
+-- other is no operand of the statement, and neither is what other forms have.
+abbrev pub wrong_fault : Kind → FaultKind
+wrong_fault kind.Value = fault.Value
+wrong_fault kind.Length = fault.Value
+wrong_fault kind.Pair = fault.Value
+wrong_fault kind.RegisterLength = fault.Value
+wrong_fault kind.NamedValue = fault.Value
+wrong_fault kind.Place = fault.Value
+wrong_fault kind.NamedPlace = fault.Value
+wrong_fault kind.Condition = fault.Value
+wrong_fault kind.ConditionWord = fault.Operand
+wrong_fault kind.Content = fault.Value
+wrong_fault kind.Size = fault.Value
+wrong_fault kind.Count = fault.Value
+wrong_fault kind.Boundary = fault.Value
+wrong_fault kind.Location = fault.Value
+wrong_fault kind.Any = fault.Value
+wrong_fault kind.OtherForm = fault.Operand
+
+-- What is wrong with a text that says nothing of this kind.
+abbrev pub unsaid_fault : Kind → List ℕ → FaultKind
+unsaid_fault k text = if is_unsupported k text then fault.LeftOut else wrong_fault k
+
+-- What is wrong with a value of this kind.
+abbrev pub value_fault : Kind → List ℕ → Option FaultKind
+value_fault k text = if is_some (said_of k text) then None else Some (unsaid_fault k text)
