@@ -67,7 +67,7 @@ lengths_asked m (between maximum minimum) = lengths_with (looked_up m maximum) (
 
 -- an area from a subpool
 abbrev pub with_lengths : (Lengths → ℕ → Service) → Option Lengths → Option ℕ → Option Service
-with_lengths f (Some lengths) (Some number) = Some (f lengths number)
+with_lengths f (Some lengths) (Some subpool) = Some (f lengths subpool)
 with_lengths f _ _ = None
 
 abbrev pub area_asked : Option ℕ → Boundary → Location → Bool → Lengths → ℕ → Service
