@@ -37,7 +37,7 @@ impl Change {
     ///
     /// Where a subpool is to be emptied, an empty one is parked under its name, and records stand before these: one by
     /// which its pages and its free storage go over into the change, and one for each of its extents, in ascending
-    /// order, by which the pages become unassigned. The time is linear in the extents.
+    /// order, by which the pages become unassigned.
     ///
     /// Each call on a queue takes one blank element at most, and one has to be left: so one more than the calls is
     /// enough; those for the extents of the subpool are added. The run is in pages of 4,096 bytes, and each of them has
