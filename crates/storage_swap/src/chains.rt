@@ -64,12 +64,7 @@ fn append_emptying(elements: &mut Elements, chain: &mut Chain, emptied: Option<S
     ensures spare { elements.new.spare + length (emptying emptied []) ≡ elements.old.spare }
 {
     match emptied {
-        Some(subpool) => append(
-            elements,
-            chain,
-            0,
-            Record::Queues(QueuesRecord { subpool }),
-        ),
+        Some(subpool) => append(elements, chain, 0, Record::Queues(QueuesRecord { subpool })),
         None => 0,
     }
 }

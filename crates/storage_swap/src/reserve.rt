@@ -32,9 +32,12 @@ use vsm_elements::{Chain, Elements};
 use vsm_model::Subpool;
 
 impl Change {
-    /// A change of these records, with so many blank elements, and with frames of zeros for the pages of a run; where a
-    /// subpool is to be emptied, with an empty one parked under its name, and records before these by which its pages and
-    /// free storage go over into the change. The state of the storage stays as it is.
+    /// A change of these records, with so many blank elements, and with frames of zeros for the pages of a run. The
+    /// state of the storage stays as it is.
+    ///
+    /// Where a subpool is to be emptied, an empty one is parked under its name, and records stand before these: one by
+    /// which its pages and its free storage go over into the change, and one for each of its extents, in ascending
+    /// order, by which the pages become unassigned.
     ///
     /// Each call on a queue takes one blank element at most, and one has to be left: so one more than the calls is
     /// enough; those for the extents of the subpool are added. The run is in pages of 4,096 bytes, and each of them has
