@@ -5,7 +5,7 @@ pub mod laws;
 mod queue;
 
 pub use queue::{Area, FreeQueue};
-pub use run_set::Cover;
+pub use run_set::{Cover, RunPlace};
 
 #[cfg(test)]
 mod tests;

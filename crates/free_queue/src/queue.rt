@@ -1,12 +1,13 @@
 ghost use Rattle.std.specs.Prelude.{◌≡◌, ℕ, ◌+◌, ◌^◌, ◌<◌, ◌≤◌, ◌||◌, ◌&&◌, not, [], slice_index_or, slice_get, IfSome};
-ghost use Rattle.std.specs.Prelude.{IfNone};
+ghost use Rattle.std.specs.Prelude.{IfNone, length, option_map};
 ghost use Rattle.vsm_elements.specs.Store.{Store};
 ghost use Rattle.vsm_elements.specs.Ownership.{Leaves};
 ghost use Rattle.run_set.specs.Counts.{joins};
+ghost use Rattle.run_set.specs.RunSet.{place_index};
 ghost use Rattle.run_set.specs.Runs.{inside, AreRunsOf, IsCover};
 ghost use Rattle.run_set.specs.Fits.{Fits, IsLeastFit, IsLongest};
 
-use run_set::{Cover, Run, RunSet};
+use run_set::{Cover, Run, RunPlace, RunSet};
 use vsm_elements::Elements;
 
 /// So many doublewords (8 bytes each), from the doubleword of this number on. Doubleword `d` has the
@@ -25,6 +26,7 @@ pub struct FreeQueue {
 
 impl FreeQueue {
     ghost use Rattle.free_queue.specs.FreeQueue.{areas, is_free, owned, queue_of, IsFreeQueue, AllFree, NoneFree};
+    ghost use Rattle.free_queue.specs.FreeQueue.{IsPlace};
 
     /// The queue of a subpool without free storage. It has no element.
     pub fn new() -> FreeQueue
@@ -136,12 +138,31 @@ impl FreeQueue {
         self.set.longest(elements, boundary, region)
     }
 
-    /// The `i`-th free area in ascending order, from 0 on; `None` past the last.
-    pub fn area_at(&self, elements: &Elements, i: u32) -> Option<Area>
-        requires { IsFreeQueue elements.now self.now }
-        ensures { result ≡ slice_get (areas elements.now self.now) i }
+    /// How many free areas there are.
+    pub fn count(&self) -> u32
+        ensures { (s : Store) → result ≡ length (areas s self.now) }
     {
-        self.set.run_at(elements, i)
+        self.set.count()
+    }
+
+    /// The place before the first free area of any subpool.
+    pub fn first_place() -> RunPlace
+        ensures place { (s : Store) (q : FreeQueue) → IsPlace s q result }
+        ensures index { place_index result ≡ 0 }
+    {
+        RunSet::first_place()
+    }
+
+    /// The free area behind the place, and the place behind that area; `None` behind the last. From the first place on,
+    /// the areas come in ascending order, each at the cost of one element.
+    pub fn next_area(&self, elements: &Elements, place: RunPlace) -> Option<(Area, RunPlace)>
+        requires queue { IsFreeQueue elements.now self.now }
+        requires place { IsPlace elements.now self.now place }
+        ensures area { option_map (λ r. r.0) result ≡ slice_get (areas elements.now self.now) (place_index place) }
+        ensures next { IfSome result (λ r. IsPlace elements.now self.now r.1
+            × (place_index r.1 ≡ place_index place + 1)) }
+    {
+        self.set.next_run(elements, place)
     }
 
     /// Gives back every element of the queue.

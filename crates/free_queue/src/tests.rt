@@ -77,19 +77,15 @@ fn longest(free: &[bool], boundary: u32, region: Area) -> u32 {
     most
 }
 
-fn area_at(free: &[bool], i: u32) -> Option<Area> {
-    let mut before = i;
+// The first area from a doubleword on.
+fn area_from(free: &[bool], from: u32) -> Option<Area> {
     let mut start = None;
-    for d in 0..SIZE + 1 {
+    for d in from..SIZE + 1 {
         match (is_free(free, d), start) {
             (true, None) => start = Some(d),
             (false, Some(first)) => {
-                if before == 0 {
-                    let len = d.saturating_sub(first);
-                    return Some(Area { start: first, len });
-                }
-                before = before.saturating_sub(1);
-                start = None;
+                let len = d.saturating_sub(first);
+                return Some(Area { start: first, len });
             }
             _ => {}
         }
@@ -138,12 +134,27 @@ fn compare_in(rt: &impl Abort, elements: &Elements, queue: &FreeQueue, free: &[b
     }
 }
 
+fn compare_areas(rt: &impl Abort, elements: &Elements, queue: &FreeQueue, free: &[bool])
+    requires { IsFreeQueue elements.now queue.now }
+{
+    let mut place = FreeQueue::first_place();
+    let mut from = 0;
+    for _ in 0..queue.count() {
+        let Some((area, behind)) = queue.next_area(elements, place) else {
+            return assert!(rt; false);
+        };
+        assert_eq!(rt; Some(area), area_from(free, from));
+        from = area.start.saturating_add(area.len);
+        place = behind;
+    }
+    assert_eq!(rt; queue.next_area(elements, place), None);
+    assert_eq!(rt; area_from(free, from), None);
+}
+
 fn compare(rt: &impl Abort, elements: &Elements, queue: &FreeQueue, free: &[bool])
     requires { IsFreeQueue elements.now queue.now }
 {
-    for i in 0..8 {
-        assert_eq!(rt; queue.area_at(elements, i), area_at(free, i));
-    }
+    compare_areas(rt, elements, queue, free);
     for (start, len) in [(0, SIZE), (512, 1536), (2048, 1024), (700, 105)] {
         compare_in(rt, elements, queue, free, Area { start, len });
     }

@@ -143,17 +143,22 @@ module _ (f g : Pools) (n o : ℕ) (x : Pool) (one : 1 ≤ o) (last : o ≤ 64) 
       k 0 (omega arith) (omega (arith, high, e))
       ∙ ap (λ (z : List ℕ). x ∷ flat_map (of_number g) z) (sym (numbers_are k e))
 
--- behind 0 and 0 are all
-pub order_begins : (p : Pools) (k : ℕ) → k ≡ 64 → in_order (pools_after p 0 0) ≡ in_order p
-order_begins p k e = flat_same (of_number (pools_after p 0 0)) (of_number p) each numbers where
-  there : (n t : ℕ) → 0 < t → pools_after p 0 0 n t ≡ p n t
-  there n t l = if_true (comes_before 0 0 t n) (p n t) None (says_before 0 0 t n (go (cases_lt 0 n))) where
+-- behind 0 and 0 are all, whatever is given for a number and an owner
+module _ {A : Type 0} (p : ℕ → ℕ → Option A) where
+  abbrev after : ℕ → ℕ → Option A
+  after n o = if comes_before 0 0 o n then p n o else None
+
+  after_there : (n t : ℕ) → 0 < t → after n t ≡ p n t
+  after_there n t l = if_true (comes_before 0 0 t n) (p n t) None (says_before 0 0 t n (go (cases_lt 0 n))) where
     go : (0 < n) ⊎ (n ≤ 0) → (0 < n) ⊎ ((0 ≡ n) × (0 < t))
     go (inl h) = inl h
     go (inr h) = inr (omega (arith, h), l)
 
-  each : (n : ℕ) → of_number (pools_after p 0 0) n ≡ of_number p n
-  each n =
-      ap (filter_map (pools_after p 0 0 n)) (tasks_are k e)
-      ∙ given_behind (pools_after p 0 0 n) (p n) 0 (there n) k 1 (omega arith)
+  after_each : (k n : ℕ) → k ≡ 64 → filter_map (after n) tasks ≡ filter_map (p n) tasks
+  after_each k n e =
+      ap (filter_map (after n)) (tasks_are k e)
+      ∙ given_behind (after n) (p n) 0 (after_there n) k 1 (omega arith)
       ∙ ap (filter_map (p n)) (sym (tasks_are k e))
+
+  pub order_begins : (k : ℕ) → k ≡ 64 → flat_map (λ n. filter_map (after n) tasks) numbers ≡ flat_map (λ n. filter_map (p n) tasks) numbers
+  order_begins k e = flat_same (λ n. filter_map (after n) tasks) (λ n. filter_map (p n) tasks) (λ n. after_each k n e) numbers

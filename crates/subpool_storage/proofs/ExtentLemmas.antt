@@ -1,4 +1,4 @@
--- The extents of a subpool are the maximal runs of its pages.
+-- The extents of a subpool are the maximal runs of its pages, and its free areas those of its free doublewords.
 use Rattle.std.proofs.Common.{◌≡◌, ℕ, zero, suc, ◌+◌, ◌-◌, ◌^◌, ◌<◌, ◌≤◌, ◌==◌, inl, inr, Bool, true, false, ◌||◌, if◌then◌else◌, List, [], ◌∷◌, length, map, Some, refl, sym, ap, ◌∙◌, arith, subst}
 use Rattle.std.proofs.lemmas.List.{length-map}
 use Rattle.std.proofs.lemmas.Bool.{cases_eq, both_ways, eqb-true, eq-eqb, false_from_ne_true}
@@ -20,7 +20,7 @@ use Rattle.subpool_storage.proofs.PutLemmas.{part_of}
 use Rattle.vsm_model.specs.Runs.{with_first, runs}
 use Rattle.vsm_model.specs.declared.Subpool.{Subpool}
 use Rattle.subpool_storage.specs.Subpools.{Subpools}
-use Rattle.subpool_storage.specs.Extents.{run_in, extents, ExtentsAreRuns, ExtentsAreFew}
+use Rattle.subpool_storage.specs.Extents.{run_in, extents, free_areas, ExtentsAreRuns, ExtentsAreFew, FreeAreasAreRuns}
 
 -- one number more in front of the runs: where the first run begins behind it, and where it doesn't
 data Fronted (k : ℕ) (xs ys : List (ℕ × ℕ)) : Type 0 where
@@ -111,7 +111,7 @@ module _ (f : ℕ → Bool) where
     go false e h = let P : List (ℕ × ℕ) → Type 0 = Are k (suc n) in subst P (sym (none_more k n e)) (without k n (runs f (suc k) n) e h)
     go true e h = let P : List (ℕ × ℕ) → Type 0 = Are k (suc n) in subst P (sym (one_more k n e)) (with k n (runs f (suc k) n) (with_first k (runs f (suc k) n)) e (fronted k (runs f (suc k) n) h.spaced) high h)
 
-  are_below : (n : ℕ) → n ≤ 2 ^ 29 → ((m : ℕ) → n ≤ m → f m ≡ false) → AreRunsOf (map run_in (runs f 0 n)) f
+  pub are_below : (n : ℕ) → n ≤ 2 ^ 29 → ((m : ℕ) → n ≤ m → f m ≡ false) → AreRunsOf (map run_in (runs f 0 n)) f
   are_below n high none =
       let h : Are 0 n (runs f 0 n) = are 0 n (omega (arith, high)) in
       record {
@@ -149,6 +149,10 @@ pub extents_are_runs : ExtentsAreRuns
 unfolding extents
 extents_are_runs m p none = are_below (m.pages p) (2 ^ 29) (omega arith) none
 
+pub free_areas_are_runs : FreeAreasAreRuns
+unfolding free_areas
+free_areas_are_runs m p none = are_below (m.free p) (2 ^ 29) (omega arith) none
+
 pub extents_are_few : ExtentsAreFew
 unfolding extents
 extents_are_few m p = (few_runs (m.pages p) (2 ^ 29), λ top none. few_runs_below (m.pages p) top (2 ^ 29) none)
@@ -160,15 +164,29 @@ none_high rs set h n far = sym (h.holds n) ∙ over 0 rs h.spaced where
   over low [] k = refl
   over low (z ∷ zs) k = ap (λ (b : Bool). b || contains n zs) (outside n z (inr (omega (arith, k.2, far)))) ∙ over (z.start + z.len + 1) zs k.3
 
--- the list of runs of a subpool's pages is that of its extents
-pub runs_are_extents : (m : Subpools) (p : Subpool) (rs : List Run) (set : ℕ → Bool) → AreRunsOf rs set → ((page : ℕ) → set page ≡ m.pages p page) → rs ≡ extents m p
-runs_are_extents m p rs set h same = runs_one set (m.pages p) rs (extents m p) h (extents_are_runs m p (λ page far. sym (same page) ∙ none_high rs set h page far)) same
+-- the list of runs of a set is that of the definitions
+runs_are : (rs : List Run) (set f : ℕ → Bool) (n : ℕ) → n ≡ 2 ^ 29 → AreRunsOf rs set → ((m : ℕ) → set m ≡ f m) → rs ≡ map run_in (runs f 0 n)
+runs_are rs set f n e h same = runs_one set f rs (map run_in (runs f 0 n)) h (are_below f n (omega (arith, e)) (λ m far. sym (same m) ∙ none_high rs set h m (omega (arith, e, far)))) same
 
--- the elements of a subpool's extents are among those that the storage holds
-pub extents_held : (s : Store) (q : SubpoolStorage) (n o : ℕ) (p : Pool) → Stands s q → pool s q.set n o ≡ Some p → (i : ℕ) → times i (Extents.owned s p.queues.extents) ≤ hold s q i
+pub runs_are_extents : (m : Subpools) (p : Subpool) (rs : List Run) (set : ℕ → Bool) → AreRunsOf rs set → ((page : ℕ) → set page ≡ m.pages p page) → rs ≡ extents m p
+unfolding extents
+runs_are_extents m p rs set h same = runs_are rs set (m.pages p) (2 ^ 29) refl h same
+
+pub runs_are_free_areas : (m : Subpools) (p : Subpool) (rs : List Run) (set : ℕ → Bool) → AreRunsOf rs set → ((d : ℕ) → set d ≡ m.free p d) → rs ≡ free_areas m p
+unfolding free_areas
+runs_are_free_areas m p rs set h same = runs_are rs set (m.free p) (2 ^ 29) refl h same
+
+-- the elements of a subpool's queues are among those that the storage holds
+queues_held : (s : Store) (q : SubpoolStorage) (n o : ℕ) (p : Pool) → Stands s q → pool s q.set n o ≡ Some p → (i : ℕ) → times i (Extents.owned s p.queues.extents) + times i (FreeQueue.owned s p.queues.free) ≤ hold s q i
 unfolding Stands hold
-extents_held s q n o p h e i =
+queues_held s q n o p h e i =
     omega (arith, times-append i (Extents.owned s p.queues.extents) (FreeQueue.owned s p.queues.free), part_of s q.set n o p h.set (h.queues.stand n o p e) e i)
+
+pub extents_held : (s : Store) (q : SubpoolStorage) (n o : ℕ) (p : Pool) → Stands s q → pool s q.set n o ≡ Some p → (i : ℕ) → times i (Extents.owned s p.queues.extents) ≤ hold s q i
+extents_held s q n o p h e i = omega (arith, queues_held s q n o p h e i)
+
+pub free_held : (s : Store) (q : SubpoolStorage) (n o : ℕ) (p : Pool) → Stands s q → pool s q.set n o ≡ Some p → (i : ℕ) → times i (FreeQueue.owned s p.queues.free) ≤ hold s q i
+free_held s q n o p h e i = omega (arith, queues_held s q n o p h e i)
 
 -- no elements are among them
 pub none_held : (s : Store) (q : SubpoolStorage) (ids : List ℕ) → ids ≡ [] → (i : ℕ) → times i ids ≤ hold s q i

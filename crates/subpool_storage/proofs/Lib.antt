@@ -6,3 +6,4 @@ pub mod SetLemmas
 pub mod LawLemmas
 pub mod ExchangeLemmas
 pub mod ExtentLemmas
+pub mod OrderLemmas

@@ -1,4 +1,4 @@
--- The extents of a subpool: the longest runs of its pages, ascending.
+-- The extents of a subpool, and its free areas: the longest runs of its pages and of its free doublewords, ascending.
 -- Assembler Services Guide, "Virtual storage management", "Subpool handling".
 use Rattle.std.specs.Prelude.{◌≡◌, ℕ, ◌^◌, ◌≤◌, false, List, map, length}
 use Rattle.run_set.specs.declared.run.Run.{Run}
@@ -23,3 +23,11 @@ ExtentsAreRuns = (m : Subpools) (p : Subpool) → ((page : ℕ) → 2 ^ 29 ≤ p
 abbrev pub ExtentsAreFew : Type 0
 ExtentsAreFew = (m : Subpools) (p : Subpool) → (length (extents m p) ≤ 2 ^ 29)
     × ((top : ℕ) → ((page : ℕ) → top ≤ page → m.pages p page ≡ false) → length (extents m p) ≤ top)
+
+-- The free areas likewise, over doublewords.
+unfoldable pub free_areas : Subpools → Subpool → List Run
+free_areas m p = map run_in (runs (m.free p) 0 (2 ^ 29))
+
+abbrev pub FreeAreasAreRuns : Type 0
+FreeAreasAreRuns = (m : Subpools) (p : Subpool) → ((d : ℕ) → 2 ^ 29 ≤ d → m.free p d ≡ false)
+    → AreRunsOf (free_areas m p) (m.free p)

@@ -1,5 +1,6 @@
 pub mod Subpools
 pub mod Extents
+pub mod Order
 pub mod SubpoolStorage
 pub mod Held
 pub mod Laws

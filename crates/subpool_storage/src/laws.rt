@@ -1,6 +1,7 @@
 //! What follows from the definitions. Each law is the contract of a function that does nothing.
 
-ghost use Rattle.subpool_storage.specs.Extents.{ExtentsAreRuns, ExtentsAreFew};
+ghost use Rattle.subpool_storage.specs.Extents.{ExtentsAreRuns, ExtentsAreFew, FreeAreasAreRuns};
+ghost use Rattle.subpool_storage.specs.Order.{SubpoolsBegin};
 ghost use Rattle.subpool_storage.specs.Laws.{StorageOwns, SubpoolsAreThere, StorageStays};
 
 /// No element has two owners among the subpools and their queues, and each is live.
@@ -26,4 +27,14 @@ pub fn extents_are_runs()
 /// A subpool has 2^29 extents at most, and no more than there are pages: 2^20, where each of its pages is below that.
 pub fn extents_are_few()
     ensures { ExtentsAreFew }
+{}
+
+/// The free areas of a subpool are the maximal runs of its free doublewords, in ascending order.
+pub fn free_areas_are_runs()
+    ensures { FreeAreasAreRuns }
+{}
+
+/// Behind number 0 and owner 0 are all subpools.
+pub fn subpools_begin()
+    ensures { SubpoolsBegin }
 {}

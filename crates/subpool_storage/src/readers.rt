@@ -1,12 +1,14 @@
-ghost use Rattle.std.specs.Prelude.{◌≡◌, ℕ, ◌+◌, ◌^◌, ◌<◌, ◌≤◌, true, false, IfSome, IfNone};
+ghost use Rattle.std.specs.Prelude.{◌≡◌, ℕ, ◌+◌, ◌^◌, ◌<◌, ◌≤◌, true, false, [], ◌∷◌, IfSome, IfNone};
 ghost use Rattle.vsm_elements.specs.Owners.{times};
 ghost use Rattle.run_set.specs.Runs.{IsCover};
 ghost use Rattle.run_set.specs.Fits.{Fits, IsLeastFit, IsLongest};
 ghost use Rattle.descriptor_queue.specs.Extents.{extents as extents_in, has_page as extents_have, owned as extents_own};
 ghost use Rattle.descriptor_queue.specs.Extents.{IsExtents};
-ghost use Rattle.free_queue.specs.FreeQueue.{is_free, IsFreeQueue};
+ghost use Rattle.free_queue.specs.FreeQueue.{areas, is_free, owned as areas_own, IsFreeQueue};
+ghost use Rattle.subpool_set.specs.Pools.{sharers_after};
 ghost use Rattle.subpool_storage.specs.Subpools.{is_there};
-ghost use Rattle.subpool_storage.specs.Extents.{extents};
+ghost use Rattle.subpool_storage.specs.Extents.{extents, free_areas};
+ghost use Rattle.subpool_storage.specs.Order.{subpools_after};
 ghost use Rattle.subpool_storage.specs.SubpoolStorage.{subpools_of, hold, Stands};
 
 use crate::storage::SubpoolStorage;
@@ -42,6 +44,7 @@ impl SubpoolStorage {
         ensures areas { (d : ℕ) → is_free elements.now result.free d
             ≡ (subpools_of elements.now self.now).free subpool d }
         ensures held { (i : ℕ) → times i (extents_own elements.now result.extents) ≤ hold elements.now self.now i }
+        ensures areas_held { (i : ℕ) → times i (areas_own elements.now result.free) ≤ hold elements.now self.now i }
     {
         if self.has_subpool(elements, subpool) {
             let id = self.id(elements, subpool);
@@ -67,6 +70,61 @@ impl SubpoolStorage {
         ensures runs { extents_in elements.now result ≡ extents (subpools_of elements.now self.now) subpool }
     {
         self.queues(elements, subpool).extents
+    }
+
+    /// The free areas of the subpool: the maximal runs of its free doublewords (8 bytes each), below and above the 16 MB
+    /// line. A subpool that isn't there has none. (z/OS MVS Programming: Assembler Services Guide, "Subpool handling".)
+    ///
+    /// Nothing is copied: it is the head of what the storage itself holds, to be read as long as the storage's elements
+    /// stay as they are, and not to be changed or discarded.
+    pub fn free_areas(&self, elements: &Elements, subpool: Subpool) -> FreeQueue
+        requires { Stands elements.now self.now }
+        ensures stands { IsFreeQueue elements.now result }
+        ensures free { (d : ℕ) → is_free elements.now result d
+            ≡ (subpools_of elements.now self.now).free subpool d }
+        ensures held { (i : ℕ) → times i (areas_own elements.now result) ≤ hold elements.now self.now i }
+        ensures runs { areas elements.now result ≡ free_areas (subpools_of elements.now self.now) subpool }
+    {
+        let queues = self.queues(elements, subpool);
+        queues.free
+    }
+
+    /// The subpool that comes next behind this number and this owner, by number and then by owner; `None` behind the
+    /// last. Behind 0 and 0 comes the first.
+    ///
+    /// It walks the rows of sight once for each of them that it passes over.
+    pub fn subpool_after(&self, elements: &Elements, number: u8, owner: u8) -> Option<Subpool>
+        requires { Stands elements.now self.now }
+        ensures none { IfNone result (subpools_after (subpools_of elements.now self.now) number owner ≡ []) }
+        ensures there { IfSome result (λ p. is_there (subpools_of elements.now self.now) p ≡ true) }
+        ensures next { IfSome result (λ p. subpools_after (subpools_of elements.now self.now) number owner
+            ≡ p ∷ subpools_after (subpools_of elements.now self.now) p.number p.owner) }
+    {
+        let id = self.set.pool_after(elements, number, owner)?;
+        Some(Subpool {
+            number: self.set.number(elements, id),
+            owner: self.set.owner(elements, id),
+        })
+    }
+
+    /// The task with the lowest number above this task's that sees the subpool besides its owner; `None` above the last,
+    /// and where the subpool isn't there. Above 0 is the first. (z/OS MVS Programming: Assembler Services Guide,
+    /// "Sharing subpools".)
+    ///
+    /// It walks the rows of sight once for each of them that it passes over.
+    pub fn sharer_after(&self, elements: &Elements, subpool: Subpool, task: u8) -> Option<u8>
+        requires { Stands elements.now self.now }
+        ensures none { IfNone result (sharers_after (subpools_of elements.now self.now).sight
+            subpool.number subpool.owner task ≡ []) }
+        ensures next { IfSome result (λ t. sharers_after (subpools_of elements.now self.now).sight
+            subpool.number subpool.owner task
+            ≡ t ∷ sharers_after (subpools_of elements.now self.now).sight subpool.number subpool.owner t) }
+    {
+        if !self.has_subpool(elements, subpool) {
+            return None;
+        }
+        let id = self.id(elements, subpool);
+        self.set.sharer_after(elements, id, task)
     }
 
     /// Whether the page is the subpool's.
