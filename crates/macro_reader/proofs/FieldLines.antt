@@ -160,6 +160,8 @@ laid (suc most) j (c ∷ cs) g h some few = elim (cases_lt 56 (length (c ∷ cs)
 -- what stands in front of the operands on a first line
 abbrev pub front_of : Operation → List ℕ
 front_of operation.Storage = 32 ∷ (codes "STORAGE" ++ 32 ∷ [])
+front_of operation.Getmain = 32 ∷ (codes "GETMAIN" ++ 32 ∷ [])
+front_of operation.Freemain = 32 ∷ (codes "FREEMAIN" ++ 32 ∷ [])
 front_of operation.Poke = 32 ∷ (codes "POKE" ++ 32 ∷ [])
 front_of operation.Peek = 32 ∷ (codes "PEEK" ++ 32 ∷ [])
 front_of operation.Back = 32 ∷ (codes "BACK" ++ 32 ∷ [])

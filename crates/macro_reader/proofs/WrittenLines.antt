@@ -17,6 +17,8 @@ use Rattle.macro_statements.proofs.RequestTexts.{less, room}
 
 front_fits : (o : Operation) → length (front_of o) + room o ≡ 71
 front_fits operation.Storage = refl
+front_fits operation.Getmain = refl
+front_fits operation.Freemain = refl
 front_fits operation.Poke = refl
 front_fits operation.Peek = refl
 front_fits operation.Back = refl
@@ -24,6 +26,8 @@ front_fits operation.Forward = refl
 
 in_place : (o : Operation) (t : List ℕ) → is_misplaced (front_of o ++ t) ≡ false
 in_place operation.Storage t = refl
+in_place operation.Getmain t = refl
+in_place operation.Freemain t = refl
 in_place operation.Poke t = refl
 in_place operation.Peek t = refl
 in_place operation.Back t = refl
@@ -31,6 +35,8 @@ in_place operation.Forward t = refl
 
 no_comment : (o : Operation) (t : List ℕ) → (is_blank (front_of o ++ t) || is_comment (front_of o ++ t)) ≡ false
 no_comment operation.Storage t = refl
+no_comment operation.Getmain t = refl
+no_comment operation.Freemain t = refl
 no_comment operation.Poke t = refl
 no_comment operation.Peek t = refl
 no_comment operation.Back t = refl
@@ -38,6 +44,8 @@ no_comment operation.Forward t = refl
 
 says : (o : Operation) (t text : List ℕ) → statement_with (front_of o ++ t) text ≡ of_operation (Some o) text
 says operation.Storage t text = refl
+says operation.Getmain t text = refl
+says operation.Freemain t text = refl
 says operation.Poke t text = refl
 says operation.Peek t text = refl
 says operation.Back t text = refl
@@ -45,6 +53,8 @@ says operation.Forward t text = refl
 
 operands_behind_front : (o : Operation) (c : ℕ) (cs : List ℕ) → (c == 32) ≡ false → from_operands (front_of o ++ c ∷ cs) ≡ c ∷ cs
 operands_behind_front operation.Storage c cs h = rw h refl
+operands_behind_front operation.Getmain c cs h = rw h refl
+operands_behind_front operation.Freemain c cs h = rw h refl
 operands_behind_front operation.Poke c cs h = rw h refl
 operands_behind_front operation.Peek c cs h = rw h refl
 operands_behind_front operation.Back c cs h = rw h refl

@@ -7,7 +7,10 @@ pub use Rattle.macro_operands.specs.Rows
 pub use Rattle.macro_operands.specs.Keywords
 pub use Rattle.macro_operands.specs.Said
 pub use Rattle.macro_operands.specs.Operands
+pub use Rattle.macro_statements.specs.Forms
 pub use Rattle.macro_statements.specs.Storage
+pub use Rattle.macro_statements.specs.Getmain
+pub use Rattle.macro_statements.specs.Freemain
 pub use Rattle.macro_statements.specs.Poke
 pub use Rattle.macro_statements.specs.Peek
 pub use Rattle.macro_statements.specs.Steps

@@ -2,8 +2,8 @@
 
 use crate::tests::{card, fault, more, name};
 use crate::{
-    Boundary, Content, Family, Fault, FaultKind, Fed, Form, Location, Place, Reader, Request,
-    Statement, Value,
+    Boundary, Content, Family, Fault, FaultKind, Fed, Form, Length, Location, Place, Reader,
+    Request, Statement, Value,
 };
 use arrayvec::ArrayVec;
 use std::process::Abort;
@@ -276,7 +276,7 @@ fn tells_statements_that_can_be_spelled(rt: HostRuntime) {
         (Family::S, 13, false),
     ] {
         let statement = Statement::Obtain {
-            length: Value::Number(0),
+            length: Length::Fixed(Value::Number(0)),
             subpool: Value::Number(4_294_967_295),
             place: Some(Place::Register(register)),
             boundary: Boundary::Page,

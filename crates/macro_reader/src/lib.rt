@@ -9,7 +9,8 @@ mod reading;
 
 pub use laws::{every_script_is_read, one_reading, valid_requests_are_read};
 pub use macro_statements::{
-    Boundary, Family, FaultKind, Form, Location, Request, Statement, valid_requests_are_spelled,
+    Boundary, Family, FaultKind, Form, Length, Location, Request, Statement,
+    valid_requests_are_spelled,
 };
 pub use operand_texts::{
     Content, Name, Place, Value, valid_contents_are_spelled, valid_places_are_spelled,
@@ -19,5 +20,7 @@ pub use reading::{Fault, Fed, Reader};
 
 #[cfg(test)]
 mod edge_tests;
+#[cfg(test)]
+mod form_tests;
 #[cfg(test)]
 mod tests;

@@ -1,8 +1,8 @@
 //! A script with every kind of fault.
 
 use crate::{
-    Boundary, Content, Family, Fault, FaultKind, Fed, Form, Location, Name, Place, Reader, Request,
-    Statement, Value,
+    Boundary, Content, Family, Fault, FaultKind, Fed, Form, Length, Location, Name, Place, Reader,
+    Request, Statement, Value,
 };
 use arrayvec::ArrayVec;
 use std::process::Abort;
@@ -14,7 +14,7 @@ const STORAGE: Form = Form {
 
 fn obtain_in(length: Value, subpool: Value, place: Option<Place>) -> Request {
     Request::Act(Statement::Obtain {
-        length,
+        length: Length::Fixed(length),
         subpool,
         place,
         boundary: Boundary::Doubleword,
@@ -85,7 +85,7 @@ fn answers_every_line(rt: HostRuntime) {
         ),
         (b" STORAGE OBTAIN,LENGTH=8K", Err(FaultKind::Value)),
         (b" STORAGE OBTAIN,LENGTH=4294967296", Err(FaultKind::Value)),
-        (b" STORAGE OBTAIN,LENGTH=(8,4)", Err(FaultKind::LeftOut)),
+        (b" STORAGE OBTAIN,LENGTH=8,KEY=1", Err(FaultKind::LeftOut)),
     ];
     let mut number = 0u32;
     for (line, want) in script {
@@ -101,7 +101,7 @@ fn answers_every_operand(rt: HostRuntime) {
     let script: [(&[u8], Result<Option<Request>, FaultKind>); 17] = [
         (b" STORAGE RELEASE,LENGTH=(8,4)", Err(FaultKind::Value)),
         (b" STORAGE OBTAIN,LENGTH=(P)", Err(FaultKind::Value)),
-        (b" STORAGE OBTAIN,LENGTH=(P,(5))", Err(FaultKind::LeftOut)),
+        (b" STORAGE OBTAIN,LENGTH=(P,(5)", Err(FaultKind::Operand)),
         (b" STORAGE RELEASE,LENGTH=8,LOC=31", Err(FaultKind::Operand)),
         (b" STORAGE KEY=1", Err(FaultKind::LeftOut)),
         (b" STORAGE OBTAIN,LENGTH=8,ADDR=(13)", Err(FaultKind::Value)),
@@ -111,7 +111,7 @@ fn answers_every_operand(rt: HostRuntime) {
             b" STORAGE OBTAIN,LENGTH=8,COND=MAYBE",
             Err(FaultKind::Value),
         ),
-        (b" STORAGE RELEASE,SP=1", Err(FaultKind::Missing)),
+        (b" STORAGE RELEASE,ADDR=1", Err(FaultKind::Missing)),
         (b" STORAGE KEY=1,LENGTH=(8", Err(FaultKind::Operand)),
         (
             b" FORWARD 2                                                              ignored",
@@ -173,7 +173,7 @@ fn reads_names_and_registers(rt: HostRuntime) {
 
 fn obtain_at(boundary: Boundary, location: Location) -> Result<Option<Request>, FaultKind> {
     Ok(Some(Request::Act(Statement::Obtain {
-        length: Value::Number(8),
+        length: Length::Fixed(Value::Number(8)),
         subpool: Value::Number(0),
         place: None,
         boundary,
