@@ -6,7 +6,7 @@ use Rattle.std.proofs.lemmas.Bool.{cases_lt}
 use Rattle.row_table.specs.Rows.{comes_before}
 use Rattle.row_table.proofs.RowLemmas.{either, if_true}
 use Rattle.row_table.proofs.NextLemmas.{before_says, says_before}
-use Rattle.subpool_set.specs.Pools.{Pool, Pools, tasks, numbers, in_order, pools_after}
+use Rattle.subpool_set.specs.Pools.{Pool, Pools, tasks, numbers, in_order}
 
 pub tasks_are : (n : ℕ) → n ≡ 64 → tasks ≡ range_with_len 1 n
 unfolding tasks

@@ -72,7 +72,7 @@ impl SubpoolStorage {
         self.queues(elements, subpool).extents
     }
 
-    /// The free areas of the subpool: the maximal runs of its free doublewords (8 bytes each), below and above the 16 MB
+    /// The free areas of the subpool: the maximal runs of its free doublewords of 8 bytes, below and above the 16 MB
     /// line. A subpool that isn't there has none. (z/OS MVS Programming: Assembler Services Guide, "Subpool handling".)
     ///
     /// Nothing is copied: it is the head of what the storage itself holds, to be read as long as the storage's elements
@@ -107,9 +107,9 @@ impl SubpoolStorage {
         })
     }
 
-    /// The task with the lowest number above this task's that sees the subpool besides its owner; `None` above the last,
-    /// and where the subpool isn't there. Above 0 is the first. (z/OS MVS Programming: Assembler Services Guide,
-    /// "Sharing subpools".)
+    /// The task with the lowest number above this task's that sees the subpool besides its owner; `None` above the
+    /// last, and where the subpool isn't there. Above 0 is the first. (z/OS MVS Programming: Assembler Services Guide,
+    /// "Subpool handling".)
     ///
     /// It walks the rows of sight once for each of them that it passes over.
     pub fn sharer_after(&self, elements: &Elements, subpool: Subpool, task: u8) -> Option<u8>

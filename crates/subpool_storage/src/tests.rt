@@ -5,7 +5,7 @@ ghost use Rattle.subpool_storage.specs.SubpoolStorage.{hold, Stands};
 
 use super::*;
 use descriptor_queue::{Extents, Run};
-use free_queue::{Area, Cover};
+use free_queue::{Area, Cover, FreeQueue};
 use std::process::Abort;
 use std::test::Fail;
 use vsm_elements::Elements;
@@ -183,6 +183,26 @@ fn only_extent(elements: &Elements, storage: &SubpoolStorage, subpool: Subpool) 
     (extents.count() == 1).then_some(run)
 }
 
+// The free area of a subpool that has one; `None` where it has none or more.
+fn only_area(elements: &Elements, storage: &SubpoolStorage, subpool: Subpool) -> Option<Area>
+    requires { Stands elements.now storage.now }
+{
+    let areas = storage.free_areas(elements, subpool);
+    let (area, _) = areas.next_area(elements, FreeQueue::first_place())?;
+    (areas.count() == 1).then_some(area)
+}
+
+// The two subpools come in order, and nobody shares the first.
+fn in_order(rt: &impl Abort, elements: &Elements, storage: &SubpoolStorage)
+    requires { Stands elements.now storage.now }
+{
+    assert_eq!(rt; storage.subpool_after(elements, 0, 0), Some(FIRST));
+    assert_eq!(rt; storage.subpool_after(elements, 1, 1), Some(SECOND));
+    assert_eq!(rt; storage.subpool_after(elements, 2, 2), Some(SECOND));
+    assert_eq!(rt; storage.subpool_after(elements, 2, 3), None);
+    assert_eq!(rt; storage.sharer_after(elements, FIRST, 0), None);
+}
+
 #[test]
 fn pages_and_areas_come_and_go(rt: HostRuntime) -> Result<(), Fail> {
     let mut elements = Elements::new(rt.alloc());
@@ -203,6 +223,12 @@ fn pages_and_areas_come_and_go(rt: HostRuntime) -> Result<(), Fail> {
         only_extent(&elements, &storage, SECOND),
         Some(Run { start: 7, len: 1 })
     );
+    let area = Area {
+        start: 2560,
+        len: 1024,
+    };
+    assert_eq!(rt; only_area(&elements, &storage, FIRST), Some(area));
+    in_order(&rt, &elements, &storage);
     carve_out(&rt, &mut elements, &storage);
     empty(&rt, &mut elements, &storage, FIRST, 5);
     empty(&rt, &mut elements, &storage, SECOND, 7);

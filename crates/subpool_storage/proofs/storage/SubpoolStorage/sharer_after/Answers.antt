@@ -1,5 +1,4 @@
-use Rattle.std.proofs.Common.{◌≡◌, ℕ, List, ◌∷◌, false, sym, ap, ◌∙◌, Option, Some, None, IfSome, IfNone}
-use Rattle.subpool_set.specs.Pools.{sharers_after}
+use Rattle.std.proofs.Common.{◌≡◌, false, sym, ◌∙◌}
 use Rattle.subpool_storage.specs.Subpools.{is_there}
 use Rattle.subpool_storage.specs.SubpoolStorage.{subpools_of}
 use Rattle.subpool_storage.proofs.OrderLemmas.{no_sharer, next_sharer, last_sharer}
