@@ -154,6 +154,24 @@ def names_row():
     return Row("no-1025th-name", script, lines_of((at + 1, answer) for at, (_, answer) in enumerate(statements)), 4)
 
 
+def free_areas_row():
+    """A subpool with 10,000 free areas of a doubleword, released whole. A step back brings each of them back."""
+    count = 10_000
+    areas = ["X'%X'" % (0x6000 + 16 * at) for at in range(count)]
+    statements = [(" STORAGE OBTAIN,LENGTH=%d,SP=1" % (16 * count), "RC=0 A=00006000 L=%08X" % (16 * count))]
+    statements += [(" STORAGE RELEASE,LENGTH=8,ADDR=%s,SP=1" % area, "RC=0") for area in areas]
+    statements += [(" STORAGE RELEASE,SP=1", "RC=0"), (" PEEK X'6000',1", "ABEND S0C4"), (" BACK 1", "KEPT=%d" % (count + 1))]
+    statements += [(" GETMAIN RU,LV=8,SP=1", "RC=0 A=%08X L=00000008" % (0x6000 + 16 * at)) for at in range(count)]
+    # All of the area is taken again; the last page has free storage behind it.
+    statements += [(" GETMAIN RU,LV=8,SP=1", "RC=0 A=%08X L=00000008" % (0x6000 + 16 * count)),
+                   (" BACK %d" % (count + 1), "KEPT=%d" % (count + 1)), (" STORAGE RELEASE,LENGTH=8,ADDR=X'6000',SP=1", "ABEND SA78"),
+                   (" FREEMAIN RU,SP=1", "RC=0"), (" BACK 1", "KEPT=%d" % (count + 1)),
+                   (" FORWARD 1", "KEPT=%d" % (count + 2)), (" PEEK X'6000',1", "ABEND S0C4")]
+    script = [statement.encode() + b"\n" for statement, _ in statements]
+    return Row("whole-release-of-10000-free-areas", script, lines_of((at + 1, answer) for at, (_, answer) in enumerate(statements)), 4,
+               options=["--low", "256", "--history", "65536"])
+
+
 def help_row(name, word):
     """The help names each option, the exit status and an example, and reads nothing."""
     pieces = [b"--low <K>", b"--high <K>", b"--residence <MODE>", b"--history <N>", b"[FILE]", b"Exit status:", b"Example:"]
@@ -162,4 +180,4 @@ def help_row(name, word):
 
 def made_rows():
     help_rows = [help_row("help", "--help"), help_row("short-help", "-h")]
-    return length_rows() + endless_rows() + byte_rows() + [names_row()] + help_rows
+    return length_rows() + endless_rows() + byte_rows() + [names_row(), free_areas_row()] + help_rows
