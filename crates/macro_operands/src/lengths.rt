@@ -9,7 +9,7 @@ use operand_texts::values::{Value, parts_of, value_of};
 use operand_texts::words::{Name, is_name, upper_name};
 
 /// The two values of a pair, a maximum and a minimum. Nothing where a text isn't such a pair.
-pub fn pair_of(text: &[u8]) -> Option<(Value, Value)>
+pub(crate) fn pair_of(text: &[u8]) -> Option<(Value, Value)>
     ensures { option_map (λ p. (written_in p.0, written_in p.1)) result ≡ pair_of text.now }
 {
     let (first, second) = parts_of(text)?;
@@ -27,7 +27,7 @@ fn is_register_0(value: &Value) -> bool
 }
 
 /// The value that a text spells, where it isn't the one in register 0.
-pub fn value_besides_0(text: &[u8]) -> Option<Value>
+pub(crate) fn value_besides_0(text: &[u8]) -> Option<Value>
     ensures { option_map written_in result ≡ value_besides_0 text.now }
 {
     let value = value_of(text)?;
@@ -39,7 +39,7 @@ pub fn value_besides_0(text: &[u8]) -> Option<Value>
 }
 
 /// Whether a text spells the value in register 0.
-pub fn spells_register_0(text: &[u8]) -> bool
+pub(crate) fn spells_register_0(text: &[u8]) -> bool
     ensures { result ≡ spells_register_0 text.now }
 {
     match value_of(text) {
@@ -49,7 +49,7 @@ pub fn spells_register_0(text: &[u8]) -> bool
 }
 
 /// The name that a text is, in upper case. Nothing where it's none.
-pub fn name_of(text: &[u8]) -> Option<Name>
+pub(crate) fn name_of(text: &[u8]) -> Option<Name>
     ensures { option_map (λ n. n.bytes) result ≡ name_of text.now }
 {
     if is_name(text) {

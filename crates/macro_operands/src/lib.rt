@@ -2,8 +2,8 @@
 #![tactic(auto)]
 
 mod faults;
-pub mod lengths;
-pub mod locations;
+mod lengths;
+mod locations;
 pub mod operands;
 pub mod rows;
 pub mod said;

@@ -9,7 +9,7 @@ use operand_texts::words::is_word;
 use vsm_model::{Boundary, Location};
 
 /// The boundary that a text says, in either case. Nothing where it says none.
-pub fn boundary_of(text: &[u8]) -> Option<Boundary>
+pub(crate) fn boundary_of(text: &[u8]) -> Option<Boundary>
     ensures { result ≡ boundary_of text.now }
 {
     if is_word(text, b"DBLWD") {
@@ -49,7 +49,7 @@ fn is_real_location(text: &[u8]) -> bool
 
 /// The location that a text says: a word, or the first of a pair, whose second says where real storage may lie and has
 /// no effect. Nothing where it says none.
-pub fn location_of(text: &[u8]) -> Option<Location>
+pub(crate) fn location_of(text: &[u8]) -> Option<Location>
     ensures { result ≡ location_of text.now }
 {
     match parts_of(text) {
@@ -60,7 +60,7 @@ pub fn location_of(text: &[u8]) -> Option<Location>
 }
 
 /// Whether a text is EXPLICIT, or a pair that begins with it, whatever its second part is.
-pub fn is_explicit(text: &[u8]) -> bool
+pub(crate) fn is_explicit(text: &[u8]) -> bool
     ensures { result ≡ is_explicit text.now }
 {
     match parts_of(text) {

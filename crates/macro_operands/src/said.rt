@@ -85,7 +85,7 @@ fn length_said(text: &[u8]) -> Option<Said<'_>>
 }
 
 /// What a text says as a value of this kind, where it's one that is supported.
-pub fn said_of(kind: Kind, text: &[u8]) -> Option<Said<'_>>
+pub(crate) fn said_of(kind: Kind, text: &[u8]) -> Option<Said<'_>>
     ensures { option_map said_in result ≡ said_of kind text.now }
 {
     match kind {
@@ -132,7 +132,7 @@ fn wrong_fault(kind: Kind) -> FaultKind
 }
 
 /// What is wrong with a text that says nothing of this kind.
-pub fn unsaid_fault(kind: Kind, text: &[u8]) -> FaultKind
+pub(crate) fn unsaid_fault(kind: Kind, text: &[u8]) -> FaultKind
     ensures { result ≡ unsaid_fault kind text.now }
 {
     if is_unsupported(kind, text) {

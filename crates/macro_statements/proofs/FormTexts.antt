@@ -158,13 +158,22 @@ length_fit : (lk ak bk ok ck : Kind) (ls ss ps bs os cs : Option Said)
     (l : Spelled 129 lk ls) (s : Spelled 63 kind.Value ss) (a : Spelled 63 ak ps) (b : Spelled 63 bk bs) (o : Spelled 63 ok os) (c : Spelled 63 ck cs)
     → AllFit (length_row lk ak bk ok ck) [] 0 (form_items (codes "LENGTH") (codes "ADDR") l.text s.text a.text b.text o.text c.text)
 length_fit lk ak bk ok ck ls ss ps bs os cs l s a b o c =
-    let row : Row = length_row lk ak bk ok ck in
-    (with_keyword row _ _ (codes "LENGTH") (entry (keyword (codes "LENGTH")) lk) l.text refl refl refl refl refl l.stands,
-    (with_keyword row _ _ (codes "SP") (entry (keyword (codes "SP")) kind.Value) s.text refl refl refl refl refl s.stands,
-    (with_keyword row _ _ (codes "ADDR") (entry (keyword (codes "ADDR")) ak) a.text refl refl refl refl refl a.stands,
-    (with_keyword row _ _ (codes "BNDRY") (entry (keyword (codes "BNDRY")) bk) b.text refl refl refl refl refl b.stands,
-    (with_keyword row _ _ (codes "LOC") (entry (keyword (codes "LOC")) ok) o.text refl refl refl refl refl o.stands,
-    (with_keyword row _ _ (codes "COND") (entry (keyword (codes "COND")) ck) c.text refl refl refl refl refl c.stands, tt))))))
+    let row : Row = length_row lk ak bk ok ck in (
+      with_keyword row _ _ (codes "LENGTH") (entry (keyword (codes "LENGTH")) lk) l.text refl refl refl refl refl l.stands,
+      (
+        with_keyword row _ _ (codes "SP") (entry (keyword (codes "SP")) kind.Value) s.text refl refl refl refl refl s.stands,
+        (
+          with_keyword row _ _ (codes "ADDR") (entry (keyword (codes "ADDR")) ak) a.text refl refl refl refl refl a.stands,
+          (
+            with_keyword row _ _ (codes "BNDRY") (entry (keyword (codes "BNDRY")) bk) b.text refl refl refl refl refl b.stands,
+            (
+              with_keyword row _ _ (codes "LOC") (entry (keyword (codes "LOC")) ok) o.text refl refl refl refl refl o.stands,
+              (with_keyword row _ _ (codes "COND") (entry (keyword (codes "COND")) ck) c.text refl refl refl refl refl c.stands, tt),
+            ),
+          ),
+        ),
+      ),
+    )
 
 -- those of GETMAIN and FREEMAIN
 abbrev lv_row : Kind → Kind → Kind → Kind → Kind → Row
@@ -174,13 +183,22 @@ lv_fit : (lk ak bk ok ck : Kind) (ls ss ps bs os cs : Option Said)
     (l : Spelled 129 lk ls) (s : Spelled 63 kind.Value ss) (a : Spelled 63 ak ps) (b : Spelled 63 bk bs) (o : Spelled 63 ok os) (c : Spelled 63 ck cs)
     → AllFit (lv_row lk ak bk ok ck) [] 0 (form_items (codes "LV") (codes "A") l.text s.text a.text b.text o.text c.text)
 lv_fit lk ak bk ok ck ls ss ps bs os cs l s a b o c =
-    let row : Row = lv_row lk ak bk ok ck in
-    (with_keyword row _ _ (codes "LV") (entry (keyword (codes "LV")) lk) l.text refl refl refl refl refl l.stands,
-    (with_keyword row _ _ (codes "SP") (entry (keyword (codes "SP")) kind.Value) s.text refl refl refl refl refl s.stands,
-    (with_keyword row _ _ (codes "A") (entry (keyword (codes "A")) ak) a.text refl refl refl refl refl a.stands,
-    (with_keyword row _ _ (codes "BNDRY") (entry (keyword (codes "BNDRY")) bk) b.text refl refl refl refl refl b.stands,
-    (with_keyword row _ _ (codes "LOC") (entry (keyword (codes "LOC")) ok) o.text refl refl refl refl refl o.stands,
-    (with_keyword row _ _ (codes "COND") (entry (keyword (codes "COND")) ck) c.text refl refl refl refl refl c.stands, tt))))))
+    let row : Row = lv_row lk ak bk ok ck in (
+      with_keyword row _ _ (codes "LV") (entry (keyword (codes "LV")) lk) l.text refl refl refl refl refl l.stands,
+      (
+        with_keyword row _ _ (codes "SP") (entry (keyword (codes "SP")) kind.Value) s.text refl refl refl refl refl s.stands,
+        (
+          with_keyword row _ _ (codes "A") (entry (keyword (codes "A")) ak) a.text refl refl refl refl refl a.stands,
+          (
+            with_keyword row _ _ (codes "BNDRY") (entry (keyword (codes "BNDRY")) bk) b.text refl refl refl refl refl b.stands,
+            (
+              with_keyword row _ _ (codes "LOC") (entry (keyword (codes "LOC")) ok) o.text refl refl refl refl refl o.stands,
+              (with_keyword row _ _ (codes "COND") (entry (keyword (codes "COND")) ck) c.text refl refl refl refl refl c.stands, tt),
+            ),
+          ),
+        ),
+      ),
+    )
 
 -- how long they are
 keyed_few : (k : List ℕ) (most all : ℕ) (t : Option (List ℕ)) → length k + most + 1 ≤ all → IfSome t (λ t. length t ≤ most)
@@ -223,10 +241,19 @@ length_form word obtains form lk ak bk ok ck ls ss ps bs os cs l s a b o c =
       stand = stand (length_row lk ak bk ok ck) [] 0 items fit;
       reads = form_reads (form_of word obtains (length_row lk ak bk ok ck) form) items (six_said ls ss ps bs os cs) fit
           (same_slots _ _ _ _ _ _ _ _ _ _ _ _ l.says s.says a.says b.says o.says c.says);
-      few = λ w. (let all = long_first w (keyword (codes "LENGTH")) l.text (other_items (codes "ADDR") s.text a.text b.text o.text c.text) (keyed_few (codes "LENGTH") 129 140 l.text (omega arith) l.few)
-          (keyed_few (codes "SP") 63 70 s.text (omega arith) s.few, (keyed_few (codes "ADDR") 63 70 a.text (omega arith) a.few,
-          (keyed_few (codes "BNDRY") 63 70 b.text (omega arith) b.few, (keyed_few (codes "LOC") 63 70 o.text (omega arith) o.few,
-          (keyed_few (codes "COND") 63 70 c.text (omega arith) c.few, tt))))) in omega (arith, all));
+      few = λ w. (let all = long_first w (keyword (codes "LENGTH")) l.text (other_items (codes "ADDR") s.text a.text b.text o.text c.text) (keyed_few (codes "LENGTH") 129 140 l.text (omega arith) l.few) (
+        keyed_few (codes "SP") 63 70 s.text (omega arith) s.few,
+        (
+          keyed_few (codes "ADDR") 63 70 a.text (omega arith) a.few,
+          (
+            keyed_few (codes "BNDRY") 63 70 b.text (omega arith) b.few,
+            (
+              keyed_few (codes "LOC") 63 70 o.text (omega arith) o.few,
+              (keyed_few (codes "COND") 63 70 c.text (omega arith) c.few, tt),
+            ),
+          ),
+        ),
+      ) in omega (arith, all));
     }
 
 pub lv_form : (word : List ℕ) (obtains : Bool) (form : Form) (lk ak bk ok ck : Kind) (ls ss ps bs os cs : Option Said)
@@ -240,8 +267,17 @@ lv_form word obtains form lk ak bk ok ck ls ss ps bs os cs l s a b o c =
       stand = stand (lv_row lk ak bk ok ck) [] 0 items fit;
       reads = form_reads (form_of word obtains (lv_row lk ak bk ok ck) form) items (six_said ls ss ps bs os cs) fit
           (same_slots _ _ _ _ _ _ _ _ _ _ _ _ l.says s.says a.says b.says o.says c.says);
-      few = λ w. (let all = long_first w (keyword (codes "LV")) l.text (other_items (codes "A") s.text a.text b.text o.text c.text) (keyed_few (codes "LV") 129 140 l.text (omega arith) l.few)
-          (keyed_few (codes "SP") 63 70 s.text (omega arith) s.few, (keyed_few (codes "A") 63 70 a.text (omega arith) a.few,
-          (keyed_few (codes "BNDRY") 63 70 b.text (omega arith) b.few, (keyed_few (codes "LOC") 63 70 o.text (omega arith) o.few,
-          (keyed_few (codes "COND") 63 70 c.text (omega arith) c.few, tt))))) in omega (arith, all));
+      few = λ w. (let all = long_first w (keyword (codes "LV")) l.text (other_items (codes "A") s.text a.text b.text o.text c.text) (keyed_few (codes "LV") 129 140 l.text (omega arith) l.few) (
+        keyed_few (codes "SP") 63 70 s.text (omega arith) s.few,
+        (
+          keyed_few (codes "A") 63 70 a.text (omega arith) a.few,
+          (
+            keyed_few (codes "BNDRY") 63 70 b.text (omega arith) b.few,
+            (
+              keyed_few (codes "LOC") 63 70 o.text (omega arith) o.few,
+              (keyed_few (codes "COND") 63 70 c.text (omega arith) c.few, tt),
+            ),
+          ),
+        ),
+      ) in omega (arith, all));
     }

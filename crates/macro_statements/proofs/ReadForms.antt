@@ -289,14 +289,14 @@ obtains_r word lw aw os asked h =
     obtain_valid (as_length (slot slots 0)) (subpool_by (as_value (slot slots 1))) (as_place (slot slots 2)) _ _ (form_by f.form (as_condition (slot slots 5))) asked
     (all_weaker IsRegisterLength IsLength (as_length (slot slots 0)) (λ v r. r.valid) size) (or_zero (as_value (slot slots 1)) (value_valid s)) (no_places a)
     (λ v e k. (let r = of_some IsRegisterLength (as_length (slot slots 0)) v size e in
-      record {
-        single = r.single;
-        besides = r.besides;
-        nowhere = nowhere a;
-        bounded = no_boundary (text_at (keyword (codes "BNDRY")) os);
-        low = no_location family.R (text_at (keyword (codes "LOC")) os);
-        unconditional = no_condition (text_at (keyword (codes "COND")) os);
-      }))
+    record {
+      single = r.single;
+      besides = r.besides;
+      nowhere = nowhere a;
+      bounded = no_boundary (text_at (keyword (codes "BNDRY")) os);
+      low = no_location family.R (text_at (keyword (codes "LOC")) os);
+      unconditional = no_condition (text_at (keyword (codes "COND")) os);
+    }))
     (no_fault_is (first_fault f.row os) (asked_by f slots) asked h)
 
 pub releases_r : (word lw aw : List ℕ) (bk ok : Kind)

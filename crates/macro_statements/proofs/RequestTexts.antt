@@ -453,8 +453,19 @@ named_valid first c = obtains_e first (codes "LV") (codes "A") kind.Boundary kin
 getmain_forms : AllReadValid getmain_macro.forms
 getmain_forms = (
   obtains_r (codes "R") (codes "LV") (codes "A"),
-  (fixed_valid (codes "RC") true, (fixed_valid (codes "RU") false, (variable_valid (codes "VRC") true, (variable_valid (codes "VRU") false,
-  (named_valid (codes "EC") true, (named_valid (codes "EU") false, tt)))))),
+  (
+    fixed_valid (codes "RC") true,
+    (
+      fixed_valid (codes "RU") false,
+      (
+        variable_valid (codes "VRC") true,
+        (
+          variable_valid (codes "VRU") false,
+          (named_valid (codes "EC") true, (named_valid (codes "EU") false, tt)),
+        ),
+      ),
+    ),
+  ),
 )
 
 fixed_freed : (first : List ℕ) (c : Bool) → ReadsValid (releasing first freemain.fixed_row family.S c)
@@ -466,8 +477,19 @@ named_freed first c = releases_e first (codes "LV") (codes "A") kind.OtherForm k
 freemain_forms : AllReadValid freemain_macro.forms
 freemain_forms = (
   releases_r (codes "R") (codes "LV") (codes "A") kind.OtherForm kind.OtherForm,
-  (fixed_freed (codes "RC") true, (fixed_freed (codes "RU") false, (named_freed (codes "E") false, (named_freed (codes "EC") true,
-  (named_freed (codes "EU") false, tt))))),
+  (
+    fixed_freed (codes "RC") true,
+    (
+      fixed_freed (codes "RU") false,
+      (
+        named_freed (codes "E") false,
+        (
+          named_freed (codes "EC") true,
+          (named_freed (codes "EU") false, tt),
+        ),
+      ),
+    ),
+  ),
 )
 
 asked_valid : (o : Operation) (os : List (List ℕ)) (asked : Asked) → asked_of o os ≡ Ok asked → IsValidAsked asked

@@ -1,6 +1,6 @@
 //! The macros that obtain and release storage, STORAGE, GETMAIN and FREEMAIN: their forms, and what each asks for.
 
-ghost use Rattle.std.specs.Prelude.{◌≡◌, ◌<◌, IsTrue, length, map};
+ghost use Rattle.std.specs.Prelude.{◌≡◌, ◌<◌, IsTrue, None, length, map};
 ghost use Rattle.std.specs.List.{list_all, list_any};
 ghost use Rattle.std.specs.Option.{option_copied, option_map};
 ghost use Rattle.operand_texts.specs.Field.{operands, operands_behind};
@@ -218,6 +218,19 @@ fn obtain_by(form: Form, said: &[Option<Said>]) -> Result<Request, FaultKind>
     )
 }
 
+/// What a form that releases storage asks for with a subpool alone.
+fn whole_with(subpool: Option<Value>, form: Form) -> Result<Request, FaultKind>
+    ensures { seen result ≡ release_with None None (option_map written_in subpool) form }
+{
+    match subpool {
+        Some(subpool) if has_whole(form.family) => {
+            Ok(Request::Act(Statement::Whole { subpool, form }))
+        }
+        Some(_) => Err(FaultKind::Missing),
+        None => Err(FaultKind::Missing),
+    }
+}
+
 /// What a form that releases storage asks for with these operands: an area, or all of a subpool.
 fn release_with(
     length: Option<Value>,
@@ -240,13 +253,7 @@ fn release_with(
         },
         None => match address {
             Some(_) => Err(FaultKind::Missing),
-            None => match subpool {
-                Some(subpool) if has_whole(form.family) => {
-                    Ok(Request::Act(Statement::Whole { subpool, form }))
-                }
-                Some(_) => Err(FaultKind::Missing),
-                None => Err(FaultKind::Missing),
-            },
+            None => whole_with(subpool, form),
         },
     }
 }

@@ -6,24 +6,21 @@ use macro_operands::keyword;
 use macro_operands::rows::Row;
 use vsm_model::Family;
 
+/// The operands of a form: LV and A of these kinds, and SP.
+macro_rules! freemain_row {
+    ($length:ident, $address:ident) => {
+        storage_row!(b"LV", $length, b"A", $address, OtherForm, OtherForm, OtherForm)
+    };
+}
+
 /// FREEMAIN R.
-const REGISTER: Row = storage_row!(
-    b"LV",
-    RegisterLength,
-    b"A",
-    Value,
-    OtherForm,
-    OtherForm,
-    OtherForm
-);
+const REGISTER: Row = freemain_row!(RegisterLength, Value);
 
 /// FREEMAIN RC and RU.
-const FIXED: Row = storage_row!(b"LV", Value, b"A", Value, OtherForm, OtherForm, OtherForm);
+const FIXED: Row = freemain_row!(Value, Value);
 
 /// FREEMAIN E, EC and EU.
-const NAMED: Row = storage_row!(
-    b"LV", Value, b"A", NamedValue, OtherForm, OtherForm, OtherForm
-);
+const NAMED: Row = freemain_row!(Value, NamedValue);
 
 /// FREEMAIN.
 pub const FREEMAIN: StorageMacro = StorageMacro {

@@ -6,27 +6,24 @@ use macro_operands::keyword;
 use macro_operands::rows::Row;
 use vsm_model::Family;
 
+/// The operands of a form: LV, A, BNDRY and LOC of these kinds, and SP.
+macro_rules! getmain_row {
+    ($length:ident, $address:ident, $boundary:ident, $location:ident) => {
+        storage_row!(b"LV", $length, b"A", $address, $boundary, $location, OtherForm)
+    };
+}
+
 /// GETMAIN R.
-const REGISTER: Row = storage_row!(
-    b"LV",
-    RegisterLength,
-    b"A",
-    OtherForm,
-    OtherForm,
-    OtherForm,
-    OtherForm
-);
+const REGISTER: Row = getmain_row!(RegisterLength, OtherForm, OtherForm, OtherForm);
 
 /// GETMAIN RC and RU.
-const FIXED: Row = storage_row!(b"LV", Value, b"A", OtherForm, Boundary, Location, OtherForm);
+const FIXED: Row = getmain_row!(Value, OtherForm, Boundary, Location);
 
 /// GETMAIN VRC and VRU.
-const VARIABLE: Row = storage_row!(b"LV", Pair, b"A", OtherForm, Boundary, Location, OtherForm);
+const VARIABLE: Row = getmain_row!(Pair, OtherForm, Boundary, Location);
 
 /// GETMAIN EC and EU.
-const NAMED: Row = storage_row!(
-    b"LV", Value, b"A", NamedPlace, Boundary, OtherForm, OtherForm
-);
+const NAMED: Row = getmain_row!(Value, NamedPlace, Boundary, OtherForm);
 
 /// GETMAIN.
 pub const GETMAIN: StorageMacro = StorageMacro {
