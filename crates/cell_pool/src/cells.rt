@@ -6,10 +6,10 @@ ghost use Rattle.vsm_elements.specs.Ownership.{Leaves};
 ghost use Rattle.cell_pool.specs.Pools.{at_id, without_first, with_first, extended, retracted, IsExtended};
 ghost use Rattle.cell_pool.specs.Pools.{uses, meets, mark_items};
 
-use crate::lists::{TEXTS, append_cells, insert, item, remove};
-use crate::marks::{insert_marks, mark_items, note};
 use crate::pools::CellPools;
-use crate::settings::{CellId, Extent};
+use cell_extents::lists::{TEXTS, append_cells, insert, item, remove};
+use cell_extents::marks::{insert_marks, mark_items, note};
+use cell_extents::{CellId, Extent};
 use vsm_elements::Elements;
 
 impl CellPools {

@@ -4,10 +4,11 @@ use Rattle.vsm_elements.proofs.ChainLemmas.{not_both}
 use Rattle.list_table.specs.Entries.{Entry}
 use Rattle.list_table.specs.ListTable.{entries, entry_of}
 use Rattle.cell_pool.specs.Pools.{Pool, is_named, meets}
-use Rattle.cell_pool.specs.Kept.{pool_of, pools_of, IsSound, AllSound}
+use Rattle.cell_extents.specs.Items.{pool_of, IsSound}
+use Rattle.cell_pool.specs.Kept.{pools_of, AllSound}
 use Rattle.cell_pool.specs.CellPools.{pool, IsCellPools}
-use Rattle.cell_pool.proofs.ItemLemmas.{length-items}
-use Rattle.cell_pool.proofs.ShapeLemmas.{has_room, met}
+use Rattle.cell_extents.proofs.ItemLemmas.{length-items}
+use Rattle.cell_extents.proofs.ShapeLemmas.{has_room, met}
 use Rattle.cell_pool.proofs.PoolLemmas.{none_more, none_all, before_is, sound_at, found_other, one_named, name_refl, none_found}
 use Rattle.cell_pool.proofs.pools.CellPools.holds.Goals as goal
 

@@ -4,14 +4,16 @@ use Rattle.vsm_elements.specs.Chain.{links}
 use Rattle.list_table.specs.Entries.{Entry}
 use Rattle.list_table.specs.ListTable.{entries, entry_of}
 use Rattle.cell_pool.specs.declared.order.Candidate.{Candidate}
-use Rattle.cell_pool.specs.Names.{spelled, AreBytes}
+use Rattle.cell_extents.specs.Names.{spelled, AreBytes}
 use Rattle.cell_pool.specs.Pools.{Pool, first_with, is_named, is_of, id_in}
-use Rattle.cell_pool.specs.Kept.{pool_of, pools_of, IsSound, AllSound}
+use Rattle.cell_extents.specs.Items.{pool_of, IsSound}
+use Rattle.cell_pool.specs.Kept.{pools_of, AllSound}
 use Rattle.cell_pool.specs.CellPools.{pool, by_id, IsCellPools}
 use Rattle.cell_pool.specs.Order.{is_before, is_between, IsNext}
-use Rattle.cell_pool.proofs.ItemLemmas.{length-items}
+use Rattle.cell_extents.proofs.ItemLemmas.{length-items}
 use Rattle.cell_pool.proofs.ParkLemmas.{pools_distinct}
-use Rattle.cell_pool.proofs.PoolLemmas.{none_more, none_all, before_is, sound_at, pool_name, pool_id, found_other, one_of, one_named, name_refl, eqb_refl}
+use Rattle.cell_pool.proofs.PoolLemmas.{none_more, none_all, before_is, sound_at, found_other, one_of, one_named, name_refl}
+use Rattle.cell_extents.proofs.EntryLemmas.{pool_name, pool_id, eqb_refl}
 use Rattle.cell_pool.proofs.OrderLemmas.{lies_between, nearer, none_lies, low_passes, between_low}
 use Rattle.cell_pool.proofs.pools.CellPools.pool_after.Goals.{then-is_between, else-is_between}
 use Rattle.cell_pool.proofs.pools.CellPools.pool_after.Goals as goal
