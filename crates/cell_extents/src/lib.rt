@@ -1,5 +1,5 @@
-//! What one cell pool has, in a list of elements: its name and header, its extents with a mark for each of their cells, and
-//! its free cells.
+//! What one cell pool has, in a list of elements: its name and header, its extents with a mark for each of their cells,
+//! and its free cells.
 #![tactic(auto)]
 
 pub mod label;

@@ -21,8 +21,8 @@ fn overlaps(size: u32, start: u32, len: u32, extent: Extent) -> bool
         && u64::from(extent.start) < u64::from(start) + u64::from(len)
 }
 
-/// Whether an area of `len` bytes overlaps one of a list's `extents` extents of cells of `size` bytes, each up to the end
-/// of its last doubleword.
+/// Whether an area of `len` bytes overlaps one of a list's `extents` extents of cells of `size` bytes, each up to the
+/// end of its last doubleword.
 pub fn meets(
     list: Chain,
     elements: &Elements,

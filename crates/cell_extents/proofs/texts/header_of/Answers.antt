@@ -1,4 +1,4 @@
-use Rattle.std.proofs.Common.{◌≡◌, sym, ap, arith, length, ◌==◌, ℕ}
+use Rattle.std.proofs.Common.{sym, ap, arith, length, ◌==◌, ℕ}
 use Rattle.list_table.specs.Entries.{word}
 use Rattle.cell_extents.proofs.EntryLemmas.{eqb_false}
 use Rattle.cell_extents.proofs.TextLemmas.{no_header, front_bytes, last_small, header_runs}
