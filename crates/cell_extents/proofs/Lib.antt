@@ -8,3 +8,4 @@ pub mod MarkLemmas
 pub mod FreeLemmas
 pub mod ShapeLemmas
 pub mod SoundLemmas
+pub mod TakenLemmas

@@ -108,6 +108,26 @@ pub fn append_cells(list: &mut Chain, elements: &mut Elements, size: u32, start:
     }
 }
 
+/// Takes the item at place `k` out, and tells its words. Its element becomes a spare one.
+pub fn take_out(list: &mut Chain, elements: &mut Elements, k: u32) -> [u32; 7]
+    requires chain { IsChain elements.old list.old }
+    requires within { k < list.old.count }
+    ensures chain { IsChain elements.new list.new }
+    ensures words { slice_get (items_of (links elements.old list.old)) k ≡ Some result }
+    ensures count { list.new.count + 1 ≡ list.old.count }
+    ensures items { items_of (links elements.new list.new)
+        ≡ take k (items_of (links elements.old list.old)) ++ drop (k + 1) (items_of (links elements.old list.old)) }
+    ensures owned { Leaves elements.old elements.new
+        (owned elements.old list.old) (owned elements.new list.new) }
+    ensures spares { elements.new.spare ≡ elements.old.spare + 1 }
+{
+    let behind = before(*list, elements, k);
+    let id = list.next(elements, k, behind);
+    let words = list.words(elements, k, id);
+    list.remove(elements, k, behind);
+    words
+}
+
 /// Takes `count` items out, from place `k` on. Their elements become spare ones.
 pub fn remove(list: &mut Chain, elements: &mut Elements, k: u32, count: u32)
     requires chain { IsChain elements.old list.old }
