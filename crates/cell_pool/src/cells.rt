@@ -6,10 +6,10 @@ ghost use Rattle.vsm_elements.specs.Ownership.{Leaves};
 ghost use Rattle.cell_pool.specs.Pools.{at_id, without_first, with_first, extended, retracted, IsExtended};
 ghost use Rattle.cell_pool.specs.Pools.{uses, meets, mark_items};
 
-use crate::lists::{TEXTS, append_cells, insert, item, remove};
-use crate::marks::{insert_marks, mark_items, note};
 use crate::pools::CellPools;
-use crate::settings::{CellId, Extent};
+use cell_extents::lists::{TEXTS, append_cells, insert, item, remove, take_out};
+use cell_extents::marks::{insert_marks, mark_items, note};
+use cell_extents::{CellId, Extent};
 use vsm_elements::Elements;
 
 impl CellPools {
@@ -48,10 +48,9 @@ impl CellPools {
     {
         let mut row = self.row(elements, id);
         let front = TEXTS + row.words[3];
-        let cell = item(row.list, elements, front)[0];
         let mut list = row.list;
+        let cell = take_out(&mut list, elements, front)[0];
         note(list, elements, row.words, cell, false);
-        remove(&mut list, elements, front, 1);
         row.list = list;
         self.table.write(elements, row);
         cell

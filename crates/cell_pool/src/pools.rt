@@ -7,14 +7,15 @@ ghost use Rattle.vsm_elements.specs.Ownership.{Leaves, Apart};
 ghost use Rattle.list_table.specs.ListTable.{entries, earlier, later, entry_of, owned_but, list_ids, IsPlace, IsOpen};
 ghost use Rattle.list_table.specs.Entries.{word};
 ghost use Rattle.list_table.specs.Kept.{items_of};
-ghost use Rattle.cell_pool.specs.Pools.{Pool, only, all_but, either_of, is_of, lies_in, id_in};
-ghost use Rattle.cell_pool.specs.Kept.{pool_of, pools_of, extent_of, IsSound};
-ghost use Rattle.cell_pool.specs.Marks.{all_marks};
+ghost use Rattle.cell_pool.specs.Pools.{only, all_but, either_of, is_of, lies_in, id_in};
+ghost use Rattle.cell_extents.specs.Items.{pool_of, extent_of, IsSound};
+ghost use Rattle.cell_pool.specs.Kept.{pools_of};
+ghost use Rattle.cell_extents.specs.Marks.{all_marks};
 
-use crate::label::{form_of, label_of_name};
-use crate::lists::{label, put_texts};
 use crate::parked::ParkedCells;
-use crate::settings::{CellId, Header, Name, Settings};
+use cell_extents::label::{form_of, label_of_name};
+use cell_extents::lists::{label, put_texts};
+use cell_extents::{CellId, Header, Name, Settings};
 use list_table::{ListTable, Row};
 use vsm_elements::{Elements, Id};
 

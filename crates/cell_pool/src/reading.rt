@@ -1,22 +1,15 @@
 //! What is asked of cell pools.
 
-ghost use Rattle.std.specs.Prelude.{◌≡◌, ◌↔◌, ◌∷◌, [], IsSome, IsTrue, IfSome, slice_get};
-ghost use Rattle.cell_pool.specs.Names.{side_in};
+ghost use Rattle.std.specs.Prelude.{◌≡◌, ◌↔◌, IsSome, IsTrue, IfSome, option_map, slice_get};
 ghost use Rattle.cell_pool.specs.Pools.{uses, Meets};
 
-use crate::lists::{TEXTS, item};
-use crate::marks::{is_marked, mark_of};
 use crate::pools::{CellPools, Place};
-use crate::settings::{CellId, Extent, Settings, Side};
-use crate::walks::meets;
+use cell_extents::lists::{TEXTS, item, label};
+use cell_extents::marks::{is_marked, mark_of};
+use cell_extents::texts::{header_of, name_of, side_of};
+use cell_extents::walks::meets;
+use cell_extents::{CellId, Extent, Header, Name, Settings};
 use vsm_elements::Elements;
-
-// The side that a word says.
-fn side_of(word: u32) -> Side
-    ensures { result ≡ side_in (word ∷ []) }
-{
-    if word == 0 { Side::Below } else { Side::Above }
-}
 
 impl CellPools {
     ghost use Rattle.cell_pool.specs.CellPools.{pool, by_id, IsCellPools};
@@ -56,6 +49,27 @@ impl CellPools {
             };
         }
         false
+    }
+
+    /// The pool's name.
+    pub fn name(&self, elements: &Elements, id: CellId) -> Name
+        requires pools { IsCellPools elements.now self.now }
+        requires there { IsSome (by_id elements.now self.now id) }
+        ensures { IfSome (by_id elements.now self.now id) (λ p. result.bytes ≡ p.name) }
+    {
+        let row = self.row(elements, id);
+        name_of(label(row.list, elements))
+    }
+
+    /// The pool's header; `None` where it was built without one.
+    pub fn header(&self, elements: &Elements, id: CellId) -> Option<Header>
+        requires pools { IsCellPools elements.now self.now }
+        requires there { IsSome (by_id elements.now self.now id) }
+        ensures { IfSome (by_id elements.now self.now id) (λ p. option_map (λ h. h.items) result ≡ p.header) }
+    {
+        let row = self.row(elements, id);
+        let form = item(row.list, elements, 4);
+        header_of(item(row.list, elements, 3), form)
     }
 
     /// What the pool was built with.

@@ -4,9 +4,9 @@ use Rattle.std.proofs.lemmas.Option.{slice_get_past}
 use Rattle.vsm_elements.specs.Chain.{links}
 use Rattle.list_table.specs.ListTable.{entry_of}
 use Rattle.cell_pool.specs.Pools.{Pool}
-use Rattle.cell_pool.specs.Kept.{cell_of, pool_of}
-use Rattle.cell_pool.proofs.ItemLemmas.{length-items}
-use Rattle.cell_pool.proofs.ShapeLemmas.{has_room, cell_there, all_length}
+use Rattle.cell_extents.specs.Items.{cell_of, pool_of}
+use Rattle.cell_extents.proofs.ItemLemmas.{length-items}
+use Rattle.cell_extents.proofs.ShapeLemmas.{has_room, cell_there, all_length}
 use Rattle.cell_pool.proofs.pools.CellPools.cell_at.Goals as goal
 
 pub returns-then-i-row : goal.returns-then-i-row

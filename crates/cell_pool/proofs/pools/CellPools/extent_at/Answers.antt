@@ -2,10 +2,10 @@ use Rattle.std.proofs.Common.{◌≡◌, Option, sym, subst, arith, Some, None}
 use Rattle.std.specs.Prelude.{IfSome, slice_get}
 use Rattle.std.proofs.lemmas.Option.{slice_get_past}
 use Rattle.list_table.specs.ListTable.{entry_of}
-use Rattle.cell_pool.specs.declared.settings.Extent.{Extent}
+use Rattle.cell_extents.specs.declared.settings.Extent.{Extent}
 use Rattle.cell_pool.specs.Pools.{Pool}
-use Rattle.cell_pool.specs.Kept.{extent_of, pool_of}
-use Rattle.cell_pool.proofs.ShapeLemmas.{has_room, extent_there, extents_length}
+use Rattle.cell_extents.specs.Items.{extent_of, pool_of}
+use Rattle.cell_extents.proofs.ShapeLemmas.{has_room, extent_there, extents_length}
 use Rattle.cell_pool.proofs.pools.CellPools.extent_at.Goals as goal
 
 pub returns-then-i-row : goal.returns-then-i-row

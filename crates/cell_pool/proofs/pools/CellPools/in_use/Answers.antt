@@ -2,7 +2,7 @@ use Rattle.std.proofs.Common.{◌≡◌, Option, sym, subst, false}
 use Rattle.std.specs.Prelude.{IfSome, not}
 use Rattle.list_table.specs.ListTable.{entry_of}
 use Rattle.cell_pool.specs.Pools.{Pool, uses}
-use Rattle.cell_pool.proofs.SoundLemmas.{told_used, told_none}
+use Rattle.cell_extents.proofs.SoundLemmas.{told_used, told_none}
 use Rattle.cell_pool.proofs.pools.CellPools.in_use.Goals as goal
 
 pub returns-in-Some : goal.returns-in-Some

@@ -1,51 +1,35 @@
 use Rattle.std.proofs.Common.{◌≡◌, ◌∙◌, ap, sym, arith, subst, List, ℕ, Option, Some, None, IsSome, true, length, refl, ◌≤◌, take, ◌+◌}
-use Rattle.std.specs.Prelude.{IfSome, IsUtf8, option_map}
-use Rattle.vsm_elements.specs.Chain.{links}
+use Rattle.std.specs.Prelude.{IfSome, option_map}
 use Rattle.list_table.specs.Entries.{Entry}
 use Rattle.list_table.specs.ListTable.{entries, entry_of}
 use Rattle.cell_pool.specs.declared.order.Candidate.{Candidate}
-use Rattle.cell_pool.specs.Names.{spelled, AreBytes}
+use Rattle.cell_extents.specs.Names.{spelled}
 use Rattle.cell_pool.specs.Pools.{Pool, first_with, is_named, is_of, id_in}
-use Rattle.cell_pool.specs.Kept.{pool_of, pools_of, IsSound, AllSound}
+use Rattle.cell_extents.specs.Items.{pool_of}
+use Rattle.cell_pool.specs.Kept.{pools_of}
 use Rattle.cell_pool.specs.CellPools.{pool, by_id, IsCellPools}
 use Rattle.cell_pool.specs.Order.{is_before, is_between, IsNext}
-use Rattle.cell_pool.proofs.ItemLemmas.{length-items}
-use Rattle.cell_pool.proofs.ParkLemmas.{pools_distinct}
-use Rattle.cell_pool.proofs.PoolLemmas.{none_more, none_all, before_is, sound_at, pool_name, pool_id, found_other, one_of, one_named, name_refl, eqb_refl}
+use Rattle.cell_pool.proofs.PoolLemmas.{none_more, none_all, found_other, one_named, name_refl}
+use Rattle.cell_extents.proofs.EntryLemmas.{pool_name}
 use Rattle.cell_pool.proofs.OrderLemmas.{lies_between, nearer, none_lies, low_passes, between_low}
+use Rattle.cell_pool.proofs.RowLemmas.{stands, has_texts, is_text, has_bytes, own_id}
 use Rattle.cell_pool.proofs.pools.CellPools.pool_after.Goals.{then-is_between, else-is_between}
 use Rattle.cell_pool.proofs.pools.CellPools.pool_after.Goals as goal
 
 pub count-count-requires : goal.count-count-requires
-unfolding IsCellPools
-count-count-requires c = c.requires.table
+count-count-requires c = stands c.args.elements.now c.args.self.now c.requires
 
 pub row-row-requires-clause-table : goal.row-row-requires-clause-table
-unfolding IsCellPools
-row-row-requires-clause-table c = c.requires.table
+row-row-requires-clause-table c = stands c.args.elements.now c.args.self.now c.requires
 
 pub label-requires-clause-within : goal.label-requires-clause-within
-unfolding IsCellPools
-label-requires-clause-within c =
-    let P : List Entry → Type 0 = AllSound in
-    let sound : IsSound (entry_of c.args.elements.now c.row-row.result) = sound_at _ _ _ (subst P c.row-row.ensures.parts c.requires.sound) in
-    omega (arith, sound.room, length-items (links c.args.elements.now c.row-row.result.list), c.row-row.ensures.open.list.count)
+label-requires-clause-within c = has_texts c.args.elements.now c.args.self.now c.requires c.row-row.result _ _ c.row-row.ensures.parts c.row-row.ensures.open
 
 pub name_of-named-requires-clause-text : goal.name_of-named-requires-clause-text
-unfolding IsCellPools
-name_of-named-requires-clause-text c =
-    let P : List Entry → Type 0 = AllSound in
-    let Q : List ℕ → Type 0 = IsUtf8 in
-    let sound : IsSound (entry_of c.args.elements.now c.row-row.result) = sound_at _ _ _ (subst P c.row-row.ensures.parts c.requires.sound) in
-    subst Q (pool_name (entry_of c.args.elements.now c.row-row.result) ∙ sym (ap spelled c.label.ensures)) sound.texts.text
+name_of-named-requires-clause-text c = is_text c.args.elements.now c.args.self.now c.requires c.row-row.result _ _ c.row-row.ensures.parts c.row-row.ensures.open c.label.result c.label.ensures
 
 pub name_of-named-requires-clause-bytes : goal.name_of-named-requires-clause-bytes
-unfolding IsCellPools
-name_of-named-requires-clause-bytes c =
-    let P : List Entry → Type 0 = AllSound in
-    let Q : List ℕ → Type 0 = AreBytes in
-    let sound : IsSound (entry_of c.args.elements.now c.row-row.result) = sound_at _ _ _ (subst P c.row-row.ensures.parts c.requires.sound) in
-    subst Q (pool_name (entry_of c.args.elements.now c.row-row.result) ∙ sym (ap spelled c.label.ensures)) sound.texts.bytes
+name_of-named-requires-clause-bytes c = has_bytes c.args.elements.now c.args.self.now c.requires c.row-row.result _ _ c.row-row.ensures.parts c.row-row.ensures.open c.label.result c.label.ensures
 
 abbrev high_name : Option Candidate → Option (List ℕ)
 high_name o = option_map (λ c. c.name.bytes) o
@@ -54,7 +38,6 @@ abbrev IsFound : List Pool → List ℕ → Option Candidate → Type 0
 IsFound ps low o = IfSome o (λ c. (p : Pool) × (id_in c.id ps ≡ Some p) × (p.name ≡ c.name.bytes) × (is_before low c.name.bytes ≡ true))
 
 pub loop-place-preserved : goal.loop-place-preserved
-unfolding IsCellPools
 loop-place-preserved c =
     let es : List Entry = entries c.args.elements.now c.args.self.now.table in
     let e : Entry = entry_of c.args.elements.now c.row-row.result in
@@ -68,8 +51,7 @@ loop-place-preserved c =
     elim c.if-is_between.branch [
       | then-is_between w ↦
           (let hit : is_between low high p.name ≡ true = sym told ∙ w.if-is_between.true in
-          let seen : first_with (lies_between low high) (pools_of es) ≡ Some p = before_is (lies_between low high) es c.loop-place.place.index e c.row-row.ensures.entry c.loop-place.invariant.earlier hit in
-          let own : id_in c.row-row.result.id (pools_of es) ≡ Some p = ap (λ (i : ℕ). id_in i (pools_of es)) (sym (pool_id e)) ∙ found_other (lies_between low high) (is_of p.id) (pools_of es) p seen (one_of p.id (pools_of es) (pools_distinct c.args.elements.now c.args.self.now c.requires)) (eqb_refl p.id) in
+          let own : id_in c.row-row.result.id (pools_of es) ≡ Some p = own_id c.args.elements.now c.args.self.now c.requires e (lies_between low high) c.loop-place.place.index c.row-row.ensures.entry c.loop-place.invariant.earlier hit in
           let M : Option (List ℕ) → Type 0 = λ o. first_with (lies_between low o) (pools_of (take (c.loop-place.place.index + 1) es)) ≡ None in
           record {
             place = c.row-row.ensures.next;

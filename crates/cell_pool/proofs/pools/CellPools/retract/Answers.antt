@@ -5,16 +5,16 @@ use Rattle.vsm_elements.proofs.ChainFrame.{Leaves-trans}
 use Rattle.list_table.specs.Entries.{word}
 use Rattle.list_table.specs.Kept.{items_of}
 use Rattle.list_table.specs.ListTable.{entry_of}
-use Rattle.cell_pool.specs.declared.settings.Extent.{Extent}
-use Rattle.cell_pool.specs.Marks.{all_marks}
-use Rattle.cell_pool.proofs.MarkLemmas.{all_more}
+use Rattle.cell_extents.specs.declared.settings.Extent.{Extent}
+use Rattle.cell_extents.specs.Marks.{all_marks}
+use Rattle.cell_extents.proofs.MarkLemmas.{all_more}
 use Rattle.cell_pool.specs.Pools.{Pool, IsExtended, extended, retracted, mark_items}
-use Rattle.cell_pool.specs.Kept.{pool_of, extent_of}
+use Rattle.cell_extents.specs.Items.{pool_of, extent_of}
 use Rattle.cell_pool.specs.CellPools.{IsCellPools}
-use Rattle.cell_pool.proofs.ItemLemmas.{length-items}
+use Rattle.cell_extents.proofs.ItemLemmas.{length-items}
 use Rattle.cell_pool.proofs.LawLemmas.{some_extent, last_cells, last_is, retracts_back}
-use Rattle.cell_pool.proofs.ShapeLemmas.{has_room, all_length, extents_length, extent_there}
-use Rattle.cell_pool.proofs.SoundLemmas.{cut_all, cut_sound}
+use Rattle.cell_extents.proofs.ShapeLemmas.{has_room, all_length, extents_length, extent_there}
+use Rattle.cell_extents.proofs.SoundLemmas.{cut_all, cut_sound}
 use Rattle.cell_pool.proofs.CallLemmas.{ready, done_kept, done_names, done_ids, done_owned}
 use Rattle.cell_pool.proofs.pools.CellPools.retract.Goals as goal
 

@@ -1,0 +1,11 @@
+pub mod EntryLemmas
+pub mod NameLemmas
+pub mod TextLemmas
+pub mod ItemLemmas
+pub mod WalkLemmas
+pub mod BitLemmas
+pub mod MarkLemmas
+pub mod FreeLemmas
+pub mod ShapeLemmas
+pub mod SoundLemmas
+pub mod TakenLemmas

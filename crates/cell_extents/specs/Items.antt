@@ -1,0 +1,78 @@
+-- How a cell pool stands in a row and its list.
+--
+-- A row's words are the subpool, the cell size, the primary count, how many items the extents and the marks take, and
+-- how many extents there are. Its list has three items of the name, one of the header and one of its end with the side
+-- and the secondary count, then the extents, then the marks, then the free cells.
+use Rattle.std.specs.Prelude.{◌≡◌, ℕ, zero, suc, ◌+◌, ◌≤◌, ◌<◌, List, [], ◌∷◌, length, take, drop, map, slice_index_or}
+use Rattle.list_table.specs.Entries.{Entry, word}
+use Rattle.cell_extents.specs.declared.label.Label.{Label}
+use Rattle.cell_extents.specs.declared.settings.Settings.{Settings}
+use Rattle.cell_extents.specs.declared.settings.Extent.{Extent}
+use Rattle.cell_extents.specs.Names.{packed, spelled, side_in, header_in, AreTexts}
+use Rattle.cell_extents.specs.Pool.{Pool, cells_from}
+use Rattle.cell_extents.specs.Marks.{all_marks, IsMarked}
+
+abbrev pub item : List (List ℕ) → ℕ → List ℕ
+item items k = slice_index_or items k []
+
+abbrev pub extent_of : List ℕ → Extent
+extent_of ws = record { start = word ws 0; count = word ws 1 }
+
+abbrev pub cell_of : List ℕ → ℕ
+cell_of ws = word ws 0
+
+abbrev pub label_of : List (List ℕ) → Label
+label_of items = record { first = item items 0; second = item items 1; third = item items 2 }
+
+-- what a row's words and the form say
+abbrev pub settings_in : List ℕ → List ℕ → Settings
+settings_in ws form = record {
+  subpool = word ws 0;
+  size = word ws 1;
+  primary = word ws 2;
+  secondary = word form 3;
+  side = side_in form;
+}
+
+-- the pool of an id, a row's words, a name's words, a header and a form, extents and cells
+abbrev pub made_of : ℕ → List ℕ → Label → List ℕ → List ℕ → List Extent → List ℕ → Pool
+made_of id ws label front form extents cells = record {
+  id = id;
+  name = spelled label;
+  settings = settings_in ws form;
+  header = header_in front form;
+  extents = extents;
+  cells = cells;
+}
+
+-- the pool in a row; closed
+unfoldable pub pool_of : Entry → Pool
+pool_of e =
+    made_of e.id e.words (label_of e.items) (item e.items 3) (item e.items 4)
+    (map extent_of (take (word e.words 4) (drop 5 e.items))) (map cell_of (drop (word e.words 3) (drop 5 e.items)))
+
+-- the row has its texts, its extents and their marks, cells of some size, and just the words of its name, which is text
+pub record IsSound (e : Entry) : Type 0 where
+  pub room : 5 + word e.words 3 ≤ length e.items
+  pub long : word e.words 4 + all_marks (pool_of e).extents ≡ word e.words 3
+  pub size : 0 < word e.words 1
+  pub named : label_of e.items ≡ packed (pool_of e).name
+  pub texts : AreTexts (pool_of e).name (pool_of e).header
+  pub marked : IsMarked (pool_of e) (drop (5 + word e.words 4) e.items)
+
+-- the item of marks that are all set
+abbrev pub set_item : List ℕ
+set_item = 0xFFFF_FFFF ∷ 0xFFFF_FFFF ∷ 0xFFFF_FFFF ∷ 0xFFFF_FFFF ∷ 0xFFFF_FFFF ∷ 0xFFFF_FFFF ∷ 0xFFFF_FFFF ∷ []
+
+-- and so many of these
+abbrev pub set_items : ℕ → List (List ℕ)
+set_items zero = []
+set_items (suc n) = set_item ∷ set_items n
+
+-- the item of a free cell
+abbrev pub cell_item : ℕ → List ℕ
+cell_item address = address ∷ 0 ∷ 0 ∷ 0 ∷ 0 ∷ 0 ∷ 0 ∷ []
+
+-- those of an extent's cells
+abbrev pub cell_items : ℕ → ℕ → ℕ → List (List ℕ)
+cell_items size start count = map cell_item (cells_from size start count)

@@ -1,0 +1,4 @@
+pub mod Names
+pub mod Pool
+pub mod Marks
+pub mod Items
