@@ -130,11 +130,9 @@ fn refuses_lengths(rt: HostRuntime) {
 }
 
 #[test]
-fn reads_getmain(rt: HostRuntime) {
+fn reads_getmain_of_one_length(rt: HostRuntime) {
     let (low, caller) = (Location::Low, Location::Caller);
-    let place = Some(Place::Named(name("P")));
-    let pair = between(Value::Number(8), Value::Register(4));
-    let lines: [(&[u8], Request); 10] = [
+    let lines: [(&[u8], Request); 5] = [
         (
             b" GETMAIN R,LV=8",
             obtain(eight(), 0, None, low, form(Family::R, false)),
@@ -167,6 +165,18 @@ fn reads_getmain(rt: HostRuntime) {
                 form(Family::S, false),
             ),
         ),
+    ];
+    for (line, want) in lines {
+        feed(&rt, line, Ok(want));
+    }
+}
+
+#[test]
+fn reads_getmain_of_bounds_and_with_a_place(rt: HostRuntime) {
+    let (low, caller) = (Location::Low, Location::Caller);
+    let place = Some(Place::Named(name("P")));
+    let pair = between(Value::Number(8), Value::Register(4));
+    let lines: [(&[u8], Request); 5] = [
         (
             b" GETMAIN VRC,LV=(8,(4))",
             obtain(pair, 0, None, caller, form(Family::S, true)),

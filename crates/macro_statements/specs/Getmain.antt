@@ -25,8 +25,8 @@ variable_row = getmain_row kind.Pair kind.OtherForm kind.Boundary kind.Location
 abbrev pub named_row : Row
 named_row = getmain_row kind.Value kind.NamedPlace kind.Boundary kind.OtherForm
 
--- A form whose word ends in C is conditional. The forms that obtain several areas, or one between two lengths by a list,
--- are left out.
+-- A form whose word ends in C is conditional. The forms that obtain several areas, or one between two lengths by a
+-- list, are left out.
 abbrev pub getmain_macro : StorageMacro
 getmain_macro = record {
   forms = obtaining (codes "R") register_row family.R false ∷ obtaining (codes "RC") fixed_row family.S true

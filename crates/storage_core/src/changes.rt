@@ -1,13 +1,12 @@
 //! Changes of a storage: made of a plan, exchanged with it, and discarded.
-ghost use Rattle.std.specs.Prelude.{◌≡◌, ◌+◌, ◌*◌, ◌<◌, ◌≤◌, length, IsOk, OnErr, IfOk};
-ghost use Rattle.raw_region.specs.Pages.{HaveTables};
+ghost use Rattle.std.specs.Prelude.{◌≡◌, ◌+◌, ◌*◌, ◌<◌, length, IsOk, OnErr, IfOk};
 ghost use Rattle.storage_changes.specs.Changes.{Fit, overlay};
 ghost use Rattle.storage_changes.specs.Meaning.{IsSound};
 ghost use Rattle.storage_plans.specs.Plans.{change_in};
 ghost use Rattle.storage_swap.specs.Reserve.{Reserves};
 ghost use Rattle.storage_swap.specs.Swap.{means, Ready, Swaps, Discards};
 ghost use Rattle.storage_core.specs.Meaning.{state_in_place, settings_of};
-ghost use Rattle.storage_core.specs.Planned.{extents_leaving, CanBeReserved};
+ghost use Rattle.storage_core.specs.Planned.{extents_leaving, CanBeReserved, IsSpareFor};
 ghost use Rattle.storage_core.specs.Stays.{Stays};
 
 use crate::storage::Storage;
@@ -22,8 +21,8 @@ impl Storage {
     /// The change has at most 32 elements, one for a subpool that it has parked among them, and 8 for each extent that
     /// leaves with a subpool that is emptied; and just as many frames as pages come to be assigned.
     ///
-    /// `AllocError` where memory is refused, which can be only where fewer elements or frames are spare or a table isn't
-    /// there. What was made before that stays, as spare elements and frames.
+    /// `AllocError` where memory is refused, which can be only where fewer elements or frames are spare, or a table
+    /// isn't there. What was made before that stays, as spare elements and frames.
     pub fn reserve(&mut self, plan: Plan) -> Result<Change, AllocError>
         requires { CanBeReserved (state_in_place self.old) plan }
         ensures ok { IfOk result (λ change. Reserves self.old.parts
@@ -32,10 +31,8 @@ impl Storage {
         ensures few { IfOk result (λ change. change.records.count + change.blanks.count
             < 32 + 8 * extents_leaving (state_in_place self.old).subpools plan.emptied) }
         ensures err { OnErr result (Stays self.old.parts self.new.parts) }
-        ensures needless {
-            32 + 8 * extents_leaving (state_in_place self.old).subpools plan.emptied ≤ self.old.parts.elements.spare
-            → plan.fresh.len ≤ self.old.parts.region.spare
-            → HaveTables self.old.parts.region plan.fresh.start plan.fresh.len → IsOk result }
+        ensures needless { IsSpareFor self.old.parts
+            (extents_leaving (state_in_place self.old).subpools plan.emptied) plan.fresh → IsOk result }
         ensures settings { settings_of self.new ≡ settings_of self.old }
     {
         Change::reserve(

@@ -173,8 +173,8 @@ fn make_free_areas(storage: &mut Storage) -> Result<(), Fail> {
     Ok(())
 }
 
-// A record for the queues, one for the extent and one for register 15; two blank elements; and the parked subpool. Elements
-// are made 128 at a time.
+// A record for the queues, one for the extent and one for register 15; two blank elements; and the parked subpool.
+// Elements are made 128 at a time.
 #[test]
 fn whole_release_takes_elements_for_extents_alone(rt: HostRuntime) -> Result<(), Fail> {
     let settings = Settings {
@@ -195,6 +195,12 @@ fn whole_release_takes_elements_for_extents_alone(rt: HostRuntime) -> Result<(),
     // The free areas are those that there were.
     let again = small_area(Location::Low);
     let reply = storage.plan(again, false)?.reply;
-    assert_eq!(rt; reply, Reply::Obtained { address: 0x2E000, length: 24 });
+    assert_eq!(rt;
+        reply,
+        Reply::Obtained {
+            address: 0x2E000,
+            length: 24
+        }
+    );
     Ok(())
 }
