@@ -1,3 +1,4 @@
 pub mod ReadSlots
 pub mod WrittenOperands
 pub mod PairTexts
+pub mod ReadValues

@@ -8,12 +8,13 @@ use Rattle.std.proofs.lemmas.Bool.Decides.{nat_tests}
 use Rattle.std.proofs.lemmas.List.{length_push, length-append}
 use Rattle.operand_texts.specs.Field.{outside, is_balanced, operands_from}
 use Rattle.operand_texts.specs.Words.{is_name, is_name_byte}
-use Rattle.operand_texts.specs.Written.{Written, named, register, IsValue}
-use Rattle.operand_texts.specs.Values.{is_quoted, number_of, register_number, without_r, is_enclosed, enclosed, register_of, value_of, or_other, two_of, parts_of}
+use Rattle.operand_texts.specs.Written.{Written, IsValue}
+use Rattle.operand_texts.specs.Values.{is_quoted, number_of, register_number, without_r, is_enclosed, enclosed, register_of, value_of, two_of, parts_of}
 use Rattle.operand_texts.proofs.OperandTexts.{Goes, IsOperand, goes_append, joined, balanced_joined, split_joined}
 use Rattle.operand_texts.proofs.ValueTexts.{ValueText, value_text_of, goes_enclosed}
 use Rattle.operand_texts.proofs.SpelledBytes.{last_is, front_is, all_both}
 use Rattle.macro_operands.specs.Lengths.{both_of, pair_in, pair_of}
+use Rattle.macro_operands.specs.Said.{name, register, other_said, value_said}
 
 -- what begins with a parenthesis is neither number nor name
 and_none : (a c d : Bool) → (a && false && c && d) ≡ false
@@ -83,12 +84,12 @@ closed t =
 inside : (t : List ℕ) → enclosed (40 ∷ (t ++ 41 ∷ [])) ≡ t
 inside t = let len = length_push t 41 in front_is t 41 _ (omega (arith, len))
 
-no_value : (xs ys : List ℕ) → 1 ≤ length xs → 1 ≤ length ys → value_of (40 ∷ ((xs ++ 44 ∷ ys) ++ 41 ∷ [])) ≡ None
+no_value : (xs ys : List ℕ) → 1 ≤ length xs → 1 ≤ length ys → value_said (40 ∷ ((xs ++ 44 ∷ ys) ++ 41 ∷ [])) ≡ None
 no_value xs ys h k =
     let t : List ℕ = xs ++ 44 ∷ ys in
     let text : List ℕ = 40 ∷ (t ++ 41 ∷ []) in
-    ap (λ n. or_other n text) (no_number (t ++ 41 ∷ []))
-    ∙ ap (λ b. if b then Some (named (map to_ascii_uppercase text)) else option_map register (register_of text)) (no_name (t ++ 41 ∷ []))
+    ap (λ n. other_said n text) (no_number (t ++ 41 ∷ []))
+    ∙ ap (λ b. if b then Some (name text) else option_map register (register_of text)) (no_name (t ++ 41 ∷ []))
     ∙ ap (λ b. option_map register (if b then register_number (without_r (enclosed text)) else None)) (closed t)
     ∙ ap (λ x. option_map register (register_number (without_r x))) (inside t)
     ∙ ap (λ r. option_map register r) (comma_inside xs ys h k)
@@ -100,7 +101,7 @@ parts a b h k =
 pub record PairText (maximum minimum : Written) : Type 0 where
   pub text : List ℕ
   pub spells : pair_of text ≡ Some (maximum, minimum)
-  pub other : value_of text ≡ None
+  pub other : value_said text ≡ None
   pub stands : IsOperand text
   pub few : length text ≤ 129
 

@@ -32,14 +32,6 @@ is_named (named name) = true
 is_named (number n) = false
 is_named (register n) = false
 
-abbrev pub unless_register_0 : Option Written → Option Written
-unless_register_0 None = None
-unless_register_0 (Some v) = if is_register_0 v then None else Some v
-
--- A value that isn't the one in register 0.
-abbrev pub value_besides_0 : List ℕ → Option Written
-value_besides_0 text = unless_register_0 (value_of text)
-
 abbrev pub holds_register_0 : Option Written → Bool
 holds_register_0 None = false
 holds_register_0 (Some v) = is_register_0 v

@@ -1,12 +1,11 @@
 -- What an operand says, by the kind of its value.
-use Rattle.std.specs.Prelude.{ℕ, Bool, true, false, ◌||◌, ◌==◌, if◌then◌else◌, List, length, Option, Some, None}
-use Rattle.std.specs.Prelude.{is_some, codes}
+use Rattle.std.specs.Prelude.{ℕ, Bool, true, false, ◌&&◌, ◌||◌, ◌==◌, nat_le, if◌then◌else◌, List, length}
+use Rattle.std.specs.Prelude.{Option, Some, None, is_some, codes}
 use Rattle.std.specs.Option.{option_map}
-use Rattle.operand_texts.specs.Words.{is_word}
-use Rattle.operand_texts.specs.Written.{Written, named, Target, in_name}
-use Rattle.operand_texts.specs.Values.{number_of, value_of, target_of, content_of, size_of}
+use Rattle.operand_texts.specs.Words.{is_name, is_word}
+use Rattle.operand_texts.specs.Values.{number_of, register_of, content_of, size_of}
 use Rattle.macro_operands.specs.Locations.{boundary_of, location_of, is_explicit}
-use Rattle.macro_operands.specs.Lengths.{pair_of, value_besides_0, spells_register_0, name_of}
+use Rattle.macro_operands.specs.Lengths.{pair_of, spells_register_0}
 use Rattle.macro_operands.specs.declared.faults.FaultKind.{FaultKind}
 use Rattle.macro_operands.specs.declared.faults.FaultKind.TheVariants as fault
 use Rattle.macro_operands.specs.declared.rows.Kind.{Kind}
@@ -14,11 +13,12 @@ use Rattle.macro_operands.specs.declared.rows.Kind.TheVariants as kind
 use Rattle.vsm_model.specs.declared.services.Boundary.{Boundary}
 use Rattle.vsm_model.specs.declared.services.Location.{Location}
 
--- Of a pair, and of what is stored, that is the text that spells it.
+-- Of a name, of a pair, and of what is stored, that is the text that spells it.
 pub data Said : Type 0 where
-  value : Written → Said
+  number : ℕ → Said
+  register : ℕ → Said
+  name : List ℕ → Said
   pair : List ℕ → Said
-  place : Target → Said
   condition : Bool → Said
   content : List ℕ → Said
   size : ℕ → Said
@@ -41,23 +41,52 @@ condition_word_of text =
     else if is_word text (codes "UNCOND") || is_word text (codes "U") then Some false
     else None
 
+-- A name.
+abbrev pub name_said : List ℕ → Option Said
+name_said text = if is_name text then Some (name text) else None
+
+-- A number, or else a name or a register.
+abbrev pub other_said : Option ℕ → List ℕ → Option Said
+other_said (Some n) text = Some (number n)
+other_said None text = if is_name text then Some (name text) else option_map register (register_of text)
+
+-- A value.
+abbrev pub value_said : List ℕ → Option Said
+value_said text = other_said (number_of text) text
+
+-- A register where something may be stored goes from 1 to 12.
+abbrev pub place_register_said : Option ℕ → Option Said
+place_register_said None = None
+place_register_said (Some n) = if nat_le 1 n && nat_le n 12 then Some (register n) else None
+
+-- A place.
+abbrev pub place_said : List ℕ → Option Said
+place_said text = if is_name text then Some (name text) else place_register_said (register_of text)
+
+-- A pair.
 abbrev pub pair_said : List ℕ → Option Said
 pair_said text = if is_some (pair_of text) then Some (pair text) else None
 
 -- A value, or else a pair.
-abbrev pub value_or_pair : Option Written → List ℕ → Option Said
+abbrev pub value_or_pair : Option Said → List ℕ → Option Said
 value_or_pair None text = pair_said text
-value_or_pair (Some v) text = Some (value v)
+value_or_pair (Some said) text = Some said
+
+-- A value that isn't the one in register 0.
+abbrev pub unless_register_0 : Option Said → Option Said
+unless_register_0 None = None
+unless_register_0 (Some (register n)) = if n == 0 then None else Some (register n)
+unless_register_0 (Some said) = Some said
 
 -- What a text says as a value of this kind, where it's one that is supported.
 abbrev pub said_of : Kind → List ℕ → Option Said
-said_of kind.Value text = option_map value (value_of text)
-said_of kind.Length text = value_or_pair (value_of text) text
+said_of kind.Value text = value_said text
+said_of kind.Length text = value_or_pair (value_said text) text
 said_of kind.Pair text = pair_said text
-said_of kind.RegisterLength text = option_map value (value_besides_0 text)
-said_of kind.NamedValue text = option_map (λ n. value (named n)) (name_of text)
-said_of kind.Place text = option_map place (target_of text)
-said_of kind.NamedPlace text = option_map (λ n. place (in_name n)) (name_of text)
+said_of kind.RegisterLength text = unless_register_0 (value_said text)
+said_of kind.NamedValue text = name_said text
+said_of kind.Place text = place_said text
+said_of kind.NamedPlace text = name_said text
 said_of kind.Condition text = option_map condition (condition_of text)
 said_of kind.ConditionWord text = option_map condition (condition_word_of text)
 said_of kind.Content text = if is_some (content_of text) then Some (content text) else None

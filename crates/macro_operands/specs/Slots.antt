@@ -3,9 +3,9 @@ use Rattle.std.specs.Prelude.{ℕ, ◌+◌, Bool, false, if◌then◌else◌, Li
 use Rattle.std.specs.Prelude.{Option, Some, None, is_some, Result, Ok, Err, option_and_then, true, not, ◌&&◌}
 use Rattle.std.specs.Option.{option_map}
 use Rattle.std.specs.Char.{to_ascii_uppercase}
-use Rattle.operand_texts.specs.Written.{Written, Target, Stored, written_in, target_in}
+use Rattle.operand_texts.specs.Written.{Written, number, named, register, Target, in_name, in_register, Stored}
 use Rattle.operand_texts.specs.Values.{content_of}
-use Rattle.macro_operands.specs.Lengths.{pair_of}
+use Rattle.macro_operands.specs.Lengths.{pair_of, name_of}
 use Rattle.macro_operands.specs.Rows as rows
 use Rattle.macro_operands.specs.Rows.{position, keyword, same_key, is_among}
 use Rattle.macro_operands.specs.Operands.{unknown_fault, text_at}
@@ -46,9 +46,10 @@ operand_in o = record { key = upper_key o.key; text = o.text.now }
 
 -- What the code's word for it says.
 abbrev pub said_in : Said → says.Said
-said_in (code_said.Value v) = says.value (written_in v)
+said_in (code_said.Number n) = says.number n
+said_in (code_said.Register n) = says.register n
+said_in (code_said.Named text) = says.name text.now
 said_in (code_said.Pair text) = says.pair text.now
-said_in (code_said.Place p) = says.place (target_in p)
 said_in (code_said.Condition b) = says.condition b
 said_in (code_said.Content text) = says.content text.now
 said_in (code_said.Size n) = says.size n
@@ -128,7 +129,9 @@ answered (Some wrong) slots = Err wrong
 
 -- What was said, where it's of this kind.
 abbrev pub as_value : Option says.Said → Option Written
-as_value (Some (says.value v)) = Some v
+as_value (Some (says.number n)) = Some (number n)
+as_value (Some (says.register n)) = Some (register n)
+as_value (Some (says.name text)) = option_map named (name_of text)
 as_value _ = None
 
 abbrev pub as_pair : Option says.Said → Option (Written × Written)
@@ -136,7 +139,8 @@ as_pair (Some (says.pair text)) = pair_of text
 as_pair _ = None
 
 abbrev pub as_place : Option says.Said → Option Target
-as_place (Some (says.place p)) = Some p
+as_place (Some (says.register n)) = Some (in_register n)
+as_place (Some (says.name text)) = option_map in_name (name_of text)
 as_place _ = None
 
 abbrev pub as_condition : Option says.Said → Bool

@@ -1,9 +1,9 @@
-//! Lengths and names as some operands have them: pairs of values, values besides register 0, and names alone.
+//! Lengths and names as some operands have them: pairs of values, the value in register 0, and names alone.
 
 ghost use Rattle.std.specs.Prelude.{◌≡◌};
 ghost use Rattle.std.specs.Option.{option_map};
 ghost use Rattle.operand_texts.specs.Written.{written_in};
-ghost use Rattle.macro_operands.specs.Lengths.{pair_of, is_register_0, value_besides_0, spells_register_0, name_of};
+ghost use Rattle.macro_operands.specs.Lengths.{pair_of, is_register_0, spells_register_0, name_of};
 
 use operand_texts::values::{Value, parts_of, value_of};
 use operand_texts::words::{Name, is_name, upper_name};
@@ -23,18 +23,6 @@ fn is_register_0(value: &Value) -> bool
     match *value {
         Value::Register(register) => register == 0,
         _ => false,
-    }
-}
-
-/// The value that a text spells, where it isn't the one in register 0.
-pub(crate) fn value_besides_0(text: &[u8]) -> Option<Value>
-    ensures { option_map written_in result ≡ value_besides_0 text.now }
-{
-    let value = value_of(text)?;
-    if is_register_0(&value) {
-        None
-    } else {
-        Some(value)
     }
 }
 

@@ -3,28 +3,30 @@
 ghost use Rattle.std.specs.Prelude.{◌≡◌, ◌<◌, length};
 ghost use Rattle.std.specs.Option.{option_map};
 ghost use Rattle.operand_texts.specs.Written.{written_in, target_in, stored_in};
-ghost use Rattle.operand_texts.specs.Values.{value_of};
-ghost use Rattle.macro_operands.specs.Said.{condition_of, condition_word_of, pair_said, value_or_pair, said_of};
+ghost use Rattle.macro_operands.specs.Said.{condition_of, condition_word_of, name_said, value_said, place_said};
+ghost use Rattle.macro_operands.specs.Said.{pair_said, value_or_pair, unless_register_0, said_of};
 ghost use Rattle.macro_operands.specs.Said.{is_unsupported, wrong_fault, unsaid_fault};
 ghost use Rattle.macro_operands.specs.Slots.{said_in, slots_in, slot, as_value, as_pair, as_place, as_condition};
 ghost use Rattle.macro_operands.specs.Slots.{as_content, as_size, as_count, as_boundary, as_location};
 
 use crate::faults::FaultKind;
-use crate::lengths::{name_of, pair_of, spells_register_0, value_besides_0};
+use crate::lengths::{name_of, pair_of, spells_register_0};
 use crate::locations::{boundary_of, is_explicit, location_of};
 use crate::rows::Kind;
 use operand_texts::contents::{Content, content_of, is_content, size_of};
 use operand_texts::numbers::number_of;
-use operand_texts::values::{Place, Value, place_of, value_of};
-use operand_texts::words::is_word;
+use operand_texts::values::{Place, Value, register_of};
+use operand_texts::words::{is_name, is_word};
 use vsm_model::{Boundary, Location};
 
-/// What an operand says, by the kind of its value. A pair, and what is stored, stays in its text, which is lent.
+/// What an operand says, by the kind of its value. A name, a pair, and what is stored stay in their texts, which
+/// are lent.
 #[derive(Clone, Copy)]
 pub enum Said<'a> {
-    Value(Value),
+    Number(u32),
+    Register(u8),
+    Named(&'a [u8]),
     Pair(&'a [u8]),
-    Place(Place),
     Condition(bool),
     Content(&'a [u8]),
     Size(u16),
@@ -63,6 +65,45 @@ fn condition_word_of(text: &[u8]) -> Option<bool>
     }
 }
 
+/// What a text says as a name.
+fn name_said(text: &[u8]) -> Option<Said<'_>>
+    ensures { option_map said_in result ≡ name_said text.now }
+{
+    if is_name(text) {
+        Some(Said::Named(text))
+    } else {
+        None
+    }
+}
+
+/// What a text says as a value: a number, or else a name or a register.
+fn value_said(text: &[u8]) -> Option<Said<'_>>
+    ensures { option_map said_in result ≡ value_said text.now }
+{
+    if let Some(number) = number_of(text) {
+        return Some(Said::Number(number));
+    }
+    if is_name(text) {
+        return Some(Said::Named(text));
+    }
+    Some(Said::Register(register_of(text)?))
+}
+
+/// What a text says as a place: a name, or a register from 1 to 12.
+fn place_said(text: &[u8]) -> Option<Said<'_>>
+    ensures { option_map said_in result ≡ place_said text.now }
+{
+    if is_name(text) {
+        return Some(Said::Named(text));
+    }
+    let register = register_of(text)?;
+    if register >= 1 && register <= 12 {
+        Some(Said::Register(register))
+    } else {
+        None
+    }
+}
+
 /// What a text says as a pair.
 fn pair_said(text: &[u8]) -> Option<Said<'_>>
     ensures { option_map said_in result ≡ pair_said text.now }
@@ -76,11 +117,21 @@ fn pair_said(text: &[u8]) -> Option<Said<'_>>
 
 /// What a text says as a value, or else as a pair.
 fn length_said(text: &[u8]) -> Option<Said<'_>>
-    ensures { option_map said_in result ≡ value_or_pair (value_of text.now) text.now }
+    ensures { option_map said_in result ≡ value_or_pair (value_said text.now) text.now }
 {
-    match value_of(text) {
-        Some(value) => Some(Said::Value(value)),
+    match value_said(text) {
+        Some(said) => Some(said),
         None => pair_said(text),
+    }
+}
+
+/// What a text says as a value that isn't the one in register 0.
+fn register_length_said(text: &[u8]) -> Option<Said<'_>>
+    ensures { option_map said_in result ≡ unless_register_0 (value_said text.now) }
+{
+    match value_said(text)? {
+        Said::Register(0) => None,
+        said => Some(said),
     }
 }
 
@@ -89,13 +140,13 @@ pub(crate) fn said_of(kind: Kind, text: &[u8]) -> Option<Said<'_>>
     ensures { option_map said_in result ≡ said_of kind text.now }
 {
     match kind {
-        Kind::Value => Some(Said::Value(value_of(text)?)),
+        Kind::Value => value_said(text),
         Kind::Length => length_said(text),
         Kind::Pair => pair_said(text),
-        Kind::RegisterLength => Some(Said::Value(value_besides_0(text)?)),
-        Kind::NamedValue => Some(Said::Value(Value::Named(name_of(text)?))),
-        Kind::Place => Some(Said::Place(place_of(text)?)),
-        Kind::NamedPlace => Some(Said::Place(Place::Named(name_of(text)?))),
+        Kind::RegisterLength => register_length_said(text),
+        Kind::NamedValue => name_said(text),
+        Kind::Place => place_said(text),
+        Kind::NamedPlace => name_said(text),
         Kind::Condition => Some(Said::Condition(condition_of(text)?)),
         Kind::ConditionWord => Some(Said::Condition(condition_word_of(text)?)),
         Kind::Content if is_content(text) => Some(Said::Content(text)),
@@ -148,7 +199,9 @@ pub fn value_at(said: &[Option<Said>], i: usize) -> Option<Value>
     ensures { option_map written_in result ≡ as_value (slot (slots_in said.now) i) }
 {
     match &said[i] {
-        Some(Said::Value(value)) => Some(*value),
+        Some(Said::Number(number)) => Some(Value::Number(*number)),
+        Some(Said::Register(register)) => Some(Value::Register(*register)),
+        Some(Said::Named(text)) => Some(Value::Named(name_of(text)?)),
         _ => None,
     }
 }
@@ -170,7 +223,8 @@ pub fn place_at(said: &[Option<Said>], i: usize) -> Option<Place>
     ensures { option_map target_in result ≡ as_place (slot (slots_in said.now) i) }
 {
     match &said[i] {
-        Some(Said::Place(place)) => Some(*place),
+        Some(Said::Register(register)) => Some(Place::Register(*register)),
+        Some(Said::Named(text)) => Some(Place::Named(name_of(text)?)),
         _ => None,
     }
 }

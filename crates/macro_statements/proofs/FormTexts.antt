@@ -15,13 +15,14 @@ use Rattle.operand_texts.proofs.ValueTexts.{value_text_of, place_text_of}
 use Rattle.macro_operands.specs.Rows.{Key, position, keyword, is_among, Entry, entry, Row}
 use Rattle.macro_operands.specs.Operands.{entry_for, is_excluded, first_fault, unless_fault}
 use Rattle.macro_operands.specs.Locations.{boundary_of, location_of}
-use Rattle.macro_operands.specs.Lengths.{pair_of, is_register_0, unless_register_0, name_of}
-use Rattle.macro_operands.specs.Said.{Said, value, pair, place, condition, boundary, location, said_of, pair_said, value_or_pair, condition_of}
-use Rattle.macro_operands.specs.Slots.{Slots, readings}
+use Rattle.macro_operands.specs.Lengths.{pair_of, is_register_0, name_of}
+use Rattle.macro_operands.specs.Said.{Said, name, pair, condition, boundary, location, value_said, place_said, name_said, unless_register_0, said_of, pair_said, value_or_pair, condition_of}
+use Rattle.macro_operands.specs.Slots.{Slots, readings, as_value, as_pair, as_place}
 use Rattle.macro_operands.specs.declared.rows.Kind.{Kind}
 use Rattle.macro_operands.specs.declared.rows.Kind.TheVariants as kind
 use Rattle.macro_operands.specs.declared.faults.FaultKind.{FaultKind}
 use Rattle.macro_operands.proofs.PairTexts.{pair_text_of}
+use Rattle.macro_operands.proofs.ReadValues.{value_kept, no_pair, some_kept, place_kept, some_place_kept, besides_kept}
 use Rattle.macro_operands.proofs.WrittenOperands.{keyed, Item, item, operand_text, Fits, AllFit, no_fault_from, lookup, stand, AllFew, long_first, read_back}
 use Rattle.macro_operands.proofs.WrittenOperands as operands
 use Rattle.macro_statements.specs.Requests.{WrittenLength, fixed, between, IsLength, Asked}
@@ -45,40 +46,60 @@ spelled_as most k s t e o f = record { text = Some t; says = e; stands = (ap is_
 pub unsaid : (most : ℕ) (k : Kind) → Spelled most k None
 unsaid most k = record { text = None; says = refl; stands = tt; few = tt }
 
-pub value_spelled : (v : Written) → IsValue v → Spelled 63 kind.Value (Some (value v))
+-- a value
+pub record SpelledValue (most : ℕ) (k : Kind) (v : Written) : Type 0 where
+  pub said : Option Said
+  pub spelled : Spelled most k said
+  pub is : as_value said ≡ Some v
+  pub single : as_pair said ≡ None
+
+kept : (most : ℕ) (k : Kind) (v : Written) (s : Option Said) (t : List ℕ) → said_of k t ≡ s → as_value s ≡ Some v → as_pair s ≡ None → IsOperand t → length t ≤ most
+    → SpelledValue most k v
+kept most k v s t e a p o f = record {
+  said = s;
+  spelled = record { text = Some t; says = e; stands = (ap is_some e ∙ some_kept s v a, o); few = f };
+  is = a;
+  single = p;
+}
+
+pub value_spelled : (v : Written) → IsValue v → SpelledValue 63 kind.Value v
 value_spelled v h =
     let t = value_text_of v h in
-    spelled_as 63 kind.Value (value v) t.text (ap (λ x. option_map value x) t.spells) (t.neat.goes 0) t.neat.few
+    kept 63 kind.Value v (value_said t.text) t.text refl (value_kept t.text ∙ t.spells) (no_pair t.text) (t.neat.goes 0) t.neat.few
 
 -- lengths
-pub fixed_spelled : (v : Written) → IsValue v → Spelled 129 kind.Value (Some (value v))
+pub fixed_spelled : (v : Written) → IsValue v → SpelledValue 129 kind.Value v
 fixed_spelled v h =
     let t = value_text_of v h in
     let few : length t.text ≤ 63 = t.neat.few in
-    spelled_as 129 kind.Value (value v) t.text (ap (λ x. option_map value x) t.spells) (t.neat.goes 0) (omega (arith, few))
+    kept 129 kind.Value v (value_said t.text) t.text refl (value_kept t.text ∙ t.spells) (no_pair t.text) (t.neat.goes 0) (omega (arith, few))
 
-pub besides_0_spelled : (v : Written) → IsValue v → is_register_0 v ≡ false → Spelled 129 kind.RegisterLength (Some (value v))
+pub besides_0_spelled : (v : Written) → IsValue v → is_register_0 v ≡ false → SpelledValue 129 kind.RegisterLength v
 besides_0_spelled v h n =
     let t = value_text_of v h in
     let few : length t.text ≤ 63 = t.neat.few in
-    spelled_as 129 kind.RegisterLength (value v) t.text
-    (ap (λ x. option_map value (unless_register_0 x)) t.spells ∙ ap (λ b. option_map value (if b then None else Some v)) n)
-    (t.neat.goes 0) (omega (arith, few))
+    let is : as_value (value_said t.text) ≡ Some v = value_kept t.text ∙ t.spells in
+    kept 129 kind.RegisterLength v (value_said t.text) t.text (besides_kept (value_said t.text) v is n) is (no_pair t.text) (t.neat.goes 0) (omega (arith, few))
 
 pub record SpelledLength (l : WrittenLength) : Type 0 where
   pub said : Option Said
   pub spelled : Spelled 129 kind.Length said
   pub is : as_length said ≡ Some l
 
+pub one_length : (s : Option Said) (v : Written) → as_value s ≡ Some v → as_length s ≡ Some (fixed v)
+one_length s v h = ap (λ x. either_length x (as_pair s)) h
+
+value_first : (s : Option Said) (v : Written) (t : List ℕ) → as_value s ≡ Some v → value_or_pair s t ≡ s
+value_first None v t h = cc
+value_first (Some s) v t h = refl
+
 pub length_spelled : (l : WrittenLength) → IsLength l → SpelledLength l
 length_spelled (fixed v) h =
     let t = value_text_of v h in
     let few : length t.text ≤ 63 = t.neat.few in
-    record {
-      said = Some (value v);
-      spelled = spelled_as 129 kind.Length (value v) t.text (ap (λ x. value_or_pair x t.text) t.spells) (t.neat.goes 0) (omega (arith, few));
-      is = refl;
-    }
+    let is : as_value (value_said t.text) ≡ Some v = value_kept t.text ∙ t.spells in
+    let x = kept 129 kind.Length v (value_said t.text) t.text (value_first (value_said t.text) v t.text is) is (no_pair t.text) (t.neat.goes 0) (omega (arith, few)) in
+    record { said = x.said; spelled = x.spelled; is = one_length x.said v x.is }
 length_spelled (between a b) h =
     let t = pair_text_of a b h.0 h.1 in
     record {
@@ -89,11 +110,21 @@ length_spelled (between a b) h =
     }
 
 -- places, and names alone
-pub place_spelled : (p : Option Target) → IfSome p IsTarget → Spelled 63 kind.Place (option_map place p)
-place_spelled None h = unsaid 63 kind.Place
+pub record SpelledPlace (k : Kind) (p : Option Target) : Type 0 where
+  pub said : Option Said
+  pub spelled : Spelled 63 k said
+  pub is : as_place said ≡ p
+
+pub place_spelled : (p : Option Target) → IfSome p IsTarget → SpelledPlace kind.Place p
+place_spelled None h = record { said = None; spelled = unsaid 63 kind.Place; is = refl }
 place_spelled (Some p) h =
     let t = place_text_of p h in
-    spelled_as 63 kind.Place (place p) t.text (ap (λ x. option_map place x) t.spells) (t.neat.goes 0) t.neat.few
+    let is : as_place (place_said t.text) ≡ Some p = place_kept t.text ∙ t.spells in
+    record {
+      said = place_said t.text;
+      spelled = record { text = Some t.text; says = refl; stands = (some_place_kept (place_said t.text) p is, t.neat.goes 0); few = t.neat.few };
+      is = is;
+    }
 
 both : (x y : Bool) → (x && y) ≡ true → (x ≡ true) × (y ≡ true)
 both true y h = (refl, h)
@@ -110,15 +141,22 @@ name_few n h = let t = (both (nat_le 1 (length n)) (nat_le (length n) 63) (both 
 pub name_stands : (n : List ℕ) → is_name n ≡ true → IsOperand n
 name_stands n h = goes_plain outside n (plain_name n h)
 
-pub named_value_spelled : (n : List ℕ) → is_upper_name n ≡ true → Spelled 63 kind.NamedValue (Some (value (named n)))
+name_kept : (n : List ℕ) → is_name n ≡ true → name_said n ≡ Some (name n)
+name_kept n h = ap (λ b. if b then Some (name n) else None) h
+
+pub named_value_spelled : (n : List ℕ) → is_upper_name n ≡ true → SpelledValue 63 kind.NamedValue (named n)
 named_value_spelled n h =
     let b = both (is_name n) (is_word n n) h in
-    spelled_as 63 kind.NamedValue (value (named n)) n (ap (λ x. option_map (λ m. value (named m)) x) (name_is n h)) (name_stands n b.0) (name_few n b.0)
+    kept 63 kind.NamedValue (named n) (Some (name n)) n (name_kept n b.0) (ap (λ x. option_map named x) (name_is n h)) refl (name_stands n b.0) (name_few n b.0)
 
-pub named_place_spelled : (n : List ℕ) → is_upper_name n ≡ true → Spelled 63 kind.NamedPlace (Some (place (in_name n)))
+pub named_place_spelled : (n : List ℕ) → is_upper_name n ≡ true → SpelledPlace kind.NamedPlace (Some (in_name n))
 named_place_spelled n h =
     let b = both (is_name n) (is_word n n) h in
-    spelled_as 63 kind.NamedPlace (place (in_name n)) n (ap (λ x. option_map (λ m. place (in_name m)) x) (name_is n h)) (name_stands n b.0) (name_few n b.0)
+    record {
+      said = Some (name n);
+      spelled = spelled_as 63 kind.NamedPlace (name n) n (name_kept n b.0) (name_stands n b.0) (name_few n b.0);
+      is = ap (λ x. option_map in_name x) (name_is n h);
+    }
 
 -- words
 pub condition_spelled : (c : Bool) → Spelled 63 kind.Condition (Some (condition c))

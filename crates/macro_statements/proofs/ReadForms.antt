@@ -3,14 +3,16 @@ use Rattle.std.proofs.Common.{◌≡◌, ℕ, ◌^◌, ◌<◌, ◌==◌, Bool, 
 use Rattle.std.specs.Option.{IfSome, option_map}
 use Rattle.std.specs.Char.{to_ascii_uppercase}
 use Rattle.operand_texts.specs.Words.{is_name, is_word}
-use Rattle.operand_texts.specs.Written.{Written, number, named, register, Target, in_name, in_register, IsValue, IsTarget}
+use Rattle.operand_texts.specs.Written as written
+use Rattle.operand_texts.specs.Written.{Written, Target, in_name, in_register, IsValue, IsTarget}
 use Rattle.operand_texts.specs.Values.{value_of, target_of, parts_of}
 use Rattle.operand_texts.proofs.Spelling.{spelled_is_valid, spelled_place_is_valid, upper_named}
 use Rattle.macro_operands.specs.Rows.{keyword, Row}
 use Rattle.macro_operands.specs.Operands.{first_fault, unless_fault, text_at}
-use Rattle.macro_operands.specs.Lengths.{both_of, pair_in, pair_of, is_register_0, is_named, unless_register_0, value_besides_0, name_of}
-use Rattle.macro_operands.specs.Said.{Said, value, pair, place, said_of, pair_said, value_or_pair}
+use Rattle.macro_operands.specs.Lengths.{both_of, pair_in, pair_of, is_register_0, is_named, name_of}
+use Rattle.macro_operands.specs.Said.{Said, number, register, name, pair, condition, content, size, count, boundary, location, anything, said_of, value_said, pair_said, value_or_pair, unless_register_0}
 use Rattle.macro_operands.specs.Slots.{Slots, slot, readings, as_value, as_pair, as_place, as_condition, as_boundary, as_location}
+use Rattle.macro_operands.proofs.ReadValues.{name_in, value_kept, no_pair, place_kept}
 use Rattle.macro_operands.specs.declared.rows.Kind.{Kind}
 use Rattle.macro_operands.specs.declared.rows.Kind.TheVariants as kind
 use Rattle.macro_operands.specs.declared.faults.FaultKind.{FaultKind}
@@ -33,13 +35,12 @@ pub some_value : (t : List ℕ) (v : Option Written) → value_of t ≡ v → If
 some_value t None e = tt
 some_value t (Some v) e = spelled_is_valid t v e
 
-value_back : (v : Option Written) → IfSome v IsValue → IfSome (as_value (option_map value v)) IsValue
-value_back None h = tt
-value_back (Some v) h = h
+text_valid : (t : List ℕ) → IfSome (as_value (value_said t)) IsValue
+text_valid t = subst (λ o. IfSome o IsValue) (sym (value_kept t)) (some_value t (value_of t) refl)
 
 pub value_valid : (t : Option (List ℕ)) → IfSome (as_value (read kind.Value t)) IsValue
 value_valid None = tt
-value_valid (Some t) = value_back (value_of t) (some_value t (value_of t) refl)
+value_valid (Some t) = text_valid t
 
 -- pairs and lengths
 abbrev AreValues : Written × Written → Type 0
@@ -54,25 +55,35 @@ pair_in_valid : (p : Option (List ℕ × List ℕ)) → IfSome (pair_in p) AreVa
 pair_in_valid None = tt
 pair_in_valid (Some p) = both_valid (value_of p.0) (value_of p.1) (some_value p.0 (value_of p.0) refl) (some_value p.1 (value_of p.1) refl)
 
-fixed_or : (v : Option Written) → IfSome v IsValue → IfSome (either_length v None) IsLength
-fixed_or None h = tt
-fixed_or (Some v) h = h
+pair_valid : (s : Option Said) → IfSome (as_pair s) AreValues
+pair_valid None = tt
+pair_valid (Some (pair t)) = pair_in_valid (parts_of t)
+pair_valid (Some (number n)) = tt
+pair_valid (Some (register n)) = tt
+pair_valid (Some (name t)) = tt
+pair_valid (Some (condition b)) = tt
+pair_valid (Some (content t)) = tt
+pair_valid (Some (size n)) = tt
+pair_valid (Some (count n)) = tt
+pair_valid (Some (boundary b)) = tt
+pair_valid (Some (location l)) = tt
+pair_valid (Some anything) = tt
 
-pair_or : (p : Option (Written × Written)) → IfSome p AreValues → IfSome (either_length None p) IsLength
-pair_or None h = tt
-pair_or (Some p) h = h
+either_valid : (v : Option Written) (p : Option (Written × Written)) → IfSome v IsValue → IfSome p AreValues → IfSome (either_length v p) IsLength
+either_valid None None h k = tt
+either_valid None (Some p) h k = k
+either_valid (Some v) p h k = h
 
-said_pair : (t : List ℕ) (b : Bool) → IfSome (as_length (if b then Some (pair t) else None)) IsLength
-said_pair t true = pair_or (pair_of t) (pair_in_valid (parts_of t))
-said_pair t false = tt
+length_valid : (s : Option Said) → IfSome (as_value s) IsValue → IfSome (as_length s) IsLength
+length_valid s h = either_valid (as_value s) (as_pair s) h (pair_valid s)
 
-value_pair : (v : Option Written) (t : List ℕ) → IfSome v IsValue → IfSome (as_length (value_or_pair v t)) IsLength
-value_pair None t h = said_pair t (is_some (pair_of t))
-value_pair (Some v) t h = h
+pair_if : (t : List ℕ) (b : Bool) → IfSome (as_value (if b then Some (pair t) else None)) IsValue
+pair_if t true = tt
+pair_if t false = tt
 
-length_back : (v : Option Written) → IfSome v IsValue → IfSome (as_length (option_map value v)) IsLength
-length_back None h = tt
-length_back (Some v) h = h
+or_pair_valid : (s : Option Said) (t : List ℕ) → IfSome (as_value s) IsValue → IfSome (as_value (value_or_pair s t)) IsValue
+or_pair_valid None t h = pair_if t (is_some (pair_of t))
+or_pair_valid (Some s) t h = h
 
 -- a kind whose lengths are valid
 abbrev pub HasLengths : Kind → Type 0
@@ -80,35 +91,63 @@ HasLengths k = (t : Option (List ℕ)) → IfSome (as_length (read k t)) IsLengt
 
 pub values_length : HasLengths kind.Value
 values_length None = tt
-values_length (Some t) = length_back (value_of t) (some_value t (value_of t) refl)
+values_length (Some t) = length_valid (value_said t) (text_valid t)
 
 pub any_length : HasLengths kind.Length
 any_length None = tt
-any_length (Some t) = value_pair (value_of t) t (some_value t (value_of t) refl)
+any_length (Some t) = length_valid (value_or_pair (value_said t) t) (or_pair_valid (value_said t) t (text_valid t))
 
 pub pairs_length : HasLengths kind.Pair
 pairs_length None = tt
-pairs_length (Some t) = said_pair t (is_some (pair_of t))
+pairs_length (Some t) = length_valid (pair_said t) (or_pair_valid None t tt)
 
 -- a value besides register 0
 abbrev IsBesides : Written → Type 0
 IsBesides v = IsValue v × (is_register_0 v ≡ false)
 
-besides_if : (v : Written) (b : Bool) → is_register_0 v ≡ b → IsValue v → IfSome (if b then None else Some v) IsBesides
-besides_if v true e h = tt
-besides_if v false e h = (h, e)
+register_if : (n : ℕ) (b : Bool) → (n == 0) ≡ b → n < 16 → IfSome (as_value (if b then None else Some (register n))) IsBesides
+register_if n true e h = tt
+register_if n false e h = (h, e)
 
-besides_in : (v : Option Written) → IfSome v IsValue → IfSome (unless_register_0 v) IsBesides
-besides_in None h = tt
-besides_in (Some v) h = besides_if v (is_register_0 v) refl h
+name_besides : (o : Option (List ℕ)) → IfSome (option_map written.named o) IsValue → IfSome (option_map written.named o) IsBesides
+name_besides None h = tt
+name_besides (Some n) h = (h, refl)
 
-besides_back : (v : Option Written) → IfSome v IsBesides → IfSome (as_value (option_map value v)) IsBesides
-besides_back None h = tt
-besides_back (Some v) h = h
+unless_besides : (s : Option Said) → IfSome (as_value s) IsValue → IfSome (as_value (unless_register_0 s)) IsBesides
+unless_besides None h = tt
+unless_besides (Some (number n)) h = (h, refl)
+unless_besides (Some (register n)) h = register_if n (n == 0) refl h
+unless_besides (Some (name t)) h = name_besides (name_of t) h
+unless_besides (Some (pair t)) h = tt
+unless_besides (Some (condition b)) h = tt
+unless_besides (Some (content t)) h = tt
+unless_besides (Some (size n)) h = tt
+unless_besides (Some (count n)) h = tt
+unless_besides (Some (boundary b)) h = tt
+unless_besides (Some (location l)) h = tt
+unless_besides (Some anything) h = tt
 
 besides_valid : (t : Option (List ℕ)) → IfSome (as_value (read kind.RegisterLength t)) IsBesides
 besides_valid None = tt
-besides_valid (Some t) = besides_back (value_besides_0 t) (besides_in (value_of t) (some_value t (value_of t) refl))
+besides_valid (Some t) = unless_besides (value_said t) (text_valid t)
+
+no_register_pair : (n : ℕ) (b : Bool) → as_pair (if b then None else Some (register n)) ≡ None
+no_register_pair n true = refl
+no_register_pair n false = refl
+
+no_pair_unless : (s : Option Said) → as_pair s ≡ None → as_pair (unless_register_0 s) ≡ None
+no_pair_unless None h = refl
+no_pair_unless (Some (register n)) h = no_register_pair n (n == 0)
+no_pair_unless (Some (pair t)) h = h
+no_pair_unless (Some (number n)) h = refl
+no_pair_unless (Some (name t)) h = refl
+no_pair_unless (Some (condition b)) h = refl
+no_pair_unless (Some (content t)) h = refl
+no_pair_unless (Some (size n)) h = refl
+no_pair_unless (Some (count n)) h = refl
+no_pair_unless (Some (boundary b)) h = refl
+no_pair_unless (Some (location l)) h = refl
+no_pair_unless (Some anything) h = refl
 
 -- a length besides register 0
 record IsRegisterLength (l : WrittenLength) : Type 0 where
@@ -123,41 +162,41 @@ register_of_value v h = record {
   besides = λ w e. (let same : v ≡ w = cc in ap is_register_0 (sym same) ∙ h.1);
 }
 
-register_length_back : (v : Option Written) → IfSome v IsBesides → IfSome (as_length (option_map value v)) IsRegisterLength
-register_length_back None h = tt
-register_length_back (Some v) h = register_of_value v h
+either_register : (v : Option Written) (p : Option (Written × Written)) → IfSome v IsBesides → p ≡ None → IfSome (either_length v p) IsRegisterLength
+either_register None None h e = tt
+either_register None (Some p) h e = cc
+either_register (Some v) p h e = register_of_value v h
 
 register_length : (t : Option (List ℕ)) → IfSome (as_length (read kind.RegisterLength t)) IsRegisterLength
 register_length None = tt
-register_length (Some t) = register_length_back (value_besides_0 t) (besides_in (value_of t) (some_value t (value_of t) refl))
+register_length (Some t) =
+    either_register (as_value (unless_register_0 (value_said t))) (as_pair (unless_register_0 (value_said t))) (unless_besides (value_said t) (text_valid t))
+    (no_pair_unless (value_said t) (no_pair t))
 
 -- a length that is one value
 abbrev IsSingle : WrittenLength → Type 0
 IsSingle l = IsLength l × (is_fixed l ≡ true)
 
-single_back : (v : Option Written) → IfSome v IsValue → IfSome (as_length (option_map value v)) IsSingle
-single_back None h = tt
-single_back (Some v) h = (h, refl)
+either_single : (v : Option Written) (p : Option (Written × Written)) → IfSome v IsValue → p ≡ None → IfSome (either_length v p) IsSingle
+either_single None None h e = tt
+either_single None (Some p) h e = cc
+either_single (Some v) p h e = (h, refl)
 
 single_length : (t : Option (List ℕ)) → IfSome (as_length (read kind.Value t)) IsSingle
 single_length None = tt
-single_length (Some t) = single_back (value_of t) (some_value t (value_of t) refl)
+single_length (Some t) = either_single (as_value (value_said t)) (as_pair (value_said t)) (text_valid t) (no_pair t)
 
 -- places
 some_place : (t : List ℕ) (p : Option Target) → target_of t ≡ p → IfSome p IsTarget
 some_place t None e = tt
 some_place t (Some p) e = spelled_place_is_valid t p e
 
-place_back : (p : Option Target) → IfSome p IsTarget → IfSome (as_place (option_map place p)) IsTarget
-place_back None h = tt
-place_back (Some p) h = h
-
 abbrev pub HasPlaces : Kind → Type 0
 HasPlaces k = (t : Option (List ℕ)) → IfSome (as_place (read k t)) IsTarget
 
 pub places : HasPlaces kind.Place
 places None = tt
-places (Some t) = place_back (target_of t) (some_place t (target_of t) refl)
+places (Some t) = subst (λ o. IfSome o IsTarget) (sym (place_kept t)) (some_place t (target_of t) refl)
 
 pub no_places : HasPlaces kind.OtherForm
 no_places None = tt
@@ -168,11 +207,11 @@ nowhere None = refl
 nowhere (Some t) = refl
 
 abbrev IsNamedTarget : Target → Type 0
-IsNamedTarget p = IsTarget p × ((name : List ℕ) × (p ≡ in_name name))
+IsNamedTarget p = IsTarget p × ((n : List ℕ) × (p ≡ in_name n))
 
-named_target_if : (t : List ℕ) (b : Bool) → is_name t ≡ b
-    → IfSome (as_place (option_map (λ n. place (in_name n)) (if b then Some (map to_ascii_uppercase t) else None))) IsNamedTarget
-named_target_if t true e = (upper_named t e, (map to_ascii_uppercase t, refl))
+named_target_if : (t : List ℕ) (b : Bool) → is_name t ≡ b → IfSome (as_place (if b then Some (name t) else None)) IsNamedTarget
+named_target_if t true e =
+    subst (λ o. IfSome (option_map in_name o) IsNamedTarget) (sym (name_in t e)) (upper_named t e, (map to_ascii_uppercase t, refl))
 named_target_if t false e = tt
 
 named_target : (t : Option (List ℕ)) → IfSome (as_place (read kind.NamedPlace t)) IsNamedTarget
@@ -183,9 +222,8 @@ named_target (Some t) = named_target_if t (is_name t) refl
 abbrev IsNamedValue : Written → Type 0
 IsNamedValue v = IsValue v × (is_named v ≡ true)
 
-named_value_if : (t : List ℕ) (b : Bool) → is_name t ≡ b
-    → IfSome (as_value (option_map (λ n. value (named n)) (if b then Some (map to_ascii_uppercase t) else None))) IsNamedValue
-named_value_if t true e = (upper_named t e, refl)
+named_value_if : (t : List ℕ) (b : Bool) → is_name t ≡ b → IfSome (as_value (if b then Some (name t) else None)) IsNamedValue
+named_value_if t true e = subst (λ o. IfSome (option_map written.named o) IsNamedValue) (sym (name_in t e)) (upper_named t e, refl)
 named_value_if t false e = tt
 
 named_value : (t : Option (List ℕ)) → IfSome (as_value (read kind.NamedValue t)) IsNamedValue
@@ -205,7 +243,7 @@ no_condition : (t : Option (List ℕ)) → as_condition (read kind.OtherForm t) 
 no_condition None = refl
 no_condition (Some t) = refl
 
-or_zero : (o : Option Written) → IfSome o IsValue → IsValue (unwrap_or o (number 0))
+or_zero : (o : Option Written) → IfSome o IsValue → IsValue (unwrap_or o (written.number 0))
 or_zero None h = omega arith
 or_zero (Some v) h = h
 
@@ -314,7 +352,7 @@ releases_r word lw aw bk ok os asked h =
     (no_fault_is (first_fault f.row os) (asked_by f slots) asked h)
 
 -- the family E
-has_place : (p : Option Target) → IfSome p IsNamedTarget → lacks_place family.E p ≡ false → (name : List ℕ) × (p ≡ Some (in_name name))
+has_place : (p : Option Target) → IfSome p IsNamedTarget → lacks_place family.E p ≡ false → (n : List ℕ) × (p ≡ Some (in_name n))
 has_place None h e = cc
 has_place (Some p) h e = (h.1.0, ap (λ x. Some x) h.1.1)
 
@@ -346,10 +384,10 @@ releases_e word lw aw bk ok ck c os asked h =
     let l : Option (List ℕ) = text_at (keyword lw) os in
     let s : Option (List ℕ) = text_at (keyword (codes "SP")) os in
     let a : Option (List ℕ) = text_at (keyword aw) os in
-    let name : IfSome (as_value (slot slots 2)) IsNamedValue = named_value a in
+    let named : IfSome (as_value (slot slots 2)) IsNamedValue = named_value a in
     release_valid (as_value (slot slots 0)) (as_value (slot slots 2)) (as_value (slot slots 1)) (form_by f.form (as_condition (slot slots 5))) asked
-    (value_valid l) (all_weaker IsNamedValue IsValue (as_value (slot slots 2)) (λ v r. r.0) name) (value_valid s)
-    (λ v w e k. (of_some IsNamedValue (as_value (slot slots 2)) w name k).1) (λ e. cc)
+    (value_valid l) (all_weaker IsNamedValue IsValue (as_value (slot slots 2)) (λ v r. r.0) named) (value_valid s)
+    (λ v w e k. (of_some IsNamedValue (as_value (slot slots 2)) w named k).1) (λ e. cc)
     (no_fault_is (first_fault f.row os) (asked_by f slots) asked h)
 
 -- a macro whose forms do so

@@ -6,22 +6,19 @@ use Rattle.operand_texts.specs.Written.{Written, number, Target, Stored}
 use Rattle.operand_texts.specs.Values.{number_of, value_of, target_of, content_of, size_of}
 use Rattle.macro_operands.specs.Rows.{position, keyword}
 use Rattle.macro_operands.specs.Operands.{first_fault, text_at, value_at, unless_fault}
+use Rattle.macro_operands.proofs.ReadValues.{value_kept}
 use Rattle.macro_statements.specs.Poke.{poke_row, poke_of, poke_with}
 use Rattle.macro_statements.specs.Peek.{peek_row, peek_of, peek_with}
 use Rattle.macro_statements.specs.Steps.{steps_row, count_in, count_with}
-use Rattle.macro_operands.specs.Said.{value, content, size, count, said_of}
+use Rattle.macro_operands.specs.Said.{content, size, count, said_of}
 use Rattle.macro_operands.specs.Slots.{as_value, as_content, as_size, as_count, readings}
 use Rattle.macro_statements.specs.Slots.{poke_by, peek_by, count_by}
 use Rattle.macro_operands.specs.declared.faults.FaultKind.{FaultKind}
 use Rattle.macro_operands.specs.declared.rows.Kind.TheVariants as kind
 
-value_back : (v : Option Written) → as_value (option_map value v) ≡ v
-value_back None = refl
-value_back (Some v) = refl
-
-value_said : (t : Option (List ℕ)) → as_value (option_and_then (said_of kind.Value) t) ≡ option_and_then value_of t
-value_said None = refl
-value_said (Some t) = value_back (value_of t)
+value_read : (t : Option (List ℕ)) → as_value (option_and_then (said_of kind.Value) t) ≡ option_and_then value_of t
+value_read None = refl
+value_read (Some t) = value_kept t
 
 content_back : (t : List ℕ) (c : Option Stored) → content_of t ≡ c → as_content (if is_some c then Some (content t) else None) ≡ c
 content_back t None h = refl
@@ -52,13 +49,13 @@ no_fault f r h = ap (λ g. unless_fault g r) (sym h)
 
 pub poke_read : (texts : List (List ℕ)) → first_fault poke_row texts ≡ None → poke_by (readings poke_row.entries texts) ≡ poke_of texts
 poke_read texts h =
-    ap (λ x. poke_with x (as_content (option_and_then (said_of kind.Content) (text_at (position 1) texts)))) (value_said (text_at (position 0) texts))
+    ap (λ x. poke_with x (as_content (option_and_then (said_of kind.Content) (text_at (position 1) texts)))) (value_read (text_at (position 0) texts))
     ∙ ap (λ x. poke_with (value_at (position 0) texts) x) (content_said (text_at (position 1) texts))
     ∙ no_fault (first_fault poke_row texts) _ h
 
 pub peek_read : (texts : List (List ℕ)) → first_fault peek_row texts ≡ None → peek_by (readings peek_row.entries texts) ≡ peek_of texts
 peek_read texts h =
-    ap (λ x. peek_with x (as_size (option_and_then (said_of kind.Size) (text_at (position 1) texts)))) (value_said (text_at (position 0) texts))
+    ap (λ x. peek_with x (as_size (option_and_then (said_of kind.Size) (text_at (position 1) texts)))) (value_read (text_at (position 0) texts))
     ∙ ap (λ x. peek_with (value_at (position 0) texts) x) (size_said (text_at (position 1) texts))
     ∙ no_fault (first_fault peek_row texts) _ h
 

@@ -12,14 +12,14 @@ use Rattle.operand_texts.specs.Values.{number_of, value_of, content_of, within_s
 use Rattle.macro_operands.specs.Rows.{Key, position, keyword, is_among, Entry, entry, Row}
 use Rattle.macro_operands.specs.Operands.{entry_for, is_excluded, first_fault, text_at, value_at, unless_fault}
 use Rattle.macro_operands.specs.Lengths.{is_register_0, is_named}
-use Rattle.macro_operands.specs.Said.{Said, said_of, value, place, content, size, count, boundary, location, condition}
-use Rattle.macro_operands.specs.Slots.{Slots, as_place, as_boundary, as_location, as_condition}
+use Rattle.macro_operands.specs.Said.{Said, said_of, value_said, content, size, count, boundary, location, condition}
+use Rattle.macro_operands.specs.Slots.{Slots, as_value, as_place, as_boundary, as_location, as_condition}
 use Rattle.macro_operands.specs.declared.faults.FaultKind.{FaultKind}
 use Rattle.macro_operands.specs.declared.faults.FaultKind.TheVariants as fault
 use Rattle.macro_operands.specs.declared.rows.Kind.{Kind}
 use Rattle.macro_operands.specs.declared.rows.Kind.TheVariants as kind
 use Rattle.macro_statements.specs.Requests.{WrittenLength, fixed, between, IsLength, is_fixed, obtain, release, whole, poke, Asked, act, peek, back, forward, IsRegisterObtain, IsNamedObtain, IsObtainForm, IsReleaseForm, IsWholeForm, IsValidAsked, AskedHasBytes, HasRoom, seen, asked_in}
-use Rattle.macro_statements.specs.Forms.{StorageForm, obtaining, releasing, lacks_place, obtain_with, obtain_by, asked_by, form_with, boundary_by, location_by, form_by, as_length}
+use Rattle.macro_statements.specs.Forms.{StorageForm, obtaining, releasing, lacks_place, obtain_with, obtain_by, has_whole, release_by, asked_by, form_with, boundary_by, location_by, form_by, as_length}
 use Rattle.macro_statements.specs.Storage.{obtain_row, release_row, storage_macro}
 use Rattle.macro_statements.specs.Getmain as getmain
 use Rattle.macro_statements.specs.Getmain.{getmain_macro}
@@ -45,7 +45,8 @@ use Rattle.operand_texts.proofs.Spelling.{written, below}
 use Rattle.operand_texts.proofs.SpelledBytes.{spelled_content_is_valid}
 use Rattle.macro_operands.proofs.WrittenOperands.{placed, Item, item, Fits, AllFit, no_fault_from, lookup, finds}
 use Rattle.macro_operands.proofs.WrittenOperands as operands
-use Rattle.macro_statements.proofs.FormTexts.{unsaid, value_spelled, fixed_spelled, besides_0_spelled, length_spelled, place_spelled, named_value_spelled, named_place_spelled, name_stands, condition_spelled, boundary_spelled, location_spelled, WrittenForm, six_said, length_form, lv_form}
+use Rattle.macro_operands.proofs.ReadValues.{value_kept, some_kept}
+use Rattle.macro_statements.proofs.FormTexts.{unsaid, value_spelled, fixed_spelled, one_length, besides_0_spelled, length_spelled, place_spelled, named_value_spelled, named_place_spelled, name_stands, condition_spelled, boundary_spelled, location_spelled, WrittenForm, six_said, length_form, lv_form}
 use Rattle.macro_statements.proofs.ReadForms.{some_value, ReadsValid, AllReadValid, macro_valid, obtains_s, releases_s, obtains_r, releases_r, obtains_e, releases_e, any_length, values_length, pairs_length, places, no_places}
 
 -- operands that a row has, each once and of its kind
@@ -123,7 +124,7 @@ poke_fits a (word v) ta tc h r =
     let e = two_long ta.text tc.text in let f = ta.neat.few in let g = tc.size in omega (arith, e, f, g)
 
 value_says : (t : List ℕ) (v : Written) → value_of t ≡ Some v → is_some (said_of kind.Value t) ≡ true
-value_says t v e = ap (λ x. is_some (option_map value x)) e
+value_says t v e = some_kept (value_said t) v (value_kept t ∙ e)
 
 abbrev form_of : Family → Bool → Form
 form_of f c = record { family = f; conditional = c }
@@ -143,33 +144,34 @@ form_operands asked o first f slots some few name wide w leads asks = record {
 }
 
 -- what is obtained
-obtain_is : (form : Form) (ls ps bs : Option Said) (l : WrittenLength) (s : Written) (p : Option Target) (y : Boundary) (o : Location) (os : Option Said) (cs : Option Said) (c : Bool)
-    → as_length ls ≡ Some l → as_place ps ≡ p → boundary_by (as_boundary bs) ≡ y → location_by form.family (as_location os) ≡ o → form_by form (as_condition cs) ≡ form_of form.family c
-    → lacks_place form.family p ≡ false
-    → obtain_by form (six_said ls (Some (value s)) ps bs os cs) ≡ Ok (act (obtain l s p y o (form_of form.family c)))
-obtain_is form ls ps bs l s p y o os cs c a b d e g h =
-    ap (λ x. obtain_with x s (as_place ps) (boundary_by (as_boundary bs)) (location_by form.family (as_location os)) (form_by form (as_condition cs))) a
-    ∙ ap (λ x. obtain_with (Some l) s x (boundary_by (as_boundary bs)) (location_by form.family (as_location os)) (form_by form (as_condition cs))) b
-    ∙ ap (λ x. obtain_with (Some l) s p x (location_by form.family (as_location os)) (form_by form (as_condition cs))) d
-    ∙ ap (λ x. obtain_with (Some l) s p y x (form_by form (as_condition cs))) e
-    ∙ ap (λ x. obtain_with (Some l) s p y o x) g
-    ∙ ap (λ x. if x then Err fault.Missing else Ok (act (obtain l s p y o (form_of form.family c)))) h
+obtain_is : (form : Form) (ls ss ps bs os cs : Option Said) (l : WrittenLength) (s : Written) (p : Option Target) (y : Boundary) (o : Location) (c : Bool)
+    → as_length ls ≡ Some l → as_value ss ≡ Some s → as_place ps ≡ p → boundary_by (as_boundary bs) ≡ y → location_by form.family (as_location os) ≡ o
+    → form_by form (as_condition cs) ≡ form_of form.family c → lacks_place form.family p ≡ false
+    → obtain_by form (six_said ls ss ps bs os cs) ≡ Ok (act (obtain l s p y o (form_of form.family c)))
+obtain_is form ls ss ps bs os cs l s p y o c a f b d e g h = rw (a, f, b, d, e, g, h) refl
 
-place_back : (p : Option Target) → as_place (option_map place p) ≡ p
-place_back None = refl
-place_back (Some p) = refl
+release_is : (form : Form) (ls ss ps bs os cs : Option Said) (l s a : Written) (c : Bool)
+    → as_value ls ≡ Some l → as_value ss ≡ Some s → as_value ps ≡ Some a → form_by form (as_condition cs) ≡ form_of form.family c
+    → release_by form (six_said ls ss ps bs os cs) ≡ Ok (act (release l a s (form_of form.family c)))
+release_is form ls ss ps bs os cs l s a c e f g h = rw (e, f, g, h) refl
+
+whole_is : (form : Form) (ss bs os cs : Option Said) (s : Written) (c : Bool) → as_value ss ≡ Some s → form_by form (as_condition cs) ≡ form_of form.family c
+    → has_whole form.family ≡ true → release_by form (six_said None ss None bs os cs) ≡ Ok (act (whole s (form_of form.family c)))
+whole_is form ss bs os cs s c e f g = rw (e, f, g) refl
 
 storage_obtain : (l : WrittenLength) (s : Written) (p : Option Target) (y : Boundary) (o : Location) (c : Bool) → IsLength l → IsValue s → IfSome p IsTarget
     → Operands (act (obtain l s p y o (form_of family.S c)))
 storage_obtain l s p y o c hl hs hp =
     let x = length_spelled l hl in
+    let u = value_spelled s hs in
+    let q = place_spelled p hp in
     let form : Form = form_of family.S false in
     form_operands _ operation.Storage (codes "OBTAIN") (obtaining (codes "OBTAIN") obtain_row family.S false)
-    (six_said x.said (Some (value s)) (option_map place p) (Some (boundary y)) (Some (location o)) (Some (condition c)))
+    (six_said x.said u.said q.said (Some (boundary y)) (Some (location o)) (Some (condition c)))
     (omega arith) (omega arith) refl (omega arith)
     (length_form (codes "OBTAIN") true form kind.Length kind.Place kind.Boundary kind.Location kind.Condition _ _ _ _ _ _
-    x.spelled (value_spelled s hs) (place_spelled p hp) (boundary_spelled y) (location_spelled o) (condition_spelled c))
-    refl (obtain_is form x.said (option_map place p) (Some (boundary y)) l s p y o (Some (location o)) (Some (condition c)) c x.is (place_back p) refl refl refl refl)
+    x.spelled u.spelled q.spelled (boundary_spelled y) (location_spelled o) (condition_spelled c))
+    refl (obtain_is form x.said u.said q.said (Some (boundary y)) (Some (location o)) (Some (condition c)) l s p y o c x.is u.is q.is refl refl refl refl)
 
 register_obtain : (l : WrittenLength) (s : Written) (p : Option Target) (y : Boundary) (o : Location) (c : Bool) → IsLength l → IsValue s
     → IsRegisterObtain l p y o c → Operands (act (obtain l s p y o (form_of family.R c)))
@@ -181,12 +183,14 @@ register_obtain (fixed v) s None Doubleword Caller c hl hs r = let e : Caller �
 register_obtain (fixed v) s None Doubleword Low true hl hs r = let e : true ≡ false = r.unconditional in cc
 register_obtain (fixed v) s None Doubleword Low false hl hs r =
     let form : Form = form_of family.R false in
+    let x = besides_0_spelled v hl (r.besides v refl) in
+    let u = value_spelled s hs in
     form_operands _ operation.Getmain (codes "R") (obtaining (codes "R") getmain.register_row family.R false)
-    (six_said (Some (value v)) (Some (value s)) None None None None)
+    (six_said x.said u.said None None None None)
     (omega arith) (omega arith) refl (omega arith)
     (lv_form (codes "R") true form kind.RegisterLength kind.OtherForm kind.OtherForm kind.OtherForm kind.OtherForm _ _ _ _ _ _
-    (besides_0_spelled v hl (r.besides v refl)) (value_spelled s hs) (unsaid 63 kind.OtherForm) (unsaid 63 kind.OtherForm) (unsaid 63 kind.OtherForm) (unsaid 63 kind.OtherForm))
-    refl refl
+    x.spelled u.spelled (unsaid 63 kind.OtherForm) (unsaid 63 kind.OtherForm) (unsaid 63 kind.OtherForm) (unsaid 63 kind.OtherForm))
+    refl (obtain_is form x.said u.said None None None None (fixed v) s None Doubleword Low false (one_length x.said v x.is) u.is refl refl refl refl refl)
 
 -- the word of a form that is conditional or not
 abbrev named_word : Bool → List ℕ
@@ -227,12 +231,16 @@ named_obtain (fixed v) s n y Either c hl hs hn single low = cc
 named_obtain (fixed v) s n y Caller c hl hs hn single low = cc
 named_obtain (fixed v) s n y Low c hl hs hn single low =
     let form : Form = form_of family.E c in
+    let x = fixed_spelled v hl in
+    let u = value_spelled s hs in
+    let q = named_place_spelled n hn in
     let w = lv_form (named_word c) true form kind.Value kind.NamedPlace kind.Boundary kind.OtherForm kind.OtherForm _ _ _ _ _ _
-    (fixed_spelled v hl) (value_spelled s hs) (named_place_spelled n hn) (boundary_spelled y) (unsaid 63 kind.OtherForm) (unsaid 63 kind.OtherForm) in
+    x.spelled u.spelled q.spelled (boundary_spelled y) (unsaid 63 kind.OtherForm) (unsaid 63 kind.OtherForm) in
     form_operands _ operation.Getmain (named_word c) (obtaining (named_word c) getmain.named_row family.E c)
-    (six_said (Some (value v)) (Some (value s)) (Some (place (in_name n))) (Some (boundary y)) None None)
+    (six_said x.said u.said q.said (Some (boundary y)) None None)
     (some_word c) (few_word c) (name_word c) (omega arith) w (leads_obtain c w.rest)
-    (ap (λ x. Ok (act (obtain (fixed v) s (Some (in_name n)) y Low x))) (same_form family.E c))
+    (obtain_is form x.said u.said q.said (Some (boundary y)) None None (fixed v) s (Some (in_name n)) y Low c (one_length x.said v x.is) u.is q.is refl refl
+    (same_form family.E c) refl)
 
 named_of : (l : WrittenLength) (s : Written) (p : Option Target) (y : Boundary) (o : Location) (c : Bool) → IsLength l → IsValue s → IfSome p IsTarget
     → IsNamedObtain l p o → Operands (act (obtain l s p y o (form_of family.E c)))
@@ -249,34 +257,46 @@ obtain_operands l s p y o family.E c hl hs hp r = named_of l s p y o c hl hs hp 
 -- what is released
 storage_release : (l a s : Written) (c : Bool) → IsValue l → IsValue a → IsValue s → Operands (act (release l a s (form_of family.S c)))
 storage_release l a s c hl ha hs =
+    let form : Form = form_of family.S false in
+    let x = fixed_spelled l hl in
+    let u = value_spelled s hs in
+    let q = value_spelled a ha in
     form_operands _ operation.Storage (codes "RELEASE") (releasing (codes "RELEASE") release_row family.S false)
-    (six_said (Some (value l)) (Some (value s)) (Some (value a)) None None (Some (condition c)))
+    (six_said x.said u.said q.said None None (Some (condition c)))
     (omega arith) (omega arith) refl (omega arith)
-    (length_form (codes "RELEASE") false (form_of family.S false) kind.Value kind.Value kind.OtherForm kind.OtherForm kind.Condition _ _ _ _ _ _
-    (fixed_spelled l hl) (value_spelled s hs) (value_spelled a ha) (unsaid 63 kind.OtherForm) (unsaid 63 kind.OtherForm) (condition_spelled c))
-    refl refl
+    (length_form (codes "RELEASE") false form kind.Value kind.Value kind.OtherForm kind.OtherForm kind.Condition _ _ _ _ _ _
+    x.spelled u.spelled q.spelled (unsaid 63 kind.OtherForm) (unsaid 63 kind.OtherForm) (condition_spelled c))
+    refl (release_is form x.said u.said q.said None None (Some (condition c)) l s a c x.is u.is q.is refl)
 
 register_release : (l a s : Written) (c : Bool) → IsValue l → IsValue a → IsValue s → is_register_0 l ≡ false → c ≡ false
     → Operands (act (release l a s (form_of family.R c)))
-register_release l a s true hl ha hs n u = cc
-register_release l a s false hl ha hs n u =
+register_release l a s true hl ha hs n e = cc
+register_release l a s false hl ha hs n e =
+    let form : Form = form_of family.R false in
+    let x = besides_0_spelled l hl n in
+    let u = value_spelled s hs in
+    let q = value_spelled a ha in
     form_operands _ operation.Freemain (codes "R") (releasing (codes "R") freemain.register_row family.R false)
-    (six_said (Some (value l)) (Some (value s)) (Some (value a)) None None None)
+    (six_said x.said u.said q.said None None None)
     (omega arith) (omega arith) refl (omega arith)
-    (lv_form (codes "R") false (form_of family.R false) kind.RegisterLength kind.Value kind.OtherForm kind.OtherForm kind.OtherForm _ _ _ _ _ _
-    (besides_0_spelled l hl n) (value_spelled s hs) (value_spelled a ha) (unsaid 63 kind.OtherForm) (unsaid 63 kind.OtherForm) (unsaid 63 kind.OtherForm))
-    refl refl
+    (lv_form (codes "R") false form kind.RegisterLength kind.Value kind.OtherForm kind.OtherForm kind.OtherForm _ _ _ _ _ _
+    x.spelled u.spelled q.spelled (unsaid 63 kind.OtherForm) (unsaid 63 kind.OtherForm) (unsaid 63 kind.OtherForm))
+    refl (release_is form x.said u.said q.said None None None l s a false x.is u.is q.is refl)
 
 named_release : (l a s : Written) (c : Bool) → IsValue l → IsValue a → IsValue s → is_named a ≡ true → Operands (act (release l a s (form_of family.E c)))
 named_release l (number n) s c hl ha hs e = cc
 named_release l (register n) s c hl ha hs e = cc
 named_release l (named n) s c hl ha hs e =
-    let w = lv_form (named_word c) false (form_of family.E c) kind.Value kind.NamedValue kind.OtherForm kind.OtherForm kind.OtherForm _ _ _ _ _ _
-    (fixed_spelled l hl) (value_spelled s hs) (named_value_spelled n ha) (unsaid 63 kind.OtherForm) (unsaid 63 kind.OtherForm) (unsaid 63 kind.OtherForm) in
+    let form : Form = form_of family.E c in
+    let x = fixed_spelled l hl in
+    let u = value_spelled s hs in
+    let q = named_value_spelled n ha in
+    let w = lv_form (named_word c) false form kind.Value kind.NamedValue kind.OtherForm kind.OtherForm kind.OtherForm _ _ _ _ _ _
+    x.spelled u.spelled q.spelled (unsaid 63 kind.OtherForm) (unsaid 63 kind.OtherForm) (unsaid 63 kind.OtherForm) in
     form_operands _ operation.Freemain (named_word c) (releasing (named_word c) freemain.named_row family.E c)
-    (six_said (Some (value l)) (Some (value s)) (Some (value (named n))) None None None)
+    (six_said x.said u.said q.said None None None)
     (some_word c) (few_word c) (name_word c) (omega arith) w (leads_release c w.rest)
-    (ap (λ x. Ok (act (release l (named n) s x))) (same_form family.E c))
+    (release_is form x.said u.said q.said None None None l s (named n) c x.is u.is q.is (same_form family.E c))
 
 release_operands : (l a s : Written) (f : Family) (c : Bool) → IsValue l → IsValue a → IsValue s → IsReleaseForm f l a c → Operands (act (release l a s (form_of f c)))
 release_operands l a s family.S c hl ha hs r = storage_release l a s c hl ha hs
@@ -286,20 +306,24 @@ release_operands l a s family.E c hl ha hs r = named_release l a s c hl ha hs r
 -- all of a subpool
 whole_operands : (s : Written) (f : Family) (c : Bool) → IsValue s → IsWholeForm f c → Operands (act (whole s (form_of f c)))
 whole_operands s family.S c hs r =
+    let form : Form = form_of family.S false in
+    let u = value_spelled s hs in
     form_operands _ operation.Storage (codes "RELEASE") (releasing (codes "RELEASE") release_row family.S false)
-    (six_said None (Some (value s)) None None None (Some (condition c)))
+    (six_said None u.said None None None (Some (condition c)))
     (omega arith) (omega arith) refl (omega arith)
-    (length_form (codes "RELEASE") false (form_of family.S false) kind.Value kind.Value kind.OtherForm kind.OtherForm kind.Condition _ _ _ _ _ _
-    (unsaid 129 kind.Value) (value_spelled s hs) (unsaid 63 kind.Value) (unsaid 63 kind.OtherForm) (unsaid 63 kind.OtherForm) (condition_spelled c))
-    refl refl
+    (length_form (codes "RELEASE") false form kind.Value kind.Value kind.OtherForm kind.OtherForm kind.Condition _ _ _ _ _ _
+    (unsaid 129 kind.Value) u.spelled (unsaid 63 kind.Value) (unsaid 63 kind.OtherForm) (unsaid 63 kind.OtherForm) (condition_spelled c))
+    refl (whole_is form u.said None None (Some (condition c)) s c u.is refl refl)
 whole_operands s family.R true hs r = cc
 whole_operands s family.R false hs r =
+    let form : Form = form_of family.R false in
+    let u = value_spelled s hs in
     form_operands _ operation.Freemain (codes "R") (releasing (codes "R") freemain.register_row family.R false)
-    (six_said None (Some (value s)) None None None None)
+    (six_said None u.said None None None None)
     (omega arith) (omega arith) refl (omega arith)
-    (lv_form (codes "R") false (form_of family.R false) kind.RegisterLength kind.Value kind.OtherForm kind.OtherForm kind.OtherForm _ _ _ _ _ _
-    (unsaid 129 kind.RegisterLength) (value_spelled s hs) (unsaid 63 kind.Value) (unsaid 63 kind.OtherForm) (unsaid 63 kind.OtherForm) (unsaid 63 kind.OtherForm))
-    refl refl
+    (lv_form (codes "R") false form kind.RegisterLength kind.Value kind.OtherForm kind.OtherForm kind.OtherForm _ _ _ _ _ _
+    (unsaid 129 kind.RegisterLength) u.spelled (unsaid 63 kind.Value) (unsaid 63 kind.OtherForm) (unsaid 63 kind.OtherForm) (unsaid 63 kind.OtherForm))
+    refl (whole_is form u.said None None None s false u.is refl refl)
 whole_operands s family.E c hs r = absurd r
 
 poke_operands : (a : Written) (c : Stored) → HasBytes c → IsValidAsked (act (poke a c)) → Operands (act (poke a c))

@@ -105,8 +105,8 @@ pub(crate) fn enclosed(text: &[u8]) -> &[u8]
     &text[1..text.len() - 1]
 }
 
-/// The register that a text spells.
-fn register_of(text: &[u8]) -> Option<u8>
+/// The register that a text spells, from 0 to 15. Nothing where it spells none.
+pub fn register_of(text: &[u8]) -> Option<u8>
     ensures value { result ≡ register_of text.now }
     ensures small { IfSome result (λ r. r < 16) }
 {
