@@ -10,7 +10,8 @@ ghost use Rattle.macro_operands.specs.Slots.{slots_in, slot, row_in, as_conditio
 ghost use Rattle.macro_statements.specs.Requests.{seen, length_in};
 ghost use Rattle.macro_statements.specs.Forms.{as_length, subpool_by, boundary_by, usual_location, location_by};
 ghost use Rattle.macro_statements.specs.Forms.{form_by, lacks_place, obtain_with, has_whole, release_with};
-ghost use Rattle.macro_statements.specs.Forms.{is_storage_row, obtain_by, release_by, asked_by, form_with, form_for, no_form_fault};
+ghost use Rattle.macro_statements.specs.Forms.{is_storage_row, obtain_by, release_by};
+ghost use Rattle.macro_statements.specs.Forms.{asked_by, form_with, form_for, no_form_fault};
 ghost use Rattle.macro_statements.specs.Forms.{macro_of};
 ghost use Rattle.macro_statements.specs.Slots.{form_in, macro_in};
 

@@ -25,7 +25,8 @@ abbrev pub extents_leaving : Subpools → Option Subpool → ℕ
 extents_leaving m None = 0
 extents_leaving m (Some p) = length (extents m p)
 
--- 32 elements are spare, 8 more for each of so many extents, and a frame for each page of the run; and these have tables
+-- 32 elements are spare, 8 more for each of so many extents, and a frame for each page of the run; and these have
+-- tables
 pub record IsSpareFor (p : Parts) (extents : ℕ) (fresh : Run) : Type 0 where
   pub elements : 32 + 8 * extents ≤ p.elements.spare
   pub frames : fresh.len ≤ p.region.spare
