@@ -248,15 +248,20 @@ or_zero None h = omega arith
 or_zero (Some v) h = h
 
 -- an area that is obtained
+obtain_some : (l : Option WrittenLength) (s : Written) (p : Option Target) (y : Boundary) (o : Location) (form : Form) (asked : Asked)
+    → IfSome l IsLength → IsValue s → IfSome p IsTarget → ((v : WrittenLength) → l ≡ Some v → IsObtainForm form.family v p y o form.conditional)
+    → obtain_with l s p y o form ≡ Ok asked → IsValidAsked asked
+obtain_some None s p y o form asked a b c d h = cc
+obtain_some (Some l) s p y o form asked a b c d h = let same : act (obtain l s p y o form) ≡ asked = cc in subst IsValidAsked same (a, b, c, d l refl)
+
 obtain_valid : (l : Option WrittenLength) (s : Written) (p : Option Target) (y : Boundary) (o : Location) (form : Form) (asked : Asked)
     → IfSome l IsLength → IsValue s → IfSome p IsTarget
     → ((v : WrittenLength) → l ≡ Some v → lacks_place form.family p ≡ false → IsObtainForm form.family v p y o form.conditional)
-    → obtain_with l s p y o form ≡ Ok asked → IsValidAsked asked
-obtain_valid None s p y o form asked a b c d h = cc
-obtain_valid (Some l) s p y o form asked a b c d h =
-    elim (lacks_place form.family p) as (λ x. lacks_place form.family p ≡ x → (if x then Err fault.Missing else Ok (act (obtain l s p y o form))) ≡ Ok asked → IsValidAsked asked) [
+    → (if lacks_place form.family p then Err fault.Missing else obtain_with l s p y o form) ≡ Ok asked → IsValidAsked asked
+obtain_valid l s p y o form asked a b c d h =
+    elim (lacks_place form.family p) as (λ x. lacks_place form.family p ≡ x → (if x then Err fault.Missing else obtain_with l s p y o form) ≡ Ok asked → IsValidAsked asked) [
       | true ↦ λ e k. cc
-      | false ↦ λ e k. (let same : act (obtain l s p y o form) ≡ asked = cc in subst IsValidAsked same (a, b, c, d l refl e))
+      | false ↦ λ e k. obtain_some l s p y o form asked a b c (λ v w. d v w e) k
     ] refl h
 
 -- an area that is released, or all of a subpool
