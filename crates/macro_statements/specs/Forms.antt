@@ -1,7 +1,7 @@
 -- The macros that obtain and release storage, STORAGE, GETMAIN and FREEMAIN: their forms, and what each asks for.
 use Rattle.std.specs.Prelude.{ℕ, Bool, true, false, ◌&&◌, ◌||◌, ◌==◌, if◌then◌else◌, List, [], ◌∷◌, length}
 use Rattle.std.specs.Prelude.{Option, Some, None, Result, Ok, Err, codes, unwrap_or}
-use Rattle.std.specs.List.{list_any, list_all}
+use Rattle.std.specs.List.{list_any}
 use Rattle.operand_texts.specs.Words.{is_word}
 use Rattle.operand_texts.specs.Written.{Written, number, Target}
 use Rattle.macro_operands.specs.Rows.{keyword, entry, Row}
@@ -129,15 +129,12 @@ release_with None None (Some subpool) form =
     if has_whole form.family then Ok (act (whole subpool form)) else Err fault.Missing
 
 -- What a form asks for by what its operands say, in the order of `storage_row`.
-abbrev pub area_by : Form → Slots → Result Asked FaultKind
-area_by form slots =
-    obtain_with (as_length (slot slots 0)) (subpool_by (as_value (slot slots 1))) (as_place (slot slots 2))
-    (boundary_by (as_boundary (slot slots 3))) (location_by form.family (as_location (slot slots 4)))
-    (form_by form (as_condition (slot slots 5)))
-
 abbrev pub obtain_by : Form → Slots → Result Asked FaultKind
 obtain_by form slots =
-    if lacks_place form.family (as_place (slot slots 2)) then Err fault.Missing else area_by form slots
+    if lacks_place form.family (as_place (slot slots 2)) then Err fault.Missing
+    else obtain_with (as_length (slot slots 0)) (subpool_by (as_value (slot slots 1))) (as_place (slot slots 2))
+    (boundary_by (as_boundary (slot slots 3))) (location_by form.family (as_location (slot slots 4)))
+    (form_by form (as_condition (slot slots 5)))
 
 abbrev pub release_by : Form → Slots → Result Asked FaultKind
 release_by form slots =

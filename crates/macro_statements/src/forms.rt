@@ -1,6 +1,6 @@
 //! The macros that obtain and release storage, STORAGE, GETMAIN and FREEMAIN: their forms, and what each asks for.
 
-ghost use Rattle.std.specs.Prelude.{◌≡◌, ◌<◌, IsTrue, None, length, map};
+ghost use Rattle.std.specs.Prelude.{◌≡◌, ◌<◌, IsTrue, IfOk, IfErr, None, Err, length, map};
 ghost use Rattle.std.specs.List.{list_all, list_any};
 ghost use Rattle.std.specs.Option.{option_copied, option_map};
 ghost use Rattle.operand_texts.specs.Field.{operands, operands_behind};
@@ -8,9 +8,9 @@ ghost use Rattle.operand_texts.specs.Words.{is_word};
 ghost use Rattle.operand_texts.specs.Written.{written_in};
 ghost use Rattle.macro_operands.specs.Slots.{slots_in, slot, row_in, as_value, as_place, as_condition};
 ghost use Rattle.macro_statements.specs.Requests.{seen, length_in};
-ghost use Rattle.macro_statements.specs.Forms.{as_length, subpool_by, usual_location, form_by, area_by};
+ghost use Rattle.macro_statements.specs.Forms.{as_length, subpool_by, usual_location, form_by};
 ghost use Rattle.macro_statements.specs.Forms.{lacks_place, has_whole, release_with, is_storage_row};
-ghost use Rattle.macro_statements.specs.Forms.{obtain_by, release_by, asked_by, form_with, form_for, no_form_fault};
+ghost use Rattle.macro_statements.specs.Forms.{obtain_by, release_by, form_with, form_for, no_form_fault};
 ghost use Rattle.macro_statements.specs.Forms.{macro_of};
 ghost use Rattle.macro_statements.specs.Slots.{form_in, macro_in};
 
@@ -187,11 +187,14 @@ fn has_whole(family: Family) -> bool
     }
 }
 
-/// What a form that obtains storage asks for by what was read, where it doesn't lack a place for the address.
-fn area_by(form: Form, said: &[Option<Said>]) -> Result<Request, FaultKind>
+/// What a form that obtains storage asks for by what was read.
+fn obtain_by(form: Form, said: &[Option<Said>]) -> Result<Request, FaultKind>
     requires { length said.now ≡ 9 }
-    ensures { seen result ≡ area_by form (slots_in said.now) }
+    ensures { seen result ≡ obtain_by form (slots_in said.now) }
 {
+    if lacks_place(form.family, said, 2) {
+        return Err(FaultKind::Missing);
+    }
     let Some(length) = length_at(said, 0) else {
         return Err(FaultKind::Missing);
     };
@@ -205,19 +208,8 @@ fn area_by(form: Form, said: &[Option<Said>]) -> Result<Request, FaultKind>
     }))
 }
 
-/// What a form that obtains storage asks for by what was read.
-fn obtain_by(form: Form, said: &[Option<Said>]) -> Result<Request, FaultKind>
-    requires { length said.now ≡ 9 }
-    ensures { seen result ≡ obtain_by form (slots_in said.now) }
-{
-    if lacks_place(form.family, said, 2) {
-        Err(FaultKind::Missing)
-    } else {
-        area_by(form, said)
-    }
-}
-
 /// What a form that releases storage asks for by what was read, where that is no length: all of a subpool.
+#[inline(never)]
 fn whole_by(form: Form, said: &[Option<Said>]) -> Result<Request, FaultKind>
     requires { length said.now ≡ 9 }
     ensures { seen result ≡ release_with None (as_value (slot (slots_in said.now) 2))
@@ -255,32 +247,6 @@ fn release_by(form: Form, said: &[Option<Said>]) -> Result<Request, FaultKind>
     }))
 }
 
-/// What a form asks for by what was read.
-fn asked_by(form: &StorageForm, said: &[Option<Said>]) -> Result<Request, FaultKind>
-    requires { length said.now ≡ 9 }
-    ensures { seen result ≡ asked_by (form_in form.now) (slots_in said.now) }
-{
-    if form.obtains {
-        obtain_by(form.form, said)
-    } else {
-        release_by(form.form, said)
-    }
-}
-
-/// A form with the operands behind its word.
-fn form_with(form: &StorageForm, text: Option<&[u8]>) -> Result<Request, FaultKind>
-    requires { IsTrue (is_storage_row (row_in form.now.row.now)) }
-    ensures { seen result ≡ form_with (form_in form.now) (operands_behind (option_copied text.entry)) }
-{
-    let mut said = [
-        NOTHING, NOTHING, NOTHING, NOTHING, NOTHING, NOTHING, NOTHING, NOTHING, NOTHING,
-    ];
-    match read(form.row, text, &mut said) {
-        Ok(said) => asked_by(form, said),
-        Err(fault) => Err(fault),
-    }
-}
-
 /// The form of a word, in either case.
 fn form_for<'a>(forms: &'a [StorageForm], word: &[u8]) -> Option<&'a StorageForm>
     ensures { option_map (λ f. form_in f.now) result ≡ form_for (map form_in forms.now) word.now }
@@ -316,17 +282,40 @@ fn no_form_fault(left_out: &[&[u8]], word: &[u8]) -> FaultKind
     }
 }
 
-/// A macro with its operand field, whose first operand is a form's word.
-pub(crate) fn request_of(storage_macro: &StorageMacro, field: &[u8]) -> Result<Request, FaultKind>
+/// The form that a field's first operand says, and the operands behind it, or what is wrong with that operand.
+fn form_in_field<'a>(
+    storage_macro: &StorageMacro,
+    field: &'a [u8],
+) -> Result<(&'static StorageForm, Option<&'a [u8]>), FaultKind>
     requires { IsTrue (list_all (λ f. is_storage_row f.row) (macro_in storage_macro.now).forms) }
-    ensures { seen result ≡ macro_of (macro_in storage_macro.now) (operands field.now) }
+    ensures row { IfOk result (λ r. IsTrue (is_storage_row (row_in r.0.now.row.now))) }
+    ensures form { IfOk result (λ r. macro_of (macro_in storage_macro.now) (operands field.now)
+        ≡ form_with (form_in r.0.now) (operands_behind (option_copied r.1))) }
+    ensures fault { IfErr result (λ wrong. macro_of (macro_in storage_macro.now) (operands field.now) ≡ Err wrong) }
 {
     if field.is_empty() {
         return Err(FaultKind::Missing);
     }
     let (word, behind) = split(field);
     match form_for(storage_macro.forms, word) {
-        Some(form) => form_with(form, behind),
+        Some(form) => Ok((form, behind)),
         None => Err(no_form_fault(storage_macro.left_out, word)),
+    }
+}
+
+/// A macro with its operand field, whose first operand is a form's word.
+pub(crate) fn request_of(storage_macro: &StorageMacro, field: &[u8]) -> Result<Request, FaultKind>
+    requires { IsTrue (list_all (λ f. is_storage_row f.row) (macro_in storage_macro.now).forms) }
+    ensures { seen result ≡ macro_of (macro_in storage_macro.now) (operands field.now) }
+{
+    let (form, behind) = form_in_field(storage_macro, field)?;
+    let mut said = [
+        NOTHING, NOTHING, NOTHING, NOTHING, NOTHING, NOTHING, NOTHING, NOTHING, NOTHING,
+    ];
+    let said = read(form.row, behind, &mut said)?;
+    if form.obtains {
+        obtain_by(form.form, said)
+    } else {
+        release_by(form.form, said)
     }
 }
