@@ -1,17 +1,16 @@
 -- A text for each pair of values, which can stand as an operand and is no value.
-use Rattle.std.proofs.Common.{◌≡◌, ℕ, ◌+◌, ◌-◌, ◌≤◌, ◌==◌, Bool, true, false, ◌&&◌, List, [], ◌∷◌, ◌++◌, length, map, Option, Some, None, nat_le, nat_lt, ◌^◌, if◌then◌else◌, slice_index, slice_range, arith, refl, ap, ◌∙◌}
+use Rattle.std.proofs.Common.{◌≡◌, ℕ, ◌+◌, ◌-◌, ◌≤◌, ◌==◌, Bool, true, false, ◌&&◌, List, [], ◌∷◌, ◌++◌, length, Some, None, nat_le, nat_lt, ◌^◌, if◌then◌else◌, slice_index, arith, refl, ap, ◌∙◌}
 use Rattle.std.specs.Option.{option_map}
-use Rattle.std.specs.Char.{to_ascii_uppercase, digit_value}
-use Rattle.std.specs.List.{AllByRecursion, list_all}
+use Rattle.std.specs.Char.{to_ascii_uppercase}
+use Rattle.std.specs.List.{list_all}
 use Rattle.std.specs.Str.Parse.{digits_value}
 use Rattle.std.proofs.lemmas.Bool.Decides.{nat_tests}
 use Rattle.std.proofs.lemmas.List.{length_push, length-append}
-use Rattle.operand_texts.specs.Field.{outside, is_balanced, operands_from}
 use Rattle.operand_texts.specs.Words.{is_name, is_name_byte}
 use Rattle.operand_texts.specs.Written.{Written, IsValue}
-use Rattle.operand_texts.specs.Values.{is_quoted, number_of, register_number, without_r, is_enclosed, enclosed, register_of, value_of, two_of, parts_of}
-use Rattle.operand_texts.proofs.OperandTexts.{Goes, IsOperand, goes_append, joined, balanced_joined, split_joined}
-use Rattle.operand_texts.proofs.ValueTexts.{ValueText, value_text_of, goes_enclosed}
+use Rattle.operand_texts.specs.Values.{is_quoted, number_of, register_number, without_r, is_enclosed, enclosed, register_of, value_of, parts_of}
+use Rattle.operand_texts.proofs.OperandTexts.{IsOperand, goes_append, balanced_joined, split_joined}
+use Rattle.operand_texts.proofs.ValueTexts.{value_text_of, goes_enclosed}
 use Rattle.operand_texts.proofs.SpelledBytes.{last_is, front_is, all_both}
 use Rattle.macro_operands.specs.Lengths.{both_of, pair_in, pair_of}
 use Rattle.macro_operands.specs.Said.{name, register, other_said, value_said}

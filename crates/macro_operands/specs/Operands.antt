@@ -3,8 +3,8 @@ use Rattle.std.specs.Prelude.{ℕ, ◌+◌, Bool, false, if◌then◌else◌, Li
 use Rattle.std.specs.Prelude.{option_and_then}
 use Rattle.std.specs.List.{list_any}
 use Rattle.std.specs.Str.{bytes_eq}
-use Rattle.operand_texts.specs.Values.{value_of, target_of}
-use Rattle.operand_texts.specs.Written.{Written, Target}
+use Rattle.operand_texts.specs.Values.{value_of}
+use Rattle.operand_texts.specs.Written.{Written}
 use Rattle.macro_operands.specs.Rows.{Key, position, keyword, same_key, is_among, Entry, Row}
 use Rattle.macro_operands.specs.Keywords.{Operand, operand_at}
 use Rattle.macro_operands.specs.Said.{value_fault}
@@ -89,7 +89,3 @@ text_at key texts = text_from key 0 texts
 -- The value of the operand that has this key.
 abbrev pub value_at : Key → List (List ℕ) → Option Written
 value_at key texts = option_and_then value_of (text_at key texts)
-
--- The place of the operand that has this key.
-abbrev pub target_at : Key → List (List ℕ) → Option Target
-target_at key texts = option_and_then target_of (text_at key texts)

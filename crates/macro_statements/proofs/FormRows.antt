@@ -1,5 +1,5 @@
 -- The rows of a macro's forms are of the shape that its slots have.
-use Rattle.std.proofs.Common.{◌≡◌, ℕ, ◌==◌, ◌&&◌, ◌||◌, Bool, true, false, List, [], ◌∷◌, length, Option, Some, None, if◌then◌else◌, refl, sym, ap, ◌∙◌, eqb-true}
+use Rattle.std.proofs.Common.{◌≡◌, ℕ, ◌==◌, ◌&&◌, ◌||◌, Bool, true, false, List, [], ◌∷◌, length, Some, None, if◌then◌else◌, refl, sym, ap, ◌∙◌, eqb-true}
 use Rattle.std.specs.List.{list_all}
 use Rattle.operand_texts.specs.Words.{is_word}
 use Rattle.macro_operands.specs.Rows.{Entry, Row}

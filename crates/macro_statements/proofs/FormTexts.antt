@@ -1,5 +1,5 @@
 -- A text for each operand that a valid request of STORAGE, GETMAIN or FREEMAIN has, and what they are read as together.
-use Rattle.std.proofs.Common.{◌≡◌, ℕ, ◌+◌, ◌*◌, ◌≤◌, ◌==◌, Bool, true, false, ◌&&◌, List, [], ◌∷◌, length, map, Option, Some, None, Result, Ok, is_some, codes, option_and_then, nat_le, slice_index, if◌then◌else◌, arith, refl, ap, ◌∙◌}
+use Rattle.std.proofs.Common.{◌≡◌, ℕ, ◌+◌, ◌≤◌, Bool, true, false, ◌&&◌, List, [], ◌∷◌, length, map, Option, Some, None, is_some, codes, option_and_then, nat_le, slice_index, if◌then◌else◌, arith, refl, ap, ◌∙◌}
 use Rattle.std.specs.List.{AllByRecursion, list_all}
 use Rattle.std.proofs.lemmas.Bool.Decides.{nat_tests}
 use Rattle.std.specs.Option.{IfSome, option_map}
@@ -8,24 +8,21 @@ use Rattle.std.proofs.lemmas.List.{length-append}
 use Rattle.std.proofs.lemmas.Slice.Eq.{bytes_eq-Decides}
 use Rattle.operand_texts.specs.Field.{outside}
 use Rattle.operand_texts.specs.Words.{is_letter, is_name_byte, is_name, is_word}
-use Rattle.operand_texts.specs.Written.{Written, number, named, register, Target, in_name, in_register, is_upper_name, IsValue, IsTarget}
-use Rattle.operand_texts.specs.Values.{value_of, target_of}
+use Rattle.operand_texts.specs.Written.{Written, named, Target, in_name, is_upper_name, IsValue, IsTarget}
 use Rattle.operand_texts.proofs.OperandTexts.{IsOperand, goes_plain, plain_name, joined}
 use Rattle.operand_texts.proofs.ValueTexts.{value_text_of, place_text_of}
-use Rattle.macro_operands.specs.Rows.{Key, position, keyword, is_among, Entry, entry, Row}
-use Rattle.macro_operands.specs.Operands.{entry_for, is_excluded, first_fault, unless_fault}
-use Rattle.macro_operands.specs.Locations.{boundary_of, location_of}
-use Rattle.macro_operands.specs.Lengths.{pair_of, is_register_0, name_of}
-use Rattle.macro_operands.specs.Said.{Said, name, pair, condition, boundary, location, value_said, place_said, name_said, unless_register_0, said_of, pair_said, value_or_pair, condition_of}
+use Rattle.macro_operands.specs.Rows.{Key, keyword, is_among, Entry, entry, Row}
+use Rattle.macro_operands.specs.Operands.{entry_for, is_excluded, unless_fault}
+use Rattle.macro_operands.specs.Lengths.{is_register_0, name_of}
+use Rattle.macro_operands.specs.Said.{Said, name, pair, condition, boundary, location, value_said, place_said, name_said, said_of, value_or_pair}
 use Rattle.macro_operands.specs.Slots.{Slots, readings, as_value, as_pair, as_place}
 use Rattle.macro_operands.specs.declared.rows.Kind.{Kind}
 use Rattle.macro_operands.specs.declared.rows.Kind.TheVariants as kind
-use Rattle.macro_operands.specs.declared.faults.FaultKind.{FaultKind}
 use Rattle.macro_operands.proofs.PairTexts.{pair_text_of}
 use Rattle.macro_operands.proofs.ReadValues.{value_kept, no_pair, some_kept, place_kept, some_place_kept, besides_kept}
 use Rattle.macro_operands.proofs.WrittenOperands.{keyed, Item, item, operand_text, Fits, AllFit, no_fault_from, lookup, stand, AllFew, long_first, read_back}
 use Rattle.macro_operands.proofs.WrittenOperands as operands
-use Rattle.macro_statements.specs.Requests.{WrittenLength, fixed, between, IsLength, Asked}
+use Rattle.macro_statements.specs.Requests.{WrittenLength, fixed, between, IsLength}
 use Rattle.macro_statements.specs.Forms.{storage_row, StorageForm, asked_by, form_with, as_length, either_length}
 use Rattle.macro_statements.specs.declared.requests.Form.{Form}
 use Rattle.vsm_model.specs.declared.services.Boundary.{Boundary}

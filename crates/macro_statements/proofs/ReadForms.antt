@@ -1,5 +1,5 @@
 -- What is read by a form of STORAGE, GETMAIN or FREEMAIN is valid.
-use Rattle.std.proofs.Common.{◌≡◌, ℕ, ◌^◌, ◌<◌, ◌==◌, Bool, true, false, ◌&&◌, ◌||◌, List, [], ◌∷◌, length, map, Option, Some, None, Result, Ok, Err, is_some, codes, unwrap_or, option_and_then, if◌then◌else◌, arith, refl, ap, sym, subst, ◌∙◌}
+use Rattle.std.proofs.Common.{◌≡◌, ℕ, ◌<◌, ◌==◌, Bool, true, false, List, [], ◌∷◌, map, Option, Some, None, Result, Ok, Err, is_some, codes, unwrap_or, option_and_then, if◌then◌else◌, arith, refl, ap, sym, subst, ◌∙◌}
 use Rattle.std.specs.Option.{IfSome, option_map}
 use Rattle.std.specs.Char.{to_ascii_uppercase}
 use Rattle.operand_texts.specs.Words.{is_name, is_word}
@@ -7,7 +7,7 @@ use Rattle.operand_texts.specs.Written as written
 use Rattle.operand_texts.specs.Written.{Written, Target, in_name, in_register, IsValue, IsTarget}
 use Rattle.operand_texts.specs.Values.{value_of, target_of, parts_of}
 use Rattle.operand_texts.proofs.Spelling.{spelled_is_valid, spelled_place_is_valid, upper_named}
-use Rattle.macro_operands.specs.Rows.{keyword, Row}
+use Rattle.macro_operands.specs.Rows.{keyword}
 use Rattle.macro_operands.specs.Operands.{first_fault, unless_fault, text_at}
 use Rattle.macro_operands.specs.Lengths.{both_of, pair_in, pair_of, is_register_0, is_named, name_of}
 use Rattle.macro_operands.specs.Said.{Said, number, register, name, pair, condition, content, size, count, boundary, location, anything, said_of, value_said, pair_said, value_or_pair, unless_register_0}
@@ -17,15 +17,14 @@ use Rattle.macro_operands.specs.declared.rows.Kind.{Kind}
 use Rattle.macro_operands.specs.declared.rows.Kind.TheVariants as kind
 use Rattle.macro_operands.specs.declared.faults.FaultKind.{FaultKind}
 use Rattle.macro_operands.specs.declared.faults.FaultKind.TheVariants as fault
-use Rattle.macro_statements.specs.Requests.{WrittenLength, fixed, between, IsLength, is_fixed, obtain, release, whole, Asked, act, IsObtainForm, IsReleaseForm, IsWholeForm, IsValidAsked}
-use Rattle.macro_statements.specs.Forms.{storage_row, StorageForm, obtaining, releasing, StorageMacro, either_length, as_length, subpool_by, lacks_place, obtain_with, has_whole, release_with, asked_by, form_with, form_for, no_form_fault, with_form, macro_of, boundary_by, location_by, form_by}
+use Rattle.macro_statements.specs.Requests.{WrittenLength, fixed, IsLength, is_fixed, obtain, release, whole, Asked, act, IsObtainForm, IsReleaseForm, IsWholeForm, IsValidAsked}
+use Rattle.macro_statements.specs.Forms.{storage_row, StorageForm, obtaining, releasing, StorageMacro, either_length, as_length, subpool_by, lacks_place, obtain_with, has_whole, release_with, asked_by, form_with, form_for, with_form, macro_of, boundary_by, location_by, form_by}
 use Rattle.macro_statements.specs.declared.requests.Form.{Form}
 use Rattle.vsm_model.specs.declared.causes.Family.{Family}
 use Rattle.vsm_model.specs.declared.causes.Family.TheVariants as family
 use Rattle.vsm_model.specs.declared.services.Boundary.{Boundary}
 use Rattle.vsm_model.specs.declared.services.Boundary.TheVariants.{Doubleword}
 use Rattle.vsm_model.specs.declared.services.Location.{Location}
-use Rattle.vsm_model.specs.declared.services.Location.TheVariants.{Low}
 
 -- what an operand says, by its kind
 abbrev pub read : Kind → Option (List ℕ) → Option Said
@@ -248,15 +247,20 @@ or_zero None h = omega arith
 or_zero (Some v) h = h
 
 -- an area that is obtained
+obtain_some : (l : Option WrittenLength) (s : Written) (p : Option Target) (y : Boundary) (o : Location) (form : Form) (asked : Asked)
+    → IfSome l IsLength → IsValue s → IfSome p IsTarget → ((v : WrittenLength) → l ≡ Some v → IsObtainForm form.family v p y o form.conditional)
+    → obtain_with l s p y o form ≡ Ok asked → IsValidAsked asked
+obtain_some None s p y o form asked a b c d h = cc
+obtain_some (Some l) s p y o form asked a b c d h = let same : act (obtain l s p y o form) ≡ asked = cc in subst IsValidAsked same (a, b, c, d l refl)
+
 obtain_valid : (l : Option WrittenLength) (s : Written) (p : Option Target) (y : Boundary) (o : Location) (form : Form) (asked : Asked)
     → IfSome l IsLength → IsValue s → IfSome p IsTarget
     → ((v : WrittenLength) → l ≡ Some v → lacks_place form.family p ≡ false → IsObtainForm form.family v p y o form.conditional)
-    → obtain_with l s p y o form ≡ Ok asked → IsValidAsked asked
-obtain_valid None s p y o form asked a b c d h = cc
-obtain_valid (Some l) s p y o form asked a b c d h =
-    elim (lacks_place form.family p) as (λ x. lacks_place form.family p ≡ x → (if x then Err fault.Missing else Ok (act (obtain l s p y o form))) ≡ Ok asked → IsValidAsked asked) [
+    → (if lacks_place form.family p then Err fault.Missing else obtain_with l s p y o form) ≡ Ok asked → IsValidAsked asked
+obtain_valid l s p y o form asked a b c d h =
+    elim (lacks_place form.family p) as (λ x. lacks_place form.family p ≡ x → (if x then Err fault.Missing else obtain_with l s p y o form) ≡ Ok asked → IsValidAsked asked) [
       | true ↦ λ e k. cc
-      | false ↦ λ e k. (let same : act (obtain l s p y o form) ≡ asked = cc in subst IsValidAsked same (a, b, c, d l refl e))
+      | false ↦ λ e k. obtain_some l s p y o form asked a b c (λ v w. d v w e) k
     ] refl h
 
 -- an area that is released, or all of a subpool

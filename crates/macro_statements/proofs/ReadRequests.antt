@@ -1,10 +1,9 @@
 -- What each statement asks for by what was read is what its operands ask for.
-use Rattle.std.proofs.Common.{◌≡◌, ℕ, Bool, true, false, List, Option, Some, None, is_some, Result, if◌then◌else◌, codes, unwrap_or, option_and_then, refl, ap, ◌∙◌, sym}
+use Rattle.std.proofs.Common.{◌≡◌, ℕ, List, Option, Some, None, is_some, Result, if◌then◌else◌, option_and_then, refl, ap, ◌∙◌, sym}
 use Rattle.std.specs.Option.{option_map}
-use Rattle.operand_texts.specs.Words.{is_word}
-use Rattle.operand_texts.specs.Written.{Written, number, Target, Stored}
-use Rattle.operand_texts.specs.Values.{number_of, value_of, target_of, content_of, size_of}
-use Rattle.macro_operands.specs.Rows.{position, keyword}
+use Rattle.operand_texts.specs.Written.{Stored}
+use Rattle.operand_texts.specs.Values.{number_of, value_of, content_of, size_of}
+use Rattle.macro_operands.specs.Rows.{position}
 use Rattle.macro_operands.specs.Operands.{first_fault, text_at, value_at, unless_fault}
 use Rattle.macro_operands.proofs.ReadValues.{value_kept}
 use Rattle.macro_statements.specs.Poke.{poke_row, poke_of, poke_with}

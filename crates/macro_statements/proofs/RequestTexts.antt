@@ -1,25 +1,24 @@
 -- The requests that operand fields spell are those that are valid.
-use Rattle.std.proofs.Common.{◌≡◌, ℕ, suc, ◌^◌, ◌<◌, ◌≤◌, ◌↔◌, ◌==◌, Bool, true, false, ◌&&◌, ◌||◌, List, [], ◌∷◌, length, map, Option, Some, None, Result, Ok, Err, is_some, nat_le, codes, unwrap_or, option_and_then, if◌then◌else◌, decimal, arith, refl, ap, sym, subst, ◌∙◌, ◌+◌}
+use Rattle.std.proofs.Common.{◌≡◌, ℕ, suc, ◌^◌, ◌<◌, ◌≤◌, ◌↔◌, ◌==◌, Bool, true, false, ◌&&◌, ◌||◌, List, [], ◌∷◌, length, Option, Some, None, Result, Ok, Err, is_some, nat_le, codes, option_and_then, if◌then◌else◌, decimal, arith, refl, ap, sym, subst, ◌∙◌, ◌+◌}
 use Rattle.std.specs.List.{AllByRecursion}
 use Rattle.std.specs.Option.{IfSome, option_map}
 use Rattle.std.specs.Prelude.{IfOk}
 use Rattle.std.proofs.lemmas.Bool.Decides.{nat_tests}
 use Rattle.std.proofs.lemmas.List.{length-append}
 use Rattle.operand_texts.specs.Field.{outside, is_balanced, operands}
-use Rattle.operand_texts.specs.Words.{is_name, is_word}
+use Rattle.operand_texts.specs.Words.{is_name}
 use Rattle.operand_texts.specs.Written.{Written, number, named, register, Target, in_name, in_register, Stored, spelled, word, is_upper_name, IsValue, IsTarget, IsStored, HasBytes}
 use Rattle.operand_texts.specs.Values.{number_of, value_of, content_of, within_size, size_of}
-use Rattle.macro_operands.specs.Rows.{Key, position, keyword, is_among, Entry, entry, Row}
+use Rattle.macro_operands.specs.Rows.{Key, position, is_among, Entry, entry, Row}
 use Rattle.macro_operands.specs.Operands.{entry_for, is_excluded, first_fault, text_at, value_at, unless_fault}
 use Rattle.macro_operands.specs.Lengths.{is_register_0, is_named}
 use Rattle.macro_operands.specs.Said.{Said, said_of, value_said, content, size, count, boundary, location, condition}
 use Rattle.macro_operands.specs.Slots.{Slots, as_value, as_place, as_boundary, as_location, as_condition}
 use Rattle.macro_operands.specs.declared.faults.FaultKind.{FaultKind}
 use Rattle.macro_operands.specs.declared.faults.FaultKind.TheVariants as fault
-use Rattle.macro_operands.specs.declared.rows.Kind.{Kind}
 use Rattle.macro_operands.specs.declared.rows.Kind.TheVariants as kind
 use Rattle.macro_statements.specs.Requests.{WrittenLength, fixed, between, IsLength, is_fixed, obtain, release, whole, poke, Asked, act, peek, back, forward, IsRegisterObtain, IsNamedObtain, IsObtainForm, IsReleaseForm, IsWholeForm, IsValidAsked, AskedHasBytes, HasRoom, seen, asked_in}
-use Rattle.macro_statements.specs.Forms.{StorageForm, obtaining, releasing, lacks_place, obtain_with, obtain_by, has_whole, release_by, asked_by, form_with, boundary_by, location_by, form_by, as_length}
+use Rattle.macro_statements.specs.Forms.{StorageForm, obtaining, releasing, lacks_place, obtain_by, has_whole, release_by, asked_by, form_with, boundary_by, location_by, form_by, as_length}
 use Rattle.macro_statements.specs.Storage.{obtain_row, release_row, storage_macro}
 use Rattle.macro_statements.specs.Getmain as getmain
 use Rattle.macro_statements.specs.Getmain.{getmain_macro}

@@ -1,7 +1,7 @@
 -- The macros that obtain and release storage, STORAGE, GETMAIN and FREEMAIN: their forms, and what each asks for.
 use Rattle.std.specs.Prelude.{ℕ, Bool, true, false, ◌&&◌, ◌||◌, ◌==◌, if◌then◌else◌, List, [], ◌∷◌, length}
 use Rattle.std.specs.Prelude.{Option, Some, None, Result, Ok, Err, codes, unwrap_or}
-use Rattle.std.specs.List.{list_any, list_all}
+use Rattle.std.specs.List.{list_any}
 use Rattle.operand_texts.specs.Words.{is_word}
 use Rattle.operand_texts.specs.Written.{Written, number, Target}
 use Rattle.macro_operands.specs.Rows.{keyword, entry, Row}
@@ -99,20 +99,19 @@ location_by f location = unwrap_or location (usual_location f)
 abbrev pub form_by : Form → Bool → Form
 form_by form condition = record { family = form.family; conditional = form.conditional || condition }
 
--- The forms of the family E have a place for the address.
+-- The forms of the family E require a place for the address.
 abbrev pub lacks_place : Family → Option Target → Bool
 lacks_place family.S target = false
 lacks_place family.R target = false
 lacks_place family.E None = true
 lacks_place family.E (Some target) = false
 
--- The length is required, and in the family E the place for the address.
+-- The length is required.
 abbrev pub obtain_with : Option WrittenLength → Written → Option Target → Boundary → Location → Form
     → Result Asked FaultKind
 obtain_with None subpool target boundary location form = Err fault.Missing
 obtain_with (Some length) subpool target boundary location form =
-    if lacks_place form.family target then Err fault.Missing
-    else Ok (act (obtain length subpool target boundary location form))
+    Ok (act (obtain length subpool target boundary location form))
 
 -- All of a subpool can be released by the families S and R.
 abbrev pub has_whole : Family → Bool
@@ -132,7 +131,8 @@ release_with None None (Some subpool) form =
 -- What a form asks for by what its operands say, in the order of `storage_row`.
 abbrev pub obtain_by : Form → Slots → Result Asked FaultKind
 obtain_by form slots =
-    obtain_with (as_length (slot slots 0)) (subpool_by (as_value (slot slots 1))) (as_place (slot slots 2))
+    if lacks_place form.family (as_place (slot slots 2)) then Err fault.Missing
+    else obtain_with (as_length (slot slots 0)) (subpool_by (as_value (slot slots 1))) (as_place (slot slots 2))
     (boundary_by (as_boundary (slot slots 3))) (location_by form.family (as_location (slot slots 4)))
     (form_by form (as_condition (slot slots 5)))
 

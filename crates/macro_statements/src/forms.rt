@@ -1,17 +1,16 @@
 //! The macros that obtain and release storage, STORAGE, GETMAIN and FREEMAIN: their forms, and what each asks for.
 
-ghost use Rattle.std.specs.Prelude.{◌≡◌, ◌<◌, IsTrue, None, length, map};
+ghost use Rattle.std.specs.Prelude.{◌≡◌, ◌<◌, IsTrue, IfOk, IfErr, None, Err, length, map};
 ghost use Rattle.std.specs.List.{list_all, list_any};
 ghost use Rattle.std.specs.Option.{option_copied, option_map};
 ghost use Rattle.operand_texts.specs.Field.{operands, operands_behind};
 ghost use Rattle.operand_texts.specs.Words.{is_word};
-ghost use Rattle.operand_texts.specs.Written.{written_in, target_in};
-ghost use Rattle.macro_operands.specs.Slots.{slots_in, slot, row_in, as_condition};
+ghost use Rattle.operand_texts.specs.Written.{written_in};
+ghost use Rattle.macro_operands.specs.Slots.{slots_in, slot, row_in, as_value, as_place, as_condition};
 ghost use Rattle.macro_statements.specs.Requests.{seen, length_in};
-ghost use Rattle.macro_statements.specs.Forms.{as_length, subpool_by, boundary_by, usual_location, location_by};
-ghost use Rattle.macro_statements.specs.Forms.{form_by, lacks_place, obtain_with, has_whole, release_with};
-ghost use Rattle.macro_statements.specs.Forms.{is_storage_row, obtain_by, release_by};
-ghost use Rattle.macro_statements.specs.Forms.{asked_by, form_with, form_for, no_form_fault};
+ghost use Rattle.macro_statements.specs.Forms.{as_length, subpool_by, usual_location, form_by};
+ghost use Rattle.macro_statements.specs.Forms.{lacks_place, has_whole, release_with, is_storage_row};
+ghost use Rattle.macro_statements.specs.Forms.{obtain_by, release_by, form_with, form_for, no_form_fault};
 ghost use Rattle.macro_statements.specs.Forms.{macro_of};
 ghost use Rattle.macro_statements.specs.Slots.{form_in, macro_in};
 
@@ -23,7 +22,7 @@ use macro_operands::said::{
     NOTHING, Said, boundary_at, condition_at, location_at, pair_at, place_at, value_at,
 };
 use operand_texts::nesting::split;
-use operand_texts::values::{Place, Value};
+use operand_texts::values::Value;
 use operand_texts::words::is_word;
 use vsm_model::{Boundary, Family, Location};
 
@@ -135,6 +134,17 @@ fn length_at(said: &[Option<Said>], i: usize) -> Option<Length>
     }
 }
 
+/// SP as it was read at a place, 0 where it is left out.
+fn subpool_at(said: &[Option<Said>], i: usize) -> Value
+    requires { i < length said.now }
+    ensures { written_in result ≡ subpool_by (as_value (slot (slots_in said.now) i)) }
+{
+    match value_at(said, i) {
+        Some(subpool) => subpool,
+        None => Value::Number(0),
+    }
+}
+
 /// A form that is conditional by its word, or by COND, which was read at a place.
 fn form_by(form: Form, said: &[Option<Said>], i: usize) -> Form
     requires { i < length said.now }
@@ -156,13 +166,14 @@ fn usual_location(family: Family) -> Location
     }
 }
 
-/// Whether a family has a place for the address, and there is none.
-fn lacks_place(family: Family, place: &Option<Place>) -> bool
-    ensures { result ≡ lacks_place family (option_map target_in place.now) }
+/// Whether a family requires a place for the address, and none was read.
+fn lacks_place(family: Family, said: &[Option<Said>], i: usize) -> bool
+    requires { i < length said.now }
+    ensures { result ≡ lacks_place family (as_place (slot (slots_in said.now) i)) }
 {
     match family {
         Family::S | Family::R => false,
-        Family::E => place.is_none(),
+        Family::E => place_at(said, i).is_none(),
     }
 }
 
@@ -176,126 +187,64 @@ fn has_whole(family: Family) -> bool
     }
 }
 
-/// What a form that obtains storage asks for with these operands.
-fn obtain_with(
-    length: Option<Length>,
-    subpool: Option<Value>,
-    place: Option<Place>,
-    boundary: Option<Boundary>,
-    location: Option<Location>,
-    form: Form,
-) -> Result<Request, FaultKind>
-    ensures { seen result ≡ obtain_with (option_map length_in length) (subpool_by (option_map written_in subpool))
-        (option_map target_in place) (boundary_by boundary) (location_by form.family location) form }
-{
-    let Some(length) = length else {
-        return Err(FaultKind::Missing);
-    };
-    if lacks_place(form.family, &place) {
-        return Err(FaultKind::Missing);
-    }
-    Ok(Request::Act(Statement::Obtain {
-        length,
-        subpool: subpool.unwrap_or(Value::Number(0)),
-        place,
-        boundary: boundary.unwrap_or(Boundary::Doubleword),
-        location: location.unwrap_or(usual_location(form.family)),
-        form,
-    }))
-}
-
 /// What a form that obtains storage asks for by what was read.
 fn obtain_by(form: Form, said: &[Option<Said>]) -> Result<Request, FaultKind>
     requires { length said.now ≡ 9 }
     ensures { seen result ≡ obtain_by form (slots_in said.now) }
 {
-    obtain_with(
-        length_at(said, 0),
-        value_at(said, 1),
-        place_at(said, 2),
-        boundary_at(said, 3),
-        location_at(said, 4),
-        form_by(form, said, 5),
-    )
+    if lacks_place(form.family, said, 2) {
+        return Err(FaultKind::Missing);
+    }
+    let Some(length) = length_at(said, 0) else {
+        return Err(FaultKind::Missing);
+    };
+    Ok(Request::Act(Statement::Obtain {
+        length,
+        subpool: subpool_at(said, 1),
+        place: place_at(said, 2),
+        boundary: boundary_at(said, 3).unwrap_or(Boundary::Doubleword),
+        location: location_at(said, 4).unwrap_or(usual_location(form.family)),
+        form: form_by(form, said, 5),
+    }))
 }
 
-/// What a form that releases storage asks for with a subpool alone.
-fn whole_with(subpool: Option<Value>, form: Form) -> Result<Request, FaultKind>
-    ensures { seen result ≡ release_with None None (option_map written_in subpool) form }
+/// What a form that releases storage asks for by what was read, where that is no length: all of a subpool.
+#[inline(never)]
+fn whole_by(form: Form, said: &[Option<Said>]) -> Result<Request, FaultKind>
+    requires { length said.now ≡ 9 }
+    ensures { seen result ≡ release_with None (as_value (slot (slots_in said.now) 2))
+        (as_value (slot (slots_in said.now) 1)) (form_by form (as_condition (slot (slots_in said.now) 5))) }
 {
-    match subpool {
-        Some(subpool) if has_whole(form.family) => {
-            Ok(Request::Act(Statement::Whole { subpool, form }))
-        }
+    if value_at(said, 2).is_some() {
+        return Err(FaultKind::Missing);
+    }
+    match value_at(said, 1) {
+        Some(subpool) if has_whole(form.family) => Ok(Request::Act(Statement::Whole {
+            subpool,
+            form: form_by(form, said, 5),
+        })),
         Some(_) => Err(FaultKind::Missing),
         None => Err(FaultKind::Missing),
     }
 }
 
-/// What a form that releases storage asks for with these operands: an area, or all of a subpool.
-fn release_with(
-    length: Option<Value>,
-    address: Option<Value>,
-    subpool: Option<Value>,
-    form: Form,
-) -> Result<Request, FaultKind>
-    ensures { seen result ≡ release_with (option_map written_in length) (option_map written_in address)
-        (option_map written_in subpool) form }
-{
-    match length {
-        Some(length) => match address {
-            Some(address) => Ok(Request::Act(Statement::Release {
-                length,
-                address,
-                subpool: subpool.unwrap_or(Value::Number(0)),
-                form,
-            })),
-            None => Err(FaultKind::Missing),
-        },
-        None => match address {
-            Some(_) => Err(FaultKind::Missing),
-            None => whole_with(subpool, form),
-        },
-    }
-}
-
-/// What a form that releases storage asks for by what was read.
+/// What a form that releases storage asks for by what was read: an area, or all of a subpool.
 fn release_by(form: Form, said: &[Option<Said>]) -> Result<Request, FaultKind>
     requires { length said.now ≡ 9 }
     ensures { seen result ≡ release_by form (slots_in said.now) }
 {
-    release_with(
-        value_at(said, 0),
-        value_at(said, 2),
-        value_at(said, 1),
-        form_by(form, said, 5),
-    )
-}
-
-/// What a form asks for by what was read.
-fn asked_by(form: &StorageForm, said: &[Option<Said>]) -> Result<Request, FaultKind>
-    requires { length said.now ≡ 9 }
-    ensures { seen result ≡ asked_by (form_in form.now) (slots_in said.now) }
-{
-    if form.obtains {
-        obtain_by(form.form, said)
-    } else {
-        release_by(form.form, said)
-    }
-}
-
-/// A form with the operands behind its word.
-fn form_with(form: &StorageForm, text: Option<&[u8]>) -> Result<Request, FaultKind>
-    requires { IsTrue (is_storage_row (row_in form.now.row.now)) }
-    ensures { seen result ≡ form_with (form_in form.now) (operands_behind (option_copied text.entry)) }
-{
-    let mut said = [
-        NOTHING, NOTHING, NOTHING, NOTHING, NOTHING, NOTHING, NOTHING, NOTHING, NOTHING,
-    ];
-    match read(form.row, text, &mut said) {
-        Ok(said) => asked_by(form, said),
-        Err(fault) => Err(fault),
-    }
+    let Some(length) = value_at(said, 0) else {
+        return whole_by(form, said);
+    };
+    let Some(address) = value_at(said, 2) else {
+        return Err(FaultKind::Missing);
+    };
+    Ok(Request::Act(Statement::Release {
+        length,
+        address,
+        subpool: subpool_at(said, 1),
+        form: form_by(form, said, 5),
+    }))
 }
 
 /// The form of a word, in either case.
@@ -333,17 +282,40 @@ fn no_form_fault(left_out: &[&[u8]], word: &[u8]) -> FaultKind
     }
 }
 
-/// A macro with its operand field, whose first operand is a form's word.
-pub(crate) fn request_of(storage_macro: &StorageMacro, field: &[u8]) -> Result<Request, FaultKind>
+/// The form that a field's first operand says, and the operands behind it, or what is wrong with that operand.
+fn form_in_field<'a>(
+    storage_macro: &StorageMacro,
+    field: &'a [u8],
+) -> Result<(&'static StorageForm, Option<&'a [u8]>), FaultKind>
     requires { IsTrue (list_all (λ f. is_storage_row f.row) (macro_in storage_macro.now).forms) }
-    ensures { seen result ≡ macro_of (macro_in storage_macro.now) (operands field.now) }
+    ensures row { IfOk result (λ r. IsTrue (is_storage_row (row_in r.0.now.row.now))) }
+    ensures form { IfOk result (λ r. macro_of (macro_in storage_macro.now) (operands field.now)
+        ≡ form_with (form_in r.0.now) (operands_behind (option_copied r.1))) }
+    ensures fault { IfErr result (λ wrong. macro_of (macro_in storage_macro.now) (operands field.now) ≡ Err wrong) }
 {
     if field.is_empty() {
         return Err(FaultKind::Missing);
     }
     let (word, behind) = split(field);
     match form_for(storage_macro.forms, word) {
-        Some(form) => form_with(form, behind),
+        Some(form) => Ok((form, behind)),
         None => Err(no_form_fault(storage_macro.left_out, word)),
+    }
+}
+
+/// A macro with its operand field, whose first operand is a form's word.
+pub(crate) fn request_of(storage_macro: &StorageMacro, field: &[u8]) -> Result<Request, FaultKind>
+    requires { IsTrue (list_all (λ f. is_storage_row f.row) (macro_in storage_macro.now).forms) }
+    ensures { seen result ≡ macro_of (macro_in storage_macro.now) (operands field.now) }
+{
+    let (form, behind) = form_in_field(storage_macro, field)?;
+    let mut said = [
+        NOTHING, NOTHING, NOTHING, NOTHING, NOTHING, NOTHING, NOTHING, NOTHING, NOTHING,
+    ];
+    let said = read(form.row, behind, &mut said)?;
+    if form.obtains {
+        obtain_by(form.form, said)
+    } else {
+        release_by(form.form, said)
     }
 }
