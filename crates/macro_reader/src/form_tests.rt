@@ -130,49 +130,50 @@ fn refuses_lengths(rt: HostRuntime) {
 }
 
 #[test]
-fn reads_getmain_of_the_storage_family(rt: HostRuntime) {
+fn reads_getmain(rt: HostRuntime) {
     let (low, caller) = (Location::Low, Location::Caller);
-    let (s, s_conditional) = (form(Family::S, false), form(Family::S, true));
+    let place = Some(Place::Named(name("P")));
     let pair = between(Value::Number(8), Value::Register(4));
-    let register_0 = Length::Fixed(Value::Register(0));
-    let lines: [(&[u8], Request); 5] = [
+    let lines: [(&[u8], Request); 10] = [
+        (
+            b" GETMAIN R,LV=8",
+            obtain(eight(), 0, None, low, form(Family::R, false)),
+        ),
+        (
+            b" getmain r,sp=5,lv=(1),related=(a,b)",
+            obtain(
+                Length::Fixed(Value::Register(1)),
+                5,
+                None,
+                low,
+                form(Family::R, false),
+            ),
+        ),
         (
             b" GETMAIN RC,LV=8",
-            obtain(eight(), 0, None, caller, s_conditional),
+            obtain(eight(), 0, None, caller, form(Family::S, true)),
         ),
         (
             b" GETMAIN RU,LV=8,LOC=BELOW",
-            obtain(eight(), 0, None, low, s),
+            obtain(eight(), 0, None, low, form(Family::S, false)),
         ),
         (
             b" GETMAIN RU,LV=(0)",
-            obtain(register_0, 0, None, caller, s),
+            obtain(
+                Length::Fixed(Value::Register(0)),
+                0,
+                None,
+                caller,
+                form(Family::S, false),
+            ),
         ),
         (
             b" GETMAIN VRC,LV=(8,(4))",
-            obtain(pair, 0, None, caller, s_conditional),
+            obtain(pair, 0, None, caller, form(Family::S, true)),
         ),
         (
             b" GETMAIN VRU,LV=(8,(4)),SP=1",
-            obtain(pair, 1, None, caller, s),
-        ),
-    ];
-    for (line, want) in lines {
-        feed(&rt, line, Ok(want));
-    }
-}
-
-#[test]
-fn reads_getmain_of_other_families(rt: HostRuntime) {
-    let low = Location::Low;
-    let place = Some(Place::Named(name("P")));
-    let register_1 = Length::Fixed(Value::Register(1));
-    let (r, e) = (form(Family::R, false), form(Family::E, false));
-    let lines: [(&[u8], Request); 5] = [
-        (b" GETMAIN R,LV=8", obtain(eight(), 0, None, low, r)),
-        (
-            b" getmain r,sp=5,lv=(1),related=(a,b)",
-            obtain(register_1, 5, None, low, r),
+            obtain(pair, 1, None, caller, form(Family::S, false)),
         ),
         (
             b" GETMAIN EC,LV=8,A=p",
@@ -180,7 +181,7 @@ fn reads_getmain_of_other_families(rt: HostRuntime) {
         ),
         (
             b" GETMAIN EU,A=P,LV=8,SP=2",
-            obtain(eight(), 2, place, low, e),
+            obtain(eight(), 2, place, low, form(Family::E, false)),
         ),
         (
             b" GETMAIN EU,LV=8,A=P,BNDRY=PAGE",
@@ -190,7 +191,7 @@ fn reads_getmain_of_other_families(rt: HostRuntime) {
                 place,
                 boundary: Boundary::Page,
                 location: low,
-                form: e,
+                form: form(Family::E, false),
             }),
         ),
     ];

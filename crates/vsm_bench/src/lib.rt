@@ -8,7 +8,7 @@ mod script_files;
 
 pub use bench_core::Bench;
 pub use commands::command;
-pub use macro_reader::{Content, Family, Form, Name, Place, Statement, Value};
+pub use macro_reader::{Content, Family, Form, Length, Name, Place, Statement, Value};
 pub use options::DEFAULT_SETTINGS;
 pub use script_files::ScriptFiles;
 pub use script_run::{RunFault, RunTotals, run};

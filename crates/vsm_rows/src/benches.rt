@@ -3,8 +3,8 @@
 use std::process::Abort;
 use std::test::Fail;
 use vsm_bench::{
-    Bench, Boundary, Code, DEFAULT_SETTINGS, Family, Form, Location, NewFault, Refusal, Reply,
-    Residence, Settings, Statement, Value,
+    Bench, Boundary, Code, DEFAULT_SETTINGS, Family, Form, Length, Location, NewFault, Refusal,
+    Reply, Residence, Settings, Statement, Value,
 };
 
 fn settings_of(low_k: u32, high_k: u32, history: u32) -> Settings {
@@ -57,7 +57,7 @@ fn settings_out_of_their_limits_make_none(rt: HostRuntime) -> Result<(), Fail> {
 /// STORAGE OBTAIN of so many bytes from subpool 1.
 fn obtain(length: u32) -> Statement {
     Statement::Obtain {
-        length: Value::Number(length),
+        length: Length::Fixed(Value::Number(length)),
         subpool: Value::Number(1),
         place: None,
         boundary: Boundary::Doubleword,
