@@ -203,21 +203,19 @@ fn reads_getmain(rt: HostRuntime) {
 #[test]
 fn reads_releases(rt: HostRuntime) {
     let (length, address, p) = (Value::Number(8), Value::Number(0x6000), named("P"));
-    let (r, s, s_conditional) = (
-        form(Family::R, false),
-        form(Family::S, false),
-        form(Family::S, true),
-    );
     let lines: [(&[u8], Request); 11] = [
         (
             b" FREEMAIN R,LV=8,A=X'6000'",
-            release(length, address, 0, r),
+            release(length, address, 0, form(Family::R, false)),
         ),
         (
             b" FREEMAIN RC,A=(5),LV=8,SP=1",
-            release(length, Value::Register(5), 1, s_conditional),
+            release(length, Value::Register(5), 1, form(Family::S, true)),
         ),
-        (b" FREEMAIN RU,LV=8,A=p", release(length, p, 0, s)),
+        (
+            b" FREEMAIN RU,LV=8,A=p",
+            release(length, p, 0, form(Family::S, false)),
+        ),
         (
             b" FREEMAIN E,LV=8,A=P",
             release(length, p, 0, form(Family::E, false)),
@@ -230,13 +228,19 @@ fn reads_releases(rt: HostRuntime) {
             b" FREEMAIN EU,LV=8,A=P,SP=3",
             release(length, p, 3, form(Family::E, false)),
         ),
-        (b" FREEMAIN R,SP=P", whole(p, r)),
-        (b" FREEMAIN RC,SP=8", whole(length, s_conditional)),
-        (b" FREEMAIN RU,SP=8,LINKAGE=X", whole(length, s)),
-        (b" STORAGE RELEASE,SP=(5)", whole(Value::Register(5), s)),
+        (b" FREEMAIN R,SP=P", whole(p, form(Family::R, false))),
+        (b" FREEMAIN RC,SP=8", whole(length, form(Family::S, true))),
+        (
+            b" FREEMAIN RU,SP=8,LINKAGE=X",
+            whole(length, form(Family::S, false)),
+        ),
+        (
+            b" STORAGE RELEASE,SP=(5)",
+            whole(Value::Register(5), form(Family::S, false)),
+        ),
         (
             b" STORAGE RELEASE,COND=YES,SP=8",
-            whole(length, s_conditional),
+            whole(length, form(Family::S, true)),
         ),
     ];
     for (line, want) in lines {
