@@ -70,6 +70,11 @@ fn between(maximum: Value, minimum: Value) -> Length {
     Length::Variable { maximum, minimum }
 }
 
+/// The name P as a place.
+fn place_p() -> Option<Place> {
+    Some(Place::Named(name("P")))
+}
+
 #[test]
 fn reads_lengths(rt: HostRuntime) {
     let lengths: [(&[u8], Length); 6] = [
@@ -132,8 +137,6 @@ fn refuses_lengths(rt: HostRuntime) {
 #[test]
 fn reads_getmain(rt: HostRuntime) {
     let (low, caller) = (Location::Low, Location::Caller);
-    let place = Some(Place::Named(name("P")));
-    let pair = between(Value::Number(8), Value::Register(4));
     let lines: [(&[u8], Request); 10] = [
         (
             b" GETMAIN R,LV=8",
@@ -169,26 +172,38 @@ fn reads_getmain(rt: HostRuntime) {
         ),
         (
             b" GETMAIN VRC,LV=(8,(4))",
-            obtain(pair, 0, None, caller, form(Family::S, true)),
+            obtain(
+                between(Value::Number(8), Value::Register(4)),
+                0,
+                None,
+                caller,
+                form(Family::S, true),
+            ),
         ),
         (
             b" GETMAIN VRU,LV=(8,(4)),SP=1",
-            obtain(pair, 1, None, caller, form(Family::S, false)),
+            obtain(
+                between(Value::Number(8), Value::Register(4)),
+                1,
+                None,
+                caller,
+                form(Family::S, false),
+            ),
         ),
         (
             b" GETMAIN EC,LV=8,A=p",
-            obtain(eight(), 0, place, low, form(Family::E, true)),
+            obtain(eight(), 0, place_p(), low, form(Family::E, true)),
         ),
         (
             b" GETMAIN EU,A=P,LV=8,SP=2",
-            obtain(eight(), 2, place, low, form(Family::E, false)),
+            obtain(eight(), 2, place_p(), low, form(Family::E, false)),
         ),
         (
             b" GETMAIN EU,LV=8,A=P,BNDRY=PAGE",
             Request::Act(Statement::Obtain {
                 length: eight(),
                 subpool: Value::Number(0),
-                place,
+                place: place_p(),
                 boundary: Boundary::Page,
                 location: low,
                 form: form(Family::E, false),
@@ -202,37 +217,52 @@ fn reads_getmain(rt: HostRuntime) {
 
 #[test]
 fn reads_releases(rt: HostRuntime) {
-    let (length, address, p) = (Value::Number(8), Value::Number(0x6000), named("P"));
     let lines: [(&[u8], Request); 11] = [
         (
             b" FREEMAIN R,LV=8,A=X'6000'",
-            release(length, address, 0, form(Family::R, false)),
+            release(
+                Value::Number(8),
+                Value::Number(0x6000),
+                0,
+                form(Family::R, false),
+            ),
         ),
         (
             b" FREEMAIN RC,A=(5),LV=8,SP=1",
-            release(length, Value::Register(5), 1, form(Family::S, true)),
+            release(
+                Value::Number(8),
+                Value::Register(5),
+                1,
+                form(Family::S, true),
+            ),
         ),
         (
             b" FREEMAIN RU,LV=8,A=p",
-            release(length, p, 0, form(Family::S, false)),
+            release(Value::Number(8), named("P"), 0, form(Family::S, false)),
         ),
         (
             b" FREEMAIN E,LV=8,A=P",
-            release(length, p, 0, form(Family::E, false)),
+            release(Value::Number(8), named("P"), 0, form(Family::E, false)),
         ),
         (
             b" FREEMAIN EC,LV=8,A=P",
-            release(length, p, 0, form(Family::E, true)),
+            release(Value::Number(8), named("P"), 0, form(Family::E, true)),
         ),
         (
             b" FREEMAIN EU,LV=8,A=P,SP=3",
-            release(length, p, 3, form(Family::E, false)),
+            release(Value::Number(8), named("P"), 3, form(Family::E, false)),
         ),
-        (b" FREEMAIN R,SP=P", whole(p, form(Family::R, false))),
-        (b" FREEMAIN RC,SP=8", whole(length, form(Family::S, true))),
+        (
+            b" FREEMAIN R,SP=P",
+            whole(named("P"), form(Family::R, false)),
+        ),
+        (
+            b" FREEMAIN RC,SP=8",
+            whole(Value::Number(8), form(Family::S, true)),
+        ),
         (
             b" FREEMAIN RU,SP=8,LINKAGE=X",
-            whole(length, form(Family::S, false)),
+            whole(Value::Number(8), form(Family::S, false)),
         ),
         (
             b" STORAGE RELEASE,SP=(5)",
@@ -240,7 +270,7 @@ fn reads_releases(rt: HostRuntime) {
         ),
         (
             b" STORAGE RELEASE,COND=YES,SP=8",
-            whole(length, form(Family::S, true)),
+            whole(Value::Number(8), form(Family::S, true)),
         ),
     ];
     for (line, want) in lines {
