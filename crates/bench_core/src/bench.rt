@@ -22,8 +22,8 @@ use vsm_machine::{Machine, NewFault, Refusal, look_up, plan_of, reserve};
 /// It stands for the states that it can go back to, the present one and those that it can go forward to.
 #[derive(Drop)]
 pub struct Bench {
-    machine: Machine,
-    history: History<Machine>,
+    pub(crate) machine: Machine,
+    pub(crate) history: History<Machine>,
     ghost fits: { fit history.kept machine history.undone } by { fit_prop history.kept machine history.undone },
     // No element and no frame is anyone's but the storage's and its changes', and each is one's.
     ghost whole: { IsWhole history.kept machine history.undone } by { whole_prop history.kept machine history.undone },

@@ -2,5 +2,6 @@
 #![tactic(auto)]
 
 mod bench;
+mod maps;
 
 pub use bench::Bench;

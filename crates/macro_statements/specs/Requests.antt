@@ -34,10 +34,11 @@ pub data Act : Type 0 where
   whole : Written → Form → Act
   poke : Written → Stored → Act
 
--- What a statement asks for: `peek address length` besides, and so many steps.
+-- What a statement asks for: `peek address length` besides, the map of the storage, and so many steps.
 pub data Asked : Type 0 where
   act : Act → Asked
   peek : Written → ℕ → Asked
+  map_asked : Asked
   back : ℕ → Asked
   forward : ℕ → Asked
 
@@ -58,6 +59,7 @@ act_in (code_statement.Poke address content) = poke (written_in address) (stored
 abbrev pub asked_in : Request → Asked
 asked_in (code_request.Act s) = act (act_in s)
 asked_in (code_request.Peek address len) = peek (written_in address) len
+asked_in code_request.Map = map_asked
 asked_in (code_request.Back n) = back n
 asked_in (code_request.Forward n) = forward n
 
@@ -73,6 +75,7 @@ AskedHasBytes (act (obtain length subpool target boundary location form)) = ⊤
 AskedHasBytes (act (release length address subpool form)) = ⊤
 AskedHasBytes (act (whole subpool form)) = ⊤
 AskedHasBytes (peek address len) = ⊤
+AskedHasBytes map_asked = ⊤
 AskedHasBytes (back n) = ⊤
 AskedHasBytes (forward n) = ⊤
 
@@ -87,6 +90,7 @@ HasRoom (act (obtain length subpool target boundary location form)) = ⊤
 HasRoom (act (release length address subpool form)) = ⊤
 HasRoom (act (whole subpool form)) = ⊤
 HasRoom (peek address len) = ⊤
+HasRoom map_asked = ⊤
 HasRoom (back n) = ⊤
 HasRoom (forward n) = ⊤
 
@@ -147,5 +151,6 @@ IsValidAct (poke address content) = IsValue address × IsStored content
 abbrev pub IsValidAsked : Asked → Type 0
 IsValidAsked (act a) = IsValidAct a
 IsValidAsked (peek address len) = IsValue address × (1 ≤ len) × (len ≤ 256)
+IsValidAsked map_asked = ⊤
 IsValidAsked (back n) = n < 2 ^ 32
 IsValidAsked (forward n) = n < 2 ^ 32

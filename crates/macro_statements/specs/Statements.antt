@@ -3,7 +3,7 @@ use Rattle.std.specs.Prelude.{◌≡◌, ℕ, Bool, not, ◌&&◌, if◌then◌e
 use Rattle.std.specs.Prelude.{[], Result, Ok, Err, codes}
 use Rattle.operand_texts.specs.Words.{is_word, is_name, word, word_len, after_word, after_blanks}
 use Rattle.operand_texts.specs.Field.{outside, operands, is_balanced}
-use Rattle.macro_statements.specs.Requests.{Asked, back, forward}
+use Rattle.macro_statements.specs.Requests.{Asked, map_asked, back, forward}
 use Rattle.macro_statements.specs.Forms.{macro_of}
 use Rattle.macro_statements.specs.Storage.{storage_macro}
 use Rattle.macro_statements.specs.Getmain.{getmain_macro}
@@ -26,6 +26,7 @@ operation_of text =
     else if is_word text (codes "FREEMAIN") then Some operation.Freemain
     else if is_word text (codes "POKE") then Some operation.Poke
     else if is_word text (codes "PEEK") then Some operation.Peek
+    else if is_word text (codes "MAP") then Some operation.Map
     else if is_word text (codes "BACK") then Some operation.Back
     else if is_word text (codes "FORWARD") then Some operation.Forward
     else None
@@ -37,6 +38,7 @@ asked_of operation.Getmain os = macro_of getmain_macro os
 asked_of operation.Freemain os = macro_of freemain_macro os
 asked_of operation.Poke os = poke_of os
 asked_of operation.Peek os = peek_of os
+asked_of operation.Map os = Ok map_asked
 asked_of operation.Back os = step_with back (count_in os)
 asked_of operation.Forward os = step_with forward (count_in os)
 
@@ -61,6 +63,7 @@ behind_of (Some operation.Getmain) = behind.Operands
 behind_of (Some operation.Freemain) = behind.Operands
 behind_of (Some operation.Poke) = behind.Operands
 behind_of (Some operation.Peek) = behind.Operands
+behind_of (Some operation.Map) = behind.Remarks
 behind_of (Some operation.Back) = behind.Operands
 behind_of (Some operation.Forward) = behind.Operands
 

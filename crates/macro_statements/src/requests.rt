@@ -66,6 +66,8 @@ pub enum Request {
     Act(Statement),
     /// PEEK: so many bytes at an address are shown, 1 to 256.
     Peek { addr: Value, len: u16 },
+    /// MAP: the map of the storage is shown.
+    Map,
     /// BACK: so many statements are undone.
     Back(u32),
     /// FORWARD: so many undone statements stand again.

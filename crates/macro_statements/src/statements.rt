@@ -28,6 +28,7 @@ pub enum Operation {
     Freemain,
     Poke,
     Peek,
+    Map,
     Back,
     Forward,
 }
@@ -46,6 +47,8 @@ fn operation_of(text: &[u8]) -> Option<Operation>
         Some(Operation::Poke)
     } else if is_word(text, b"PEEK") {
         Some(Operation::Peek)
+    } else if is_word(text, b"MAP") {
+        Some(Operation::Map)
     } else if is_word(text, b"BACK") {
         Some(Operation::Back)
     } else if is_word(text, b"FORWARD") {
@@ -65,6 +68,7 @@ fn asked_of(operation: Operation, field: &[u8]) -> Result<Request, FaultKind>
         Operation::Freemain => request_of(&FREEMAIN, field),
         Operation::Poke => poke(field),
         Operation::Peek => peek(field),
+        Operation::Map => Ok(Request::Map),
         Operation::Back => Ok(Request::Back(count_in(field)?)),
         Operation::Forward => Ok(Request::Forward(count_in(field)?)),
     }
@@ -92,6 +96,7 @@ fn behind_of(operation: Option<Operation>) -> Behind
             | Operation::Forward,
         )
         | None => Behind::Operands,
+        Some(Operation::Map) => Behind::Remarks,
     }
 }
 

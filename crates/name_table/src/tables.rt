@@ -24,10 +24,11 @@ pub struct NameTable {
 impl NameTable {
     ghost use Rattle.std.specs.Prelude.{◌≡◌, ℕ, ◌<◌, ◌^◌, ◌&&◌, ◌||◌, not, false, true, is_some, [], List, length};
     ghost use Rattle.std.specs.Prelude.{nat_le, None, OnOk, OnErr, IfSome, IsTrue};
+    ghost use Rattle.std.specs.Prelude.{option_map, slice_get};
     ghost use Rattle.vsm_model.specs.Names.{same_name, word_of, with_name};
     ghost use Rattle.name_table.specs.Steps.{CanStep, IsLast, name_of, step_in, step_to, stepped, turned, without_name};
     ghost use Rattle.name_table.specs.Steps.{word_or_zero};
-    ghost use Rattle.name_table.specs.Table.{all_rows, is_own, knows, rows_of, IsNext};
+    ghost use Rattle.name_table.specs.Table.{all_rows, is_own, knows, row_of, rows_of, IsNext};
 
     /// A table with no name. This takes no memory.
     pub fn new(alloc: Global) -> NameTable
@@ -54,6 +55,17 @@ impl NameTable {
             }
             None => None,
         }
+    }
+
+    /// The name of this index, from 0 on, in the order in which names were defined, with its word; `None` past the last.
+    pub fn name_at(&self, index: usize) -> Option<(Name, u32)>
+        ensures { option_map row_of result ≡ slice_get (rows_of self.now) index }
+    {
+        if index >= self.defined {
+            return None;
+        }
+        let (name, word) = self.table.get_index(index)?;
+        Some((*name, *word))
     }
 
     /// Whether no other name may be defined: 1,024 are.

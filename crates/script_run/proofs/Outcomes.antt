@@ -7,15 +7,15 @@ use Rattle.vsm_model.specs.Standing.{nothing_stands}
 use Rattle.script_run.specs.Output.{Marked, output}
 use Rattle.script_run.specs.Script.{last_line}
 use Rattle.script_run.specs.Taken.{Took, Unended, PassesBound, IsTold}
-use Rattle.script_run.specs.Writing.{AppendsFront, Holds, Puts, IsEmpty}
+use Rattle.text_output.specs.Writing.{AppendsFront, Holds, Puts, IsEmpty}
 use Rattle.script_run.specs.Run.{Runs, Passes, Takes, TakesLine, FaultAt, Finishes, Ran}
 use Rattle.script_run.specs.declared.faults.RunTotals.{RunTotals}
 use Rattle.script_run.specs.declared.faults.RunFault.{RunFault}
 use Rattle.script_run.specs.declared.faults.RunFault.TheVariants as fault
 use Rattle.script_run.specs.declared.session.Session.{Session}
 use Rattle.script_run.specs.declared.session.TooLong.{TooLong}
-use Rattle.script_run.specs.declared.writing.Gathered.{Gathered}
-use Rattle.script_run.proofs.Gathering.{empty_holds, empty_out}
+use Rattle.text_output.specs.declared.writing.Gathered.{Gathered}
+use Rattle.text_output.proofs.Gathering.{empty_holds, empty_out}
 use Rattle.script_run.proofs.Standings.{texts_push}
 
 -- the fault that a conversion makes

@@ -3,5 +3,4 @@ pub mod Output
 pub mod Answers
 pub mod Script
 pub mod Taken
-pub mod Writing
 pub mod Run

@@ -2,7 +2,7 @@
 use Rattle.std.specs.Prelude.{ℕ, ◌+◌, List, [], ◌∷◌, ◌++◌, length, map, Bool, true, false, nat_le, if◌then◌else◌}
 use Rattle.std.specs.Prelude.{Option, Some, None, Result, Ok, Err}
 use Rattle.macro_operands.specs.declared.faults.FaultKind.{FaultKind}
-use Rattle.macro_statements.specs.Requests.{Act, Asked, act, peek, back, forward}
+use Rattle.macro_statements.specs.Requests.{Act, Asked, act, peek, map_asked, back, forward}
 use Rattle.macro_reader.specs.Scripts as grammar
 use Rattle.vsm_model.specs.declared.limits.Settings.{Settings}
 use Rattle.vsm_model.specs.declared.replies.Reply.{Reply}
@@ -10,7 +10,8 @@ use Rattle.vsm_model.specs.Names.{NamedState, first_named_state}
 use Rattle.vsm_model.specs.Standing.{Standing, Call, Apply, Back, Forward, Look, Answer, NoMemory, Moved, TooFar, Shown}
 use Rattle.vsm_model.specs.Standing.{Heard, IsAccepted, nothing_stands, stand, alone, outcome_answer}
 use Rattle.vsm_machine.specs.Machine.{Why, statement_step, shown_at}
-use Rattle.script_run.specs.Responses.{response_to, reading_response, response_text, is_refused, numbered}
+use Rattle.script_run.specs.Responses.{response_to, reading_response, response_text, lines_behind}
+use Rattle.script_run.specs.Responses.{is_refused, numbered}
 use Rattle.script_run.specs.declared.responses.Response.{Response}
 use Rattle.script_run.specs.declared.responses.Response.TheVariants as response
 
@@ -19,10 +20,11 @@ pub record Marked : Type 0 where
   pub answer : grammar.Answer
   pub unmet : Bool
 
--- the call that a request is; a reading of bytes is none
+-- the call that a request is; a reading of bytes or a map is none
 abbrev pub call_in : Asked → Option (Call Act)
 call_in (act x) = Some (Apply x)
 call_in (peek address count) = None
+call_in map_asked = None
 call_in (back n) = Some (Back n)
 call_in (forward n) = Some (Forward n)
 
@@ -64,6 +66,7 @@ module _ (settings : Settings) where
   responded l unmet (Err kind) = response.Fault kind
   responded l unmet (Ok (act x)) = responded_to l unmet (Apply x)
   responded l unmet (Ok (peek address count)) = reading_response (shown_at (alone_now l) address count)
+  responded l unmet (Ok map_asked) = response.Map
   responded l unmet (Ok (back n)) = responded_to l unmet (Back n)
   responded l unmet (Ok (forward n)) = responded_to l unmet (Forward n)
 
@@ -78,11 +81,20 @@ module _ (settings : Settings) where
   AllMet l [] = Unit {0}
   AllMet l (m ∷ ms) = IsMet l m.unmet m.answer.what × AllMet (stands_after l m) ms
 
-  -- The lines of output,
+  -- The lines behind that of a response where these statements stand: a map is that of the standing statements alone.
+  abbrev pub lines_with : Standing Act Reply → Response → List ℕ
+  lines_with l told = lines_behind settings (alone_now l) l.kept told
+
+  -- All lines of one answer,
+  abbrev pub text_of : Standing Act Reply → Marked → List ℕ
+  text_of l m =
+      let told = responded l m.unmet m.answer.what in
+      numbered m.answer.line (response_text told) ++ lines_with (stands_after l m) told
+
+  -- the lines of output,
   abbrev pub texts : Standing Act Reply → List Marked → List ℕ
   texts l [] = []
-  texts l (m ∷ ms) =
-      numbered m.answer.line (response_text (responded l m.unmet m.answer.what)) ++ texts (stands_after l m) ms
+  texts l (m ∷ ms) = text_of l m ++ texts (stands_after l m) ms
 
   -- and how many of them are refusals.
   abbrev pub refusals : Standing Act Reply → List Marked → ℕ

@@ -5,7 +5,10 @@ use Rattle.std.specs.List.{flat_map}
 use Rattle.macro_operands.specs.declared.faults.FaultKind.{FaultKind}
 use Rattle.macro_operands.specs.declared.faults.FaultKind.TheVariants as kind
 use Rattle.macro_statements.specs.Requests.{Act}
+use Rattle.vsm_model.specs.declared.limits.Settings.{Settings}
 use Rattle.vsm_model.specs.declared.replies.Reply.{Reply}
+use Rattle.vsm_model.specs.Names.{NamedState}
+use Rattle.vsm_model.specs.Map.{map_text}
 use Rattle.vsm_model.specs.Texts.{reply_text, code_text, hexadecimal, padded_decimal}
 use Rattle.vsm_model.specs.Standing.{Call, Apply, Back, Forward, Look, Answer, Replied, RefusedFor, NoMemory, Moved}
 use Rattle.vsm_model.specs.Standing.{TooFar, Shown}
@@ -60,6 +63,18 @@ response_text (response.Kept n) = codes "KEPT=" ++ decimal n
 response_text (response.TooFar n) = codes "REFUSED KEPT=" ++ decimal n
 response_text (response.TooFarAhead n) = codes "REFUSED UNDONE=" ++ decimal n
 response_text (response.Fault k) = codes "FAULT " ++ fault_word k
+response_text response.Map = codes "MAP"
+
+-- the lines behind that of a response, in this state and with so many changes kept: those of the map
+abbrev pub lines_behind : Settings → NamedState → ℕ → Response → List ℕ
+lines_behind settings m kept (response.Replied reply) = []
+lines_behind settings m kept (response.Refused r) = []
+lines_behind settings m kept (response.Shown bytes) = []
+lines_behind settings m kept (response.Kept n) = []
+lines_behind settings m kept (response.TooFar n) = []
+lines_behind settings m kept (response.TooFarAhead n) = []
+lines_behind settings m kept (response.Fault k) = []
+lines_behind settings m kept response.Map = map_text settings m kept
 
 -- a response that counts as refused: a fault, a refusal or an abend
 abbrev pub is_refused : Response → Bool
@@ -70,6 +85,7 @@ is_refused (response.Kept n) = false
 is_refused (response.TooFar n) = true
 is_refused (response.TooFarAhead n) = true
 is_refused (response.Fault k) = true
+is_refused response.Map = false
 
 -- the number of the statement's first line, a blank, the text, a line feed
 abbrev pub numbered : ℕ → List ℕ → List ℕ

@@ -82,6 +82,7 @@ fn respond(bench: &mut Bench, request: &Request) -> Response
     match request {
         Request::Act(statement) => carry_out(bench, statement),
         Request::Peek { addr, len } => show(bench, *addr, *len),
+        Request::Map => Response::Map,
         Request::Back(n) => step_back(bench, *n),
         Request::Forward(n) => step_forward(bench, *n),
     }

@@ -1,7 +1,7 @@
 //! How a run ends.
 
 use crate::session::TooLong;
-use crate::writing::WriteFault;
+use text_output::WriteFault;
 use thiserror::Error;
 use vsm_machine::NewFault;
 

@@ -4,12 +4,10 @@
 mod answers;
 mod faults;
 mod lines;
-mod numbers;
 mod responses;
 mod runs;
 mod session;
 mod texts;
-mod writing;
 
 pub use faults::{RunFault, RunTotals};
 pub use runs::run;

@@ -18,11 +18,12 @@ use arrayvec::ArrayVec;
 use bench_core::Bench;
 use macro_reader::Reader;
 
-/// What the end of a script brings: the totals, and the responses to a last line without a line feed and to a statement
+/// What the end of a script brings: the totals, the bench as it is then, and the responses to a last line without a line feed and to a statement
 /// that is still open.
 #[derive(Drop)]
 pub(crate) struct Ending {
     pub(crate) totals: RunTotals,
+    pub(crate) bench: Bench,
     pub(crate) last: Option<(u32, Response)>,
     pub(crate) open_statement: Option<(u32, Response)>,
 }
@@ -113,7 +114,8 @@ impl Session {
     pub(crate) fn end_line(&mut self) -> Option<(u32, Response)>
         requires { self.old.lines < 1048576 }
         ensures { (settings : Settings) (given : List ℕ) (answers : List Marked) → Took settings given answers self.old
-            → (more : List Marked) × IsTold settings answers more (told_text result)
+            → (more : List Marked) × IsTold settings answers more
+            (told_text settings (bench_of self.new.bench) result)
             × Took settings (given ++ 10 ∷ []) (answers ++ more) self.new }
     {
         let line = columns(self.kept.as_slice(), self.length);
@@ -130,7 +132,8 @@ impl Session {
     pub(crate) fn end(self) -> Ending
         ensures { (settings : Settings) (given : List ℕ) (answers : List Marked) → Took settings given answers self
             → (more : List Marked) × IsTold settings answers more
-            (told_text result.last ++ told_text result.open_statement)
+            (told_text settings (bench_of result.bench) result.last
+            ++ told_text settings (bench_of result.bench) result.open_statement)
             × Ended settings given (answers ++ more) × Counts settings (answers ++ more) result.totals }
     {
         let Session {
@@ -150,6 +153,7 @@ impl Session {
         };
         Ending {
             totals,
+            bench,
             last,
             open_statement,
         }

@@ -22,6 +22,8 @@ pub(crate) enum Response {
     TooFarAhead(u32),
     /// The bytes of a reading.
     Shown(ArrayVec<u8, 256>),
+    /// The map, whose lines come behind.
+    Map,
     /// The statement is wrong.
     Fault(FaultKind),
 }
@@ -32,7 +34,7 @@ impl Response {
         ensures { result ≡ is_refused self.now }
     {
         match self {
-            Response::Replied(_) | Response::Kept(_) | Response::Shown(_) => false,
+            Response::Replied(_) | Response::Kept(_) | Response::Shown(_) | Response::Map => false,
             Response::Refused(_)
             | Response::TooFar(_)
             | Response::TooFarAhead(_)

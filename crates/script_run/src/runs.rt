@@ -3,27 +3,37 @@ ghost use Rattle.std.specs.Prelude.{◌≡◌, ◌++◌, [], ◌∷◌, ◌<◌,
 ghost use Rattle.std.specs.Prelude.{OnOk};
 ghost use Rattle.std.specs.Io.KnownBytes.{IsAtEnd};
 ghost use Rattle.vsm_model.specs.declared.limits.Settings.{Settings};
+ghost use Rattle.bench_core.specs.Stands.{bench_of, settings_in};
 ghost use Rattle.script_run.specs.Answers.{told_text};
 ghost use Rattle.script_run.specs.Script.{NoFeed};
-ghost use Rattle.script_run.specs.Writing.{Puts, IsEmpty};
+ghost use Rattle.text_output.specs.Writing.{Puts, IsEmpty};
 ghost use Rattle.script_run.specs.Run.{Runs, Takes, TakesLine, TakesRead, Finishes, Ran};
 
 use crate::faults::{RunFault, RunTotals};
 use crate::responses::Response;
 use crate::session::{LINES, Session, TooLong};
 use crate::texts::put_numbered;
-use crate::writing::Gathered;
 use bench_core::Bench;
 use std::alloc::Global;
 use std::io::{Read, Write};
+use text_output::Gathered;
 use vsm_model::Settings;
 
-/// Puts the line of a response, if there is one.
-fn put_told<W: Write>(gathered: &mut Gathered, writer: &mut W, told: &Option<(u32, Response)>)
-    ensures { Puts (W.contents writer.old) (W.contents writer.new) gathered.old gathered.new (told_text told.now) }
+/// Puts the line of a response, if there is one, and behind that of a map the map of the bench.
+fn put_told<W: Write>(
+    gathered: &mut Gathered,
+    writer: &mut W,
+    bench: &Bench,
+    told: &Option<(u32, Response)>,
+)
+    ensures { Puts (W.contents writer.old) (W.contents writer.new) gathered.old gathered.new
+        (told_text (settings_in bench.now) (bench_of bench.now) told.now) }
 {
     if let Some((line, response)) = told {
         put_numbered(gathered, writer, *line, response);
+        if let Response::Map = response {
+            bench.put_map(gathered, writer);
+        }
     }
 }
 
@@ -55,7 +65,7 @@ fn take_feed<W: Write>(
         return Err(TooLong);
     }
     let told = session.end_line();
-    put_told(gathered, writer, &told);
+    put_told(gathered, writer, &session.bench, &told);
     Ok(())
 }
 
@@ -130,8 +140,8 @@ fn finish<W: Write>(
         → Finishes settings left first (W.contents writer.new) given result }
 {
     let ending = session.end();
-    put_told(gathered, writer, &ending.last);
-    put_told(gathered, writer, &ending.open_statement);
+    put_told(gathered, writer, &ending.bench, &ending.last);
+    put_told(gathered, writer, &ending.bench, &ending.open_statement);
     gathered.hand_out(writer)?;
     Ok(ending.totals)
 }

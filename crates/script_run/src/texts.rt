@@ -2,13 +2,12 @@
 ghost use Rattle.std.specs.Prelude.{◌≡◌, ◌++◌, decimal};
 ghost use Rattle.vsm_model.specs.Texts.{reply_text, code_text};
 ghost use Rattle.script_run.specs.Responses.{fault_word, refusal_text, shown_text, response_text, numbered};
-ghost use Rattle.script_run.specs.Writing.{Puts};
+ghost use Rattle.text_output.specs.Writing.{Puts};
 
-use crate::numbers::{put_byte, put_decimal, put_hexadecimal, put_padded_decimal};
 use crate::responses::Response;
-use crate::writing::Gathered;
 use macro_reader::FaultKind;
 use std::io::Write;
+use text_output::{Gathered, put_byte, put_decimal, put_hexadecimal, put_padded_decimal};
 use vsm_machine::Refusal;
 use vsm_model::{Code, Reply};
 
@@ -27,7 +26,7 @@ fn fault_word(kind: FaultKind) -> &'static str
     }
 }
 
-#[tactic(auto, using(crate::proofs::Gathering::puts_both))]
+#[tactic(auto, using(text_output::proofs::Gathering::puts_both))]
 fn put_reply<W: Write>(gathered: &mut Gathered, writer: &mut W, reply: Reply)
     ensures { Puts (W.contents writer.old) (W.contents writer.new) gathered.old gathered.new (reply_text reply) }
 {
@@ -40,7 +39,7 @@ fn put_reply<W: Write>(gathered: &mut Gathered, writer: &mut W, reply: Reply)
         }
         Reply::Returned(code) => {
             gathered.put(writer, b"RC=");
-            put_decimal(gathered, writer, code);
+            put_decimal(gathered, writer, u64::from(code));
         }
         Reply::Cell(cell) => {
             gathered.put(writer, b"RC=0 A=");
@@ -48,17 +47,17 @@ fn put_reply<W: Write>(gathered: &mut Gathered, writer: &mut W, reply: Reply)
         }
         Reply::Attached(task) => {
             gathered.put(writer, b"RC=0 T=");
-            put_decimal(gathered, writer, u32::from(task));
+            put_decimal(gathered, writer, u64::from(task));
         }
         Reply::Turn(task) => {
             gathered.put(writer, b"T=");
-            put_decimal(gathered, writer, u32::from(task));
+            put_decimal(gathered, writer, u64::from(task));
         }
         Reply::Stored => gathered.put(writer, b"OK"),
     }
 }
 
-#[tactic(auto, using(crate::proofs::Gathering::puts_both))]
+#[tactic(auto, using(text_output::proofs::Gathering::puts_both))]
 fn put_code<W: Write>(gathered: &mut Gathered, writer: &mut W, code: Code)
     ensures { Puts (W.contents writer.old) (W.contents writer.new) gathered.old gathered.new (code_text code) }
 {
@@ -74,7 +73,7 @@ fn put_code<W: Write>(gathered: &mut Gathered, writer: &mut W, code: Code)
     }
 }
 
-#[tactic(auto, using(crate::proofs::Gathering::puts_both))]
+#[tactic(auto, using(text_output::proofs::Gathering::puts_both))]
 fn put_refusal<W: Write>(gathered: &mut Gathered, writer: &mut W, refusal: Refusal)
     ensures { Puts (W.contents writer.old) (W.contents writer.new) gathered.old gathered.new (refusal_text refusal) }
 {
@@ -99,15 +98,15 @@ fn put_bytes<W: Write>(gathered: &mut Gathered, writer: &mut W, bytes: &[u8])
 }
 
 /// Puts a word and a number behind it.
-#[tactic(auto, using(crate::proofs::Gathering::puts_both))]
+#[tactic(auto, using(text_output::proofs::Gathering::puts_both))]
 fn put_count<W: Write>(gathered: &mut Gathered, writer: &mut W, word: &[u8], n: u32)
     ensures { Puts (W.contents writer.old) (W.contents writer.new) gathered.old gathered.new (word.now ++ decimal n) }
 {
     gathered.put(writer, word);
-    put_decimal(gathered, writer, n);
+    put_decimal(gathered, writer, u64::from(n));
 }
 
-#[tactic(auto, using(crate::proofs::Gathering::puts_both))]
+#[tactic(auto, using(text_output::proofs::Gathering::puts_both))]
 fn put_response<W: Write>(gathered: &mut Gathered, writer: &mut W, response: &Response)
     ensures { Puts (W.contents writer.old) (W.contents writer.new) gathered.old gathered.new
         (response_text response.now) }
@@ -119,6 +118,7 @@ fn put_response<W: Write>(gathered: &mut Gathered, writer: &mut W, response: &Re
         Response::Kept(n) => put_count(gathered, writer, b"KEPT=", *n),
         Response::TooFar(n) => put_count(gathered, writer, b"REFUSED KEPT=", *n),
         Response::TooFarAhead(n) => put_count(gathered, writer, b"REFUSED UNDONE=", *n),
+        Response::Map => gathered.put(writer, b"MAP"),
         Response::Fault(kind) => {
             gathered.put(writer, b"FAULT ");
             gathered.put(writer, fault_word(*kind).as_bytes());
@@ -127,7 +127,7 @@ fn put_response<W: Write>(gathered: &mut Gathered, writer: &mut W, response: &Re
 }
 
 /// Puts the line of a response: the number of the statement's first line, a blank, the text, a line feed.
-#[tactic(auto, using(crate::proofs::Gathering::puts_both))]
+#[tactic(auto, using(text_output::proofs::Gathering::puts_both))]
 pub(crate) fn put_numbered<W: Write>(
     gathered: &mut Gathered,
     writer: &mut W,

@@ -2,3 +2,4 @@ pub mod Held
 pub mod Meaning
 pub mod Planned
 pub mod Stays
+pub mod Walks

@@ -7,12 +7,17 @@
 
 mod changes;
 mod plans;
+mod positions;
 mod reading;
 mod storage;
+mod walks;
 
+pub use free_queue::Area;
+pub use run_set::Run;
 pub use storage::Storage;
 pub use storage_plans::{Plan, STORE_MOST};
 pub use storage_swap::{Change, Released};
+pub use walks::{ExtentPlace, FreeAreaPlace};
 pub use vsm_model::{
     Boundary, Cause, Code, Family, Lengths, Location, Obtain, Release, Reply, Residence, Service,
     Settings, Subpool,

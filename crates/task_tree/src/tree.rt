@@ -119,6 +119,15 @@ impl TaskTree {
         Err(TreeFault::TooMany)
     }
 
+    /// The parent of a task, which is 0 of task 1; `None` where there is no such task.
+    pub fn parent_of(&self, elements: &Elements, task: u8) -> Option<u8>
+        requires { IsTaskTree elements.now self.now }
+        ensures { result ≡ parent elements.now self.now task }
+    {
+        let parent = parent_in(&self.rows, elements, u32::from(task))?;
+        Some(parent as u8)
+    }
+
     /// The word of a register from 0 to 15; 0 where there is no such task.
     pub fn register(&self, elements: &Elements, task: u8, r: u8) -> u32
         requires tree { IsTaskTree elements.now self.now }

@@ -2,7 +2,7 @@ use Rattle.std.proofs.Common.{◌++◌, inr, sym, subst}
 use Rattle.script_run.specs.Answers.{told_text}
 use Rattle.script_run.specs.Run.{Finishes}
 use Rattle.script_run.specs.declared.faults.RunFault.TheVariants as fault
-use Rattle.script_run.proofs.Gathering.{puts_both}
+use Rattle.text_output.proofs.Gathering.{puts_both}
 use Rattle.script_run.proofs.Outcomes.{out_more, passed_up}
 use Rattle.script_run.proofs.runs.finish.Goals as goal
 

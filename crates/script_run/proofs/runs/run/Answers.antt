@@ -1,7 +1,7 @@
 use Rattle.std.proofs.Common.{◌≡◌, [], ◌++◌, take, arith}
 use Rattle.std.proofs.KnownBytes.{Consumes-trans, Consumes-nil, Appends-nil}
 use Rattle.std.proofs.lemmas.List.{append-nil}
-use Rattle.script_run.proofs.Gathering.{empty_holds}
+use Rattle.text_output.proofs.Gathering.{empty_holds}
 use Rattle.script_run.proofs.Outcomes.{finished}
 use Rattle.script_run.proofs.runs.run.Goals as goal
 

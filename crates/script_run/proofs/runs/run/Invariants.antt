@@ -1,7 +1,7 @@
 use Rattle.std.proofs.Common.{ℕ, List}
 use Rattle.std.specs.Io.KnownBytes.{Consumes}
 use Rattle.script_run.specs.Run.{Runs}
-use Rattle.script_run.specs.Writing.{IsEmpty}
+use Rattle.text_output.specs.Writing.{IsEmpty}
 use Rattle.script_run.proofs.runs.run.Given as goal
 
 abbrev pub invariant-reads : goal.invariant-reads

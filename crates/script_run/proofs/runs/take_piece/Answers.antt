@@ -1,7 +1,7 @@
 use Rattle.std.proofs.Common.{[], ◌++◌, take, sym, subst, ◌∙◌, ap, append_assoc, refl}
 use Rattle.std.proofs.lemmas.List.{append-nil}
 use Rattle.script_run.specs.Run.{Runs, Passes}
-use Rattle.script_run.proofs.Known.{front_more}
+use Rattle.text_output.proofs.Known.{front_more}
 use Rattle.script_run.proofs.Outcomes.{piece_past}
 use Rattle.script_run.proofs.runs.take_piece.Goals as goal
 

@@ -1,6 +1,6 @@
 use Rattle.std.proofs.Common.{take}
 use Rattle.script_run.specs.Responses.{shown_text}
-use Rattle.script_run.specs.Writing.{Puts}
+use Rattle.text_output.specs.Writing.{Puts}
 use Rattle.script_run.proofs.texts.put_bytes.Given as goal
 
 abbrev pub invariant-loop-byte : goal.invariant-loop-byte

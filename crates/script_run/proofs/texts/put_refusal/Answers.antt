@@ -1,6 +1,6 @@
 use Rattle.std.proofs.Common.{◌++◌, subst, sym, ap}
 use Rattle.script_run.specs.Responses.{refusal_text}
-use Rattle.script_run.specs.Writing.{Holds}
+use Rattle.text_output.specs.Writing.{Holds}
 use Rattle.script_run.proofs.texts.put_refusal.Goals as goal
 
 pub returns-in-Name : goal.returns-in-Name

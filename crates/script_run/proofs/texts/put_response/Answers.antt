@@ -1,6 +1,6 @@
 use Rattle.std.proofs.Common.{◌++◌, subst, sym, ap}
 use Rattle.script_run.specs.Responses.{response_text}
-use Rattle.script_run.specs.Writing.{Holds}
+use Rattle.text_output.specs.Writing.{Holds}
 use Rattle.script_run.proofs.texts.put_response.Goals as goal
 
 pub returns-in-TooFar : goal.returns-in-TooFar

@@ -1,0 +1,26 @@
+//! Each law is the contract of a function that does nothing.
+
+ghost use Rattle.map_laws.specs.Lists.{ExtentsAreShown, FreeAreasAreShown, SharersAreShown, SubpoolsAreShown};
+ghost use Rattle.map_laws.specs.Lists.{ExtentsEndInRegions, FreeAreasEndInRegions};
+ghost use Rattle.map_laws.specs.Totals.{PagesAreCounted, BytesAreCounted};
+
+/// The extents and the free areas of a subpool are those that the plain machine has in the region below the line, and
+/// then those above it; and none of them ends behind the regions.
+pub fn runs_are_shown()
+    ensures extents { ExtentsAreShown }
+    ensures areas { FreeAreasAreShown }
+    ensures extents_end { ExtentsEndInRegions }
+    ensures areas_end { FreeAreasEndInRegions }
+{}
+
+/// The sharers of a subpool, and the subpools by number and owner, are those that the plain machine has.
+pub fn subpools_are_shown()
+    ensures sharers { SharersAreShown }
+    ensures subpools { SubpoolsAreShown }
+{}
+
+/// The totals are sums over the subpools: of the pages of their extents, and of the doublewords of their free areas.
+pub fn totals_are_sums()
+    ensures pages { PagesAreCounted }
+    ensures bytes { BytesAreCounted }
+{}

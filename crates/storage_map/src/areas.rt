@@ -1,0 +1,45 @@
+//! The lines of the extents and the free areas of a subpool.
+ghost use Rattle.std.specs.Prelude.{flat_map};
+ghost use Rattle.subpool_storage.specs.Extents.{extents, free_areas};
+ghost use Rattle.storage_core.specs.Meaning.{state_in_place};
+ghost use Rattle.storage_map.specs.Lines.{extent_line, free_line};
+ghost use Rattle.text_output.specs.Writing.{Puts};
+
+use crate::fields::put_area;
+use std::io::Write;
+use storage_core::{Storage, Subpool};
+use text_output::Gathered;
+
+/// Puts a line for each extent of the subpool, ascending.
+pub(crate) fn put_extents<W: Write>(
+    gathered: &mut Gathered,
+    writer: &mut W,
+    storage: &Storage,
+    subpool: Subpool,
+)
+    ensures { Puts (W.contents writer.old) (W.contents writer.new) gathered.old gathered.new
+        (flat_map extent_line (extents (state_in_place storage.now).subpools subpool)) }
+{
+    let mut place = storage.first_extent(subpool);
+    while let Some((run, behind)) = storage.next_extent(place) {
+        put_area(gathered, writer, b"  EXTENT", 4096 * run.start, 4096 * run.len);
+        place = behind;
+    }
+}
+
+/// Puts a line for each free area of the subpool, ascending.
+pub(crate) fn put_free_areas<W: Write>(
+    gathered: &mut Gathered,
+    writer: &mut W,
+    storage: &Storage,
+    subpool: Subpool,
+)
+    ensures { Puts (W.contents writer.old) (W.contents writer.new) gathered.old gathered.new
+        (flat_map free_line (free_areas (state_in_place storage.now).subpools subpool)) }
+{
+    let mut place = storage.first_free_area(subpool);
+    while let Some((area, behind)) = storage.next_free_area(place) {
+        put_area(gathered, writer, b"  FREE", 8 * area.start, 8 * area.len);
+        place = behind;
+    }
+}

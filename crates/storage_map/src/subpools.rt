@@ -1,0 +1,71 @@
+//! The lines of subpools: owner and sharers, extents and free areas.
+ghost use Rattle.std.specs.Prelude.{◌≡◌, flat_map, true};
+ghost use Rattle.subpool_storage.specs.Order.{subpools_in_order};
+ghost use Rattle.subpool_storage.specs.Subpools.{is_there};
+ghost use Rattle.storage_core.specs.Meaning.{state_in_place, state_of, settings_of};
+ghost use Rattle.vsm_model.specs.Map.{listed, sharers, subpool_lines};
+ghost use Rattle.text_output.specs.Writing.{Puts};
+
+use crate::areas::{put_extents, put_free_areas};
+use crate::fields::put_field;
+use std::io::Write;
+use storage_core::{Storage, Subpool};
+use text_output::{Gathered, put_decimal};
+
+/// Puts the tasks that see the subpool besides its owner, with commas between, or NONE.
+fn put_sharers<W: Write>(
+    gathered: &mut Gathered,
+    writer: &mut W,
+    storage: &Storage,
+    subpool: Subpool,
+)
+    ensures { Puts (W.contents writer.old) (W.contents writer.new) gathered.old gathered.new
+        (listed (sharers (state_of storage.now) subpool.number subpool.owner)) }
+{
+    let Some(first) = storage.sharer_after(subpool, 0) else {
+        gathered.put(writer, b"NONE");
+        return;
+    };
+    put_decimal(gathered, writer, u64::from(first));
+    let mut last = first;
+    while let Some(task) = storage.sharer_after(subpool, last) {
+        gathered.put(writer, b",");
+        put_decimal(gathered, writer, u64::from(task));
+        last = task;
+    }
+}
+
+/// Puts the lines of a subpool that is there.
+fn put_subpool<W: Write>(
+    gathered: &mut Gathered,
+    writer: &mut W,
+    storage: &Storage,
+    subpool: Subpool,
+)
+    requires { is_there (state_in_place storage.now).subpools subpool ≡ true }
+    ensures { Puts (W.contents writer.old) (W.contents writer.new) gathered.old gathered.new
+        (subpool_lines (settings_of storage.now) (state_of storage.now) subpool.number subpool.owner) }
+{
+    put_field(gathered, writer, b" SUBPOOL", u64::from(subpool.number));
+    put_field(gathered, writer, b" OWNER", u64::from(subpool.owner));
+    gathered.put(writer, b" SHARERS ");
+    put_sharers(gathered, writer, storage, subpool);
+    gathered.put(writer, b"\n");
+    put_extents(gathered, writer, storage, subpool);
+    put_free_areas(gathered, writer, storage, subpool);
+}
+
+/// Puts the lines of all subpools, by number and then by owner.
+pub(crate) fn put_subpools<W: Write>(gathered: &mut Gathered, writer: &mut W, storage: &Storage)
+    ensures { Puts (W.contents writer.old) (W.contents writer.new) gathered.old gathered.new
+        (flat_map (λ p. subpool_lines (settings_of storage.now) (state_of storage.now) p.number p.owner)
+        (subpools_in_order (state_in_place storage.now).subpools)) }
+{
+    let mut number = 0;
+    let mut owner = 0;
+    while let Some(subpool) = storage.subpool_after(number, owner) {
+        put_subpool(gathered, writer, storage, subpool);
+        number = subpool.number;
+        owner = subpool.owner;
+    }
+}

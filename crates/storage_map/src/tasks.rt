@@ -1,0 +1,58 @@
+//! The lines of tasks: their parents and their registers.
+ghost use Rattle.std.specs.Prelude.{◌≤◌, flat_map};
+ghost use Rattle.vsm_model.specs.Map.{numbers, register_line, task_lines};
+ghost use Rattle.storage_core.specs.Meaning.{state_of};
+ghost use Rattle.text_output.specs.Writing.{Puts};
+
+use crate::fields::{put_field, put_hex_field};
+use std::io::Write;
+use storage_core::Storage;
+use text_output::Gathered;
+
+/// Puts the line of eight registers of a task, from the first on.
+fn put_registers<W: Write>(
+    gathered: &mut Gathered,
+    writer: &mut W,
+    storage: &Storage,
+    task: u8,
+    word: &[u8],
+    first: u8,
+)
+    requires { first ≤ 8 }
+    ensures { Puts (W.contents writer.old) (W.contents writer.new) gathered.old gathered.new
+        (register_line (state_of storage.now) task word.now first) }
+{
+    gathered.put(writer, word);
+    for register in first..first + 8 {
+        put_hex_field(gathered, writer, storage.register(task, register));
+    }
+    gathered.put(writer, b"\n");
+}
+
+/// Puts the lines of a task, and none where there is no such task.
+fn put_task<W: Write>(gathered: &mut Gathered, writer: &mut W, storage: &Storage, task: u8)
+    ensures { Puts (W.contents writer.old) (W.contents writer.new) gathered.old gathered.new
+        (task_lines (state_of storage.now) task) }
+{
+    let Some(parent) = storage.parent(task) else {
+        return;
+    };
+    put_field(gathered, writer, b" TASK", u64::from(task));
+    put_field(gathered, writer, b" PARENT", u64::from(parent));
+    if task == storage.current() {
+        gathered.put(writer, b" CURRENT");
+    }
+    gathered.put(writer, b"\n");
+    put_registers(gathered, writer, storage, task, b"  R0", 0);
+    put_registers(gathered, writer, storage, task, b"  R8", 8);
+}
+
+/// Puts the lines of all tasks, ascending.
+pub(crate) fn put_tasks<W: Write>(gathered: &mut Gathered, writer: &mut W, storage: &Storage)
+    ensures { Puts (W.contents writer.old) (W.contents writer.new) gathered.old gathered.new
+        (flat_map (task_lines (state_of storage.now)) (numbers 1 65)) }
+{
+    for task in 1..65 {
+        put_task(gathered, writer, storage, task);
+    }
+}

@@ -1,0 +1,100 @@
+//! The totals of a storage.
+ghost use Rattle.std.specs.Prelude.{◌≡◌, ◌+◌, ◌<◌, ◌≤◌, ◌^◌, true, false};
+ghost use Rattle.map_laws.specs.Totals.{subpool_pages, subpool_free, all_pages, all_free};
+ghost use Rattle.storage_core.specs.Meaning.{state_in_place, state_of, settings_of};
+ghost use Rattle.storage_map.specs.Totals.{totals_of};
+
+use storage_core::{Storage, Subpool};
+
+/// What the storage comes to: pages of 4,096 bytes, and bytes.
+#[derive(Clone, Copy, Debug, PartialEq, Eq)]
+pub struct Totals {
+    /// The assigned pages below the 16 MB line.
+    pub low_pages: u32,
+    /// All pages of the region below the line.
+    pub low_size: u32,
+    /// The assigned pages above the line.
+    pub high_pages: u32,
+    /// All pages of the region above the line.
+    pub high_size: u32,
+    /// The bytes of assigned pages that are allocated.
+    pub taken: u64,
+    /// The bytes of assigned pages that are free.
+    pub free: u64,
+}
+
+/// The pages of a subpool, or of all subpools, on each side of the 16 MB line.
+#[derive(Clone, Copy)]
+struct Pages {
+    low: u32,
+    high: u32,
+}
+
+/// The pages of a subpool.
+fn pages_of(storage: &Storage, subpool: Subpool) -> Pages
+    ensures low { result.low ≡ subpool_pages (state_in_place storage.now).subpools true subpool }
+    ensures high { result.high ≡ subpool_pages (state_in_place storage.now).subpools false subpool }
+{
+    let mut pages = Pages { low: 0, high: 0 };
+    let mut place = storage.first_extent(subpool);
+    while let Some((run, behind)) = storage.next_extent(place) {
+        if run.start < 4096 {
+            pages.low += run.len;
+        } else {
+            pages.high += run.len;
+        }
+        place = behind;
+    }
+    pages
+}
+
+/// The free doublewords of a subpool.
+fn free_of(storage: &Storage, subpool: Subpool) -> u32
+    ensures { result ≡ subpool_free (state_in_place storage.now).subpools subpool }
+{
+    let mut free = 0;
+    let mut place = storage.first_free_area(subpool);
+    while let Some((area, behind)) = storage.next_free_area(place) {
+        free += area.len;
+        place = behind;
+    }
+    free
+}
+
+/// The pages of all subpools, and the free doublewords in them.
+fn sums(storage: &Storage) -> (Pages, u32)
+    ensures low { result.0.low ≡ all_pages (state_in_place storage.now).subpools true }
+    ensures high { result.0.high ≡ all_pages (state_in_place storage.now).subpools false }
+    ensures free { result.1 ≡ all_free (state_in_place storage.now).subpools }
+{
+    let mut pages = Pages { low: 0, high: 0 };
+    let mut free = 0;
+    let mut number = 0;
+    let mut owner = 0;
+    while let Some(subpool) = storage.subpool_after(number, owner) {
+        let own = pages_of(storage, subpool);
+        pages.low += own.low;
+        pages.high += own.high;
+        free += free_of(storage, subpool);
+        number = subpool.number;
+        owner = subpool.owner;
+    }
+    (pages, free)
+}
+
+/// The totals of a storage: it walks all extents and free areas once.
+pub fn totals(storage: &Storage) -> Totals
+    ensures { result ≡ totals_of (settings_of storage.now) (state_of storage.now) }
+{
+    let settings = storage.settings();
+    let (pages, free) = sums(storage);
+    let free = 8 * u64::from(free);
+    Totals {
+        low_pages: pages.low,
+        low_size: settings.low_k / 4,
+        high_pages: pages.high,
+        high_size: settings.high_k / 4,
+        taken: 4096 * (u64::from(pages.low) + u64::from(pages.high)) - free,
+        free,
+    }
+}

@@ -1,0 +1,8 @@
+//! Text that goes out to a writer: gathered, handed out in pieces, and known after a fault; and the numbers of output.
+#![tactic(auto)]
+
+mod numbers;
+mod writing;
+
+pub use numbers::{put_byte, put_decimal, put_hexadecimal, put_padded_decimal};
+pub use writing::{Gathered, WriteFault};

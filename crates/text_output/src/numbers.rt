@@ -1,0 +1,66 @@
+//! Numbers of output, digit by digit.
+ghost use Rattle.std.specs.Prelude.{◌≡◌, ◌<◌, ◌≤◌, decimal, true};
+ghost use Rattle.std.specs.Fmt.{digit_glyph};
+ghost use Rattle.vsm_model.specs.Texts.{hexadecimal, padded_decimal};
+ghost use Rattle.text_output.specs.Writing.{Puts};
+
+use crate::writing::Gathered;
+use itoa::Buffer;
+use std::io::Write;
+
+/// Puts a number in decimal digits.
+pub fn put_decimal<W: Write>(gathered: &mut Gathered, writer: &mut W, n: u64)
+    ensures { Puts (W.contents writer.old) (W.contents writer.new) gathered.old gathered.new (decimal n) }
+{
+    let mut buffer = Buffer::new();
+    gathered.put(writer, buffer.format(n).as_bytes());
+}
+
+/// Puts a number in decimal digits, with leading zeros to so many, at most seven.
+pub fn put_padded_decimal<W: Write>(
+    gathered: &mut Gathered,
+    writer: &mut W,
+    width: usize,
+    n: u32,
+)
+    requires { width ≤ 7 }
+    ensures { Puts (W.contents writer.old) (W.contents writer.new) gathered.old gathered.new (padded_decimal width n) }
+{
+    let mut buffer = Buffer::new();
+    let digits = buffer.format(n).as_bytes();
+    gathered.put(writer, &b"0000000"[..width.saturating_sub(digits.len())]);
+    gathered.put(writer, digits);
+}
+
+/// One upper case hexadecimal digit.
+fn hexadecimal_digit(n: u32) -> u8
+    requires { n < 16 }
+    ensures { result ≡ digit_glyph true n }
+{
+    if n < 10 {
+        b'0' + n as u8
+    } else {
+        b'A' + (n - 10) as u8
+    }
+}
+
+/// Puts a number in upper case hexadecimal digits, with leading zeros to so many.
+pub fn put_hexadecimal<W: Write>(gathered: &mut Gathered, writer: &mut W, width: u32, n: u32)
+    ensures { Puts (W.contents writer.old) (W.contents writer.new) gathered.old gathered.new (hexadecimal width n) }
+{
+    if width > 1 || n >= 16 {
+        put_hexadecimal(gathered, writer, width.saturating_sub(1), n / 16);
+    }
+    gathered.put(writer, &[hexadecimal_digit(n % 16)]);
+}
+
+/// Puts a byte in two upper case hexadecimal digits.
+pub fn put_byte<W: Write>(gathered: &mut Gathered, writer: &mut W, byte: u8)
+    ensures { Puts (W.contents writer.old) (W.contents writer.new) gathered.old gathered.new (hexadecimal 2 byte) }
+{
+    let n = u32::from(byte);
+    gathered.put(
+        writer,
+        &[hexadecimal_digit(n / 16), hexadecimal_digit(n % 16)],
+    );
+}
