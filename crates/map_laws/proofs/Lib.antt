@@ -1,0 +1,3 @@
+mod RunLists
+mod Ranges
+mod Lists
