@@ -1,3 +1,4 @@
 mod RunLists
 mod Ranges
 mod Lists
+mod Order
