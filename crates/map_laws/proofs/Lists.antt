@@ -1,11 +1,11 @@
 -- The extents and the free areas of a subpool are those of the plain machine, and end in the regions.
-use Rattle.std.proofs.Common.{◌≡◌, ℕ, zero, suc, ◌+◌, ◌*◌, ◌<◌, ◌≤◌, ◌⊎◌, inl, inr, Bool, true, false, ◌&&◌, not, List, [], ◌∷◌, ◌++◌, map, Option, Some, None, refl, sym, ap, ◌∙◌, arith, subst}
+use Rattle.std.proofs.Common.{◌≡◌, ℕ, zero, suc, ◌+◌, ◌*◌, ◌<◌, ◌≤◌, inl, inr, Bool, true, false, ◌&&◌, List, [], ◌∷◌, ◌++◌, map, Option, Some, None, refl, sym, ap, ◌∙◌, arith, subst}
 use Rattle.std.specs.Prelude.{◌/◌, ◌^◌, slice_get}
 use Rattle.std.proofs.lemmas.Bool.{false_from_ne_true}
 use Rattle.run_set.specs.declared.run.Run.{Run}
 use Rattle.vsm_model.specs.declared.Subpool.{Subpool}
 use Rattle.vsm_model.specs.declared.limits.Settings.{Settings}
-use Rattle.vsm_model.specs.Regions.{Region, within, low_region, high_region, settings_valid}
+use Rattle.vsm_model.specs.Regions.{within, high_region, settings_valid}
 use Rattle.vsm_model.specs.Runs.{runs}
 use Rattle.vsm_model.specs.Search.{holds}
 use Rattle.vsm_model.specs.Subpools.{same_subpool}
@@ -15,7 +15,7 @@ use Rattle.storage_changes.specs.State.{StorageState}
 use Rattle.storage_changes.specs.Meaning.{subpool_of, model_of, IsSound}
 use Rattle.storage_changes.proofs.MeaningLemmas.{free_storage_is_free}
 use Rattle.map_laws.specs.Lists.{pair_of, ExtentsAreShown, FreeAreasAreShown, ExtentsEndInRegions, FreeAreasEndInRegions}
-use Rattle.map_laws.proofs.RunLists.{Between, runs_between, runs_agree, two_ranges}
+use Rattle.map_laws.proofs.RunLists.{Between, between_wider, between_longer, runs_between, runs_agree, two_ranges}
 use Rattle.map_laws.proofs.Ranges.{InEither, sizes, is_within, page_is, page_within, free_within}
 
 -- the runs of what passes in two ranges alone, with a number between them and one behind them
@@ -103,26 +103,19 @@ ends_by low high top (x ∷ xs) zero r less h e =
     subst P is (omega (arith, less, ends))
 ends_by low high top (x ∷ xs) (suc i) r less h e = ends_by low high top xs i r less h.3 e
 
-two_between : (low mid high : ℕ) (xs ys : List (ℕ × ℕ)) → mid ≤ high → low ≤ mid → Between low mid xs → Between mid high ys → Between low high (xs ++ ys)
-two_between low mid high [] ys less room h k = weaker ys k where
-  weaker : (zs : List (ℕ × ℕ)) → Between mid high zs → Between low high zs
-  weaker [] g = tt
-  weaker (z ∷ zs) g = (let far : mid ≤ z.0 = g.0 in omega (arith, far, room), g.1, g.2, weaker zs g.3)
-two_between low mid high (x ∷ xs) ys less room h k =
-    (h.0, h.1, let ends : x.0 + x.1 ≤ mid = h.2 in omega (arith, ends, less), two_between low mid high xs ys less room h.3 k)
+two_between : (low mid high : ℕ) (xs ys : List (ℕ × ℕ)) → low ≤ mid → mid ≤ high → Between low mid xs → Between mid high ys → Between low high (xs ++ ys)
+two_between low mid high [] ys early late h k = between_wider low mid high ys early k
+two_between low mid high (x ∷ xs) ys early late h k =
+    (h.0, h.1, let ends : x.0 + x.1 ≤ mid = h.2 in omega (arith, ends, late), two_between low mid high xs ys early late h.3 k)
 
 -- runs of two ranges end by the end of the second
 ends_of_two : (f : ℕ → Bool) (a n b m top : ℕ) (i : ℕ) (r : Run) (xs : List (ℕ × ℕ)) → a + n < b → b + m < top → xs ≡ runs f a n ++ runs f b m
     → slice_get (map run_in xs) i ≡ Some r → r.start + r.len < top
 ends_of_two f a n b m top i r xs gap room e at =
-    let P : ℕ → Type 0 = λ z. Between a z (runs f a n) in
-    let Q : List (ℕ × ℕ) → Type 0 = Between a (b + m) in
-    ends_by a (b + m) top xs i r room
-    (subst Q (sym e) (two_between a b (b + m) (runs f a n) (runs f b m) (omega arith) (omega (arith, gap)) (wider (runs f a n) (runs_between f a n)) (runs_between f b m))) at
-  where
-    wider : (zs : List (ℕ × ℕ)) → Between a (a + n) zs → Between a b zs
-    wider [] h = tt
-    wider (z ∷ zs) h = (h.0, h.1, let ends : z.0 + z.1 ≤ a + n = h.2 in omega (arith, ends, gap), wider zs h.3)
+    let P : List (ℕ × ℕ) → Type 0 = Between a (b + m) in
+    let first : Between a b (runs f a n) = between_longer a (a + n) b (runs f a n) (omega (arith, gap)) (runs_between f a n) in
+    let both : Between a (b + m) (runs f a n ++ runs f b m) = two_between a b (b + m) (runs f a n) (runs f b m) (omega (arith, gap)) (omega arith) first (runs_between f b m) in
+    ends_by a (b + m) top xs i r room (subst P (sym e) both) at
 
 pub extents_end_in_regions : ExtentsEndInRegions
 unfolding extents

@@ -1,14 +1,14 @@
 -- The pages and the free doublewords of a subpool lie in the two regions.
-use Rattle.std.proofs.Common.{◌≡◌, ℕ, ◌+◌, ◌*◌, ◌<◌, ◌≤◌, ◌⊎◌, inl, inr, Bool, true, false, ◌&&◌, ◌||◌, not, nat_le, nat_lt, Option, Some, None, refl, sym, ap, ◌∙◌, arith}
+use Rattle.std.proofs.Common.{◌≡◌, ℕ, ◌+◌, ◌*◌, ◌<◌, ◌≤◌, ◌⊎◌, inl, inr, Bool, true, false, ◌&&◌, ◌||◌, nat_le, nat_lt, Option, Some, None, refl, sym, ap, ◌∙◌, arith}
 use Rattle.std.specs.Prelude.{◌/◌, ◌%◌, ◌==◌}
 use Rattle.std.proofs.lemmas.Bool.{and_parts, and_from, leb-true, ltb-true, le-leb, lt-ltb, false_from_ne_true}
 use Rattle.vsm_model.specs.declared.Subpool.{Subpool}
 use Rattle.vsm_model.specs.declared.limits.Settings.{Settings}
-use Rattle.vsm_model.specs.Regions.{Region, within, in_a_region, low_region, high_region, settings_valid, size_valid}
+use Rattle.vsm_model.specs.Regions.{within, in_a_region, low_region, high_region, settings_valid, size_valid}
 use Rattle.vsm_model.specs.Search.{holds}
 use Rattle.vsm_model.specs.Subpools.{same_subpool}
 use Rattle.storage_changes.specs.State.{StorageState}
-use Rattle.storage_changes.specs.Meaning.{subpool_of, model_of, IsSound}
+use Rattle.storage_changes.specs.Meaning.{subpool_of, IsSound}
 use Rattle.storage_changes.proofs.Cases.{same-self, same-is}
 use Rattle.storage_changes.proofs.MeaningLemmas.{named_pages_are_there}
 

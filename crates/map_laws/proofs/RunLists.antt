@@ -17,9 +17,13 @@ begins_lower : (low k : ℕ) (xs : List (ℕ × ℕ)) → low ≤ k → Begins k
 begins_lower low k [] less h = tt
 begins_lower low k (x ∷ xs) less h = let far : k ≤ x.0 = h in omega (arith, less, far)
 
-between_wider : (low k high : ℕ) (xs : List (ℕ × ℕ)) → low ≤ k → Between k high xs → Between low high xs
+pub between_wider : (low k high : ℕ) (xs : List (ℕ × ℕ)) → low ≤ k → Between k high xs → Between low high xs
 between_wider low k high [] less h = tt
 between_wider low k high (x ∷ xs) less h = (let far : k ≤ x.0 = h.0 in omega (arith, less, far), h.1, h.2, between_wider low k high xs less h.3)
+
+pub between_longer : (low k high : ℕ) (xs : List (ℕ × ℕ)) → k ≤ high → Between low k xs → Between low high xs
+between_longer low k high [] less h = tt
+between_longer low k high (x ∷ xs) less h = (h.0, h.1, let ends : x.0 + x.1 ≤ k = h.2 in omega (arith, less, ends), between_longer low k high xs less h.3)
 
 -- a number in front of runs: it begins the first of them, or is a run of its own
 front_begins : (k : ℕ) (xs : List (ℕ × ℕ)) → Begins k (with_first k xs)
