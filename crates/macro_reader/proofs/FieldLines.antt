@@ -164,6 +164,7 @@ front_of operation.Getmain = 32 ∷ (codes "GETMAIN" ++ 32 ∷ [])
 front_of operation.Freemain = 32 ∷ (codes "FREEMAIN" ++ 32 ∷ [])
 front_of operation.Poke = 32 ∷ (codes "POKE" ++ 32 ∷ [])
 front_of operation.Peek = 32 ∷ (codes "PEEK" ++ 32 ∷ [])
+front_of operation.Map = 32 ∷ (codes "MAP" ++ 32 ∷ [])
 front_of operation.Back = 32 ∷ (codes "BACK" ++ 32 ∷ [])
 front_of operation.Forward = 32 ∷ (codes "FORWARD" ++ 32 ∷ [])
 

@@ -1,14 +1,15 @@
 -- Lines that a field is written on, behind each operation, and what the grammar answers to them.
-use Rattle.std.proofs.Common.{◌≡◌, ℕ, ◌+◌, ◌-◌, ◌<◌, ◌≤◌, ◌==◌, true, false, ◌&&◌, ◌||◌, List, [], ◌∷◌, ◌++◌, length, map, take, drop, replicate, Some, Ok, if◌then◌else◌, arith, refl, ap, sym, ◌∙◌, inl, inr, append-nil}
+use Rattle.std.proofs.Common.{◌≡◌, ℕ, ◌+◌, ◌-◌, ◌<◌, ◌≤◌, ◌==◌, true, false, ◌&&◌, ◌||◌, List, [], ◌∷◌, ◌++◌, length, map, take, drop, replicate, codes, Some, Ok, if◌then◌else◌, arith, refl, ap, sym, ◌∙◌, inl, inr, append-nil}
 use Rattle.std.proofs.lemmas.Bool.{cases_lt}
 use Rattle.std.proofs.lemmas.Bool.Decides.{nat_tests}
 use Rattle.std.proofs.lemmas.List.{length-drop, take-append-drop}
 use Rattle.macro_reader.specs.Columns.{Line, used, is_blank, is_comment, is_skipped}
 use Rattle.operand_texts.specs.Field.{outside}
 use Rattle.macro_reader.specs.Continuation.{Joined, no_field, begun, with_part, with_lines}
-use Rattle.macro_statements.specs.Requests.{Asked}
-use Rattle.macro_statements.specs.Statements.{of_operation, from_operands, is_misplaced, statement_with, SpellsRequest}
+use Rattle.macro_statements.specs.Requests.{Asked, map_asked}
+use Rattle.macro_statements.specs.Statements.{of_operation, behind_of, from_operands, is_misplaced, statement_with, SpellsRequest}
 use Rattle.macro_reader.specs.Scripts.{Answer, Answers, IsGroup, Part, whole, said_by}
+use Rattle.macro_operands.specs.declared.rows.Behind.TheVariants as behind
 use Rattle.macro_statements.specs.declared.statements.Operation.{Operation}
 use Rattle.macro_statements.specs.declared.statements.Operation.TheVariants as operation
 use Rattle.operand_texts.proofs.OperandTexts.{ends}
@@ -21,6 +22,7 @@ front_fits operation.Getmain = refl
 front_fits operation.Freemain = refl
 front_fits operation.Poke = refl
 front_fits operation.Peek = refl
+front_fits operation.Map = refl
 front_fits operation.Back = refl
 front_fits operation.Forward = refl
 
@@ -30,6 +32,7 @@ in_place operation.Getmain t = refl
 in_place operation.Freemain t = refl
 in_place operation.Poke t = refl
 in_place operation.Peek t = refl
+in_place operation.Map t = refl
 in_place operation.Back t = refl
 in_place operation.Forward t = refl
 
@@ -39,6 +42,7 @@ no_comment operation.Getmain t = refl
 no_comment operation.Freemain t = refl
 no_comment operation.Poke t = refl
 no_comment operation.Peek t = refl
+no_comment operation.Map t = refl
 no_comment operation.Back t = refl
 no_comment operation.Forward t = refl
 
@@ -48,17 +52,19 @@ says operation.Getmain t text = refl
 says operation.Freemain t text = refl
 says operation.Poke t text = refl
 says operation.Peek t text = refl
+says operation.Map t text = refl
 says operation.Back t text = refl
 says operation.Forward t text = refl
 
-operands_behind_front : (o : Operation) (c : ℕ) (cs : List ℕ) → (c == 32) ≡ false → from_operands (front_of o ++ c ∷ cs) ≡ c ∷ cs
-operands_behind_front operation.Storage c cs h = rw h refl
-operands_behind_front operation.Getmain c cs h = rw h refl
-operands_behind_front operation.Freemain c cs h = rw h refl
-operands_behind_front operation.Poke c cs h = rw h refl
-operands_behind_front operation.Peek c cs h = rw h refl
-operands_behind_front operation.Back c cs h = rw h refl
-operands_behind_front operation.Forward c cs h = rw h refl
+operands_behind_front : (o : Operation) (c : ℕ) (cs : List ℕ) → behind_of (Some o) ≡ behind.Operands → (c == 32) ≡ false → from_operands (front_of o ++ c ∷ cs) ≡ c ∷ cs
+operands_behind_front operation.Storage c cs has h = rw h refl
+operands_behind_front operation.Getmain c cs has h = rw h refl
+operands_behind_front operation.Freemain c cs has h = rw h refl
+operands_behind_front operation.Poke c cs has h = rw h refl
+operands_behind_front operation.Peek c cs has h = rw h refl
+operands_behind_front operation.Map c cs has h = cc
+operands_behind_front operation.Back c cs has h = rw h refl
+operands_behind_front operation.Forward c cs has h = rw h refl
 
 begun_with : (card : List ℕ) (c : ℕ) (cs : List ℕ) → is_misplaced card ≡ false → from_operands card ≡ c ∷ cs → begun card ≡ with_part [] outside (c ∷ cs)
 begun_with card c cs m e =
@@ -71,10 +77,10 @@ begun_with card c cs m e =
 no_blank : (c : ℕ) → ends outside c ≡ false → (c == 32) ≡ false
 no_blank c h = elim (c == 32) as (λ b. (b && true) ≡ false → b ≡ false) [ true ↦ λ k. k | false ↦ λ k. refl ] h
 
-first_begun : (o : Operation) (c : ℕ) (cs : List ℕ) (line : Line) → ends outside c ≡ false → used line ≡ front_of o ++ c ∷ cs
+first_begun : (o : Operation) (c : ℕ) (cs : List ℕ) (line : Line) → behind_of (Some o) ≡ behind.Operands → ends outside c ≡ false → used line ≡ front_of o ++ c ∷ cs
     → begun (used line) ≡ with_part [] outside (c ∷ cs)
-first_begun o c cs line h e =
-    ap begun e ∙ begun_with (front_of o ++ c ∷ cs) c cs (in_place o (c ∷ cs)) (operands_behind_front o c cs (no_blank c h))
+first_begun o c cs line has h e =
+    ap begun e ∙ begun_with (front_of o ++ c ∷ cs) c cs (in_place o (c ∷ cs)) (operands_behind_front o c cs has (no_blank c h))
 
 -- lines with this operation and this field
 record On (o : Operation) (t : List ℕ) : Type 0 where
@@ -88,8 +94,8 @@ record On (o : Operation) (t : List ℕ) : Type 0 where
   joins : with_lines (begun (used first)) (map used rest) ≡ Some field
   text : field.text ≡ t
 
-on_one : (o : Operation) (c : ℕ) (cs : List ℕ) → Unbroken outside (c ∷ cs) → length (c ∷ cs) ≤ room o → On o (c ∷ cs)
-on_one o c cs h few =
+on_one : (o : Operation) (c : ℕ) (cs : List ℕ) → behind_of (Some o) ≡ behind.Operands → Unbroken outside (c ∷ cs) → length (c ∷ cs) ≤ room o → On o (c ∷ cs)
+on_one o c cs has h few =
     let t : List ℕ = c ∷ cs in
     let part : List ℕ = c ∷ take (less o) (cs ++ replicate 71 32) in
     let card : used (front_of o ++ t) ≡ front_of o ++ part = used_last (front_of o) t (room o) (front_fits o) in
@@ -101,12 +107,12 @@ on_one o c cs h few =
       says = λ text. ap (λ x. statement_with x text) card ∙ says o part text;
       group = continued_last (front_of o) t (room o) (front_fits o) few;
       field = with_part [] outside part;
-      joins = ap (λ j. Some j) (first_begun o c (take (less o) (cs ++ replicate 71 32)) (front_of o ++ t) h.0 card);
+      joins = ap (λ j. Some j) (first_begun o c (take (less o) (cs ++ replicate 71 32)) (front_of o ++ t) has h.0 card);
       text = field_stops outside (room o) 71 t h few;
     }
 
-on_more : (o : Operation) (c : ℕ) (cs : List ℕ) → Unbroken outside (c ∷ cs) → room o < length (c ∷ cs) → length (c ∷ cs) ≤ room o + 504 → On o (c ∷ cs)
-on_more o c cs h long few =
+on_more : (o : Operation) (c : ℕ) (cs : List ℕ) → behind_of (Some o) ≡ behind.Operands → Unbroken outside (c ∷ cs) → room o < length (c ∷ cs) → length (c ∷ cs) ≤ room o + 504 → On o (c ∷ cs)
+on_more o c cs has h long few =
     let t : List ℕ = c ∷ cs in
     let part : List ℕ = c ∷ take (less o) cs in
     let first : Line = front_of o ++ (part ++ 88 ∷ []) in
@@ -122,15 +128,15 @@ on_more o c cs h long few =
       says = λ text. ap (λ x. statement_with x text) card ∙ says o part text;
       group = l.group first (continued_full (front_of o) t (room o) (front_fits o) (omega (arith, long)));
       field = l.field;
-      joins = ap (λ j. with_lines j (map used l.lines)) (first_begun o c (take (less o) cs) first h.0 card) ∙ l.joins;
+      joins = ap (λ j. with_lines j (map used l.lines)) (first_begun o c (take (less o) cs) first has h.0 card) ∙ l.joins;
       text = l.text ∙ ap (λ x. x ++ drop (room o) t) (whole_part outside (room o) t h) ∙ take-append-drop (room o) t;
     }
 
-on : (o : Operation) (t : List ℕ) → Unbroken outside t → 1 ≤ length t → length t ≤ room o + 504 → On o t
-on o [] h some few = absurd (omega (arith, some))
-on o (c ∷ cs) h some few = elim (cases_lt (room o) (length (c ∷ cs))) [
-  | inl long ↦ on_more o c cs h long few
-  | inr short ↦ on_one o c cs h short
+on : (o : Operation) (t : List ℕ) → behind_of (Some o) ≡ behind.Operands → Unbroken outside t → 1 ≤ length t → length t ≤ room o + 504 → On o t
+on o [] has h some few = absurd (omega (arith, some))
+on o (c ∷ cs) has h some few = elim (cases_lt (room o) (length (c ∷ cs))) [
+  | inl long ↦ on_more o c cs has h long few
+  | inr short ↦ on_one o c cs has h short
 ]
 
 answered : (o : Operation) (t : List ℕ) (asked : Asked) → SpellsRequest o t asked → On o t
@@ -152,6 +158,23 @@ answered o t asked e w =
       ),
     )
 
-pub written_on : (o : Operation) (t : List ℕ) (asked : Asked) → SpellsRequest o t asked → Unbroken outside t → 1 ≤ length t → length t ≤ room o + 504
-    → (lines : List Line) × (length lines ≤ 10) × Answers lines (record { line = 1; what = Ok asked } ∷ [])
-written_on o t asked e h some few = answered o t asked e (on o t h some few)
+pub written_on : (o : Operation) (t : List ℕ) (asked : Asked) → behind_of (Some o) ≡ behind.Operands → SpellsRequest o t asked → Unbroken outside t → 1 ≤ length t
+    → length t ≤ room o + 504 → (lines : List Line) × (length lines ≤ 10) × Answers lines (record { line = 1; what = Ok asked } ∷ [])
+written_on o t asked has e h some few = answered o t asked e (on o t has h some few)
+
+-- the map's line
+map_line : On operation.Map []
+map_line = record {
+  first = 32 ∷ codes "MAP";
+  rest = [];
+  few = omega arith;
+  begins = refl;
+  says = λ text. refl;
+  group = refl;
+  field = no_field;
+  joins = refl;
+  text = refl;
+}
+
+pub map_written : (lines : List Line) × (length lines ≤ 10) × Answers lines (record { line = 1; what = Ok map_asked } ∷ [])
+map_written = answered operation.Map [] map_asked refl map_line

@@ -23,4 +23,6 @@ mod edge_tests;
 #[cfg(test)]
 mod form_tests;
 #[cfg(test)]
+mod map_tests;
+#[cfg(test)]
 mod tests;

@@ -1,5 +1,5 @@
 -- The requests that operand fields spell are those that are valid.
-use Rattle.std.proofs.Common.{◌≡◌, ℕ, suc, ◌^◌, ◌<◌, ◌≤◌, ◌↔◌, ◌==◌, Bool, true, false, ◌&&◌, ◌||◌, List, [], ◌∷◌, length, Option, Some, None, Result, Ok, Err, is_some, nat_le, codes, option_and_then, if◌then◌else◌, decimal, arith, refl, ap, sym, subst, ◌∙◌, ◌+◌}
+use Rattle.std.proofs.Common.{◌≡◌, ℕ, suc, ◌^◌, ◌<◌, ◌≤◌, ◌↔◌, ◌==◌, Bool, true, false, ◌&&◌, ◌||◌, List, [], ◌∷◌, length, Option, Some, None, Result, Ok, Err, is_some, nat_le, codes, option_and_then, if◌then◌else◌, decimal, arith, refl, ap, sym, subst, ◌∙◌, ◌+◌, ◌⊎◌, inl, inr}
 use Rattle.std.specs.List.{AllByRecursion}
 use Rattle.std.specs.Option.{IfSome, option_map}
 use Rattle.std.specs.Prelude.{IfOk}
@@ -16,8 +16,9 @@ use Rattle.macro_operands.specs.Said.{Said, said_of, value_said, content, size, 
 use Rattle.macro_operands.specs.Slots.{Slots, as_value, as_place, as_boundary, as_location, as_condition}
 use Rattle.macro_operands.specs.declared.faults.FaultKind.{FaultKind}
 use Rattle.macro_operands.specs.declared.faults.FaultKind.TheVariants as fault
+use Rattle.macro_operands.specs.declared.rows.Behind.TheVariants as behind
 use Rattle.macro_operands.specs.declared.rows.Kind.TheVariants as kind
-use Rattle.macro_statements.specs.Requests.{WrittenLength, fixed, between, IsLength, is_fixed, obtain, release, whole, poke, Asked, act, peek, back, forward, IsRegisterObtain, IsNamedObtain, IsObtainForm, IsReleaseForm, IsWholeForm, IsValidAsked, AskedHasBytes, HasRoom, seen, asked_in}
+use Rattle.macro_statements.specs.Requests.{WrittenLength, fixed, between, IsLength, is_fixed, obtain, release, whole, poke, Asked, act, peek, map_asked, back, forward, IsRegisterObtain, IsNamedObtain, IsObtainForm, IsReleaseForm, IsWholeForm, IsValidAsked, AskedHasBytes, HasRoom, seen, asked_in}
 use Rattle.macro_statements.specs.Forms.{StorageForm, obtaining, releasing, lacks_place, obtain_by, has_whole, release_by, asked_by, form_with, boundary_by, location_by, form_by, as_length}
 use Rattle.macro_statements.specs.Storage.{obtain_row, release_row, storage_macro}
 use Rattle.macro_statements.specs.Getmain as getmain
@@ -27,7 +28,7 @@ use Rattle.macro_statements.specs.Freemain.{freemain_macro}
 use Rattle.macro_statements.specs.Poke.{poke_row, poke_of, poke_with}
 use Rattle.macro_statements.specs.Peek.{peek_row, peek_of, peek_with}
 use Rattle.macro_statements.specs.Steps.{steps_row, count_with, step_with, count_in}
-use Rattle.macro_statements.specs.Statements.{asked_of, SpellsRequest}
+use Rattle.macro_statements.specs.Statements.{asked_of, behind_of, SpellsRequest}
 use Rattle.macro_statements.specs.declared.requests.Form.{Form}
 use Rattle.macro_statements.specs.declared.requests.Request.{Request}
 use Rattle.macro_statements.specs.declared.statements.Operation.{Operation}
@@ -90,6 +91,7 @@ less operation.Getmain = 61
 less operation.Freemain = 60
 less operation.Poke = 64
 less operation.Peek = 64
+less operation.Map = 65
 less operation.Back = 64
 less operation.Forward = 61
 
@@ -99,6 +101,7 @@ room o = suc (less o)
 -- an operation and operands that ask for this
 pub record Operands (asked : Asked) : Type 0 where
   pub operation : Operation
+  pub has : behind_of (Some operation) ≡ behind.Operands
   pub first : List ℕ
   pub rest : List (List ℕ)
   pub some : 1 ≤ length first
@@ -130,9 +133,10 @@ form_of f c = record { family = f; conditional = c }
 
 -- a form's word with its operands
 form_operands : (asked : Asked) (o : Operation) (first : List ℕ) (f : StorageForm) (slots : Slots) → 1 ≤ length first → length first ≤ 8 → is_name first ≡ true
-    → 61 ≤ room o → (w : WrittenForm f slots) → asked_of o (first ∷ w.rest) ≡ form_with f w.rest → asked_by f slots ≡ Ok asked → Operands asked
-form_operands asked o first f slots some few name wide w leads asks = record {
+    → 61 ≤ room o → behind_of (Some o) ≡ behind.Operands → (w : WrittenForm f slots) → asked_of o (first ∷ w.rest) ≡ form_with f w.rest → asked_by f slots ≡ Ok asked → Operands asked
+form_operands asked o first f slots some few name wide has w leads asks = record {
   operation = o;
+  has = has;
   first = first;
   rest = w.rest;
   some = some;
@@ -167,7 +171,7 @@ storage_obtain l s p y o c hl hs hp =
     let form : Form = form_of family.S false in
     form_operands _ operation.Storage (codes "OBTAIN") (obtaining (codes "OBTAIN") obtain_row family.S false)
     (six_said x.said u.said q.said (Some (boundary y)) (Some (location o)) (Some (condition c)))
-    (omega arith) (omega arith) refl (omega arith)
+    (omega arith) (omega arith) refl (omega arith) refl
     (length_form (codes "OBTAIN") true form kind.Length kind.Place kind.Boundary kind.Location kind.Condition _ _ _ _ _ _
     x.spelled u.spelled q.spelled (boundary_spelled y) (location_spelled o) (condition_spelled c))
     refl (obtain_is form x.said u.said q.said (Some (boundary y)) (Some (location o)) (Some (condition c)) l s p y o c x.is u.is q.is refl refl refl refl)
@@ -186,7 +190,7 @@ register_obtain (fixed v) s None Doubleword Low false hl hs r =
     let u = value_spelled s hs in
     form_operands _ operation.Getmain (codes "R") (obtaining (codes "R") getmain.register_row family.R false)
     (six_said x.said u.said None None None None)
-    (omega arith) (omega arith) refl (omega arith)
+    (omega arith) (omega arith) refl (omega arith) refl
     (lv_form (codes "R") true form kind.RegisterLength kind.OtherForm kind.OtherForm kind.OtherForm kind.OtherForm _ _ _ _ _ _
     x.spelled u.spelled (unsaid 63 kind.OtherForm) (unsaid 63 kind.OtherForm) (unsaid 63 kind.OtherForm) (unsaid 63 kind.OtherForm))
     refl (obtain_is form x.said u.said None None None None (fixed v) s None Doubleword Low false (one_length x.said v x.is) u.is refl refl refl refl refl)
@@ -237,7 +241,7 @@ named_obtain (fixed v) s n y Low c hl hs hn single low =
     x.spelled u.spelled q.spelled (boundary_spelled y) (unsaid 63 kind.OtherForm) (unsaid 63 kind.OtherForm) in
     form_operands _ operation.Getmain (named_word c) (obtaining (named_word c) getmain.named_row family.E c)
     (six_said x.said u.said q.said (Some (boundary y)) None None)
-    (some_word c) (few_word c) (name_word c) (omega arith) w (leads_obtain c w.rest)
+    (some_word c) (few_word c) (name_word c) (omega arith) refl w (leads_obtain c w.rest)
     (obtain_is form x.said u.said q.said (Some (boundary y)) None None (fixed v) s (Some (in_name n)) y Low c (one_length x.said v x.is) u.is q.is refl refl
     (same_form family.E c) refl)
 
@@ -262,7 +266,7 @@ storage_release l a s c hl ha hs =
     let q = value_spelled a ha in
     form_operands _ operation.Storage (codes "RELEASE") (releasing (codes "RELEASE") release_row family.S false)
     (six_said x.said u.said q.said None None (Some (condition c)))
-    (omega arith) (omega arith) refl (omega arith)
+    (omega arith) (omega arith) refl (omega arith) refl
     (length_form (codes "RELEASE") false form kind.Value kind.Value kind.OtherForm kind.OtherForm kind.Condition _ _ _ _ _ _
     x.spelled u.spelled q.spelled (unsaid 63 kind.OtherForm) (unsaid 63 kind.OtherForm) (condition_spelled c))
     refl (release_is form x.said u.said q.said None None (Some (condition c)) l s a c x.is u.is q.is refl)
@@ -277,7 +281,7 @@ register_release l a s false hl ha hs n e =
     let q = value_spelled a ha in
     form_operands _ operation.Freemain (codes "R") (releasing (codes "R") freemain.register_row family.R false)
     (six_said x.said u.said q.said None None None)
-    (omega arith) (omega arith) refl (omega arith)
+    (omega arith) (omega arith) refl (omega arith) refl
     (lv_form (codes "R") false form kind.RegisterLength kind.Value kind.OtherForm kind.OtherForm kind.OtherForm _ _ _ _ _ _
     x.spelled u.spelled q.spelled (unsaid 63 kind.OtherForm) (unsaid 63 kind.OtherForm) (unsaid 63 kind.OtherForm))
     refl (release_is form x.said u.said q.said None None None l s a false x.is u.is q.is refl)
@@ -294,7 +298,7 @@ named_release l (named n) s c hl ha hs e =
     x.spelled u.spelled q.spelled (unsaid 63 kind.OtherForm) (unsaid 63 kind.OtherForm) (unsaid 63 kind.OtherForm) in
     form_operands _ operation.Freemain (named_word c) (releasing (named_word c) freemain.named_row family.E c)
     (six_said x.said u.said q.said None None None)
-    (some_word c) (few_word c) (name_word c) (omega arith) w (leads_release c w.rest)
+    (some_word c) (few_word c) (name_word c) (omega arith) refl w (leads_release c w.rest)
     (release_is form x.said u.said q.said None None None l s (named n) c x.is u.is q.is (same_form family.E c))
 
 release_operands : (l a s : Written) (f : Family) (c : Bool) → IsValue l → IsValue a → IsValue s → IsReleaseForm f l a c → Operands (act (release l a s (form_of f c)))
@@ -309,7 +313,7 @@ whole_operands s family.S c hs r =
     let u = value_spelled s hs in
     form_operands _ operation.Storage (codes "RELEASE") (releasing (codes "RELEASE") release_row family.S false)
     (six_said None u.said None None None (Some (condition c)))
-    (omega arith) (omega arith) refl (omega arith)
+    (omega arith) (omega arith) refl (omega arith) refl
     (length_form (codes "RELEASE") false form kind.Value kind.Value kind.OtherForm kind.OtherForm kind.Condition _ _ _ _ _ _
     (unsaid 129 kind.Value) u.spelled (unsaid 63 kind.Value) (unsaid 63 kind.OtherForm) (unsaid 63 kind.OtherForm) (condition_spelled c))
     refl (whole_is form u.said None None (Some (condition c)) s c u.is refl refl)
@@ -319,7 +323,7 @@ whole_operands s family.R false hs r =
     let u = value_spelled s hs in
     form_operands _ operation.Freemain (codes "R") (releasing (codes "R") freemain.register_row family.R false)
     (six_said None u.said None None None None)
-    (omega arith) (omega arith) refl (omega arith)
+    (omega arith) (omega arith) refl (omega arith) refl
     (lv_form (codes "R") false form kind.RegisterLength kind.Value kind.OtherForm kind.OtherForm kind.OtherForm _ _ _ _ _ _
     (unsaid 129 kind.RegisterLength) u.spelled (unsaid 63 kind.Value) (unsaid 63 kind.OtherForm) (unsaid 63 kind.OtherForm) (unsaid 63 kind.OtherForm))
     refl (whole_is form u.said None None None s false u.is refl refl)
@@ -336,6 +340,7 @@ poke_operands a c b h =
     ) in
     record {
       operation = operation.Poke;
+      has = refl;
       first = ta.text;
       rest = tc.text ∷ [];
       some = ta.neat.some;
@@ -360,6 +365,7 @@ peek_operands a n h =
     ) in
     record {
       operation = operation.Peek;
+      has = refl;
       first = ta.text;
       rest = decimal n ∷ [];
       some = ta.neat.some;
@@ -381,19 +387,21 @@ counted n h =
     ) in
     count_is (operands.written items) n (no_fault steps_row items fit) (ap (λ t. option_and_then number_of t) (text steps_row (position 0) items fit) ∙ written n h)
 
-step_operands : (o : Operation) (n : ℕ) (asked : Asked) → n < 2 ^ 32 → asked_of o (decimal n ∷ []) ≡ Ok asked → Operands asked
-step_operands o n asked h e =
+step_operands : (o : Operation) (n : ℕ) (asked : Asked) → behind_of (Some o) ≡ behind.Operands → n < 2 ^ 32 → asked_of o (decimal n ∷ []) ≡ Ok asked → Operands asked
+step_operands o n asked has h e =
     let neat = number_text n h in
-    record { operation = o; first = decimal n; rest = []; some = neat.some; stands = neat.goes 0; stand = tt; reads = e; fits = λ r. (let few = neat.few in omega (arith, few)) }
+    record { operation = o; has = has; first = decimal n; rest = []; some = neat.some; stands = neat.goes 0; stand = tt; reads = e; fits = λ r. (let few = neat.few in omega (arith, few)) }
 
-pub operands_of : (asked : Asked) → AskedHasBytes asked → IsValidAsked asked → Operands asked
-operands_of (act (obtain l s p y o form)) b h = obtain_operands l s p y o form.family form.conditional h.0 h.1 h.2 h.3
-operands_of (act (release l a s form)) b h = release_operands l a s form.family form.conditional h.0 h.1 h.2 h.3
-operands_of (act (whole s form)) b h = whole_operands s form.family form.conditional h.0 h.1
-operands_of (act (poke a c)) b h = poke_operands a c b h
-operands_of (peek a n) b h = peek_operands a n h
-operands_of (back n) b h = step_operands operation.Back n (back n) h (ap (λ r. step_with back r) (counted n h))
-operands_of (forward n) b h = step_operands operation.Forward n (forward n) h (ap (λ r. step_with forward r) (counted n h))
+-- a request is the map's, which has no operands, or some operands ask for it
+pub operands_of : (asked : Asked) → AskedHasBytes asked → IsValidAsked asked → (asked ≡ map_asked) ⊎ Operands asked
+operands_of (act (obtain l s p y o form)) b h = inr (obtain_operands l s p y o form.family form.conditional h.0 h.1 h.2 h.3)
+operands_of (act (release l a s form)) b h = inr (release_operands l a s form.family form.conditional h.0 h.1 h.2 h.3)
+operands_of (act (whole s form)) b h = inr (whole_operands s form.family form.conditional h.0 h.1)
+operands_of (act (poke a c)) b h = inr (poke_operands a c b h)
+operands_of (peek a n) b h = inr (peek_operands a n h)
+operands_of map_asked b h = inl refl
+operands_of (back n) b h = inr (step_operands operation.Back n (back n) refl h (ap (λ r. step_with back r) (counted n h)))
+operands_of (forward n) b h = inr (step_operands operation.Forward n (forward n) refl h (ap (λ r. step_with forward r) (counted n h)))
 
 pub field_reads : (asked : Asked) (o : Operands asked) → SpellsRequest o.operation (joined o.first o.rest) asked
 field_reads asked o = rw (balanced_joined o.first o.rest o.stands o.stand, operands_joined o.first o.rest o.some o.stands o.stand) o.reads
@@ -456,6 +464,9 @@ forward_valid : (f : Option FaultKind) (n : Option ℕ) (asked : Asked) → IfSo
 forward_valid (Some f) n asked v h = cc
 forward_valid None None asked v h = cc
 forward_valid None (Some n) asked v h = let same : forward n ≡ asked = cc in subst IsValidAsked same v
+
+map_valid : (asked : Asked) → asked_of operation.Map [] ≡ Ok asked → IsValidAsked asked
+map_valid asked h = let same : map_asked ≡ asked = cc in subst IsValidAsked same tt
 
 -- the forms of each macro read what is valid
 storage_forms : AllReadValid storage_macro.forms
@@ -523,6 +534,7 @@ asked_valid operation.Poke os asked h =
     poke_valid (first_fault poke_row os) _ _ asked (value_valid (text_at (position 0) os)) (content_valid (text_at (position 1) os)) h
 asked_valid operation.Peek os asked h =
     peek_valid (first_fault peek_row os) _ _ asked (value_valid (text_at (position 0) os)) (size_valid (text_at (position 1) os)) h
+asked_valid operation.Map os asked h = map_valid asked h
 asked_valid operation.Back os asked h = back_valid (first_fault steps_row os) _ asked (number_valid (text_at (position 0) os)) h
 asked_valid operation.Forward os asked h = forward_valid (first_fault steps_row os) _ asked (number_valid (text_at (position 0) os)) h
 
@@ -534,10 +546,14 @@ balanced_if false o os wrong asked h = cc
 pub spelled_request_is_valid : (o : Operation) (field : List ℕ) (asked : Asked) → SpellsRequest o field asked → IsValidAsked asked
 spelled_request_is_valid o field asked h = balanced_if (is_balanced outside field) o (operands field) fault.Operand asked h
 
+spelled_by : (asked : Asked) → (asked ≡ map_asked) ⊎ Operands asked → (operation : Operation) × (field : List ℕ) × SpellsRequest operation field asked
+spelled_by asked (inl e) = rw e (operation.Map, [], refl)
+spelled_by asked (inr o) = (o.operation, joined o.first o.rest, field_reads asked o)
+
 pub valid_request_is_spelled : (asked : Asked) → AskedHasBytes asked
     → IsValidAsked asked ↔ ((operation : Operation) × (field : List ℕ) × SpellsRequest operation field asked)
 valid_request_is_spelled asked b = (
-  λ h. (let o = operands_of asked b h in (o.operation, joined o.first o.rest, field_reads asked o)),
+  λ h. spelled_by asked (operands_of asked b h),
   λ s. spelled_request_is_valid s.0 s.1 asked s.2,
 )
 

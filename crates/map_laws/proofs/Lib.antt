@@ -1,0 +1,7 @@
+mod RunLists
+mod Ranges
+mod Lists
+mod Order
+mod Sums
+mod Counts
+mod Totals

@@ -1,6 +1,6 @@
 -- The lists that a map shows, of the plain machine and of the storage in place.
 -- Assembler Services Guide, "Virtual storage management", "Subpool handling".
-use Rattle.std.specs.Prelude.{◌≡◌, ℕ, ◌+◌, ◌^◌, ◌<◌, true, List, map, flat_map, slice_get, Some}
+use Rattle.std.specs.Prelude.{◌≡◌, ℕ, ◌+◌, ◌^◌, ◌<◌, true, map, flat_map, slice_get, Some}
 use Rattle.run_set.specs.declared.run.Run.{Run}
 use Rattle.subpool_set.specs.Pools as pools
 use Rattle.subpool_storage.specs.Extents as in_place

@@ -1,5 +1,5 @@
 -- The totals of a map as sums over the subpools.
-use Rattle.std.specs.Prelude.{◌≡◌, ℕ, ◌+◌, ◌*◌, Bool, true, false, nat_lt, not, if◌then◌else◌, List, [], ◌∷◌}
+use Rattle.std.specs.Prelude.{◌≡◌, ℕ, ◌+◌, ◌*◌, Bool, true, false, nat_lt, if◌then◌else◌, List, [], ◌∷◌}
 use Rattle.run_set.specs.declared.run.Run.{Run}
 use Rattle.subpool_storage.specs.Extents.{extents, free_areas}
 use Rattle.subpool_storage.specs.Order.{subpools_in_order}

@@ -1,5 +1,5 @@
 -- Output that is gathered before it goes out.
-use Rattle.std.proofs.Common.{◌≡◌, ℕ, Bool, true, false, List, [], ◌++◌, Option, Result, Ok, Err, sym, ◌∙◌, ap, subst, append_assoc, is_err}
+use Rattle.std.proofs.Common.{◌≡◌, ℕ, Bool, true, false, List, [], ◌++◌, Option, Result, Ok, Err, sym, ◌∙◌, ap, subst, append_assoc, is_err, is_some, Some, None, refl}
 use Rattle.std.proofs.lemmas.List.{append-nil}
 use Rattle.std.proofs.KnownBytes.{Appends-trans}
 use Rattle.std.specs.Io.KnownBytes.{Appends}
@@ -26,6 +26,11 @@ pub handed_out : (first now new : Option (List ℕ)) (gathered text : List ℕ) 
 handed_out first now new gathered text (Ok u) w (out, e, h) = subst (Appends first new) (sym e) (Appends-trans first now new out gathered h w)
 handed_out first now new gathered text (Err x) w (out, e, h) = front_behind first now new out gathered text e h w
 
+-- where there is no fault
+pub none_failed : (fault : Option WriteFault) → ((f : WriteFault) → fault ≡ Some f → ⊥) → is_some fault ≡ false
+none_failed None h = refl
+none_failed (Some f) h = absurd (h f refl)
+
 -- where nothing is gathered, all went out
 pub all_out : (first now : Option (List ℕ)) (text : List ℕ) → HoldsWhere false first now [] text → Appends first now text
 all_out first now text (out, e, h) = subst (Appends first now) (sym (e ∙ append-nil out)) h
@@ -35,10 +40,12 @@ none_gathered first now text h = (text, sym (append-nil text), h)
 
 -- the same of what is empty
 pub empty_out : (first now : Option (List ℕ)) (g : Gathered) (text : List ℕ) → IsEmpty g → Holds first now g text → Appends first now text
-empty_out first now g text (none, well) h = all_out first now text (subst (λ b. HoldsWhere b first now [] text) well (subst (λ t. HoldsWhere g.failed first now t text) none h))
+empty_out first now g text (none, well) h =
+    all_out first now text (subst (λ f. HoldsWhere (is_some f) first now [] text) well (subst (λ t. HoldsWhere (is_some g.fault) first now t text) none h))
 
 pub empty_holds : (first now : Option (List ℕ)) (g : Gathered) (text : List ℕ) → IsEmpty g → Appends first now text → Holds first now g text
-empty_holds first now g text (none, well) h = subst (λ t. HoldsWhere g.failed first now t text) (sym none) (subst (λ b. HoldsWhere b first now [] text) (sym well) (none_gathered first now text h))
+empty_holds first now g text (none, well) h =
+    subst (λ t. HoldsWhere (is_some g.fault) first now t text) (sym none) (subst (λ f. HoldsWhere (is_some f) first now [] text) (sym well) (none_gathered first now text h))
 
 -- more text is gathered, also where a write has failed,
 pub gathers_more : (failed : Bool) (first now : Option (List ℕ)) (gathered text more : List ℕ) → HoldsWhere failed first now gathered text →
@@ -70,5 +77,5 @@ written_where failed first now new text more (Err x) is w h =
     subst (λ b. HoldsWhere b first new [] (text ++ more)) (sym is) (written first now new text more (Err x) w h)
 
 -- more text behind that of which a front went out
-pub held_failed : (first now : Option (List ℕ)) (g : Gathered) (text more : List ℕ) → g.failed ≡ true → AppendsFront first now text → Holds first now g (text ++ more)
+pub held_failed : (first now : Option (List ℕ)) (g : Gathered) (text more : List ℕ) → is_some g.fault ≡ true → AppendsFront first now text → Holds first now g (text ++ more)
 held_failed first now g text more failed h = subst (λ b. HoldsWhere b first now g.text.items (text ++ more)) (sym failed) (front_more first now text more h)
