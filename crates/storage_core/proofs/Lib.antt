@@ -4,3 +4,4 @@ mod Exchanged
 pub mod Holding
 pub mod Soundness
 pub mod Staying
+mod Walking

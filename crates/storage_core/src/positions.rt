@@ -10,6 +10,8 @@ ghost use Rattle.storage_core.specs.Meaning.{state_in_place, state_of};
 use crate::storage::Storage;
 use free_queue::Area;
 use run_set::Run;
+use subpool_set::laws::readers_begin;
+use subpool_storage::laws::subpools_begin;
 use vsm_model::Subpool;
 
 impl Storage {
@@ -24,11 +26,15 @@ impl Storage {
     pub fn subpool_at(&self, i: u32) -> Option<Subpool>
         ensures { result ≡ slice_get (subpools_in_order (state_in_place self.now).subpools) i }
     {
-        let mut last = self.subpool_after(0, 0)?;
+        subpools_begin();
+        let mut number = 0;
+        let mut owner = 0;
         for _ in 0..i {
-            last = self.subpool_after(last.number, last.owner)?;
+            let subpool = self.subpool_after(number, owner)?;
+            number = subpool.number;
+            owner = subpool.owner;
         }
-        Some(last)
+        self.subpool_after(number, owner)
     }
 
     /// The sharer of this index of a subpool, in ascending order. The owner is none.
@@ -36,21 +42,23 @@ impl Storage {
         ensures { result ≡ slice_get (sharers (state_in_place self.now).subpools.sight
             subpool.number subpool.owner) i }
     {
-        let mut last = self.sharer_after(subpool, 0)?;
+        readers_begin();
+        let mut task = 0;
         for _ in 0..i {
-            last = self.sharer_after(subpool, last)?;
+            task = self.sharer_after(subpool, task)?;
         }
-        Some(last)
+        self.sharer_after(subpool, task)
     }
 
     /// The extent of this index of a subpool, in pages of 4,096 bytes, ascending.
     pub fn extent_at(&self, subpool: Subpool, i: u32) -> Option<Run>
         ensures { result ≡ slice_get (extents (state_in_place self.now).subpools subpool) i }
     {
-        let (mut run, mut place) = self.next_extent(self.first_extent(subpool))?;
+        let mut place = self.first_extent(subpool);
         for _ in 0..i {
-            (run, place) = self.next_extent(place)?;
+            (_, place) = self.next_extent(place)?;
         }
+        let (run, _) = self.next_extent(place)?;
         Some(run)
     }
 
@@ -58,10 +66,11 @@ impl Storage {
     pub fn free_at(&self, subpool: Subpool, i: u32) -> Option<Area>
         ensures { result ≡ slice_get (free_areas (state_in_place self.now).subpools subpool) i }
     {
-        let (mut area, mut place) = self.next_free_area(self.first_free_area(subpool))?;
+        let mut place = self.first_free_area(subpool);
         for _ in 0..i {
-            (area, place) = self.next_free_area(place)?;
+            (_, place) = self.next_free_area(place)?;
         }
+        let (area, _) = self.next_free_area(place)?;
         Some(area)
     }
 }

@@ -11,6 +11,7 @@ ghost use Rattle.storage_core.specs.Walks.{IsExtentPlace, IsFreeAreaPlace};
 use crate::storage::Storage;
 use descriptor_queue::Extents;
 use free_queue::{Area, FreeQueue};
+use map_laws::laws::runs_are_shown;
 use run_set::{Run, RunPlace};
 use vsm_model::Subpool;
 
@@ -84,6 +85,7 @@ impl Storage {
             → IsExtentPlace self.now p r.1 (i + 1)) }
         ensures end { IfSome result (λ r. r.0.start + r.0.len < 2 ^ 20) }
     {
+        runs_are_shown();
         let ExtentPlace { extents, place } = place;
         let (run, place) = extents.next_run(&self.parts.elements, place)?;
         Some((run, ExtentPlace { extents, place }))
@@ -112,6 +114,7 @@ impl Storage {
             → IsFreeAreaPlace self.now p r.1 (i + 1)) }
         ensures end { IfSome result (λ r. r.0.start + r.0.len < 2 ^ 29) }
     {
+        runs_are_shown();
         let FreeAreaPlace { areas, place } = place;
         let (area, place) = areas.next_area(&self.parts.elements, place)?;
         Some((area, FreeAreaPlace { areas, place }))
