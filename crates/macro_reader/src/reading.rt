@@ -57,17 +57,15 @@ fn said(due: Due, statement: &OpenStatement) -> Result<Fed, Fault>
     ensures valid { IsValidFed result }
 {
     let line = statement.number;
-    match due {
-        Due::Nothing => Ok(Fed::More),
+    let kind = match due {
+        Due::Nothing => return Ok(Fed::More),
         Due::Whole => match statement_with(&statement.first, statement.gathered.text.as_slice()) {
-            Ok(request) => Ok(Fed::Ready(request, line)),
-            Err(kind) => Err(Fault { kind, line }),
+            Ok(request) => return Ok(Fed::Ready(request, line)),
+            Err(kind) => kind,
         },
-        Due::Broken => Err(Fault {
-            kind: FaultKind::Continuation,
-            line,
-        }),
-    }
+        Due::Broken => FaultKind::Continuation,
+    };
+    Err(Fault { kind, line })
 }
 
 /// How a line moves a reader that awaits a statement, and which answer is due.
