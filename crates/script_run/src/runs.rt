@@ -163,7 +163,7 @@ fn finish<W: Write>(
 }
 
 /// Reads a script to its end, carries its statements out on a new bench under these settings, and writes a line for
-/// each statement that is complete or faulty.
+/// each statement that is complete or faulty, with the lines of the map behind that of a MAP.
 ///
 /// A line ends at a line feed, which isn't part of it, nor is a carriage return before it; bytes after the last line
 /// feed are a line where there are any. Output is gathered, and handed out when there is no room for more and before
