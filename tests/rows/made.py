@@ -154,19 +154,33 @@ def names_row():
     return Row("no-1025th-name", script, lines_of((at + 1, answer) for at, (_, answer) in enumerate(statements)), 4)
 
 
+def map_with(subpool, pages, taken, free, kept):
+    """The map where register 1 has the first address, subpool 1 has these lines, and 64 pages are below the line."""
+    zeros = " 00000000" * 7
+    return "\n".join(["MAP", " TASK 1 PARENT 0 CURRENT", "  R0 00000000 00006000" + zeros[9:], "  R8 00000000" + zeros,
+                      " SUBPOOL 0 OWNER 1 SHARERS NONE", " SUBPOOL 1 OWNER 1 SHARERS NONE", *subpool,
+                      " PAGES LOW %d OF 64 HIGH 0 OF 16" % pages, " BYTES TAKEN %d FREE %d" % (taken, free),
+                      " HISTORY KEPT %d OF 65536" % kept])
+
+
 def free_areas_row():
-    """A subpool with 10,000 free areas of a doubleword, released whole. A step back brings each of them back."""
+    """A subpool with 10,000 free areas of a doubleword, released whole. A step back brings each of them back, and the map."""
     count = 10_000
+    # The area ends 3,840 bytes before the end of its last page.
+    lines = ["  EXTENT 00006000 00028000", *("  FREE %08X 00000008" % (0x6000 + 16 * at) for at in range(count)), "  FREE 0002D100 00000F00"]
+    before = map_with(lines, 40, 8 * count, 8 * count + 3840, count + 1)
+    behind = map_with([], 0, 0, 0, count + 2)
     areas = ["X'%X'" % (0x6000 + 16 * at) for at in range(count)]
     statements = [(" STORAGE OBTAIN,LENGTH=%d,SP=1" % (16 * count), "RC=0 A=00006000 L=%08X" % (16 * count))]
     statements += [(" STORAGE RELEASE,LENGTH=8,ADDR=%s,SP=1" % area, "RC=0") for area in areas]
-    statements += [(" STORAGE RELEASE,SP=1", "RC=0"), (" PEEK X'6000',1", "ABEND S0C4"), (" BACK 1", "KEPT=%d" % (count + 1))]
+    statements += [(" MAP", before), (" STORAGE RELEASE,SP=1", "RC=0"), (" PEEK X'6000',1", "ABEND S0C4"), (" MAP", behind),
+                   (" BACK 1", "KEPT=%d" % (count + 1)), (" MAP", before)]
     statements += [(" GETMAIN RU,LV=8,SP=1", "RC=0 A=%08X L=00000008" % (0x6000 + 16 * at)) for at in range(count)]
     # All of the area is taken again; the last page has free storage behind it.
     statements += [(" GETMAIN RU,LV=8,SP=1", "RC=0 A=%08X L=00000008" % (0x6000 + 16 * count)),
                    (" BACK %d" % (count + 1), "KEPT=%d" % (count + 1)), (" STORAGE RELEASE,LENGTH=8,ADDR=X'6000',SP=1", "ABEND SA78"),
-                   (" FREEMAIN RU,SP=1", "RC=0"), (" BACK 1", "KEPT=%d" % (count + 1)),
-                   (" FORWARD 1", "KEPT=%d" % (count + 2)), (" PEEK X'6000',1", "ABEND S0C4")]
+                   (" FREEMAIN RU,SP=1", "RC=0"), (" MAP", behind), (" BACK 1", "KEPT=%d" % (count + 1)), (" MAP", before),
+                   (" FORWARD 1", "KEPT=%d" % (count + 2)), (" MAP", behind), (" PEEK X'6000',1", "ABEND S0C4")]
     script = [statement.encode() + b"\n" for statement, _ in statements]
     return Row("whole-release-of-10000-free-areas", script, lines_of((at + 1, answer) for at, (_, answer) in enumerate(statements)), 4,
                options=["--low", "256", "--history", "65536"])

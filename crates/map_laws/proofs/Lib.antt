@@ -1,7 +1,7 @@
 mod RunLists
 mod Ranges
-mod Lists
-mod Order
-mod Sums
+pub mod Lists
+pub mod Order
+pub mod Sums
 mod Counts
-mod Totals
+pub mod Totals

@@ -62,6 +62,14 @@ pub passing_plus : (f g h : ℕ → Bool) → ((j : ℕ) → one_if (f j) + one_
 passing_plus f g h both k zero = refl
 passing_plus f g h both k (suc n) = omega (arith, both k, passing_plus f g h both (suc k) n)
 
+-- no more pass than there are
+pub passing_few : (f : ℕ → Bool) (k n : ℕ) → passing f k n ≤ n
+passing_few f k zero = omega arith
+passing_few f k (suc n) = go (f k) (passing_few f (suc k) n) where
+  go : (b : Bool) → passing f (suc k) n ≤ n → one_if b + passing f (suc k) n ≤ suc n
+  go true h = omega (arith, h)
+  go false h = omega (arith, h)
+
 -- each page has 512 doublewords
 pub passing_blocks : (f : ℕ → Bool) (k n : ℕ) → passing (λ d. f (d / 512)) (512 * k) (512 * n) ≡ 512 * passing f k n
 passing_blocks f k zero = refl

@@ -13,11 +13,11 @@ use Rattle.subpool_storage.specs.Extents.{run_in, extents, free_areas}
 use Rattle.subpool_storage.specs.Order.{subpools_in_order}
 use Rattle.storage_changes.specs.State.{StorageState}
 use Rattle.storage_changes.specs.Meaning.{subpool_of, is_taken, model_of, IsSound}
-use Rattle.map_laws.specs.Totals.{sum_of, pages_on_side, subpool_pages, all_pages, subpool_free, all_free, PagesAreCounted, BytesAreCounted}
+use Rattle.map_laws.specs.Totals.{sum_of, pages_on_side, subpool_pages, all_pages, subpool_free, all_free, PagesAreCounted, BytesAreCounted, TotalsAreFew}
 use Rattle.map_laws.proofs.RunLists.{Between, runs_between}
 use Rattle.map_laws.proofs.Ranges.{sizes}
 use Rattle.map_laws.proofs.Lists.{page_runs, free_runs}
-use Rattle.map_laws.proofs.Sums.{one_if, total, sum_same, sum_append, sum_plus, sum_map, passing_plus, passing_blocks, passing_sum, runs_total}
+use Rattle.map_laws.proofs.Sums.{one_if, total, passing_few, sum_same, sum_append, sum_plus, sum_map, passing_plus, passing_blocks, passing_sum, runs_total}
 use Rattle.map_laws.proofs.Counts.{page_counts, free_counts}
 
 -- what a run below the line, or above it, counts on a side
@@ -126,6 +126,24 @@ module _ (settings : Settings) (m : StorageState) (valid : settings_valid settin
       ∙ sym (sum_plus (λ p. passing (m.subpools.free p) (512 * 6) (512 * (settings.low_k / 4))) (λ p. passing (m.subpools.free p) (512 * 32768) (512 * (settings.high_k / 4))) (subpools_in_order m.subpools))
       ∙ sum_same (λ p. passing (m.subpools.free p) (512 * 6) (512 * (settings.low_k / 4)) + passing (m.subpools.free p) (512 * 32768) (512 * (settings.high_k / 4))) (subpool_free m.subpools) free_pass (subpools_in_order m.subpools)
 
+  -- no more than the pages of the regions, and their doublewords
+  pages_few : (below : Bool) (p : Subpool) → subpool_pages m.subpools below p ≤ 2 ^ 20
+  pages_few true p = omega (arith, pages_pass true p, passing_few (m.subpools.pages p) 6 (settings.low_k / 4), (sizes settings valid).0)
+  pages_few false p = omega (arith, pages_pass false p, passing_few (m.subpools.pages p) 32768 (settings.high_k / 4), (sizes settings valid).1)
+
+  all_pages_few : (below : Bool) → all_pages m.subpools below ≤ 2 ^ 20
+  all_pages_few true = omega (arith, pages_low, passing_few (λ k. is_some (subpool_of m.subpools k)) 6 (settings.low_k / 4), (sizes settings valid).0)
+  all_pages_few false = omega (arith, pages_high, passing_few (λ k. is_some (subpool_of m.subpools k)) 32768 (settings.high_k / 4), (sizes settings valid).1)
+
+  free_few : (p : Subpool) → subpool_free m.subpools p ≤ 2 ^ 29
+  free_few p =
+      omega (arith, free_pass p, passing_few (m.subpools.free p) (512 * 6) (512 * (settings.low_k / 4)), passing_few (m.subpools.free p) (512 * 32768) (512 * (settings.high_k / 4)), (sizes settings valid).0, (sizes settings valid).1)
+
+  all_free_few : all_free m.subpools ≤ 2 ^ 29
+  all_free_few =
+      let free : ℕ → Bool = λ d. is_some (subpool_of m.subpools (d / 512)) && not (is_taken m.subpools (subpool_of m.subpools (d / 512)) d) in
+      omega (arith, free_all, passing_few free (512 * 6) (512 * (settings.low_k / 4)), passing_few free (512 * 32768) (512 * (settings.high_k / 4)), (sizes settings valid).0, (sizes settings valid).1)
+
 pub pages_are_counted : PagesAreCounted
 pages_are_counted settings m valid sound = (pages_low settings m valid sound, pages_high settings m valid sound)
 
@@ -143,3 +161,7 @@ bytes_are_counted settings m valid sound = (
       (either_way settings m valid sound 6 (settings.low_k / 4)) (either_way settings m valid sound 32768 (settings.high_k / 4))
       (pages_low settings m valid sound) (pages_high settings m valid sound),
 )
+
+pub totals_are_few : TotalsAreFew
+totals_are_few settings m valid sound =
+    (pages_few settings m valid sound, all_pages_few settings m valid sound, free_few settings m valid sound, all_free_few settings m valid sound)

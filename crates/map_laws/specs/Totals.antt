@@ -1,5 +1,5 @@
 -- The totals of a map as sums over the subpools.
-use Rattle.std.specs.Prelude.{◌≡◌, ℕ, ◌+◌, ◌*◌, Bool, true, false, nat_lt, if◌then◌else◌, List, [], ◌∷◌}
+use Rattle.std.specs.Prelude.{◌≡◌, ℕ, ◌+◌, ◌*◌, ◌^◌, ◌≤◌, Bool, true, false, nat_lt, if◌then◌else◌, List, [], ◌∷◌}
 use Rattle.run_set.specs.declared.run.Run.{Run}
 use Rattle.subpool_storage.specs.Extents.{extents, free_areas}
 use Rattle.subpool_storage.specs.Order.{subpools_in_order}
@@ -46,3 +46,11 @@ BytesAreCounted = (settings : Settings) (m : StorageState) → settings_valid se
     → (total_bytes settings (model_of m) false ≡ 8 * all_free m.subpools)
     × (total_bytes settings (model_of m) true + total_bytes settings (model_of m) false
     ≡ 4096 * (all_pages m.subpools true + all_pages m.subpools false))
+
+-- None of these sums is more than the pages, or the doublewords, that there can be.
+abbrev pub TotalsAreFew : Type 0
+TotalsAreFew = (settings : Settings) (m : StorageState) → settings_valid settings ≡ true → IsSound settings m
+    → ((below : Bool) (p : Subpool) → subpool_pages m.subpools below p ≤ 2 ^ 20)
+    × ((below : Bool) → all_pages m.subpools below ≤ 2 ^ 20)
+    × ((p : Subpool) → subpool_free m.subpools p ≤ 2 ^ 29)
+    × (all_free m.subpools ≤ 2 ^ 29)

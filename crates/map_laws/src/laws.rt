@@ -2,7 +2,7 @@
 
 ghost use Rattle.map_laws.specs.Lists.{ExtentsAreShown, FreeAreasAreShown, SharersAreShown, SubpoolsAreShown};
 ghost use Rattle.map_laws.specs.Lists.{ExtentsEndInRegions, FreeAreasEndInRegions};
-ghost use Rattle.map_laws.specs.Totals.{PagesAreCounted, BytesAreCounted};
+ghost use Rattle.map_laws.specs.Totals.{PagesAreCounted, BytesAreCounted, TotalsAreFew};
 
 /// The extents and the free areas of a subpool are those that the plain machine has in the region below the line, and
 /// then those above it; and none of them ends behind the regions.
@@ -19,8 +19,10 @@ pub fn subpools_are_shown()
     ensures subpools { SubpoolsAreShown }
 {}
 
-/// The totals are sums over the subpools: of the pages of their extents, and of the doublewords of their free areas.
+/// The totals are sums over the subpools: of the pages of their extents, and of the doublewords of their free areas;
+/// and they are no more than there can be.
 pub fn totals_are_sums()
     ensures pages { PagesAreCounted }
     ensures bytes { BytesAreCounted }
+    ensures few { TotalsAreFew }
 {}

@@ -15,7 +15,7 @@ use storage_exchange::Storage;
 use vsm_model::{Boundary, Cause, Lengths, Location, Obtain, Residence, Settings, Subpool};
 
 /// An area that was found for a request.
-#[derive(Clone, Copy, Debug, PartialEq, Eq)]
+#[derive(Clone, Copy)]
 pub(crate) struct FoundArea {
     /// The subpool that gets it: the one that the task sees at the number, or a new one of its own.
     pub(crate) subpool: Subpool,

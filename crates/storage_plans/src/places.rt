@@ -11,7 +11,7 @@ use storage_exchange::Storage;
 use vsm_model::{Residence, Settings, Subpool};
 
 /// A place for an area.
-#[derive(Clone, Copy, Debug, PartialEq, Eq)]
+#[derive(Clone, Copy)]
 pub(crate) enum AreaPlace {
     /// In free storage of the subpool, from this doubleword on: an address divided by 8.
     Inside(u32),

@@ -5,7 +5,7 @@ use std::alloc::Global;
 use std::io;
 use std::io::{Read, Write};
 use std::test::Fail;
-use vsm_bench::{DEFAULT_SETTINGS, RunFault, RunTotals, command, run};
+use vsm_bench::{Bench, DEFAULT_SETTINGS, RunFault, RunTotals, command, run};
 
 const SCRIPT: &[u8] = b" STORAGE OBTAIN,LENGTH=8,SP=1
 * a comment
@@ -13,6 +13,7 @@ const SCRIPT: &[u8] = b" STORAGE OBTAIN,LENGTH=8,SP=1
  FOO
  BACK 1
  FORWARD 1
+ MAP
  POKE (1),                                                             X
                X'C1C2'
  PEEK (1),3";
@@ -22,8 +23,29 @@ const OUTPUT: &[u8] = b"0000001 RC=0 A=00006000 L=00000008
 0000004 FAULT OPERATION
 0000005 KEPT=0
 0000006 KEPT=1
-0000007 OK
-0000009 D=C1C200
+0000007 MAP
+ TASK 1 PARENT 0 CURRENT
+  R0 00000000 00006000 00000000 00000000 00000000 00000000 00000000 00000000
+  R8 00000000 00000000 00000000 00000000 00000000 00000000 00000000 00000000
+ SUBPOOL 0 OWNER 1 SHARERS NONE
+ SUBPOOL 1 OWNER 1 SHARERS NONE
+  EXTENT 00006000 00001000
+  FREE 00006008 00000FF8
+ PAGES LOW 1 OF 16 HIGH 0 OF 16
+ BYTES TAKEN 8 FREE 4088
+ HISTORY KEPT 1 OF 1024
+0000008 OK
+0000010 D=C1C200
+";
+
+/// The map of a new bench.
+const FIRST_MAP: &[u8] = b" TASK 1 PARENT 0 CURRENT
+  R0 00000000 00000000 00000000 00000000 00000000 00000000 00000000 00000000
+  R8 00000000 00000000 00000000 00000000 00000000 00000000 00000000 00000000
+ SUBPOOL 0 OWNER 1 SHARERS NONE
+ PAGES LOW 0 OF 16 HIGH 0 OF 16
+ BYTES TAKEN 0 FREE 0
+ HISTORY KEPT 0 OF 1024
 ";
 
 /// A reader that gives one byte a call, and then its end or an error.
@@ -99,7 +121,7 @@ fn byte_by_byte_is_as_at_once(rt: HostRuntime) -> Result<(), Fail> {
     assert!(rt;
         totals
             == Ok(RunTotals {
-                statements: 7,
+                statements: 8,
                 refused: 2
             })
     );
@@ -139,6 +161,38 @@ fn a_writer_that_is_full_ends_the_run(rt: HostRuntime) -> Result<(), Fail> {
             assert_eq!(rt;
                 Some(writer.bytes.as_slice()),
                 OUTPUT.get(..room),
+                "{room} bytes"
+            );
+        }
+    }
+    Ok(())
+}
+
+#[test]
+fn a_map_is_written_byte_by_byte(rt: HostRuntime) -> Result<(), Fail> {
+    let bench = Bench::new(rt.alloc(), DEFAULT_SETTINGS)?;
+    let mut writer = Narrow::with_room(rt.alloc(), FIRST_MAP.len(), true);
+    bench.write_map(&mut writer)?;
+    assert_eq!(rt; writer.bytes.as_slice(), FIRST_MAP);
+    Ok(())
+}
+
+#[test]
+fn a_map_goes_out_as_far_as_the_writer_takes_it(rt: HostRuntime) -> Result<(), Fail> {
+    let bench = Bench::new(rt.alloc(), DEFAULT_SETTINGS)?;
+    for (fails, kind) in [
+        (false, io::ErrorKind::WriteZero),
+        (true, io::ErrorKind::Other),
+    ] {
+        for room in 0..FIRST_MAP.len() {
+            let mut writer = Narrow::with_room(rt.alloc(), room, fails);
+            match bench.write_map(&mut writer) {
+                Ok(()) => assert!(rt; false, "{room} bytes"),
+                Err(error) => assert!(rt; error.kind() == kind, "{room} bytes"),
+            }
+            assert_eq!(rt;
+                Some(writer.bytes.as_slice()),
+                FIRST_MAP.get(..room),
                 "{room} bytes"
             );
         }
