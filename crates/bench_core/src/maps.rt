@@ -1,16 +1,29 @@
 //! The map of a bench.
-ghost use Rattle.std.specs.Prelude.{length};
+ghost use Rattle.std.specs.Prelude.{◌++◌, codes, length};
 ghost use Rattle.name_table.specs.Table.{rows_of};
-ghost use Rattle.vsm_model.specs.Map.{map_text, name_lines};
+ghost use Rattle.vsm_model.specs.Map.{hex_field, line, map_text, name_lines};
 ghost use Rattle.bench_core.specs.Stands.{bench_of, settings_in};
 ghost use Rattle.text_output.specs.Writing.{Puts, Writes};
 
 use crate::bench::Bench;
-use name_table::NameTable;
+use name_table::{Name, NameTable};
 use std::io;
 use std::io::Write;
 use storage_map as maps;
 use text_output::{Gathered, put_hexadecimal};
+
+/// Puts the line of a name: what it's called, and the word that it stands for in hexadecimal digits.
+#[tactic(auto, using(text_output::proofs::Gathering::puts_both))]
+fn put_name<W: Write>(gathered: &mut Gathered, writer: &mut W, row: (Name, u32))
+    ensures { Puts (W.contents writer.old) (W.contents writer.new) gathered.old gathered.new
+        (line (codes " NAME " ++ row.0.bytes ++ hex_field row.1)) }
+{
+    gathered.put(writer, b" NAME ");
+    gathered.put(writer, row.0.as_bytes());
+    gathered.put(writer, b" ");
+    put_hexadecimal(gathered, writer, 8, row.1);
+    gathered.put(writer, b"\n");
+}
 
 /// Puts a line for each defined name, in the order in which they were defined.
 fn put_names<W: Write>(gathered: &mut Gathered, writer: &mut W, names: &NameTable)
@@ -18,12 +31,8 @@ fn put_names<W: Write>(gathered: &mut Gathered, writer: &mut W, names: &NameTabl
         (name_lines (rows_of names.now)) }
 {
     let mut index = 0;
-    while let Some((name, word)) = names.name_at(index) {
-        gathered.put(writer, b" NAME ");
-        gathered.put(writer, name.as_bytes());
-        gathered.put(writer, b" ");
-        put_hexadecimal(gathered, writer, 8, word);
-        gathered.put(writer, b"\n");
+    while let Some(row) = names.name_at(index) {
+        put_name(gathered, writer, row);
         index += 1;
     }
 }
@@ -31,6 +40,7 @@ fn put_names<W: Write>(gathered: &mut Gathered, writer: &mut W, names: &NameTabl
 impl Bench {
     /// Puts the map of the bench as it is: that of its storage, the defined names with their words, and how many changes
     /// are kept. Takes no memory.
+    #[tactic(auto, using(text_output::proofs::Gathering::puts_both))]
     pub fn put_map<W: Write>(&self, gathered: &mut Gathered, writer: &mut W)
         ensures { Puts (W.contents writer.old) (W.contents writer.new) gathered.old gathered.new
             (map_text (settings_in self.now) (bench_of self.now).present (length (bench_of self.now).past)) }

@@ -59,8 +59,11 @@ impl NameTable {
 
     /// The name of this index, from 0 on, in the order in which names were defined, with its word; `None` past the last.
     pub fn name_at(&self, index: usize) -> Option<(Name, u32)>
-        ensures { option_map row_of result ≡ slice_get (rows_of self.now) index }
+        ensures row { option_map row_of result ≡ slice_get (rows_of self.now) index }
+        ensures fits { IfSome result (λ _. index < 2 ^ 63) }
     {
+        // The length is what says that the index fits.
+        let _len = self.table.len();
         if index >= self.defined {
             return None;
         }

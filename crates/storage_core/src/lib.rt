@@ -17,11 +17,11 @@ pub use run_set::Run;
 pub use storage::Storage;
 pub use storage_plans::{Plan, STORE_MOST};
 pub use storage_swap::{Change, Released};
-pub use walks::{ExtentPlace, FreeAreaPlace};
 pub use vsm_model::{
     Boundary, Cause, Code, Family, Lengths, Location, Obtain, Release, Reply, Residence, Service,
     Settings, Subpool,
 };
+pub use walks::{ExtentPlace, FreeAreaPlace};
 
 #[cfg(test)]
 mod tests;

@@ -10,6 +10,7 @@ ghost use Rattle.storage_core.specs.Meaning.{state_in_place, settings_of};
 ghost use Rattle.storage_core.specs.Planned.{CanBePlanned};
 
 use super::*;
+use std::process::Abort;
 use std::test::Fail;
 
 const SETTINGS: Settings = Settings {
@@ -202,5 +203,113 @@ fn whole_release_takes_elements_for_extents_alone(rt: HostRuntime) -> Result<(),
             length: 24
         }
     );
+    Ok(())
+}
+
+// The subpool whose extents and free areas are walked over.
+const FIRST: Subpool = Subpool {
+    number: 1,
+    owner: 1,
+};
+
+// How many extents the subpool has: each comes on the walk as at its position.
+fn count_extents(rt: &impl Abort, storage: &Storage, subpool: Subpool) -> u32 {
+    let mut place = storage.first_extent(subpool);
+    for i in 0..8 {
+        let position = storage.extent_at(subpool, i);
+        let Some((run, behind)) = storage.next_extent(place) else {
+            assert_eq!(rt; position, None);
+            return i;
+        };
+        assert_eq!(rt; position, Some(run));
+        place = behind;
+    }
+    8
+}
+
+// How many free areas the subpool has, likewise.
+fn count_free_areas(rt: &impl Abort, storage: &Storage, subpool: Subpool) -> u32 {
+    let mut place = storage.first_free_area(subpool);
+    for i in 0..8 {
+        let position = storage.free_at(subpool, i);
+        let Some((area, behind)) = storage.next_free_area(place) else {
+            assert_eq!(rt; position, None);
+            return i;
+        };
+        assert_eq!(rt; position, Some(area));
+        place = behind;
+    }
+    8
+}
+
+// Subpool 1 has a page on either side of the 16 MB line. Of the low one, bytes 24 to 31 are taken, of the high one the
+// first 24.
+fn make_two_extents(storage: &mut Storage) -> Result<(), Fail> {
+    do_for_good(storage, small_area(Location::Low))?;
+    do_for_good(storage, small_area(Location::Either))?;
+    let obtain = Obtain {
+        lengths: Lengths::Fixed(8),
+        number: 1,
+        boundary: Boundary::Doubleword,
+        location: Location::Low,
+        register: None,
+        conditional: false,
+    };
+    do_for_good(storage, Service::Obtain(obtain))?;
+    let release = Release {
+        length: 24,
+        address: 0x6000,
+        number: 1,
+        conditional: false,
+    };
+    do_for_good(storage, Service::Release(release))
+}
+
+#[test]
+fn walks_and_positions_agree(rt: HostRuntime) -> Result<(), Fail> {
+    let mut storage = Storage::new(rt.alloc(), SETTINGS)?;
+    make_two_extents(&mut storage)?;
+    assert_eq!(rt; count_extents(&rt, &storage, FIRST), 2);
+    assert_eq!(rt;
+        storage.extent_at(FIRST, 1),
+        Some(Run {
+            start: 0x8000,
+            len: 1
+        })
+    );
+    assert_eq!(rt; count_free_areas(&rt, &storage, FIRST), 3);
+    assert_eq!(rt;
+        storage.free_at(FIRST, 0),
+        Some(Area {
+            start: 0xC00,
+            len: 3
+        })
+    );
+    assert_eq!(rt;
+        storage.free_at(FIRST, 1),
+        Some(Area {
+            start: 0xC04,
+            len: 508
+        })
+    );
+    let first = storage.subpool_after(0, 0);
+    assert_eq!(rt;
+        first,
+        Some(Subpool {
+            number: 0,
+            owner: 1
+        })
+    );
+    assert_eq!(rt; storage.subpool_at(0), first);
+    assert_eq!(rt; storage.subpool_after(0, 1), Some(FIRST));
+    assert_eq!(rt; storage.subpool_at(1), Some(FIRST));
+    assert_eq!(rt; storage.subpool_after(1, 1), None);
+    assert_eq!(rt; storage.subpool_at(2), None);
+    assert_eq!(rt; storage.sharer_after(FIRST, 0), None);
+    assert_eq!(rt; storage.sharer_at(FIRST, 0), None);
+    assert_eq!(rt; storage.task_at(0), Some(1));
+    assert_eq!(rt; storage.task_at(1), None);
+    assert_eq!(rt; storage.parent(1), Some(0));
+    assert_eq!(rt; storage.parent(2), None);
     Ok(())
 }
