@@ -51,25 +51,6 @@ impl Model for Reader {
     ghost view = { λ r. record { count = r.count; mode = mode_of r.mode r.statement } };
 }
 
-/// The answer that is due, by the statement as the line leaves it.
-fn said(due: Due, statement: &OpenStatement) -> Result<Fed, Fault>
-    ensures told { told_by result ≡ due_of due statement.now }
-    ensures valid { IsValidFed result }
-{
-    let line = statement.number;
-    match due {
-        Due::Nothing => Ok(Fed::More),
-        Due::Whole => match statement_with(&statement.first, statement.gathered.text.as_slice()) {
-            Ok(request) => Ok(Fed::Ready(request, line)),
-            Err(kind) => Err(Fault { kind, line }),
-        },
-        Due::Broken => Err(Fault {
-            kind: FaultKind::Continuation,
-            line,
-        }),
-    }
-}
-
 /// How a line moves a reader that awaits a statement, and which answer is due.
 fn start(number: u32, mode: &mut Mode, statement: &mut OpenStatement, line: &[u8]) -> Due
     requires { mode.old ≡ Awaiting }
@@ -173,7 +154,17 @@ impl Reader {
         let due = move_on(number, &mut mode, &mut self.statement, line);
         self.count = number;
         self.mode = mode;
-        said(due, &self.statement)
+        let open = &self.statement;
+        let kind = match due {
+            Due::Nothing => return Ok(Fed::More),
+            Due::Whole => match statement_with(&open.first, open.gathered.text.as_slice()) {
+                Ok(request) => return Ok(Fed::Ready(request, open.number)),
+                Err(kind) => kind,
+            },
+            Due::Broken => FaultKind::Continuation,
+        };
+        let line = open.number;
+        Err(Fault { kind, line })
     }
 
     /// Ends the script. The reader then is as new, but that the count of its lines goes on.

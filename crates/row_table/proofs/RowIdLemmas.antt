@@ -9,6 +9,7 @@ use Rattle.row_table.specs.declared.table.RowTable.{RowTable}
 use Rattle.row_table.specs.Rows.{word, is_under, row_in, Single}
 use Rattle.row_table.specs.RowTable.{row, owned, IsTable}
 use Rattle.row_table.specs.Laws.{RowIdsAre}
+use Rattle.row_table.proofs.AscendLemmas.{single}
 use Rattle.row_table.proofs.RowLemmas.{either, not_both, none_some, same_parts, same_self, eqb_refl, of, row_here, row_later}
 
 some_row : (x y : Row) → Some x ≡ Some y → x ≡ y
@@ -47,7 +48,7 @@ in_ids (n ∷ ns) a b r e = elim (either (is_under a b n.words)) [
 pub row_ids_are : RowIdsAre
 unfolding row owned IsTable
 row_ids_are s q i h = (
-  (λ m. (let w : Holder (links s q.chain) i = holder (links s q.chain) h.single i m in (word w.r.words 0, word w.r.words 1, w.r, (w.there, w.is)))),
+  (λ m. (let w : Holder (links s q.chain) i = holder (links s q.chain) (single (links s q.chain) h.ascends) i m in (word w.r.words 0, word w.r.words 1, w.r, (w.there, w.is)))),
   (λ a b r e. in_ids (links s q.chain) a b r e),
 )
 

@@ -2,10 +2,11 @@
 use Rattle.std.specs.Prelude.{◌≡◌, ℕ, true, List, Some}
 use Rattle.vsm_elements.specs.Store.{Store, at, among, SameElements}
 use Rattle.vsm_elements.specs.Ownership.{Owns, Leaves, Apart}
+use Rattle.row_table.specs.declared.places.RowPlace.{RowPlace}
 use Rattle.row_table.specs.declared.row.Row.{Row}
 use Rattle.row_table.specs.declared.table.RowTable.{RowTable}
-use Rattle.row_table.specs.Rows.{word}
-use Rattle.row_table.specs.RowTable.{row, rows, owned, words_of, IsTable}
+use Rattle.row_table.specs.Rows.{word, AreInOrder, row_among}
+use Rattle.row_table.specs.RowTable.{row, rows, owned, words_of, IsTable, IsPlace}
 
 -- a table that stands in elements owns them, and its rows stand under their own first two words, which are
 -- those of their elements
@@ -14,6 +15,17 @@ TablesStand = (s : Store) (q : RowTable) → IsTable s q
     → Owns s (owned s q)
     × ((a b : ℕ) (r : Row) → row s q a b ≡ Some r
     → (word r.words 0 ≡ a) × (word r.words 1 ≡ b) × (words_of s r.id ≡ r.words))
+
+-- the rows ascend, and the row under two numbers is the one among them
+abbrev pub RowsAscend : Type 0
+RowsAscend = (s : Store) (q : RowTable) → IsTable s q
+    → AreInOrder (rows s q) × ((a b : ℕ) → row s q a b ≡ row_among a b (rows s q))
+
+-- a place in a table whose elements are as they were stays one
+abbrev pub PlacesKept : Type 0
+PlacesKept = (s t : Store) (q : RowTable) (place : RowPlace) → IsTable s q
+    → ((id : ℕ) → among id (owned s q) ≡ true → at t id ≡ at s id)
+    → IsPlace s q place → IsPlace t q place
 
 -- an id is a table's just where a row has it
 abbrev pub RowIdsAre : Type 0

@@ -5,10 +5,11 @@ use Rattle.std.specs.Prelude.{◌≡◌, ℕ, List, Option, Some, map}
 use Rattle.vsm_elements.specs.Store.{Store}
 use Rattle.vsm_elements.specs.Chain.{Link, element, links}
 use Rattle.vsm_elements.specs.Chain
+use Rattle.row_table.specs.declared.places.RowPlace.{RowPlace}
 use Rattle.row_table.specs.declared.row.Row.{Row}
 use Rattle.row_table.specs.declared.table.RowTable.{RowTable}
 use Rattle.row_table.specs.Rows.{word, row_in}
-use Rattle.row_table.specs.Kept.{IsKept}
+use Rattle.row_table.specs.Kept.{IsKept, StandsAt}
 
 -- the row under these two numbers
 unfoldable pub row : Store → RowTable → ℕ → ℕ → Option Row
@@ -17,9 +18,17 @@ row s q a b = row_in a b (links s q.chain)
 abbrev pub row_of : Link → Row
 row_of n = record { id = n.id; words = n.words }
 
--- all rows, in no order that is promised
+-- all rows, in ascending order by their second number and then by their first
 unfoldable pub rows : Store → RowTable → List Row
 rows s q = map row_of (links s q.chain)
+
+-- how many of the rows stand before the place
+unfoldable pub place_index : RowPlace → ℕ
+place_index place = place.index
+
+-- the place is before, between or behind the table's rows
+unfoldable pub IsPlace : Store → RowTable → RowPlace → Type 0
+IsPlace s q place = StandsAt s q.chain place.index place.before
 
 -- the ids of the table's elements
 unfoldable pub owned : Store → RowTable → List ℕ

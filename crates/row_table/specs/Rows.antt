@@ -1,5 +1,5 @@
 -- Rows as a list: what stands under two numbers.
-use Rattle.std.specs.Prelude.{◌≡◌, ℕ, Bool, ◌&&◌, ◌==◌, List, [], ◌∷◌, Option, Some, None, slice_index_or}
+use Rattle.std.specs.Prelude.{◌≡◌, ℕ, Bool, true, false, ◌&&◌, ◌==◌, List, [], ◌∷◌, Option, Some, None, slice_index_or}
 use Rattle.std.specs.Prelude.{◌||◌, nat_lt, if◌then◌else◌}
 use Rattle.vsm_elements.specs.Chain.{Link}
 use Rattle.row_table.specs.declared.row.Row.{Row}
@@ -24,6 +24,41 @@ is_under a b words = same_key (word words 0) (word words 1) a b
 abbrev pub row_in : ℕ → ℕ → List Link → Option Row
 row_in a b [] = None
 row_in a b (n ∷ ns) = if is_under a b n.words then Some (record { id = n.id; words = n.words }) else row_in a b ns
+
+-- each of the links comes behind this key
+abbrev pub AllBehind : ℕ → ℕ → List Link → Type 0
+AllBehind a b [] = Unit {0}
+AllBehind a b (n ∷ ns) = (comes_before a b (word n.words 0) (word n.words 1) ≡ true) × AllBehind a b ns
+
+-- each of them comes before it
+abbrev pub AllBefore : ℕ → ℕ → List Link → Type 0
+AllBefore a b [] = Unit {0}
+AllBefore a b (n ∷ ns) = (comes_before (word n.words 0) (word n.words 1) a b ≡ true) × AllBefore a b ns
+
+-- none of them comes behind it
+abbrev pub NoneBehind : ℕ → ℕ → List Link → Type 0
+NoneBehind a b [] = Unit {0}
+NoneBehind a b (n ∷ ns) = (comes_before a b (word n.words 0) (word n.words 1) ≡ false) × NoneBehind a b ns
+
+-- the links ascend by their keys
+abbrev pub Ascends : List Link → Type 0
+Ascends [] = Unit {0}
+Ascends (n ∷ ns) = AllBehind (word n.words 0) (word n.words 1) ns × Ascends ns
+
+-- each of the rows comes behind this key
+abbrev pub RowsBehind : ℕ → ℕ → List Row → Type 0
+RowsBehind a b [] = Unit {0}
+RowsBehind a b (r ∷ rs) = (comes_before a b (word r.words 0) (word r.words 1) ≡ true) × RowsBehind a b rs
+
+-- the rows ascend by their keys
+abbrev pub AreInOrder : List Row → Type 0
+AreInOrder [] = Unit {0}
+AreInOrder (r ∷ rs) = RowsBehind (word r.words 0) (word r.words 1) rs × AreInOrder rs
+
+-- the first of the rows under these two numbers
+abbrev pub row_among : ℕ → ℕ → List Row → Option Row
+row_among a b [] = None
+row_among a b (r ∷ rs) = if is_under a b r.words then Some r else row_among a b rs
 
 -- no two rows stand under the same numbers
 abbrev pub Single : List Link → Type 0

@@ -1,42 +1,25 @@
 //! The rows in the order of their keys: by the second number, and then by the first.
 
-ghost use Rattle.std.specs.Prelude.{◌≡◌, ℕ, true, Some, None, IfSome, IfNone};
+ghost use Rattle.std.specs.Prelude.{◌≡◌, ◌+◌, ℕ, true, Some, None, IfSome, IfNone, option_map, slice_get};
+ghost use Rattle.vsm_elements.specs.Store.{Store};
 ghost use Rattle.row_table.specs.Rows.{word, comes_before};
-ghost use Rattle.row_table.specs.RowTable.{row, IsTable};
-ghost use Rattle.row_table.specs.Kept.{nearer};
+ghost use Rattle.row_table.specs.RowTable.{row, rows, place_index, IsTable, IsPlace};
 
-use crate::places::Place;
+use crate::places::RowPlace;
 use crate::row::Row;
 use crate::table::RowTable;
 use vsm_elements::Elements;
 
-// Whether the first key comes before the other.
-fn is_before(first: u32, second: u32, other_first: u32, other_second: u32) -> bool
-    ensures { result ≡ comes_before first second other_first other_second }
-{
-    second < other_second || (second == other_second && first < other_first)
-}
-
-// The row behind the key that is nearest to it, of the nearest so far and one more.
-fn nearer_of(first: u32, second: u32, nearest: Option<Row>, row: Row) -> Option<Row>
-    ensures { result ≡ nearer first second nearest row }
-{
-    let [a, b, ..] = row.words;
-    if !is_before(first, second, a, b) {
-        return nearest;
-    }
-    match nearest {
-        Some(found) if !is_before(a, b, found.words[0], found.words[1]) => nearest,
-        _ => Some(row),
-    }
-}
-
-#[tactic(auto, unfolding(crate::specs::RowTable::row, crate::specs::RowTable::IsTable))]
+#[tactic(auto, unfolding(
+// what stands in the elements
+crate::specs::RowTable::row, crate::specs::RowTable::rows, crate::specs::RowTable::IsTable,
+// where a walk stands
+crate::specs::RowTable::place_index, crate::specs::RowTable::IsPlace))]
 impl RowTable {
     /// The row that comes next behind these two numbers, by its second number and then by its first; `None` past
     /// the last.
     ///
-    /// It walks the rows once.
+    /// It walks the rows up to there.
     pub fn next_after(&self, elements: &Elements, first: u32, second: u32) -> Option<Row>
         requires { IsTable elements.now self.now }
         ensures none { IfNone result ((a b : ℕ) → comes_before first second a b ≡ true
@@ -49,17 +32,39 @@ impl RowTable {
             → comes_before a b (word r.words 0) (word r.words 1) ≡ true
             → row elements.now self.now a b ≡ None) }
     {
-        let count = self.chain.count;
-        let mut nearest = None;
-        let mut place = Place::FRONT;
-        while place.index < count {
-            let row = self.visit(elements, place);
-            nearest = nearer_of(first, second, nearest, row);
-            place = Place {
-                index: place.index + 1,
-                before: row.id,
-            };
+        let place = self.place_behind(elements, first, second);
+        if place.index == self.chain.count {
+            return None;
         }
-        nearest
+        Some(self.visit(elements, place))
+    }
+
+    /// The place before the first row of any table.
+    pub fn first_place() -> RowPlace
+        ensures place { (s : Store) (q : RowTable) → IsPlace s q result }
+        ensures index { place_index result ≡ 0 }
+    {
+        RowPlace::FRONT
+    }
+
+    /// The row behind the place, and the place behind that row; `None` behind the last. From the first place on, the
+    /// rows come in ascending order, each at the cost of one element.
+    pub fn next_row(&self, elements: &Elements, place: RowPlace) -> Option<(Row, RowPlace)>
+        requires table { IsTable elements.now self.now }
+        requires place { IsPlace elements.now self.now place }
+        ensures row { option_map (λ r. r.0) result ≡ slice_get (rows elements.now self.now) (place_index place) }
+        ensures next { IfSome result (λ r. IsPlace elements.now self.now r.1
+            × (place_index r.1 ≡ place_index place + 1)) }
+    {
+        let count = self.chain.count;
+        if place.index >= count {
+            return None;
+        }
+        let row = self.visit(elements, place);
+        let next = RowPlace {
+            index: place.index + 1,
+            before: row.id,
+        };
+        Some((row, next))
     }
 }

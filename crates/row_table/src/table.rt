@@ -4,7 +4,7 @@ ghost use Rattle.vsm_elements.specs.Store.{Store, among};
 ghost use Rattle.vsm_elements.specs.Ownership.{Leaves, Apart};
 ghost use Rattle.row_table.specs.Rows.{word, same_key, is_under, either_of};
 
-use crate::places::Place;
+use crate::places::RowPlace;
 use crate::row::Row;
 use vsm_elements::{Chain, Elements, Id};
 
@@ -45,7 +45,12 @@ impl RowTable {
         if place.index == self.chain.count {
             return None;
         }
-        Some(self.visit(elements, place))
+        let found = self.visit(elements, place);
+        if found.words[0] == first && found.words[1] == second {
+            Some(found)
+        } else {
+            None
+        }
     }
 
     /// The words of the row of this id.
@@ -68,7 +73,7 @@ impl RowTable {
         if self.chain.count == 0 {
             return None;
         }
-        Some(self.visit(elements, Place::FRONT))
+        Some(self.visit(elements, RowPlace::FRONT))
     }
 
     /// A row with these words. Its key is not in the table.
@@ -86,16 +91,16 @@ impl RowTable {
             (owned elements.old self.old) (owned elements.new self.new) }
         ensures spares { elements.new.spare + 1 ≡ elements.old.spare }
     {
-        self.chain.insert(elements, 0, 0, words)
+        let place = self.seek(elements, words[0], words[1]);
+        self.chain
+            .insert(elements, place.index, place.before, words)
     }
 
-    /// The row under these two numbers gets other words, and keeps its element. Where its key changes, the new
-    /// one is not in the table.
+    /// The row under these two numbers gets other words under the same key. It keeps its element and its place.
     pub fn set(&self, elements: &mut Elements, first: u32, second: u32, words: [u32; 7])
         requires table { IsTable elements.old self.now }
         requires there { IsSome (row elements.old self.now first second) }
-        requires key { (is_under first second words ≡ true)
-            ⊎ (row elements.old self.now (word words 0) (word words 1) ≡ None) }
+        requires key { is_under first second words ≡ true }
         ensures table { IsTable elements.new self.now }
         ensures rows { (a b : ℕ) → row elements.new self.now a b
             ≡ (if is_under a b words
@@ -108,6 +113,26 @@ impl RowTable {
         let place = self.seek(elements, first, second);
         let row = self.visit(elements, place);
         self.chain.set_words(elements, place.index, row.id, words);
+    }
+
+    /// The row under these two numbers gets other words, and keeps its element. Where its key changes, the new
+    /// one is not in the table.
+    pub fn set_key(&mut self, elements: &mut Elements, first: u32, second: u32, words: [u32; 7])
+        requires table { IsTable elements.old self.old }
+        requires there { IsSome (row elements.old self.old first second) }
+        requires key { (is_under first second words ≡ true)
+            ⊎ (row elements.old self.old (word words 0) (word words 1) ≡ None) }
+        ensures table { IsTable elements.new self.new }
+        ensures rows { (a b : ℕ) → row elements.new self.new a b
+            ≡ (if is_under a b words
+            then option_map (λ r. record { id = r.id; words = words }) (row elements.old self.old first second)
+            else if same_key first second a b then None else row elements.old self.old a b) }
+        ensures owned { Leaves elements.old elements.new
+            (owned elements.old self.old) (owned elements.new self.new) }
+        ensures spares { elements.new.spare ≡ elements.old.spare }
+    {
+        let row = self.take_out(elements, first, second);
+        self.put_in(elements, row.id, words);
     }
 
     /// The row under these two numbers goes. Its element becomes a spare one.
@@ -145,9 +170,8 @@ impl RowTable {
             (owned elements.new self.new ++ owned elements.new to.new) }
         ensures spares { elements.new.spare ≡ elements.old.spare }
     {
-        let place = self.seek(elements, first, second);
-        self.chain
-            .move_link(elements, place.index, place.before, &mut to.chain);
+        let row = self.take_out(elements, first, second);
+        to.put_in(elements, row.id, row.words);
     }
 
     /// Every row moves to another table, with its element.
@@ -187,7 +211,7 @@ impl RowTable {
         if self.chain.count == 0 {
             return None;
         }
-        let row = self.visit(elements, Place::FRONT);
+        let row = self.visit(elements, RowPlace::FRONT);
         self.chain.remove(elements, 0, 0);
         Some(row)
     }

@@ -3,7 +3,7 @@ use Rattle.std.proofs.Common.{◌≡◌, ℕ, ◌+◌, nat_le, Bool, true, false
 use Rattle.std.proofs.lemmas.Bool.{cond-true, cond-false, le-leb, lt-leb}
 use Rattle.std.proofs.lemmas.List.{append-nil}
 use Rattle.macro_operands.specs.declared.faults.FaultKind.{FaultKind}
-use Rattle.macro_statements.specs.Requests.{Act, Asked, act, peek, back, forward}
+use Rattle.macro_statements.specs.Requests.{Act, Asked, act, peek, map_asked, back, forward}
 use Rattle.macro_reader.specs.Scripts as grammar
 use Rattle.vsm_model.specs.declared.limits.Settings.{Settings}
 use Rattle.vsm_model.specs.declared.replies.Reply.{Reply}
@@ -11,8 +11,8 @@ use Rattle.vsm_model.specs.Names.{NamedState, first_named_state}
 use Rattle.vsm_model.specs.Standing.{Bench, Standing, Call, Apply, Back, Forward, Look, Answer, Replied, RefusedFor, NoMemory, Moved, TooFar, Shown, Heard, Keeps, Leads, IsAccepted, new_bench, nothing_stands, stand_all, outcome_answer}
 use Rattle.vsm_model.proofs.Alone.{stands_alone}
 use Rattle.vsm_machine.specs.Machine.{Why, statement_step, shown_at}
-use Rattle.script_run.specs.Responses.{response_to, reading_response, response_text, is_refused, numbered}
-use Rattle.script_run.specs.Output.{Marked, call_in, alone_now, answer_to, IsMet, stands_behind, stands_with, responded_to, responded, stands_after, stands_all, AllMet, texts, refusals, heard_call, heard_with, heard_all}
+use Rattle.script_run.specs.Responses.{response_to, reading_response, response_text, lines_behind, is_refused, numbered}
+use Rattle.script_run.specs.Output.{Marked, call_in, alone_now, answer_to, IsMet, stands_behind, stands_with, responded_to, responded, stands_after, stands_all, AllMet, lines_with, text_of, texts, refusals, heard_call, heard_with, heard_all}
 use Rattle.script_run.specs.Answers.{RespondsTo, Responds, Tells, told_text, told_count, told_refused}
 use Rattle.script_run.specs.Taken.{Led, IsTold, answers_of}
 use Rattle.script_run.specs.declared.responses.Response.{Response}
@@ -34,7 +34,7 @@ module _ (settings : Settings) where
   pub texts_push : (l : Stood) (xs ys : List Marked) → texts settings l (xs ++ ys) ≡ texts settings l xs ++ texts settings (stands_all settings l xs) ys
   texts_push l [] ys = refl
   texts_push l (x ∷ xs) ys =
-      let text = numbered x.answer.line (response_text (responded settings l x.unmet x.answer.what)) in
+      let text = text_of settings l x in
       ap (λ t. text ++ t) (texts_push (stands_after settings l x) xs ys) ∙ sym (append_assoc text _ _)
 
   pub refusals_push : (l : Stood) (xs ys : List Marked) → refusals settings l (xs ++ ys) ≡ refusals settings l xs + refusals settings (stands_all settings l xs) ys
@@ -50,6 +50,7 @@ module _ (settings : Settings) where
   heard_with_push l unmet (Err kind) hs ks = refl
   heard_with_push l unmet (Ok (act x)) hs ks = refl
   heard_with_push l unmet (Ok (peek address count)) hs ks = refl
+  heard_with_push l unmet (Ok map_asked) hs ks = refl
   heard_with_push l unmet (Ok (back n)) hs ks = refl
   heard_with_push l unmet (Ok (forward n)) hs ks = refl
 
@@ -65,6 +66,7 @@ module _ (settings : Settings) where
   heard_with_stands l unmet (Err kind) hs = refl
   heard_with_stands l unmet (Ok (act x)) hs = refl
   heard_with_stands l unmet (Ok (peek address count)) hs = refl
+  heard_with_stands l unmet (Ok map_asked) hs = refl
   heard_with_stands l unmet (Ok (back n)) hs = refl
   heard_with_stands l unmet (Ok (forward n)) hs = refl
 
@@ -140,6 +142,7 @@ module _ (settings : Settings) where
   was_met l b c s asked Look is NoMemory k = absurd k
   was_met l b c s (act y) (Apply x) is NoMemory k = subst (λ m. IsAccepted (statement_step settings m y)) s.present (subst (λ z. IsAccepted (statement_step settings b.present z)) (sym (same_statement y x is)) k.0)
   was_met l b c s (peek address count) (Apply x) is NoMemory k = cc
+  was_met l b c s map_asked (Apply x) is NoMemory k = cc
   was_met l b c s (back n) (Apply x) is NoMemory k = cc
   was_met l b c s (forward n) (Apply x) is NoMemory k = cc
 
@@ -199,15 +202,23 @@ module _ (settings : Settings) where
     led_idle xs b c line (Ok (peek address count)) led same refl,
     is ∙ ap (λ m. reading_response (shown_at m address count)) (stands_for xs b led).present,
   )
+  led_one xs b c line (Ok map_asked) told led (is, same) = (false, led_idle xs b c line (Ok map_asked) led same refl, is)
   led_one xs b c line (Ok (back n)) told led h = led_call xs b c line (back n) (Back n) told refl led h
   led_one xs b c line (Ok (forward n)) told led h = led_call xs b c line (forward n) (Forward n) told refl led h
+
+  -- the lines behind a response: those of the state and the number that the standing statements give
+  behind_is : (xs : List Marked) (c : Bench NamedState) (m : Marked) (told : Response) → Led settings (xs ++ m ∷ []) c →
+      lines_behind settings c.present (length c.past) told ≡ lines_with settings (stands_after settings (stands_all settings nothing_stands xs) m) told
+  behind_is xs c m told led =
+      let s = stands_for (xs ++ m ∷ []) c led in
+      (λ i. lines_behind settings (s.present i) (s.kept i) told) ∙ ap (λ l. lines_with settings l told) (stands_push nothing_stands xs (m ∷ []))
 
   -- What a line tells: the further answers, marked.
   pub record TellsMore (xs : List Marked) (c : Bench NamedState) (told : List grammar.Answer) (shown : Option (ℕ × Response)) : Type 0 where
     pub more : List Marked
     pub answers : answers_of more ≡ told
     pub led : Led settings (xs ++ more) c
-    pub text : IsTold settings xs more (told_text shown)
+    pub text : IsTold settings xs more (told_text settings c shown)
     pub count : length more ≡ told_count shown
     pub refused : refusals settings (stands_all settings nothing_stands xs) more ≡ told_refused shown
 
@@ -224,11 +235,14 @@ module _ (settings : Settings) where
   tells_more xs b c (a ∷ []) (Some shown) led (line, h) =
       let one = led_one xs b c a.line a.what shown.1 led h in
       let l = stands_all settings nothing_stands xs in
+      let m = marked a.line a.what one.0 in
       record {
-        more = marked a.line a.what one.0 ∷ [];
+        more = m ∷ [];
         answers = refl;
         led = one.1;
-        text = (λ i. numbered (line i) (response_text (one.2 i))) ∙ sym (append-nil _);
+        text = (λ i. numbered (line i) (response_text shown.1) ++ behind_is xs c m shown.1 one.1 i)
+            ∙ ap (λ r. numbered a.line (response_text r) ++ lines_with settings (stands_after settings l m) r) one.2
+            ∙ sym (append-nil _);
         count = refl;
         refused = plus_zero _ ∙ ap (λ r. if is_refused r then 1 else 0) (sym one.2);
       }

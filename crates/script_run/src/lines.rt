@@ -18,8 +18,8 @@ use arrayvec::ArrayVec;
 use bench_core::Bench;
 use macro_reader::Reader;
 
-/// What the end of a script brings: the totals, the bench as it is then, and the responses to a last line without a line feed and to a statement
-/// that is still open.
+/// What the end of a script brings: the totals, the bench as it is then, and the responses to a last line without a
+/// line feed and to a statement that is still open.
 #[derive(Drop)]
 pub(crate) struct Ending {
     pub(crate) totals: RunTotals,
@@ -130,11 +130,12 @@ impl Session {
 
     /// Takes the end of the script.
     pub(crate) fn end(self) -> Ending
-        ensures { (settings : Settings) (given : List ℕ) (answers : List Marked) → Took settings given answers self
+        ensures told { (settings : Settings) (given : List ℕ) (answers : List Marked) → Took settings given answers self
             → (more : List Marked) × IsTold settings answers more
             (told_text settings (bench_of result.bench) result.last
             ++ told_text settings (bench_of result.bench) result.open_statement)
             × Ended settings given (answers ++ more) × Counts settings (answers ++ more) result.totals }
+        ensures settings { settings_in result.bench ≡ settings_in self.bench }
     {
         let Session {
             mut reader,

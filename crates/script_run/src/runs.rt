@@ -5,6 +5,7 @@ ghost use Rattle.std.specs.Io.KnownBytes.{IsAtEnd};
 ghost use Rattle.vsm_model.specs.declared.limits.Settings.{Settings};
 ghost use Rattle.bench_core.specs.Stands.{bench_of, settings_in};
 ghost use Rattle.script_run.specs.Answers.{told_text};
+ghost use Rattle.script_run.specs.Responses.{lines_behind};
 ghost use Rattle.script_run.specs.Script.{NoFeed};
 ghost use Rattle.text_output.specs.Writing.{Puts, IsEmpty};
 ghost use Rattle.script_run.specs.Run.{Runs, Takes, TakesLine, TakesRead, Finishes, Ran};
@@ -19,7 +20,24 @@ use std::io::{Read, Write};
 use text_output::Gathered;
 use vsm_model::Settings;
 
-/// Puts the line of a response, if there is one, and behind that of a map the map of the bench.
+/// Puts the lines behind that of a response: the map of the bench behind that of a map, and none behind another.
+fn put_behind<W: Write>(
+    gathered: &mut Gathered,
+    writer: &mut W,
+    bench: &Bench,
+    response: &Response,
+)
+    ensures { Puts (W.contents writer.old) (W.contents writer.new) gathered.old gathered.new
+        (lines_behind (settings_in bench.now) (bench_of bench.now).present (length (bench_of bench.now).past)
+        response.now) }
+{
+    if let Response::Map = response {
+        bench.put_map(gathered, writer);
+    }
+}
+
+/// Puts the line of a response, if there is one, and the lines behind it.
+#[tactic(auto, using(text_output::proofs::Gathering::puts_both))]
 fn put_told<W: Write>(
     gathered: &mut Gathered,
     writer: &mut W,
@@ -31,9 +49,7 @@ fn put_told<W: Write>(
 {
     if let Some((line, response)) = told {
         put_numbered(gathered, writer, *line, response);
-        if let Response::Map = response {
-            bench.put_map(gathered, writer);
-        }
+        put_behind(gathered, writer, bench, response);
     }
 }
 
@@ -147,7 +163,7 @@ fn finish<W: Write>(
 }
 
 /// Reads a script to its end, carries its statements out on a new bench under these settings, and writes a line for
-/// each statement that is complete or faulty.
+/// each statement that is complete or faulty, with the lines of the map behind that of a MAP.
 ///
 /// A line ends at a line feed, which isn't part of it, nor is a carriage return before it; bytes after the last line
 /// feed are a line where there are any. Output is gathered, and handed out when there is no room for more and before

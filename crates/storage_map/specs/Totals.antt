@@ -4,7 +4,7 @@ use Rattle.vsm_model.specs.declared.limits.Settings.{Settings}
 use Rattle.vsm_model.specs.Regions.{low_region, high_region}
 use Rattle.vsm_model.specs.State.{State}
 use Rattle.vsm_model.specs.Map.{assigned_pages, total_bytes}
-use Rattle.storage_map.specs.declared.totals.Totals.{Totals}
+use Rattle.storage_map.specs.declared.counts.Totals.{Totals}
 
 -- the assigned pages of each region and all of its pages, and the bytes of assigned pages that are taken or free
 abbrev pub totals_of : Settings → State → Totals

@@ -22,7 +22,13 @@ pub(crate) fn put_extents<W: Write>(
 {
     let mut place = storage.first_extent(subpool);
     while let Some((run, behind)) = storage.next_extent(place) {
-        put_area(gathered, writer, b"  EXTENT", 4096 * run.start, 4096 * run.len);
+        put_area(
+            gathered,
+            writer,
+            b"  EXTENT",
+            4096 * run.start,
+            4096 * run.len,
+        );
         place = behind;
     }
 }

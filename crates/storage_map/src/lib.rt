@@ -2,11 +2,17 @@
 #![tactic(auto)]
 
 mod areas;
+mod counts;
 mod fields;
+mod laws;
 mod maps;
 mod subpools;
+mod sums;
 mod tasks;
-mod totals;
 
+pub use counts::Totals;
 pub use maps::{put_history, put_map, write_history, write_map};
-pub use totals::{Totals, totals};
+pub use sums::totals;
+
+#[cfg(test)]
+mod tests;

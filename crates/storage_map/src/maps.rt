@@ -1,25 +1,24 @@
 //! The whole map of a storage, and the line of its history.
-ghost use Rattle.std.specs.Prelude.{◌≡◌};
-ghost use Rattle.vsm_model.specs.declared.limits.Settings.{Settings};
-ghost use Rattle.vsm_model.specs.State.{State};
-ghost use Rattle.storage_map.specs.Totals.{totals_of};
-ghost use Rattle.vsm_model.specs.Map.{bytes_line, history_line, pages_line, storage_map};
+ghost use Rattle.storage_map.specs.Lines.{bytes_text, pages_text};
+ghost use Rattle.vsm_model.specs.Map.{history_line, storage_map};
 ghost use Rattle.storage_core.specs.Meaning.{state_of, settings_of};
 ghost use Rattle.text_output.specs.Writing.{Puts, Writes};
 
+use crate::counts::Totals;
 use crate::fields::put_field;
 use crate::subpools::put_subpools;
+use crate::sums::totals;
 use crate::tasks::put_tasks;
-use crate::totals::{Totals, totals};
+use map_laws::laws::subpools_are_shown;
 use std::io;
 use std::io::Write;
 use storage_core::Storage;
 use text_output::Gathered;
 
 /// Puts the line of the pages.
-fn put_pages<W: Write>(gathered: &mut Gathered, writer: &mut W, totals: &Totals)
-    ensures { (settings : Settings) (s : State) → totals.now ≡ totals_of settings s
-        → Puts (W.contents writer.old) (W.contents writer.new) gathered.old gathered.new (pages_line settings s) }
+#[tactic(auto, using(text_output::proofs::Gathering::puts_both))]
+fn put_pages<W: Write>(gathered: &mut Gathered, writer: &mut W, totals: Totals)
+    ensures { Puts (W.contents writer.old) (W.contents writer.new) gathered.old gathered.new (pages_text totals) }
 {
     put_field(gathered, writer, b" PAGES LOW", u64::from(totals.low_pages));
     put_field(gathered, writer, b" OF", u64::from(totals.low_size));
@@ -29,9 +28,9 @@ fn put_pages<W: Write>(gathered: &mut Gathered, writer: &mut W, totals: &Totals)
 }
 
 /// Puts the line of the bytes.
-fn put_bytes<W: Write>(gathered: &mut Gathered, writer: &mut W, totals: &Totals)
-    ensures { (settings : Settings) (s : State) → totals.now ≡ totals_of settings s
-        → Puts (W.contents writer.old) (W.contents writer.new) gathered.old gathered.new (bytes_line settings s) }
+#[tactic(auto, using(text_output::proofs::Gathering::puts_both))]
+fn put_bytes<W: Write>(gathered: &mut Gathered, writer: &mut W, totals: Totals)
+    ensures { Puts (W.contents writer.old) (W.contents writer.new) gathered.old gathered.new (bytes_text totals) }
 {
     put_field(gathered, writer, b" BYTES TAKEN", totals.taken);
     put_field(gathered, writer, b" FREE", totals.free);
@@ -45,14 +44,16 @@ pub fn put_map<W: Write>(gathered: &mut Gathered, writer: &mut W, storage: &Stor
     ensures { Puts (W.contents writer.old) (W.contents writer.new) gathered.old gathered.new
         (storage_map (settings_of storage.now) (state_of storage.now)) }
 {
+    subpools_are_shown();
     put_tasks(gathered, writer, storage);
     put_subpools(gathered, writer, storage);
     let totals = totals(storage);
-    put_pages(gathered, writer, &totals);
-    put_bytes(gathered, writer, &totals);
+    put_pages(gathered, writer, totals);
+    put_bytes(gathered, writer, totals);
 }
 
 /// Puts the line of a history: how many changes are kept, of how many that can be.
+#[tactic(auto, using(text_output::proofs::Gathering::puts_both))]
 pub fn put_history<W: Write>(gathered: &mut Gathered, writer: &mut W, kept: u32, limit: u32)
     ensures { Puts (W.contents writer.old) (W.contents writer.new) gathered.old gathered.new
         (history_line kept limit) }

@@ -1,7 +1,8 @@
 //! The lines of tasks: their parents and their registers.
-ghost use Rattle.std.specs.Prelude.{◌≤◌, flat_map};
+ghost use Rattle.std.specs.Prelude.{◌+◌, ◌≤◌, flat_map};
 ghost use Rattle.vsm_model.specs.Map.{numbers, register_line, task_lines};
 ghost use Rattle.storage_core.specs.Meaning.{state_of};
+ghost use Rattle.storage_map.specs.Lines.{current_text, register_words, task_line};
 ghost use Rattle.text_output.specs.Writing.{Puts};
 
 use crate::fields::{put_field, put_hex_field};
@@ -9,7 +10,54 @@ use std::io::Write;
 use storage_core::Storage;
 use text_output::Gathered;
 
+/// Puts that the task is the current one, and nothing where it isn't.
+#[tactic(auto, using(text_output::proofs::Gathering::puts_none))]
+fn put_current<W: Write>(gathered: &mut Gathered, writer: &mut W, storage: &Storage, task: u8)
+    ensures { Puts (W.contents writer.old) (W.contents writer.new) gathered.old gathered.new
+        (current_text (state_of storage.now) task) }
+{
+    if task == storage.current() {
+        gathered.put(writer, b" CURRENT");
+    }
+}
+
+/// Puts the first line of a task.
+#[tactic(auto, using(text_output::proofs::Gathering::puts_both))]
+fn put_task_line<W: Write>(
+    gathered: &mut Gathered,
+    writer: &mut W,
+    storage: &Storage,
+    task: u8,
+    parent: u8,
+)
+    ensures { Puts (W.contents writer.old) (W.contents writer.new) gathered.old gathered.new
+        (task_line (state_of storage.now) task parent) }
+{
+    put_field(gathered, writer, b" TASK", u64::from(task));
+    put_field(gathered, writer, b" PARENT", u64::from(parent));
+    put_current(gathered, writer, storage, task);
+    gathered.put(writer, b"\n");
+}
+
+/// Puts the words of eight registers of a task, from the first on.
+fn put_words<W: Write>(
+    gathered: &mut Gathered,
+    writer: &mut W,
+    storage: &Storage,
+    task: u8,
+    first: u8,
+)
+    requires { first ≤ 8 }
+    ensures { Puts (W.contents writer.old) (W.contents writer.new) gathered.old gathered.new
+        (register_words (state_of storage.now) task first (first + 8)) }
+{
+    for register in first..first + 8 {
+        put_hex_field(gathered, writer, storage.register(task, register));
+    }
+}
+
 /// Puts the line of eight registers of a task, from the first on.
+#[tactic(auto, using(text_output::proofs::Gathering::puts_both))]
 fn put_registers<W: Write>(
     gathered: &mut Gathered,
     writer: &mut W,
@@ -23,9 +71,7 @@ fn put_registers<W: Write>(
         (register_line (state_of storage.now) task word.now first) }
 {
     gathered.put(writer, word);
-    for register in first..first + 8 {
-        put_hex_field(gathered, writer, storage.register(task, register));
-    }
+    put_words(gathered, writer, storage, task, first);
     gathered.put(writer, b"\n");
 }
 
@@ -37,12 +83,7 @@ fn put_task<W: Write>(gathered: &mut Gathered, writer: &mut W, storage: &Storage
     let Some(parent) = storage.parent(task) else {
         return;
     };
-    put_field(gathered, writer, b" TASK", u64::from(task));
-    put_field(gathered, writer, b" PARENT", u64::from(parent));
-    if task == storage.current() {
-        gathered.put(writer, b" CURRENT");
-    }
-    gathered.put(writer, b"\n");
+    put_task_line(gathered, writer, storage, task, parent);
     put_registers(gathered, writer, storage, task, b"  R0", 0);
     put_registers(gathered, writer, storage, task, b"  R8", 8);
 }

@@ -9,6 +9,7 @@ use Rattle.row_table.specs.declared.row.Row.{Row}
 use Rattle.row_table.specs.declared.table.RowTable.{RowTable}
 use Rattle.row_table.specs.Rows.{word, same_key, is_under, row_in, Single}
 use Rattle.row_table.specs.RowTable.{row, rows, row_of, IsTable}
+use Rattle.row_table.proofs.AscendLemmas.{single}
 use Rattle.row_table.proofs.RowLemmas.{either, not_both, if_true, if_false, none_some, same_parts, eqb_same, eqb_refl, same_self, row_here, row_later, under_own}
 use Rattle.subpool_set.specs.Pools.{Pool}
 use Rattle.subpool_set.specs.Kept.{Rows, queues_of, pool_in, pools_in}
@@ -86,8 +87,8 @@ module _ (s : Store) where
 pub table_stands : (s : Store) (q : RowTable) (others : List ℕ) → IsTable s q → AreApart s (pools_in (row s q)) others → AllStand s (rows s q) × Apart others (ids_in_all s (rows s q))
 unfolding row rows IsTable
 table_stands s q others h was = (
-  all_stand s (row s q) others was (links s q.chain) h.single (λ a b r e. e),
-  all_beside s (row s q) others was (links s q.chain) h.single (λ a b r e. e),
+  all_stand s (row s q) others was (links s q.chain) (single (links s q.chain) h.ascends) (λ a b r e. e),
+  all_beside s (row s q) others was (links s q.chain) (single (links s q.chain) h.ascends) (λ a b r e. e),
 )
 
 -- an id is among the queues' just where some subpool has it
@@ -101,7 +102,7 @@ pub record HasId (s : Store) (f : Rows) (i : ℕ) : Type 0 where
 pub id_holder : (s : Store) (q : RowTable) → IsTable s q → (i : ℕ) → among i (ids_in_all s (rows s q)) ≡ true → HasId s (row s q) i
 unfolding row rows IsTable
 id_holder s q h i m =
-    let w : Holder s (links s q.chain) i = holder s (links s q.chain) h.single i m in
+    let w : Holder s (links s q.chain) i = holder s (links s q.chain) (single (links s q.chain) h.ascends) i m in
     let k : (is_own w.r ≡ true) × (among i (ids_of s (queues_of w.r.words)) ≡ true) = own_of s w.r i w.has in
     record { number = word w.r.words 1; owner = word w.r.words 0; pool = pool_at w.r; there = pool_of s (row s q) w.r w.there k.0; has = k.1 }
 

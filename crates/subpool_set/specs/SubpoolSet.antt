@@ -3,16 +3,19 @@
 -- them by it.
 --
 -- The words are closed, so that nothing above depends on how subpools stand in the elements.
-use Rattle.std.specs.Prelude.{◌≡◌, ℕ, List, Some, option_map}
+use Rattle.std.specs.Prelude.{◌≡◌, ℕ, List, drop, Some, option_map}
 use Rattle.vsm_elements.specs.Store.{Store}
 use Rattle.row_table.specs.Rows.{word}
 use Rattle.row_table.specs.RowTable.{row, rows, words_of}
 use Rattle.row_table.specs.RowTable
 use Rattle.subpool_set.specs.declared.set.SubpoolSet.{SubpoolSet}
 use Rattle.subpool_set.specs.declared.parked.ParkedPool.{ParkedPool}
+use Rattle.subpool_set.specs.declared.places.PoolPlace.{PoolPlace}
+use Rattle.subpool_set.specs.declared.places.SharerPlace.{SharerPlace}
 use Rattle.subpool_set.specs.Pools.{Sight, Pools}
 use Rattle.subpool_set.specs.Kept.{sight_in, pools_in, IsKept}
 use Rattle.subpool_set.specs.Heads.{ids_in_all}
+use Rattle.subpool_set.specs.Walks.{pool_ids, sharer_tasks, IsWalkPlace}
 use Rattle.subpool_set.specs.QueueElements.{AreApart}
 
 -- the owner of the subpool that a task sees at a number
@@ -49,6 +52,27 @@ queue_ids s q = ids_in_all s (rows s q.rows)
 -- The queues of all subpools stand, each in elements of its own, and apart from the set's.
 abbrev pub QueuesStand : Store → SubpoolSet → Type 0
 QueuesStand s q = AreApart s (pool s q) (owned s q)
+
+-- the place is before, between or behind the set's subpools
+unfoldable pub IsPoolPlace : Store → SubpoolSet → PoolPlace → Type 0
+IsPoolPlace s q place = IsWalkPlace s q.rows place
+
+-- the ids of the subpools behind the place
+unfoldable pub pools_left : Store → SubpoolSet → PoolPlace → List ℕ
+pools_left s q place = pool_ids (drop (RowTable.place_index place.next) (rows s q.rows))
+
+-- the number of the subpool before the place
+unfoldable pub number_at : PoolPlace → ℕ
+number_at place = place.number
+
+-- the place is before, between or behind sharers
+unfoldable pub IsSharerPlace : Store → SubpoolSet → SharerPlace → Type 0
+IsSharerPlace s q place = RowTable.IsPlace s q.rows place.next
+
+-- the tasks behind the place that share the subpool of this number with this owner
+unfoldable pub sharers_left : Store → SubpoolSet → SharerPlace → ℕ → ℕ → List ℕ
+sharers_left s q place number owner =
+    sharer_tasks number owner (drop (RowTable.place_index place.next) (rows s q.rows))
 
 -- A parked pool is a small set of its own.
 

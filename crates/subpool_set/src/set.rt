@@ -257,7 +257,7 @@ impl SubpoolSet {
         rename_rows(&self.rows, elements, number, giver, to);
         let words = row_words(to, number, to, queues);
         self.rows
-            .set(elements, u32::from(giver), u32::from(number), words);
+            .set_key(elements, u32::from(giver), u32::from(number), words);
     }
 
     /// Takes the subpool out, with its sight and its queues. Its elements, and its id, stay.

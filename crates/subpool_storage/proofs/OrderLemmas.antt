@@ -15,8 +15,8 @@ use Rattle.vsm_model.specs.declared.Subpool.{Subpool}
 use Rattle.vsm_model.specs.Search.{holds}
 use Rattle.subpool_storage.specs.declared.storage.SubpoolStorage.{SubpoolStorage}
 use Rattle.subpool_storage.specs.Subpools.{is_there}
-use Rattle.subpool_storage.specs.SubpoolStorage.{subpools_of, Stands}
-use Rattle.subpool_storage.specs.Order.{subpool_at, is_behind, subpools_after, SubpoolsBegin}
+use Rattle.subpool_storage.specs.SubpoolStorage.{subpools_of, named, subpools_left, Stands}
+use Rattle.subpool_storage.specs.Order.{subpool_at, subpools_in_order, is_behind, subpools_after, SubpoolsBegin}
 use Rattle.subpool_storage.proofs.LawLemmas.{subpools_are_there}
 
 pub subpools_begin : SubpoolsBegin
@@ -43,10 +43,6 @@ module _ {A B : Type 0} (f : A → B) where
   map_if : (b : Bool) (o : Option A) → option_map f (if b then o else None) ≡ (if b then option_map f o else None)
   map_if true o = refl
   map_if false o = refl
-
--- the subpool of an id
-abbrev pub named : Store → ℕ → Subpool
-named s id = record { number = number_of s id; owner = owner_of s id }
 
 module _ (s : Store) (q : SubpoolStorage) (h : Stands s q) where
   abbrev subpool : ℕ → ℕ → Subpool
@@ -79,6 +75,16 @@ module _ (s : Store) (q : SubpoolStorage) (h : Stands s q) where
             ap (option_map (named s)) (map_if (λ (x : Pool). x.id) (is_behind number owner n o) (pool s q.set n o))
             ∙ map_if (named s) (is_behind number owner n o) (option_map (λ (x : Pool). x.id) (pool s q.set n o))
             ∙ ap (λ (z : Option Subpool). if is_behind number owner n o then z else None) (named_at n o)
+
+  -- all subpools are those of all ids
+  pub all_named : map (named s) (ids_in_order (pool s q.set)) ≡ subpools_in_order (subpools_of s q)
+  all_named =
+      ap (λ (z : List Pool). map (named s) (map (λ (x : Pool). x.id) z)) (sym (order_begins (pool s q.set) 64 refl))
+      ∙ after_is 0 0 ∙ subpools_begin (subpools_of s q)
+
+  pub next_named : (id n o : ℕ) (all rest : List ℕ) → all ≡ id ∷ rest → number_of s id ≡ n → owner_of s id ≡ o
+      → map (named s) all ≡ record { number = n; owner = o } ∷ map (named s) rest
+  next_named id n o all rest e a b = ap (map (named s)) e ∙ (λ i. record { number = a i; owner = b i } ∷ map (named s) rest)
 
   pub after_none : (number owner : ℕ) (result : Option Subpool) → ids_in_order (pools_after (pool s q.set) number owner) ≡ [] → IfNone result (subpools_after (subpools_of s q) number owner ≡ [])
   after_none number owner None e = sym (after_is number owner) ∙ ap (map (named s)) e

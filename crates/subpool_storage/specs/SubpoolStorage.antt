@@ -1,13 +1,17 @@
 -- What a contract sees of a `SubpoolStorage`: its subpools as functions, and how often it holds an element.
 --
 -- The words are closed, so that nothing above depends on how the subpools stand in the elements.
-use Rattle.std.specs.Prelude.{◌≡◌, ℕ, ◌+◌, Bool, false, Option, Some, None}
+use Rattle.std.specs.Prelude.{◌≡◌, ℕ, ◌+◌, Bool, false, List, map, Option, Some, None}
 use Rattle.vsm_elements.specs.Store.{Store}
 use Rattle.vsm_elements.specs.Owners.{times, Moves}
 use Rattle.descriptor_queue.specs.Extents.{has_page}
 use Rattle.free_queue.specs.FreeQueue.{is_free}
 use Rattle.subpool_set.specs.Pools.{Pool}
-use Rattle.subpool_set.specs.SubpoolSet.{sight, pool, owned, queue_ids, IsSubpoolSet, QueuesStand}
+use Rattle.subpool_set.specs.SubpoolSet.{sight, pool, owned, queue_ids, number_of, owner_of, IsSubpoolSet, QueuesStand}
+use Rattle.subpool_set.specs.SubpoolSet
+use Rattle.subpool_set.specs.declared.places.PoolPlace.{PoolPlace}
+use Rattle.subpool_set.specs.declared.places.SharerPlace.{SharerPlace}
+use Rattle.vsm_model.specs.declared.Subpool.{Subpool}
 use Rattle.subpool_storage.specs.declared.storage.SubpoolStorage.{SubpoolStorage}
 use Rattle.subpool_storage.specs.Subpools.{Subpools}
 
@@ -39,6 +43,26 @@ pub record StandsIn (s : Store) (q : SubpoolStorage) : Type 0 where
 
 unfoldable pub Stands : Store → SubpoolStorage → Type 0
 Stands s q = StandsIn s q
+
+-- the subpool that an id names
+abbrev pub named : Store → ℕ → Subpool
+named s id = record { number = number_of s id; owner = owner_of s id }
+
+-- the place is before, between or behind the subpools
+unfoldable pub IsSubpoolPlace : Store → SubpoolStorage → PoolPlace → Type 0
+IsSubpoolPlace s q place = SubpoolSet.IsPoolPlace s q.set place
+
+-- the subpools behind the place
+unfoldable pub subpools_left : Store → SubpoolStorage → PoolPlace → List Subpool
+subpools_left s q place = map (named s) (SubpoolSet.pools_left s q.set place)
+
+-- the place is before, between or behind sharers
+unfoldable pub IsSharerPlace : Store → SubpoolStorage → SharerPlace → Type 0
+IsSharerPlace s q place = SubpoolSet.IsSharerPlace s q.set place
+
+-- the tasks behind the place that see the subpool besides its owner
+unfoldable pub sharers_left : Store → SubpoolStorage → SharerPlace → Subpool → List ℕ
+sharers_left s q place p = SubpoolSet.sharers_left s q.set place p.number p.owner
 
 -- the subpools are m, and no element but theirs changed
 pub record Becomes (s t : Store) (q r : SubpoolStorage) (m : Subpools) : Type 0 where

@@ -3,6 +3,7 @@
 
 mod discard;
 pub mod laws;
+mod places;
 mod readers;
 mod storage;
 

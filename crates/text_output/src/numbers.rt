@@ -17,12 +17,7 @@ pub fn put_decimal<W: Write>(gathered: &mut Gathered, writer: &mut W, n: u64)
 }
 
 /// Puts a number in decimal digits, with leading zeros to so many, at most seven.
-pub fn put_padded_decimal<W: Write>(
-    gathered: &mut Gathered,
-    writer: &mut W,
-    width: usize,
-    n: u32,
-)
+pub fn put_padded_decimal<W: Write>(gathered: &mut Gathered, writer: &mut W, width: usize, n: u32)
     requires { width ≤ 7 }
     ensures { Puts (W.contents writer.old) (W.contents writer.new) gathered.old gathered.new (padded_decimal width n) }
 {

@@ -1,4 +1,7 @@
-use Rattle.std.proofs.Common.{◌∷◌, [], ◌++◌, arith}
+use Rattle.std.proofs.Common.{◌∷◌, [], ◌++◌, arith, subst, sym}
+use Rattle.bench_core.specs.Stands.{bench_of}
+use Rattle.script_run.specs.Answers.{told_text}
+use Rattle.script_run.specs.Taken.{IsTold}
 use Rattle.script_run.proofs.Outcomes.{out_more}
 use Rattle.script_run.proofs.Takes.{past_lines}
 use Rattle.script_run.proofs.runs.take_feed.Goals as goal
@@ -13,8 +16,10 @@ returns-then-session-ge-LINES g c = λ settings first given h. record {
 pub returns : goal.returns
 returns g c = λ settings first given h.
     let e = c.end_line-told.ensures settings given h.answers h.took in
+    let now = bench_of c.end_line-told.new.self.bench in
+    let told = subst (λ s. IsTold settings h.answers e.0 (told_text s now c.end_line-told.result)) (sym e.2.under) e.1 in
     record {
       answers = h.answers ++ e.0;
       took = e.2;
-      out = out_more settings first _ _ _ _ h.answers e.0 _ e.1 c.put_told.ensures h.out;
+      out = out_more settings first _ _ _ _ h.answers e.0 _ told c.put_told.ensures h.out;
     }

@@ -10,8 +10,8 @@ use Rattle.script_run.specs.Taken.{answers_of}
 use Rattle.script_run.proofs.Standings.{tells_more, told_both, refused_both}
 use Rattle.script_run.proofs.session.Session.end.Goals as goal
 
-pub returns : goal.returns
-returns c = λ settings given answers h.
+pub returns-clause-told : goal.returns-clause-told
+returns-clause-told c = λ settings given answers h.
     let b0 = bench_of c.args.self.bench in
     let b1 = bench_of c.take_last-last.new.bench in
     let shown = c.take_last-last.result in
@@ -31,7 +31,7 @@ returns c = λ settings given answers h.
     let size2 = length-append t.more u.more in
     let refused = refused_both settings answers t.more u.more in (
       more,
-      told_both settings answers t.more u.more (told_text shown) (told_text shown2) t.text u.text,
+      told_both settings answers t.more u.more (told_text settings b1 shown) (told_text settings b1 shown2) t.text u.text,
       record {
         lines = h.lines;
         rest = h.rest;

@@ -1,27 +1,13 @@
 //! The totals of a storage.
-ghost use Rattle.std.specs.Prelude.{◌≡◌, ◌+◌, ◌<◌, ◌≤◌, ◌^◌, true, false};
-ghost use Rattle.map_laws.specs.Totals.{subpool_pages, subpool_free, all_pages, all_free};
+ghost use Rattle.std.specs.Prelude.{◌≡◌, ◌+◌, ◌<◌, ◌^◌, true, false};
+ghost use Rattle.map_laws.specs.Totals.{pages_on_side, subpool_pages, subpool_free, all_pages, all_free};
 ghost use Rattle.storage_core.specs.Meaning.{state_in_place, state_of, settings_of};
 ghost use Rattle.storage_map.specs.Totals.{totals_of};
 
-use storage_core::{Storage, Subpool};
-
-/// What the storage comes to: pages of 4,096 bytes, and bytes.
-#[derive(Clone, Copy, Debug, PartialEq, Eq)]
-pub struct Totals {
-    /// The assigned pages below the 16 MB line.
-    pub low_pages: u32,
-    /// All pages of the region below the line.
-    pub low_size: u32,
-    /// The assigned pages above the line.
-    pub high_pages: u32,
-    /// All pages of the region above the line.
-    pub high_size: u32,
-    /// The bytes of assigned pages that are allocated.
-    pub taken: u64,
-    /// The bytes of assigned pages that are free.
-    pub free: u64,
-}
+use crate::counts::Totals;
+use map_laws::laws::totals_are_sums;
+use storage_core::{Run, Storage, Subpool};
+use subpool_storage::laws::subpools_begin;
 
 /// The pages of a subpool, or of all subpools, on each side of the 16 MB line.
 #[derive(Clone, Copy)]
@@ -30,19 +16,37 @@ struct Pages {
     high: u32,
 }
 
+/// The pages with those of a run besides.
+fn with_run(pages: Pages, run: Run) -> Pages
+    requires low { pages.low + pages_on_side true run < 2 ^ 32 }
+    requires high { pages.high + pages_on_side false run < 2 ^ 32 }
+    ensures low { result.low ≡ pages.low + pages_on_side true run }
+    ensures high { result.high ≡ pages.high + pages_on_side false run }
+{
+    if run.start < 4096 {
+        Pages {
+            low: pages.low + run.len,
+            high: pages.high,
+        }
+    } else {
+        Pages {
+            low: pages.low,
+            high: pages.high + run.len,
+        }
+    }
+}
+
 /// The pages of a subpool.
 fn pages_of(storage: &Storage, subpool: Subpool) -> Pages
+    requires low { subpool_pages (state_in_place storage.now).subpools true subpool < 2 ^ 32 }
+    requires high { subpool_pages (state_in_place storage.now).subpools false subpool < 2 ^ 32 }
     ensures low { result.low ≡ subpool_pages (state_in_place storage.now).subpools true subpool }
     ensures high { result.high ≡ subpool_pages (state_in_place storage.now).subpools false subpool }
 {
     let mut pages = Pages { low: 0, high: 0 };
     let mut place = storage.first_extent(subpool);
     while let Some((run, behind)) = storage.next_extent(place) {
-        if run.start < 4096 {
-            pages.low += run.len;
-        } else {
-            pages.high += run.len;
-        }
+        pages = with_run(pages, run);
         place = behind;
     }
     pages
@@ -50,6 +54,7 @@ fn pages_of(storage: &Storage, subpool: Subpool) -> Pages
 
 /// The free doublewords of a subpool.
 fn free_of(storage: &Storage, subpool: Subpool) -> u32
+    requires { subpool_free (state_in_place storage.now).subpools subpool < 2 ^ 32 }
     ensures { result ≡ subpool_free (state_in_place storage.now).subpools subpool }
 {
     let mut free = 0;
@@ -63,10 +68,14 @@ fn free_of(storage: &Storage, subpool: Subpool) -> u32
 
 /// The pages of all subpools, and the free doublewords in them.
 fn sums(storage: &Storage) -> (Pages, u32)
+    requires low { all_pages (state_in_place storage.now).subpools true < 2 ^ 32 }
+    requires high { all_pages (state_in_place storage.now).subpools false < 2 ^ 32 }
+    requires free { all_free (state_in_place storage.now).subpools < 2 ^ 32 }
     ensures low { result.0.low ≡ all_pages (state_in_place storage.now).subpools true }
     ensures high { result.0.high ≡ all_pages (state_in_place storage.now).subpools false }
     ensures free { result.1 ≡ all_free (state_in_place storage.now).subpools }
 {
+    subpools_begin();
     let mut pages = Pages { low: 0, high: 0 };
     let mut free = 0;
     let mut number = 0;
@@ -86,6 +95,7 @@ fn sums(storage: &Storage) -> (Pages, u32)
 pub fn totals(storage: &Storage) -> Totals
     ensures { result ≡ totals_of (settings_of storage.now) (state_of storage.now) }
 {
+    totals_are_sums();
     let settings = storage.settings();
     let (pages, free) = sums(storage);
     let free = 8 * u64::from(free);

@@ -1,0 +1,168 @@
+-- Rows that ascend: what stands under a key, by where it stands.
+use Rattle.std.proofs.Common.{◌≡◌, ℕ, ◌+◌, ◌<◌, true, false, ◌⊎◌, inl, inr, List, [], ◌∷◌, ◌++◌, length, take, drop, Option, Some, None, refl, sym, ap, ◌∙◌, subst, arith}
+use Rattle.std.specs.Prelude.{slice_get, map, if◌then◌else◌}
+use Rattle.std.proofs.lemmas.List.{take_all}
+use Rattle.vsm_elements.specs.Chain.{Link}
+use Rattle.row_table.specs.declared.row.Row.{Row}
+use Rattle.row_table.specs.Rows.{word, comes_before, is_under, row_in, Single, AllBehind, AllBefore, NoneBehind, Ascends, RowsBehind, AreInOrder, row_among}
+use Rattle.row_table.specs.RowTable.{row_of}
+use Rattle.row_table.specs.Kept.{link_of, IsUnder, IsNext}
+use Rattle.row_table.proofs.RowLemmas.{either, not_both, same_parts, same_by, same_self, first, second, none_by, none_join, row_here, row_behind}
+use Rattle.row_table.proofs.NextLemmas.{before_more, not_before, before_or}
+use Rattle.row_table.proofs.PlaceLemmas.{parts, drop_link}
+
+-- a link that comes behind a key, or before it, is under another
+pub other_behind : (a b : ℕ) (n : Link) → comes_before a b (first n) (second n) ≡ true → is_under a b n.words ≡ false
+other_behind a b n h = elim (either (is_under a b n.words)) [
+  | inl p ↦ (let q : (first n ≡ a) × (second n ≡ b) = same_parts (first n) (second n) a b p in
+      absurd (not_before a b (ap (λ (z : ℕ). comes_before a b z b) (sym q.0) ∙ ap (λ (z : ℕ). comes_before a b (first n) z) (sym q.1) ∙ h)))
+  | inr p ↦ p
+]
+
+pub other_before : (a b : ℕ) (n : Link) → comes_before (first n) (second n) a b ≡ true → is_under a b n.words ≡ false
+other_before a b n h = elim (either (is_under a b n.words)) [
+  | inl p ↦ (let q : (first n ≡ a) × (second n ≡ b) = same_parts (first n) (second n) a b p in
+      absurd (not_before a b (ap (λ (z : ℕ). comes_before z b a b) (sym q.0) ∙ ap (λ (z : ℕ). comes_before (first n) z a b) (sym q.1) ∙ h)))
+  | inr p ↦ p
+]
+
+pub none_behind : (a b : ℕ) (ns : List Link) → AllBehind a b ns → row_in a b ns ≡ None
+none_behind a b [] h = refl
+none_behind a b (n ∷ ns) h = none_by a b n ns (other_behind a b n h.0) (none_behind a b ns h.1)
+
+pub none_before : (a b : ℕ) (ns : List Link) → AllBefore a b ns → row_in a b ns ≡ None
+none_before a b [] h = refl
+none_before a b (n ∷ ns) h = none_by a b n ns (other_before a b n h.0) (none_before a b ns h.1)
+
+-- no link that doesn't come behind a key is under one that does
+pub none_passed : (a b x y : ℕ) (ns : List Link) → comes_before a b x y ≡ true → NoneBehind a b ns → row_in x y ns ≡ None
+none_passed a b x y [] e h = refl
+none_passed a b x y (n ∷ ns) e h = none_by x y n ns (go (either (is_under x y n.words))) (none_passed a b x y ns e h.1) where
+  go : (is_under x y n.words ≡ true) ⊎ (is_under x y n.words ≡ false) → is_under x y n.words ≡ false
+  go (inl p) = (let q : (first n ≡ x) × (second n ≡ y) = same_parts (first n) (second n) x y p in
+      absurd (not_both (comes_before a b x y) e (ap (λ (z : ℕ). comes_before a b z y) (sym q.0) ∙ ap (λ (z : ℕ). comes_before a b (first n) z) (sym q.1) ∙ h.0)))
+  go (inr p) = p
+
+pub behind_more : (x y a b : ℕ) (ns : List Link) → comes_before x y a b ≡ true → AllBehind a b ns → AllBehind x y ns
+behind_more x y a b [] e h = tt
+behind_more x y a b (n ∷ ns) e h = (before_more x y a b (first n) (second n) e h.0, behind_more x y a b ns e h.1)
+
+pub single : (ns : List Link) → Ascends ns → Single ns
+single [] h = tt
+single (n ∷ ns) h = (none_behind (first n) (second n) ns h.0, single ns h.1)
+
+-- links in parts
+
+pub all_before_push : (a b : ℕ) (xs : List Link) (n : Link) → AllBefore a b xs → comes_before (first n) (second n) a b ≡ true → AllBefore a b (xs ++ n ∷ [])
+all_before_push a b [] n h e = (e, tt)
+all_before_push a b (x ∷ xs) n h e = (h.0, all_before_push a b xs n h.1 e)
+
+pub none_behind_push : (a b : ℕ) (xs : List Link) (n : Link) → NoneBehind a b xs → comes_before a b (first n) (second n) ≡ false → NoneBehind a b (xs ++ n ∷ [])
+none_behind_push a b [] n h e = (e, tt)
+none_behind_push a b (x ∷ xs) n h e = (h.0, none_behind_push a b xs n h.1 e)
+
+behind_less : (a b : ℕ) (n : Link) (xs ys : List Link) → AllBehind a b (xs ++ n ∷ ys) → AllBehind a b (xs ++ ys)
+behind_less a b n [] ys h = h.1
+behind_less a b n (x ∷ xs) ys h = (h.0, behind_less a b n xs ys h.1)
+
+behind_join : (a b : ℕ) (n : Link) (xs ys : List Link) → AllBehind a b (xs ++ ys) → comes_before a b (first n) (second n) ≡ true → AllBehind a b (xs ++ n ∷ ys)
+behind_join a b n [] ys h e = (e, h)
+behind_join a b n (x ∷ xs) ys h e = (h.0, behind_join a b n xs ys h.1 e)
+
+pub ascends_left : (n : Link) (xs ys : List Link) → Ascends (xs ++ n ∷ ys) → Ascends (xs ++ ys)
+ascends_left n [] ys h = h.1
+ascends_left n (x ∷ xs) ys h = (behind_less (first x) (second x) n xs ys h.0, ascends_left n xs ys h.1)
+
+pub ascends_put : (n : Link) (xs ys : List Link) → Ascends (xs ++ ys) → AllBefore (first n) (second n) xs → AllBehind (first n) (second n) ys → Ascends (xs ++ n ∷ ys)
+ascends_put n [] ys h low high = (high, h)
+ascends_put n (x ∷ xs) ys h low high = (behind_join (first x) (second x) n xs ys h.0 low.0, ascends_put n xs ys h.1 low.1 high)
+
+pub ascends_right : (xs ys : List Link) → Ascends (xs ++ ys) → Ascends ys
+ascends_right [] ys h = h
+ascends_right (x ∷ xs) ys h = ascends_right xs ys h.1
+
+-- a link in the middle: those before it come before, and those behind it behind
+pub before_middle : (n : Link) (xs ys : List Link) → Ascends (xs ++ n ∷ ys) → AllBefore (first n) (second n) xs
+before_middle n [] ys h = tt
+before_middle n (x ∷ xs) ys h = (at xs h.0, before_middle n xs ys h.1) where
+  at : (zs : List Link) → AllBehind (first x) (second x) (zs ++ n ∷ ys) → comes_before (first x) (second x) (first n) (second n) ≡ true
+  at [] k = k.0
+  at (z ∷ zs) k = at zs k.1
+
+-- a list from a place on, whose first link doesn't come before the key: it has the key, or all come behind
+pub at_or_behind : (a b : ℕ) (n : Link) (ns : List Link) → Ascends (n ∷ ns) → comes_before (first n) (second n) a b ≡ false → AllBehind a b (n ∷ ns) ⊎ (is_under a b n.words ≡ true)
+at_or_behind a b n ns h e = go (before_or (first n) (second n) a b e) where
+  go : (comes_before a b (first n) (second n) ≡ true) ⊎ ((a ≡ first n) × (b ≡ second n)) → AllBehind a b (n ∷ ns) ⊎ (is_under a b n.words ≡ true)
+  go (inl p) = inl (p, behind_more a b (first n) (second n) ns p h.0)
+  go (inr p) = inr (same_by (first n) (second n) a b (sym p.0) (sym p.1))
+
+pub all_behind_from : (a b : ℕ) (n : Link) (ns : List Link) → Ascends (n ∷ ns) → comes_before a b (first n) (second n) ≡ true → AllBehind a b (n ∷ ns)
+all_behind_from a b n ns h e = (e, behind_more a b (first n) (second n) ns e h.0)
+
+-- the two of a list, from an index on
+pub at_place : (ns : List Link) (k : ℕ) (r : Row) → slice_get ns k ≡ Some (link_of r) → k < length ns → Ascends ns → (a b : ℕ) → comes_before (word r.words 0) (word r.words 1) a b ≡ false
+    → {C : Type 0} → C → AllBehind a b (drop k ns) ⊎ (C × IsUnder a b ns k)
+at_place ns k r get within ascends a b e {C} high = go (at_or_behind a b (link_of r) (drop (k + 1) ns) rest e) where
+  rest : Ascends (link_of r ∷ drop (k + 1) ns)
+  rest = let P : List Link → Type 0 = Ascends in ascends_right (take k ns) (link_of r ∷ drop (k + 1) ns) (subst P (parts ns k (link_of r) get within) ascends)
+
+  go : AllBehind a b (link_of r ∷ drop (k + 1) ns) ⊎ (is_under a b r.words ≡ true) → AllBehind a b (drop k ns) ⊎ (C × IsUnder a b ns k)
+  go (inl p) = inl (let P : List Link → Type 0 = AllBehind a b in subst P (sym (drop_link ns k (link_of r) get within)) p)
+  go (inr p) = inr (high, record { link = link_of r; there = get; under = p })
+
+pub behind_place : (ns : List Link) (k : ℕ) (r : Row) → slice_get ns k ≡ Some (link_of r) → k < length ns → Ascends ns → (a b : ℕ) → comes_before a b (word r.words 0) (word r.words 1) ≡ true
+    → AllBehind a b (drop k ns)
+behind_place ns k r get within ascends a b e =
+    let P : List Link → Type 0 = Ascends in
+    let Q : List Link → Type 0 = AllBehind a b in
+    let rest : Ascends (link_of r ∷ drop (k + 1) ns) = ascends_right (take k ns) (link_of r ∷ drop (k + 1) ns) (subst P (parts ns k (link_of r) get within) ascends) in
+    subst Q (sym (drop_link ns k (link_of r) get within)) (all_behind_from a b (link_of r) (drop (k + 1) ns) rest e)
+
+-- where nothing stands behind a place
+pub at_end : (ns : List Link) (k : ℕ) → k ≡ length ns → take k ns ≡ ns
+at_end ns k e = take_all k ns (omega (arith, e))
+
+-- the row that a key is followed by
+module _ (ns : List Link) (k : ℕ) (r : Row) (get : slice_get ns k ≡ Some (link_of r)) (within : k < length ns) (ascends : Ascends ns)
+    (a b : ℕ) (passed : NoneBehind a b (take k ns)) (behind : AllBehind a b (drop k ns)) where
+  abbrev v : ℕ
+  v = word r.words 0
+
+  abbrev w : ℕ
+  w = word r.words 1
+
+  rest : AllBehind a b (link_of r ∷ drop (k + 1) ns)
+  rest = let P : List Link → Type 0 = AllBehind a b in subst P (drop_link ns k (link_of r) get within) behind
+
+  middle : Ascends (take k ns ++ link_of r ∷ drop (k + 1) ns)
+  middle = let P : List Link → Type 0 = Ascends in subst P (parts ns k (link_of r) get within) ascends
+
+  there : row_in v w ns ≡ Some r
+  there = ap (row_in v w) (parts ns k (link_of r) get within)
+      ∙ row_behind v w (take k ns) (link_of r ∷ drop (k + 1) ns) (none_passed a b v w (take k ns) rest.0 passed)
+      ∙ row_here v w (link_of r) (drop (k + 1) ns) (same_self v w)
+
+  between : (x y : ℕ) → comes_before a b x y ≡ true → comes_before x y v w ≡ true → row_in x y ns ≡ None
+  between x y e f = ap (row_in x y) (parts ns k (link_of r) get within)
+      ∙ none_join x y (take k ns) (link_of r ∷ drop (k + 1) ns) (none_passed a b x y (take k ns) e passed)
+      (none_behind x y (link_of r ∷ drop (k + 1) ns) (all_behind_from x y (link_of r) (drop (k + 1) ns) (ascends_right (take k ns) (link_of r ∷ drop (k + 1) ns) middle) f))
+
+  pub is_next : IsNext (λ x y. row_in x y ns) a b (Some r)
+  is_next = (there, rest.0, between)
+
+pub none_next : (ns : List Link) (k : ℕ) → k ≡ length ns → (a b : ℕ) → NoneBehind a b (take k ns) → IsNext (λ x y. row_in x y ns) a b None
+none_next ns k e a b passed x y f = ap (row_in x y) (sym (at_end ns k e)) ∙ none_passed a b x y (take k ns) f passed
+
+-- the list of rows
+
+rows_behind : (a b : ℕ) (ns : List Link) → AllBehind a b ns → RowsBehind a b (map row_of ns)
+rows_behind a b [] h = tt
+rows_behind a b (n ∷ ns) h = (h.0, rows_behind a b ns h.1)
+
+pub rows_in_order : (ns : List Link) → Ascends ns → AreInOrder (map row_of ns)
+rows_in_order [] h = tt
+rows_in_order (n ∷ ns) h = (rows_behind (first n) (second n) ns h.0, rows_in_order ns h.1)
+
+pub row_is_among : (a b : ℕ) (ns : List Link) → row_in a b ns ≡ row_among a b (map row_of ns)
+row_is_among a b [] = refl
+row_is_among a b (n ∷ ns) = ap (λ (z : Option Row). if is_under a b n.words then Some (row_of n) else z) (row_is_among a b ns)

@@ -1,0 +1,14 @@
+use Rattle.std.proofs.Common.{length, subst, sym}
+use Rattle.bench_core.specs.Stands.{bench_of, settings_in}
+use Rattle.text_output.specs.Writing.{Puts}
+use Rattle.text_output.proofs.Gathering.{puts_none}
+use Rattle.script_run.proofs.Tellings.{none_behind}
+use Rattle.script_run.proofs.runs.put_behind.Goals as goal
+
+pub returns-in_default : goal.returns-in_default
+returns-in_default g c =
+    let bench = c.args.bench.now in
+    let now = g.W.Write.contents c.args.writer.now in
+    subst (Puts now now c.args.gathered.now c.args.gathered.now)
+    (sym (none_behind (settings_in bench) (bench_of bench).present (length (bench_of bench).past) c.args.response.now c.in_default.not-Map))
+    (puts_none now c.args.gathered.now)

@@ -1,0 +1,20 @@
+use Rattle.std.proofs.Common.{◌≡◌, ◌+◌, ◌-◌, true, false, length, drop}
+use Rattle.run_set.specs.RunSet.{place_index}
+use Rattle.subpool_storage.specs.Extents.{extents}
+use Rattle.map_laws.specs.Totals.{sum_of, pages_on_side, subpool_pages}
+use Rattle.storage_core.specs.Meaning.{state_in_place}
+use Rattle.storage_core.specs.Walks.{IsExtentPlace}
+use Rattle.storage_map.proofs.sums.pages_of.Given as goal
+
+abbrev pub invariant-loop-run : goal.invariant-loop-run
+invariant-loop-run l =
+    let m = (state_in_place l.storage).subpools in
+    let rest = drop (place_index l.place.place) (extents m l.fn.subpool) in
+    record {
+      place : IsExtentPlace l.storage l.fn.subpool l.place (place_index l.place.place);
+      low : l.pages.low + sum_of (pages_on_side true) rest ≡ subpool_pages m true l.fn.subpool;
+      high : l.pages.high + sum_of (pages_on_side false) rest ≡ subpool_pages m false l.fn.subpool;
+    }
+
+abbrev pub decreases-loop-run : goal.decreases-loop-run
+decreases-loop-run l = length (extents (state_in_place l.storage).subpools l.fn.subpool) - place_index l.place.place
