@@ -38,8 +38,8 @@ fn put_names<W: Write>(gathered: &mut Gathered, writer: &mut W, names: &NameTabl
 }
 
 impl Bench {
-    /// Puts the map of the bench as it is: that of its storage, the defined names with their words, and how many changes
-    /// are kept. Takes no memory.
+    /// Puts the map of the bench as it is: that of its storage, the defined names with their words, and how many
+    /// changes are kept. Takes no memory.
     pub fn put_map<W: Write>(&self, gathered: &mut Gathered, writer: &mut W)
         ensures { Puts (W.contents writer.old) (W.contents writer.new) gathered.old gathered.new
             (map_text (settings_in self.now) (bench_of self.now).present (length (bench_of self.now).past)) }

@@ -57,7 +57,8 @@ impl NameTable {
         }
     }
 
-    /// The name of this index, from 0 on, in the order in which names were defined, with its word; `None` past the last.
+    /// The name of this index, from 0 on, in the order in which names were defined, with its word; `None` past the
+    /// last.
     pub fn name_at(&self, index: usize) -> Option<(Name, u32)>
         ensures row { option_map row_of result ≡ slice_get (rows_of self.now) index }
         ensures fits { IfSome result (λ _. index < 2 ^ 63) }

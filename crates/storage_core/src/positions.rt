@@ -1,5 +1,5 @@
-//! What a storage holds by position: the item of an index, from 0 on, in the order of the storage map, and none past the
-//! last. Each walks to its item; [`Storage::next_extent`] and the like go on from where they are.
+//! What a storage holds by position: the item of an index, from 0 on, in the order of the storage map, and none past
+//! the last. Each walks to its item; [`Storage::next_extent`] and the like go on from where they are.
 ghost use Rattle.std.specs.Prelude.{◌≡◌, slice_get};
 ghost use Rattle.task_tree.specs.Tasks.{tasks_in};
 ghost use Rattle.subpool_set.specs.Pools.{sharers};

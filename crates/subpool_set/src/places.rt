@@ -24,8 +24,8 @@ pub struct PoolPlace {
     pub(crate) number: u32,
 }
 
-/// A place before, between or behind the sharers of a subpool, from which [`SubpoolSet::next_sharer`] goes on. It is one
-/// as long as the set stays as it is.
+/// A place before, between or behind the sharers of a subpool, from which [`SubpoolSet::next_sharer`] goes on. It is
+/// one as long as the set stays as it is.
 #[derive(Clone, Copy, Debug, PartialEq, Eq)]
 pub struct SharerPlace {
     pub(crate) next: RowPlace,
@@ -37,7 +37,8 @@ crate::specs::SubpoolSet::sight, crate::specs::SubpoolSet::pool,
 // what an id names
 crate::specs::SubpoolSet::number_of, crate::specs::SubpoolSet::owner_of,
 // where a walk stands, and what is left of it
-crate::specs::SubpoolSet::pools_left, crate::specs::SubpoolSet::number_at, crate::specs::SubpoolSet::sharers_left, crate::specs::SubpoolSet::IsPoolPlace, crate::specs::SubpoolSet::IsSharerPlace,
+crate::specs::SubpoolSet::pools_left, crate::specs::SubpoolSet::number_at,
+crate::specs::SubpoolSet::sharers_left, crate::specs::SubpoolSet::IsPoolPlace, crate::specs::SubpoolSet::IsSharerPlace,
 // where the set stands
 crate::specs::SubpoolSet::IsSubpoolSet))]
 impl SubpoolSet {

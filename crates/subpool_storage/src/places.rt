@@ -18,7 +18,8 @@ use vsm_model::Subpool;
 // the subpools, and where they stand
 crate::specs::SubpoolStorage::subpools_of, crate::specs::SubpoolStorage::Stands,
 // where a walk stands, and what is left of it
-crate::specs::SubpoolStorage::subpools_left, crate::specs::SubpoolStorage::sharers_left, crate::specs::SubpoolStorage::IsSubpoolPlace, crate::specs::SubpoolStorage::IsSharerPlace))]
+crate::specs::SubpoolStorage::subpools_left, crate::specs::SubpoolStorage::sharers_left,
+crate::specs::SubpoolStorage::IsSubpoolPlace, crate::specs::SubpoolStorage::IsSharerPlace))]
 impl SubpoolStorage {
     /// The place before the first subpool of any storage. A place is one as long as who sees which subpool stays as it
     /// is.
