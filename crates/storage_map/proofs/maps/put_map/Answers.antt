@@ -1,4 +1,4 @@
-use Rattle.std.proofs.Common.{◌++◌, flat_map, sym, ap, subst}
+use Rattle.std.proofs.Common.{◌++◌, flat_map, sym, subst}
 use Rattle.subpool_storage.specs.Order.{subpools_in_order}
 use Rattle.storage_core.specs.Meaning.{state_in_place, state_of, settings_of}
 use Rattle.text_output.specs.Writing.{Puts}

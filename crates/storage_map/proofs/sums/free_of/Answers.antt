@@ -1,8 +1,8 @@
-use Rattle.std.proofs.Common.{◌≡◌, ℕ, ◌+◌, drop, sym, ap, subst, ◌∙◌, arith}
+use Rattle.std.proofs.Common.{ℕ, drop, sym, ap, subst, arith}
 use Rattle.run_set.specs.declared.run.Run.{Run}
 use Rattle.run_set.specs.RunSet.{place_index}
 use Rattle.subpool_storage.specs.Extents.{free_areas}
-use Rattle.map_laws.specs.Totals.{sum_of, subpool_free}
+use Rattle.map_laws.specs.Totals.{sum_of}
 use Rattle.storage_core.specs.Meaning.{state_in_place}
 use Rattle.storage_core.specs.Walks.{IsFreeAreaPlace}
 use Rattle.storage_map.proofs.Remaining.{drop_next, drop_end, fewer}

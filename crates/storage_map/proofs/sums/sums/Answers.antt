@@ -1,6 +1,6 @@
-use Rattle.std.proofs.Common.{◌≡◌, ℕ, ◌+◌, true, false, ap, arith}
+use Rattle.std.proofs.Common.{true, false, ap, arith}
 use Rattle.subpool_storage.specs.Order.{subpools_after}
-use Rattle.map_laws.specs.Totals.{sum_of, subpool_pages, subpool_free, all_pages, all_free}
+use Rattle.map_laws.specs.Totals.{sum_of, subpool_pages, subpool_free}
 use Rattle.storage_core.specs.Meaning.{state_in_place}
 use Rattle.storage_map.proofs.Remaining.{shorter}
 use Rattle.storage_map.proofs.sums.sums.Goals as goal

@@ -1,4 +1,4 @@
-use Rattle.std.proofs.Common.{◌++◌, codes, sym, ◌∙◌, subst}
+use Rattle.std.proofs.Common.{◌++◌, codes, sym, subst}
 use Rattle.storage_core.specs.Meaning.{state_of}
 use Rattle.text_output.specs.Writing.{Puts}
 use Rattle.text_output.proofs.Gathering.{puts_both, puts_none}
