@@ -1,6 +1,7 @@
 -- The lines behind that of a response.
-use Rattle.std.proofs.Common.{◌≡◌, ℕ, [], refl}
+use Rattle.std.proofs.Common.{◌≡◌, ℕ, [], refl, sym, ap}
 use Rattle.vsm_model.specs.declared.limits.Settings.{Settings}
+use Rattle.vsm_model.specs.Map.{map_text}
 use Rattle.vsm_model.specs.Names.{NamedState}
 use Rattle.script_run.specs.Responses.{lines_behind}
 use Rattle.script_run.specs.declared.responses.Response.{Response}
@@ -16,3 +17,7 @@ none_behind settings m kept (response.TooFar n) not_map = refl
 none_behind settings m kept (response.TooFarAhead n) not_map = refl
 none_behind settings m kept (response.Fault kind) not_map = refl
 none_behind settings m kept response.Map not_map = absurd (not_map refl)
+
+-- the map stands behind the line of a map
+pub map_behind : (settings : Settings) (m : NamedState) (kept : ℕ) (r : Response) → r ≡ response.Map → map_text settings m kept ≡ lines_behind settings m kept r
+map_behind settings m kept r is = ap (lines_behind settings m kept) (sym is)
