@@ -1,11 +1,7 @@
-use Rattle.subpool_set.specs.SubpoolSet.{sight, sharers_left, number_at, IsPoolPlace, IsSharerPlace, IsSubpoolSet}
+use Rattle.subpool_set.specs.SubpoolSet.{sight, sharers_left, number_at, IsPoolPlace, IsSubpoolSet}
 use Rattle.row_table.specs.RowTable.{place_index}
 use Rattle.subpool_set.proofs.WalkLemmas.{all_sharers}
 use Rattle.subpool_set.proofs.set.SubpoolSet.first_sharer.Goals as goal
-
-pub returns-clause-place : goal.returns-clause-place
-unfolding IsPoolPlace IsSharerPlace
-returns-clause-place c s q h = h.first
 
 pub returns-clause-all : goal.returns-clause-all
 unfolding sight sharers_left number_at IsPoolPlace IsSubpoolSet

@@ -8,7 +8,7 @@ relink-requires c some = written_live c.args.elements.now c.set.new.self c.args.
 
 pub overflow_add-self : goal.overflow_add-self
 overflow_add-self c =
-    let room : c.args.self.now.count + 1 ≤ 4294967040 = put_room c.args.elements.now c.set.new.self c.relink.new.elements c.args.self.now c.relink.new.self.first (c.args.self.now.count + 1) c.args.k c.args.before c.next-next.result c.args.id c.args.words c.requires.chain c.requires.place.0 c.requires.place.1 c.next-next.ensures c.requires.apart c.set.ensures.updates c.set.ensures.spares c.relink.ensures.first c.relink.ensures.inner c.ids_in_range.ensures in
+    let room : c.args.self.now.count + 1 ≤ 4294967040 = put_room c.args.elements.now c.args.self.now c.args.id c.requires.chain c.requires.live c.requires.apart c.ids_in_range.ensures in
     let same : c.relink.new.self.count ≡ c.args.self.now.count = c.relink.ensures.count in
     grind (arith, common_steps)
 
