@@ -21,12 +21,7 @@ use text_output::Gathered;
 use vsm_model::Settings;
 
 /// Puts the lines behind that of a response: the map of the bench behind that of a map, and none behind another.
-fn put_behind<W: Write>(
-    gathered: &mut Gathered,
-    writer: &mut W,
-    bench: &Bench,
-    response: &Response,
-)
+fn put_behind<W: Write>(gathered: &mut Gathered, writer: &mut W, bench: &Bench, response: &Response)
     ensures { Puts (W.contents writer.old) (W.contents writer.new) gathered.old gathered.new
         (lines_behind (settings_in bench.now) (bench_of bench.now).present (length (bench_of bench.now).past)
         response.now) }

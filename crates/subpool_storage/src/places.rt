@@ -17,9 +17,10 @@ use vsm_model::Subpool;
 #[tactic(auto, unfolding(
 // the subpools, and where they stand
 crate::specs::SubpoolStorage::subpools_of, crate::specs::SubpoolStorage::Stands,
-// where a walk stands, and what is left of it
-crate::specs::SubpoolStorage::subpools_left, crate::specs::SubpoolStorage::sharers_left,
-crate::specs::SubpoolStorage::IsSubpoolPlace, crate::specs::SubpoolStorage::IsSharerPlace))]
+// where a walk over subpools stands, and what is left of it
+crate::specs::SubpoolStorage::subpools_left, crate::specs::SubpoolStorage::IsSubpoolPlace,
+// where one over sharers does
+crate::specs::SubpoolStorage::sharers_left, crate::specs::SubpoolStorage::IsSharerPlace))]
 impl SubpoolStorage {
     /// The place before the first subpool of any storage. A place is one as long as who sees which subpool stays as it
     /// is.
