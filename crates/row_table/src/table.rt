@@ -4,9 +4,9 @@ ghost use Rattle.vsm_elements.specs.Store.{Store, among};
 ghost use Rattle.vsm_elements.specs.Ownership.{Leaves, Apart};
 ghost use Rattle.row_table.specs.Rows.{word, same_key, is_under, either_of};
 
-use crate::places::RowPlace;
+use crate::places::{RowPlace, is_before};
 use crate::row::Row;
-use vsm_elements::{Chain, Elements, Id};
+use vsm_elements::{Chain, Element, Elements, Id};
 
 /// The head of a table of rows, of which no two begin with the same two words.
 ///
@@ -36,21 +36,25 @@ impl RowTable {
         }
     }
 
-    /// The row under these two numbers.
+    /// The row under these two numbers. Each element on the way is read once.
     pub fn find(&self, elements: &Elements, first: u32, second: u32) -> Option<Row>
         requires { IsTable elements.now self.now }
         ensures { result ≡ row elements.now self.now first second }
     {
-        let place = self.seek(elements, first, second);
-        if place.index == self.chain.count {
-            return None;
+        let mut id = self.chain.first;
+        let mut left = self.chain.count;
+        while left > 0 {
+            let Element { next, words } = elements.get(id);
+            if !is_before(words[0], words[1], first, second) {
+                if words[0] == first && words[1] == second {
+                    return Some(Row { id, words });
+                }
+                return None;
+            }
+            id = next;
+            left -= 1;
         }
-        let found = self.visit(elements, place);
-        if found.words[0] == first && found.words[1] == second {
-            Some(found)
-        } else {
-            None
-        }
+        None
     }
 
     /// The words of the row of this id.
