@@ -51,6 +51,19 @@ change_from m (Some p) records blanks fresh =
       parked = with_own no_subpools p true;
     }
 
+-- the empty run
+abbrev pub no_pages : Run
+no_pages = record { start = 0; len = 0 }
+
+-- empty subpools under these names
+abbrev pub empties : List Subpool → Subpools
+empties [] = no_subpools
+empties (p ∷ ps) = with_own (empties ps) p true
+
+-- what records mean that may take the storage of these subpools, with empty ones parked under their names
+abbrev pub change_parking : List Subpool → List Record → ℕ → Change
+change_parking ps records blanks = record (change_of records blanks no_pages) { parked = empties ps }
+
 -- before the first record
 abbrev pub outset : StorageState → Change → Walk
 outset m d = record { state = m; brought = d.frames; given = λ a. None; parked = d.parked; spare = d.blanks }

@@ -1,9 +1,9 @@
 -- When a record fits: its places have the other value, what it needs is there, and an element is left before and after
 -- each call on a queue.
-use Rattle.std.specs.Prelude.{◌≡◌, ℕ, ◌+◌, ◌/◌, ◌^◌, ◌<◌, ◌≤◌, Bool, true, false, not, List, [], ◌∷◌, length}
+use Rattle.std.specs.Prelude.{◌≡◌, ◌≢◌, ℕ, ◌+◌, ◌/◌, ◌^◌, ◌<◌, ◌≤◌, Bool, true, false, not, List, [], ◌∷◌, length}
 use Rattle.std.specs.Prelude.{Option, Some, None, IsSome, if◌then◌else◌}
 use Rattle.run_set.specs.Runs.{inside}
-use Rattle.subpool_storage.specs.Subpools.{is_there}
+use Rattle.subpool_storage.specs.Subpools.{is_there, owned_by}
 use Rattle.storage_changes.specs.declared.record.AreaRecord.{AreaRecord}
 use Rattle.storage_changes.specs.declared.record.ExtentRecord.{ExtentRecord}
 use Rattle.storage_changes.specs.declared.record.PagesRecord.{PagesRecord}
@@ -11,8 +11,13 @@ use Rattle.storage_changes.specs.declared.record.OwnRecord.{OwnRecord}
 use Rattle.storage_changes.specs.declared.record.QueuesRecord.{QueuesRecord}
 use Rattle.storage_changes.specs.declared.record.RegisterRecord.{RegisterRecord}
 use Rattle.storage_changes.specs.declared.record.BytesRecord.{BytesRecord}
+use Rattle.storage_changes.specs.declared.record.TaskRecord.{TaskRecord}
+use Rattle.storage_changes.specs.declared.record.TurnRecord.{TurnRecord}
+use Rattle.storage_changes.specs.declared.record.SharerRecord.{SharerRecord}
+use Rattle.storage_changes.specs.declared.record.PassRecord.{PassRecord}
 use Rattle.storage_changes.specs.declared.record.Record.{Record}
 use Rattle.storage_changes.specs.declared.record.Record.TheVariants.{Area, Extent, Pages, Own, Queues, Register, Bytes}
+use Rattle.storage_changes.specs.declared.record.Record.TheVariants.{Task, Turn, Sharer, Pass}
 use Rattle.storage_changes.specs.Walk.{Walk}
 use Rattle.storage_changes.specs.Steps.{area_spare, extent_spare, pages_spare, own_step, step}
 
@@ -68,6 +73,42 @@ pub record RegisterFits (w : Walk) (r : RegisterRecord) : Type 0 where
   pub task : IsSome (w.state.tasks.parents r.task)
   pub register : r.register < 16
 
+-- The task isn't the first nor the current one, its parent is there, nobody has it for a parent, and its registers are
+-- zeros.
+pub record TaskFits (w : Walk) (r : TaskRecord) : Type 0 where
+  pub range : (1 ≤ r.task) × (r.task ≤ 64)
+  pub other : w.state.tasks.parents r.task ≡ (if r.present then None else Some r.parent)
+  pub parent : IsSome (w.state.tasks.parents r.parent)
+  pub outside : r.parent ≢ r.task
+  pub childless : (task : ℕ) → w.state.tasks.parents task ≢ Some r.task
+  pub idle : w.state.tasks.current ≢ r.task
+  pub later : r.task ≢ 1
+  pub zeros : (register : ℕ) → w.state.tasks.words r.task register ≡ 0
+  pub room : 4 ≤ w.spare + (if r.present then 0 else 4)
+
+pub record TurnFits (w : Walk) (r : TurnRecord) : Type 0 where
+  pub task : IsSome (w.state.tasks.parents r.task)
+  pub current : IsSome (w.state.tasks.parents w.state.tasks.current)
+
+-- The subpool is there, and the task, which isn't its owner, sees it or none of its number.
+pub record SharerFits (w : Walk) (r : SharerRecord) : Type 0 where
+  pub there : is_there w.state.subpools r.subpool ≡ true
+  pub range : (1 ≤ r.task) × (r.task ≤ 64)
+  pub sharer : r.task ≢ r.subpool.owner
+  pub other :
+      w.state.subpools.sight r.task r.subpool.number ≡ (if r.present then None else Some r.subpool.owner)
+  pub room : 1 ≤ w.spare + (if r.present then 0 else 1)
+
+-- The subpool is there, and the task that it passes to sees and owns none of its number.
+pub record PassFits (w : Walk) (r : PassRecord) : Type 0 where
+  pub there : is_there w.state.subpools r.subpool ≡ true
+  pub owner : (1 ≤ r.subpool.owner) × (r.subpool.owner ≤ 64)
+  pub to : (1 ≤ r.to) × (r.to ≤ 64)
+  pub unseen : w.state.subpools.sight r.to r.subpool.number ≡ None
+  pub unowned : (task : ℕ) → w.state.subpools.sight task r.subpool.number ≢ Some r.to
+  pub no_pages : (page : ℕ) → w.state.subpools.pages (owned_by r.subpool r.to) page ≡ false
+  pub none_free : (d : ℕ) → w.state.subpools.free (owned_by r.subpool r.to) d ≡ false
+
 -- there are sixteen bytes, and each of their addresses has one
 pub record BytesFits (w : Walk) (r : BytesRecord) : Type 0 where
   pub sixteen : length r.bytes ≡ 16
@@ -82,6 +123,10 @@ Fits w (Pages r) = PagesFits w r
 Fits w (Own r) = OwnFits w r
 Fits w (Queues r) = QueuesFits w r
 Fits w (Register r) = RegisterFits w r
+Fits w (Task r) = TaskFits w r
+Fits w (Turn r) = TurnFits w r
+Fits w (Sharer r) = SharerFits w r
+Fits w (Pass r) = PassFits w r
 Fits w (Bytes r) = BytesFits w r
 
 abbrev pub FitInTurn : Walk → List Record → Type 0

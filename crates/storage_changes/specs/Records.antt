@@ -5,7 +5,9 @@ use Rattle.vsm_model.specs.declared.Subpool.{Subpool}
 use Rattle.vsm_model.specs.Bytes.{fullword}
 use Rattle.storage_changes.specs.declared.record.RegisterRecord.{RegisterRecord}
 use Rattle.storage_changes.specs.declared.record.Record.{Record}
+use Rattle.storage_changes.specs.declared.record.TaskRecord.{TaskRecord}
 use Rattle.storage_changes.specs.declared.record.Record.TheVariants.{Area, Extent, Pages, Own, Queues, Register, Bytes}
+use Rattle.storage_changes.specs.declared.record.Record.TheVariants.{Task, Turn, Sharer, Pass}
 
 -- the word at a place, or 0 past the last
 abbrev pub word : List ℕ → ℕ → ℕ
@@ -25,6 +27,11 @@ words_of kind p run value = kind ∷ p.number ∷ p.owner ∷ run.start ∷ run.
 -- the register of a task that the second and the third word name, and the word in the fourth
 abbrev pub register_in : List ℕ → RegisterRecord
 register_in words = record { task = word words 1 % 256; register = word words 2 % 256; word = word words 3 }
+
+-- the task and the parent that the second and the third word name
+abbrev pub task_in : List ℕ → TaskRecord
+task_in words =
+    record { task = word words 1 % 256; parent = word words 2 % 256; present = word words 5 == 1 }
 
 -- the sixteen bytes of four words
 abbrev pub bytes_in : List ℕ → List ℕ
@@ -47,4 +54,9 @@ record_of words =
     else if word words 0 == 3 then Own (record { subpool = subpool_in words; present = word words 5 == 1 })
     else if word words 0 == 4 then Queues (record { subpool = subpool_in words })
     else if word words 0 == 5 then Register (register_in words)
+    else if word words 0 == 6 then Task (task_in words)
+    else if word words 0 == 7 then Turn (record { task = word words 1 % 256 })
+    else if word words 0 == 8 then
+    Sharer (record { subpool = subpool_in words; task = word words 3 % 256; present = word words 5 == 1 })
+    else if word words 0 == 9 then Pass (record { subpool = subpool_in words; to = word words 3 % 256 })
     else Bytes (record { block = word words 1; bytes = bytes_in words })

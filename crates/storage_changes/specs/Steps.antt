@@ -4,6 +4,7 @@ use Rattle.std.specs.Prelude.{slice_index_or, if◌then◌else◌}
 use Rattle.run_set.specs.Runs.{inside}
 use Rattle.run_set.specs.Counts.{joins}
 use Rattle.subpool_storage.specs.Subpools.{with_pages, with_free, with_own, with_storage_of}
+use Rattle.subpool_storage.specs.Subpools.{with_sharer, with_passed}
 use Rattle.storage_changes.specs.declared.record.AreaRecord.{AreaRecord}
 use Rattle.storage_changes.specs.declared.record.ExtentRecord.{ExtentRecord}
 use Rattle.storage_changes.specs.declared.record.PagesRecord.{PagesRecord}
@@ -11,8 +12,13 @@ use Rattle.storage_changes.specs.declared.record.OwnRecord.{OwnRecord}
 use Rattle.storage_changes.specs.declared.record.QueuesRecord.{QueuesRecord}
 use Rattle.storage_changes.specs.declared.record.RegisterRecord.{RegisterRecord}
 use Rattle.storage_changes.specs.declared.record.BytesRecord.{BytesRecord}
+use Rattle.storage_changes.specs.declared.record.TaskRecord.{TaskRecord}
+use Rattle.storage_changes.specs.declared.record.TurnRecord.{TurnRecord}
+use Rattle.storage_changes.specs.declared.record.SharerRecord.{SharerRecord}
+use Rattle.storage_changes.specs.declared.record.PassRecord.{PassRecord}
 use Rattle.storage_changes.specs.declared.record.Record.{Record}
 use Rattle.storage_changes.specs.declared.record.Record.TheVariants.{Area, Extent, Pages, Own, Queues, Register, Bytes}
+use Rattle.storage_changes.specs.declared.record.Record.TheVariants.{Task, Turn, Sharer, Pass}
 use Rattle.storage_changes.specs.Walk.{Walk, spare_joined, spare_left}
 
 -- an area of a subpool's free storage
@@ -91,6 +97,46 @@ register_step w r =
       };
     }
 
+-- A task below its parent, whose registers are zeros where it isn't there and where it is: it has four elements.
+
+abbrev pub task_spare : Walk → TaskRecord → ℕ
+task_spare w r = if r.present then w.spare - 4 else w.spare + 4
+
+abbrev pub task_step : Walk → TaskRecord → Walk
+task_step w r =
+    record w {
+      state = record w.state {
+        tasks = record w.state.tasks {
+          parents = λ task. if task == r.task then (if r.present then Some r.parent else None)
+              else w.state.tasks.parents task;
+        };
+      };
+      spare = task_spare w r;
+    }
+
+-- the task that makes the requests
+
+abbrev pub turn_step : Walk → TurnRecord → Walk
+turn_step w r = record w { state = record w.state { tasks = record w.state.tasks { current = r.task } } }
+
+-- what a task sees of another's subpools
+
+abbrev pub sharer_spare : Walk → SharerRecord → ℕ
+sharer_spare w r = if r.present then w.spare - 1 else w.spare + 1
+
+abbrev pub sharer_step : Walk → SharerRecord → Walk
+sharer_step w r =
+    record w {
+      state = record w.state { subpools = with_sharer w.state.subpools r.subpool r.task r.present };
+      spare = sharer_spare w r;
+    }
+
+-- whose a subpool is
+
+abbrev pub pass_step : Walk → PassRecord → Walk
+pass_step w r =
+    record w { state = record w.state { subpools = with_passed w.state.subpools r.subpool r.to } }
+
 -- sixteen bytes from an address that sixteen divides
 
 abbrev pub bytes_step : Walk → BytesRecord → Walk
@@ -110,6 +156,10 @@ step w (Pages r) = pages_step w r
 step w (Own r) = own_step w r
 step w (Queues r) = queues_step w r
 step w (Register r) = register_step w r
+step w (Task r) = task_step w r
+step w (Turn r) = turn_step w r
+step w (Sharer r) = sharer_step w r
+step w (Pass r) = pass_step w r
 step w (Bytes r) = bytes_step w r
 
 abbrev pub walk : Walk → List Record → Walk

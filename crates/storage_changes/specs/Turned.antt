@@ -1,8 +1,10 @@
 -- A record with the value that its places had.
 use Rattle.std.specs.Prelude.{ℕ, zero, suc, ◌*◌, not, List, [], ◌∷◌, Option}
 use Rattle.vsm_model.specs.Bytes.{byte_or_zero}
+use Rattle.subpool_storage.specs.Subpools.{owned_by}
 use Rattle.storage_changes.specs.declared.record.Record.{Record}
 use Rattle.storage_changes.specs.declared.record.Record.TheVariants.{Area, Extent, Pages, Own, Queues, Register, Bytes}
+use Rattle.storage_changes.specs.declared.record.Record.TheVariants.{Task, Turn, Sharer, Pass}
 use Rattle.storage_changes.specs.Walk.{Walk}
 use Rattle.storage_changes.specs.State.{StorageState}
 use Rattle.storage_changes.specs.Steps.{step}
@@ -19,6 +21,10 @@ turned m (Pages r) = Pages (record r { assigned = not r.assigned })
 turned m (Own r) = Own (record r { present = not r.present })
 turned m (Queues r) = Queues r
 turned m (Register r) = Register (record r { word = m.tasks.words r.task r.register })
+turned m (Task r) = Task (record r { present = not r.present })
+turned m (Turn r) = Turn (record { task = m.tasks.current })
+turned m (Sharer r) = Sharer (record r { present = not r.present })
+turned m (Pass r) = Pass (record { subpool = owned_by r.subpool r.to; to = r.subpool.owner })
 turned m (Bytes r) = Bytes (record r { bytes = read m.bytes (16 * r.block) 16 })
 
 -- the records that lead back, the last one first, before `done`

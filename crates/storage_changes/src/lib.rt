@@ -6,6 +6,6 @@ pub mod laws;
 mod record;
 
 pub use record::{
-    AreaRecord, BytesRecord, ExtentRecord, OwnRecord, PagesRecord, QueuesRecord, Record,
-    RegisterRecord,
+    AreaRecord, BytesRecord, ExtentRecord, OwnRecord, PagesRecord, PassRecord, QueuesRecord,
+    Record, RegisterRecord, SharerRecord, TaskRecord, TurnRecord,
 };

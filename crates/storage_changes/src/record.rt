@@ -1,7 +1,7 @@
-ghost use Rattle.std.specs.Prelude.{◌≡◌, ◌+◌, ◌≤◌};
+ghost use Rattle.std.specs.Prelude.{◌≡◌, ◌+◌, ◌%◌, ◌≤◌};
 ghost use Rattle.vsm_model.specs.Bytes.{fullword};
 ghost use Rattle.storage_changes.specs.Records.{record_of, words_of, word, subpool_in, run_in, register_in, bytes_in};
-ghost use Rattle.storage_changes.specs.Records.{four_at};
+ghost use Rattle.storage_changes.specs.Records.{four_at, task_in};
 
 use run_set::Run;
 use vsm_model::Subpool;
@@ -60,6 +60,35 @@ pub struct BytesRecord {
     pub bytes: [u8; 16],
 }
 
+/// A task is there, below its parent and with registers of zeros, or it is gone.
+#[derive(Clone, Copy, Debug, PartialEq, Eq)]
+pub struct TaskRecord {
+    pub task: u8,
+    pub parent: u8,
+    pub present: bool,
+}
+
+/// This task makes the requests.
+#[derive(Clone, Copy, Debug, PartialEq, Eq)]
+pub struct TurnRecord {
+    pub task: u8,
+}
+
+/// A task sees a subpool besides its owner, or doesn't any more.
+#[derive(Clone, Copy, Debug, PartialEq, Eq)]
+pub struct SharerRecord {
+    pub subpool: Subpool,
+    pub task: u8,
+    pub present: bool,
+}
+
+/// A subpool passes to another task, with its pages and its free storage, wherever it is named.
+#[derive(Clone, Copy, Debug, PartialEq, Eq)]
+pub struct PassRecord {
+    pub subpool: Subpool,
+    pub to: u8,
+}
+
 /// Places of the storage that change together, with their other value.
 #[derive(Clone, Copy, Debug, PartialEq, Eq)]
 pub enum Record {
@@ -69,6 +98,10 @@ pub enum Record {
     Own(OwnRecord),
     Queues(QueuesRecord),
     Register(RegisterRecord),
+    Task(TaskRecord),
+    Turn(TurnRecord),
+    Sharer(SharerRecord),
+    Pass(PassRecord),
     Bytes(BytesRecord),
 }
 
@@ -93,7 +126,15 @@ const QUEUES: u32 = 4;
 
 const REGISTER: u32 = 5;
 
-const BYTES: u32 = 6;
+const TASK: u32 = 6;
+
+const TURN: u32 = 7;
+
+const SHARER: u32 = 8;
+
+const PASS: u32 = 9;
+
+const BYTES: u32 = 10;
 
 /// What stands in the words of a record that names no subpool,
 const NO_SUBPOOL: Subpool = Subpool {
@@ -125,6 +166,10 @@ impl Record {
                 0,
                 0,
             ],
+            Record::Task(r) => task_words(r),
+            Record::Turn(r) => [TURN, u32::from(r.task), 0, 0, 0, 0, 0],
+            Record::Sharer(r) => place_words(SHARER, r.subpool, one_task(r.task), r.present),
+            Record::Pass(r) => place_words(PASS, r.subpool, one_task(r.to), false),
             Record::Bytes(r) => byte_words(r),
         }
     }
@@ -157,6 +202,19 @@ impl Record {
             }),
             QUEUES => Record::Queues(QueuesRecord { subpool }),
             REGISTER => Record::Register(register_of(words)),
+            TASK => Record::Task(task_of(words)),
+            TURN => Record::Turn(TurnRecord {
+                task: low_byte(words[1]),
+            }),
+            SHARER => Record::Sharer(SharerRecord {
+                subpool,
+                task: low_byte(words[3]),
+                present: value,
+            }),
+            PASS => Record::Pass(PassRecord {
+                subpool,
+                to: low_byte(words[3]),
+            }),
             _ => Record::Bytes(BytesRecord {
                 block: words[1],
                 bytes: bytes_of(words),
@@ -183,7 +241,7 @@ fn place_words(kind: u32, subpool: Subpool, run: Run, value: bool) -> [u32; 7]
 
 /// The words of a record of bytes: four bytes in a word, the first of them the highest.
 fn byte_words(r: BytesRecord) -> [u32; 7]
-    ensures kind { word result 0 ≡ 6 }
+    ensures kind { word result 0 ≡ 10 }
     ensures block { word result 1 ≡ r.block }
     ensures bytes { bytes_in result ≡ r.bytes }
 {
@@ -211,12 +269,54 @@ fn word_at(bytes: [u8; 16], place: usize) -> u32
     ])
 }
 
+/// The words of a record of a task.
+fn task_words(r: TaskRecord) -> [u32; 7]
+    ensures kind { word result 0 ≡ 6 }
+    ensures task { task_in result ≡ r }
+{
+    [
+        TASK,
+        u32::from(r.task),
+        u32::from(r.parent),
+        0,
+        0,
+        u32::from(r.present),
+        0,
+    ]
+}
+
+/// A task, where the words of a record have a run.
+fn one_task(task: u8) -> Run
+    ensures { result ≡ record { start = task; len = 0 } }
+{
+    Run {
+        start: u32::from(task),
+        len: 0,
+    }
+}
+
+fn low_byte(word: u32) -> u8
+    ensures { result ≡ word % 256 }
+{
+    (word % 256) as u8
+}
+
+fn task_of(words: [u32; 7]) -> TaskRecord
+    ensures { result ≡ task_in words }
+{
+    TaskRecord {
+        task: low_byte(words[1]),
+        parent: low_byte(words[2]),
+        present: words[5] == 1,
+    }
+}
+
 fn subpool_of(words: [u32; 7]) -> Subpool
     ensures { result ≡ subpool_in words }
 {
     Subpool {
-        number: (words[1] % 256) as u8,
-        owner: (words[2] % 256) as u8,
+        number: low_byte(words[1]),
+        owner: low_byte(words[2]),
     }
 }
 
@@ -233,8 +333,8 @@ fn register_of(words: [u32; 7]) -> RegisterRecord
     ensures { result ≡ register_in words }
 {
     RegisterRecord {
-        task: (words[1] % 256) as u8,
-        register: (words[2] % 256) as u8,
+        task: low_byte(words[1]),
+        register: low_byte(words[2]),
         word: words[3],
     }
 }

@@ -2,6 +2,7 @@
 #![tactic(auto)]
 
 mod exchange;
+mod sharing;
 mod storage;
 
 pub use storage::Storage;

@@ -1,10 +1,11 @@
 -- A change that was reserved.
-use Rattle.std.specs.Prelude.{◌≡◌, ℕ, ◌+◌, ◌*◌, true, List, [], ◌∷◌, length, IsTrue, Option, Some, None}
+use Rattle.std.specs.Prelude.{◌≡◌, ℕ, ◌+◌, ◌*◌, ◌≤◌, true, false, List, [], ◌∷◌, length, IsTrue, Option, Some, None, All, AllPairs}
 use Rattle.vsm_elements.specs.Store.{SameElements}
 use Rattle.vsm_elements.specs.Owners.{Moves}
 use Rattle.raw_region.specs.Pages.{Pages, has_table, has_segment, SamePages}
 use Rattle.run_set.specs.declared.run.Run.{Run}
 use Rattle.vsm_model.specs.declared.Subpool.{Subpool}
+use Rattle.vsm_model.specs.Subpools.{same_subpool}
 use Rattle.subpool_storage.specs.Extents.{extents}
 use Rattle.subpool_storage.specs.Subpools.{Subpools, no_subpools, with_own}
 use Rattle.storage_changes.specs.declared.record.Record.{Record}
@@ -58,3 +59,9 @@ emptying (Some p) runs = Queues (record { subpool = p }) ∷ unassigned_records 
 abbrev pub parked_under : Option Subpool → Subpools
 parked_under None = no_subpools
 parked_under (Some p) = with_own no_subpools p true
+
+-- Subpools that can be there, each but once.
+pub record AreNames (names : List Subpool) : Type 0 where
+  pub owners : All (λ p. (1 ≤ p.owner) × (p.owner ≤ 64)) names
+  pub numbers : All (λ p. p.number ≤ 127) names
+  pub once : AllPairs (λ p q. same_subpool p q ≡ false) names

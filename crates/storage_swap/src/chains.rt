@@ -38,6 +38,19 @@ pub(crate) fn take_records(
     chain
 }
 
+// These records as a chain, in their order.
+pub(crate) fn chain_of(elements: &mut Elements, records: &[Record]) -> Chain
+    requires room { length records.now ≤ elements.old.spare }
+    ensures chain { IsChain elements.new result }
+    ensures records { records_of elements.new result ≡ records.now }
+    ensures owned { Leaves elements.old elements.new [] (owned elements.new result) }
+    ensures spare { elements.new.spare + length records.now ≡ elements.old.spare }
+{
+    let mut chain = Chain::new();
+    append_records(elements, &mut chain, 0, records);
+    chain
+}
+
 // One record more behind the last one, which has the id `last`. Answers the id of its own element.
 fn append(elements: &mut Elements, chain: &mut Chain, last: Id, added: Record) -> Id
     requires chain { IsChain elements.old chain.old }

@@ -7,6 +7,7 @@ mod chains;
 mod change;
 mod ending;
 pub mod laws;
+mod parking;
 mod records;
 mod reserve;
 

@@ -157,7 +157,7 @@ fn make(
 }
 
 // So many blank elements.
-fn take_blanks(elements: &mut Elements, n: u32) -> Chain
+pub(crate) fn take_blanks(elements: &mut Elements, n: u32) -> Chain
     requires room { n ≤ elements.old.spare }
     ensures chain { IsChain elements.new result }
     ensures owned { Leaves elements.old elements.new [] (owned elements.new result) }

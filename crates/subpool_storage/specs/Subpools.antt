@@ -4,6 +4,7 @@ use Rattle.std.specs.Prelude.{ℕ, Bool, false, ◌&&◌, ◌==◌, if◌then◌
 use Rattle.run_set.specs.declared.run.Run.{Run}
 use Rattle.run_set.specs.Runs.{inside}
 use Rattle.vsm_model.specs.declared.Subpool.{Subpool}
+use Rattle.vsm_model.specs.Passing.{sight_after_gift}
 use Rattle.vsm_model.specs.Search.{holds}
 use Rattle.vsm_model.specs.Subpools.{same_subpool}
 
@@ -47,4 +48,27 @@ with_storage_of m others p =
     record m {
       pages = λ q page. if same_subpool q p then others.pages q page else m.pages q page;
       free = λ q d. if same_subpool q p then others.free q d else m.free q d;
+    }
+
+-- A task sees the subpool from now on, or it sees none of that number.
+abbrev pub with_sharer : Subpools → Subpool → ℕ → Bool → Subpools
+with_sharer m p sharer present = record m {
+  sight = λ task number. if (task == sharer) && (number == p.number) then (if present then Some p.owner else None)
+      else m.sight task number;
+}
+
+-- the subpool of the same number that another task owns
+abbrev pub owned_by : Subpool → ℕ → Subpool
+owned_by p owner = record { number = p.number; owner = owner }
+
+-- The subpool is another task's from now on, with its pages and its free storage: who saw it sees it as that task's,
+-- and its owner until now sees none of that number.
+abbrev pub with_passed : Subpools → Subpool → ℕ → Subpools
+with_passed m p to =
+    record {
+      sight = sight_after_gift m.sight p.number p.owner to;
+      pages = λ q page. if same_subpool q (owned_by p to) then m.pages p page
+          else if same_subpool q p then false else m.pages q page;
+      free = λ q d. if same_subpool q (owned_by p to) then m.free p d
+          else if same_subpool q p then false else m.free q d;
     }

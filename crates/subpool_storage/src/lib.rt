@@ -5,6 +5,7 @@ mod discard;
 pub mod laws;
 mod places;
 mod readers;
+mod sharing;
 mod storage;
 
 pub use storage::SubpoolStorage;

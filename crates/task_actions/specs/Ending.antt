@@ -1,0 +1,91 @@
+-- The records of tasks that end. Assembler Services Reference, DETACH; Assembler Services Guide, "Virtual storage
+-- management", "Subpool handling": when a task ends, the subpools that it owns are released.
+use Rattle.std.specs.Prelude.{◌≡◌, ◌≢◌, ℕ, zero, suc, ◌+◌, Bool, true, false, ◌||◌, ◌==◌, Option, Some, unwrap_or}
+use Rattle.std.specs.Prelude.{List, [], ◌∷◌, ◌++◌, length, map, filter}
+use Rattle.std.specs.List.{flat_map, range_with_len}
+use Rattle.run_set.specs.declared.run.Run.{Run}
+use Rattle.vsm_model.specs.declared.Subpool.{Subpool}
+use Rattle.vsm_model.specs.Search.{holds, is_in}
+use Rattle.vsm_model.specs.State.{State, is_task}
+use Rattle.subpool_set.specs.Pools.{sharers}
+use Rattle.subpool_storage.specs.Extents.{extents}
+use Rattle.subpool_storage.specs.Order.{subpools_in_order}
+use Rattle.subpool_storage.specs.Subpools.{Subpools}
+use Rattle.storage_changes.specs.declared.record.Record.{Record}
+use Rattle.storage_changes.specs.declared.record.Record.TheVariants.{Own, Queues, Register, Task, Turn, Sharer}
+use Rattle.storage_changes.specs.Changes.{unassigned_records}
+use Rattle.storage_changes.specs.State.{StorageState}
+
+-- The task is just so many steps below another: each step goes from a task to its parent.
+abbrev pub is_below_by : (ℕ → Option ℕ) → ℕ → ℕ → ℕ → Bool
+is_below_by parents top zero task = task == top
+is_below_by parents top (suc steps) task = holds (is_below_by parents top steps) (parents task)
+
+-- The tasks from so many steps below another on, those furthest below it first.
+abbrev pub ended_from : (ℕ → Option ℕ) → ℕ → ℕ → List ℕ
+ended_from parents top zero = filter (is_below_by parents top 0) (range_with_len 1 64)
+ended_from parents top (suc steps) =
+    filter (is_below_by parents top (suc steps)) (range_with_len 1 64) ++ ended_from parents top steps
+
+-- the subtree of a task: none of the 64 tasks is more than 63 steps below another
+abbrev pub ended_below : (ℕ → Option ℕ) → ℕ → List ℕ
+ended_below parents top = ended_from parents top 63
+
+-- the subpools that these tasks own
+abbrev pub owned_by_these : Subpools → List ℕ → List Subpool
+owned_by_these m ended = filter (λ p. is_in ended p.owner) (subpools_in_order m)
+
+-- The storage of each goes over into the change, and its pages become unassigned.
+abbrev pub released_records : Subpools → List ℕ → List Record
+released_records m ended =
+    flat_map (λ p. Queues (record { subpool = p }) ∷ unassigned_records (extents m p)) (owned_by_these m ended)
+
+-- who shares a subpool and has ended, or whose owner has: none of them sees it any more
+abbrev pub unseeing : Subpools → List ℕ → Subpool → List ℕ
+unseeing m ended p =
+    filter (λ task. is_in ended task || is_in ended p.owner) (sharers m.sight p.number p.owner)
+
+abbrev pub unshared_records : Subpools → List ℕ → List Record
+unshared_records m ended =
+    flat_map (λ p. map (λ task. Sharer (record { subpool = p; task = task; present = false })) (unseeing m ended p))
+    (subpools_in_order m)
+
+-- the subpools, which are empty by then and seen by their owners alone, are gone
+abbrev pub removed_records : Subpools → List ℕ → List Record
+removed_records m ended = map (λ p. Own (record { subpool = p; present = false })) (owned_by_these m ended)
+
+-- a task's registers become zeros, and it is gone
+abbrev pub ended_records : StorageState → ℕ → List Record
+ended_records m task =
+    map (λ register. Register (record { task = task; register = register; word = 0 })) (range_with_len 0 16)
+    ++ Task (record { task = task; parent = unwrap_or (m.tasks.parents task) 0; present = false })
+    ∷ []
+
+-- The tasks end, in their order, and it's this task's turn.
+abbrev pub end_records : StorageState → List ℕ → ℕ → List Record
+end_records m ended next =
+    released_records m.subpools ended
+    ++ Turn (record { task = next })
+    ∷ unshared_records m.subpools ended
+    ++ removed_records m.subpools ended
+    ++ flat_map (ended_records m) ended
+
+-- the blank elements
+abbrev pub end_blanks : StorageState → List ℕ → ℕ
+end_blanks m ended = 1 + length (released_records m.subpools ended)
+
+-- each task comes but once, behind all those whose parent it is
+abbrev pub AreSubtasksFirst : (ℕ → Option ℕ) → List ℕ → List ℕ → Type 0
+AreSubtasksFirst parents gone [] = Unit {0}
+AreSubtasksFirst parents gone (task ∷ tasks) =
+    (is_in gone task ≡ false)
+    × ((subtask : ℕ) → parents subtask ≡ Some task → is_in gone subtask ≡ true)
+    × AreSubtasksFirst parents (task ∷ gone) tasks
+
+-- These tasks can end in this order, and it's then the turn of one that doesn't.
+pub record CanEnd (s : State) (ended : List ℕ) (next : ℕ) : Type 0 where
+  pub order : AreSubtasksFirst s.parents [] ended
+  pub tasks : (task : ℕ) → is_in ended task ≡ true → is_task s task ≡ true
+  pub later : is_in ended 1 ≡ false
+  pub next : is_task s next ≡ true
+  pub stays : is_in ended next ≡ false

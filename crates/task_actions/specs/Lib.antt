@@ -1,0 +1,3 @@
+pub mod Attaching
+pub mod Ending
+pub mod Laws

@@ -1,0 +1,27 @@
+//! The records of each action on tasks fit, and lead to its effect. Each law is the contract of a function that does
+//! nothing: of any sound storage, where the action's effect on the plain machine is a well-formed state.
+
+ghost use Rattle.task_actions.specs.Laws.{AttachingLeads, EndingLeads, EndsAreInOrder, TurningLeads};
+
+/// A task comes, below the current one: it shares subpool 0 or has one of its own, it is given subpools, and it shares
+/// others. Seven blank elements are enough, and two more for each number that is given or shared.
+pub fn attaching_leads()
+    ensures { AttachingLeads }
+{}
+
+/// Another task makes the requests. It takes no element.
+pub fn turning_leads()
+    ensures { TurningLeads }
+{}
+
+/// Tasks end, each behind those below it: the subpools that they own go over into the change with all that they have,
+/// and their rows of sight and their registers become records. One blank element is enough besides those for the
+/// extents of their subpools.
+pub fn ending_leads()
+    ensures { EndingLeads }
+{}
+
+/// The tasks of a subtree, those furthest below its top first, can end one by one.
+pub fn ends_are_in_order()
+    ensures { EndsAreInOrder }
+{}
