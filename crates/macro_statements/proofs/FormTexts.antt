@@ -146,12 +146,12 @@ named_value_spelled n h =
     let b = both (is_name n) (is_word n n) h in
     kept 63 kind.NamedValue (named n) (Some (name n)) n (name_kept n b.0) (ap (λ x. option_map named x) (name_is n h)) refl (name_stands n b.0) (name_few n b.0)
 
-pub named_place_spelled : (n : List ℕ) → is_upper_name n ≡ true → SpelledPlace kind.NamedPlace (Some (in_name n))
+pub named_place_spelled : (n : List ℕ) → is_upper_name n ≡ true → SpelledPlace kind.Name (Some (in_name n))
 named_place_spelled n h =
     let b = both (is_name n) (is_word n n) h in
     record {
       said = Some (name n);
-      spelled = spelled_as 63 kind.NamedPlace (name n) n (name_kept n b.0) (name_stands n b.0) (name_few n b.0);
+      spelled = spelled_as 63 kind.Name (name n) n (name_kept n b.0) (name_stands n b.0) (name_few n b.0);
       is = ap (λ x. option_map in_name x) (name_is n h);
     }
 

@@ -213,7 +213,7 @@ named_target_if t true e =
     subst (λ o. IfSome (option_map in_name o) IsNamedTarget) (sym (name_in t e)) (upper_named t e, (map to_ascii_uppercase t, refl))
 named_target_if t false e = tt
 
-named_target : (t : Option (List ℕ)) → IfSome (as_place (read kind.NamedPlace t)) IsNamedTarget
+named_target : (t : Option (List ℕ)) → IfSome (as_place (read kind.Name t)) IsNamedTarget
 named_target None = tt
 named_target (Some t) = named_target_if t (is_name t) refl
 
@@ -361,9 +361,9 @@ has_place None h e = cc
 has_place (Some p) h e = (h.1.0, ap (λ x. Some x) h.1.1)
 
 pub obtains_e : (word lw aw : List ℕ) (bk ck : Kind) (c : Bool)
-    → ReadsValid (obtaining word (storage_row lw kind.Value aw kind.NamedPlace bk kind.OtherForm ck) family.E c)
+    → ReadsValid (obtaining word (storage_row lw kind.Value aw kind.Name bk kind.OtherForm ck) family.E c)
 obtains_e word lw aw bk ck c os asked h =
-    let f : StorageForm = obtaining word (storage_row lw kind.Value aw kind.NamedPlace bk kind.OtherForm ck) family.E c in
+    let f : StorageForm = obtaining word (storage_row lw kind.Value aw kind.Name bk kind.OtherForm ck) family.E c in
     let slots : Slots = readings f.row.entries os in
     let l : Option (List ℕ) = text_at (keyword lw) os in
     let s : Option (List ℕ) = text_at (keyword (codes "SP")) os in

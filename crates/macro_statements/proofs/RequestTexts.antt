@@ -237,7 +237,7 @@ named_obtain (fixed v) s n y Low c hl hs hn single low =
     let x = fixed_spelled v hl in
     let u = value_spelled s hs in
     let q = named_place_spelled n hn in
-    let w = lv_form (named_word c) true form kind.Value kind.NamedPlace kind.Boundary kind.OtherForm kind.OtherForm _ _ _ _ _ _
+    let w = lv_form (named_word c) true form kind.Value kind.Name kind.Boundary kind.OtherForm kind.OtherForm _ _ _ _ _ _
     x.spelled u.spelled q.spelled (boundary_spelled y) (unsaid 63 kind.OtherForm) (unsaid 63 kind.OtherForm) in
     form_operands _ operation.Getmain (named_word c) (obtaining (named_word c) getmain.named_row family.E c)
     (six_said x.said u.said q.said (Some (boundary y)) None None)
