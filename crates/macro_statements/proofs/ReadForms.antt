@@ -18,7 +18,7 @@ use Rattle.macro_operands.specs.declared.rows.Kind.TheVariants as kind
 use Rattle.macro_operands.specs.declared.faults.FaultKind.{FaultKind}
 use Rattle.macro_operands.specs.declared.faults.FaultKind.TheVariants as fault
 use Rattle.macro_statements.specs.Requests.{WrittenLength, fixed, IsLength, is_fixed, obtain, release, whole, Asked, act, IsObtainForm, IsReleaseForm, IsWholeForm, IsValidAsked}
-use Rattle.macro_statements.specs.Forms.{storage_row, StorageForm, obtaining, releasing, StorageMacro, either_length, as_length, subpool_by, lacks_place, obtain_with, has_whole, release_with, asked_by, form_with, form_for, with_form, macro_of, boundary_by, location_by, form_by}
+use Rattle.macro_statements.specs.Forms.{storage_row, StorageForm, obtaining, releasing, StorageMacro, either_length, as_length, subpool_by, lacks_place, obtain_with, has_whole, release_with, asked_by, form_with, form_for, with_form, macro_of, boundary_by, condition_by, location_by, form_by}
 use Rattle.macro_statements.specs.declared.requests.Form.{Form}
 use Rattle.vsm_model.specs.declared.causes.Family.{Family}
 use Rattle.vsm_model.specs.declared.causes.Family.TheVariants as family
@@ -238,7 +238,7 @@ no_location : (f : Family) (t : Option (List ℕ)) → location_by f (as_locatio
 no_location f None = refl
 no_location f (Some t) = refl
 
-no_condition : (t : Option (List ℕ)) → as_condition (read kind.OtherForm t) ≡ false
+no_condition : (t : Option (List ℕ)) → condition_by (as_condition (read kind.OtherForm t)) ≡ false
 no_condition None = refl
 no_condition (Some t) = refl
 

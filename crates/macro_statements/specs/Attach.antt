@@ -34,7 +34,7 @@ attach_row = record {
 
 -- Subpools by one number, or by the address of a list, or none.
 abbrev pub subpools_by : Option Written → Option Written → WrittenSubpools
-subpools_by (Some number) list = one number
+subpools_by (Some n) list = one n
 subpools_by None (Some address) = listed address
 subpools_by None None = nothing
 

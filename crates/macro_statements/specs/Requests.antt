@@ -63,7 +63,7 @@ length_in (code_length.Variable maximum minimum) = between (written_in maximum) 
 
 abbrev pub subpools_in : Subpools → WrittenSubpools
 subpools_in code_subpools.Nothing = nothing
-subpools_in (code_subpools.Number number) = one (written_in number)
+subpools_in (code_subpools.Number n) = one (written_in n)
 subpools_in (code_subpools.Listed address) = listed (written_in address)
 
 abbrev pub act_in : Statement → Act
@@ -132,7 +132,7 @@ IsLength (between maximum minimum) = IsValue maximum × IsValue minimum
 
 abbrev pub IsSubpools : WrittenSubpools → Type 0
 IsSubpools nothing = ⊤
-IsSubpools (one number) = IsValue number
+IsSubpools (one n) = IsValue n
 IsSubpools (listed address) = IsValue address
 
 abbrev pub is_fixed : WrittenLength → Bool
