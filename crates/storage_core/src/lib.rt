@@ -19,8 +19,8 @@ pub use plans::Plan;
 pub use storage_plans::STORE_MOST;
 pub use storage_swap::{Change, Released};
 pub use vsm_model::{
-    Boundary, Cause, Code, Family, Lengths, Location, Obtain, Release, Reply, Residence, Service,
-    Settings, Subpool,
+    Attach, Boundary, Cause, Code, Family, Lengths, Location, Obtain, Passed, Release, Reply,
+    Residence, Service, Settings, Subpool,
 };
 pub use walks::{ExtentPlace, FreeAreaPlace};
 

@@ -79,6 +79,10 @@ end_records m ended next =
     ++ removed_records m.subpools ended
     ++ flat_map (ended_records m) ended
 
+-- the storage at the task's turn
+abbrev pub with_turn : StorageState → ℕ → StorageState
+with_turn m next = record m { tasks = record m.tasks { current = next } }
+
 -- the blank elements
 abbrev pub end_blanks : StorageState → List ℕ → ℕ
 end_blanks m ended = 1 + length (released_records m.subpools ended)

@@ -1,10 +1,10 @@
 -- What the plans of tasks come to on the plain machine. Assembler Services Reference, ATTACH and DETACH; Assembler
 -- Services Guide, "Virtual storage management", "Subpool handling".
-use Rattle.std.specs.Prelude.{◌≡◌, ℕ, ◌≤◌, Bool, unwrap_or, IsSome, List, [], Result, Ok, Err}
+use Rattle.std.specs.Prelude.{◌≡◌, ℕ, Bool, unwrap_or, IsSome, List, [], ◌∷◌, ◌++◌, Result, Ok, Err}
 use Rattle.vsm_model.specs.declared.causes.Cause.{Cause}
 use Rattle.vsm_model.specs.declared.limits.Settings.{Settings}
 use Rattle.vsm_model.specs.declared.replies.Reply.{Reply}
-use Rattle.vsm_model.specs.declared.replies.Reply.TheVariants.{Attached}
+use Rattle.vsm_model.specs.declared.replies.Reply.TheVariants.{Attached, Returned}
 use Rattle.vsm_model.specs.declared.services.Passed.{Passed}
 use Rattle.vsm_model.specs.Passing.{numbers_in}
 use Rattle.vsm_model.specs.Services.{Service}
@@ -13,8 +13,9 @@ use Rattle.vsm_model.specs.Step.{step}
 use Rattle.storage_changes.specs.State.{StorageState}
 use Rattle.storage_changes.specs.Changes.{Change, change_parking, Fit, overlay}
 use Rattle.storage_changes.specs.Meaning.{model_of, IsSound}
+use Rattle.storage_actions.specs.Actions.{register_records}
 use Rattle.task_actions.specs.Attaching.{attach_records, attach_blanks, CanAttach}
-use Rattle.task_actions.specs.Ending.{ended_below, owned_by_these, end_records, end_blanks, CanEnd}
+use Rattle.task_actions.specs.Ending.{ended_below, owned_by_these, end_records, end_blanks, with_turn, CanEnd}
 use Rattle.task_plans.specs.declared.attach.AttachPlan.{AttachPlan}
 use Rattle.task_plans.specs.declared.end.EndPlan.{EndPlan}
 
@@ -27,14 +28,22 @@ abbrev pub attach_change : StorageState → AttachPlan → Change
 attach_change m plan =
     change_parking []
     (attach_records m plan.task plan.attach.shares_zero
-    (numbers m plan.attach.given) (numbers m plan.attach.shared))
+    (numbers m plan.attach.given) (numbers m plan.attach.shared)
+    ++ register_records m ((15, 0) ∷ (1, plan.task) ∷ []))
     (attach_blanks (numbers m plan.attach.given) (numbers m plan.attach.shared))
+
+-- the registers that the end of tasks sets: the return code of DETACH
+abbrev pub end_registers : Reply → List (ℕ × ℕ)
+end_registers (Returned code) = (15, code) ∷ []
+end_registers _ = []
 
 -- the change of a subtree that ends
 abbrev pub end_change : StorageState → EndPlan → Change
 end_change m plan =
     let ended = ended_below m.tasks.parents plan.top in
-    change_parking (owned_by_these m.subpools ended) (end_records m ended plan.next) (end_blanks m ended)
+    change_parking (owned_by_these m.subpools ended)
+    (end_records m ended plan.next ++ register_records (with_turn m plan.next) (end_registers plan.reply))
+    (end_blanks m ended)
 
 -- The service is accepted with this reply, in the state that the change leads to. The change fits, and leads to a sound
 -- storage.
@@ -46,7 +55,6 @@ pub record IsAccepted (settings : Settings) (names_full : Bool) (m : StorageStat
 
 -- The bytes of both operands are there, and the task can come with what they name.
 pub record CanBeAttached (m : StorageState) (plan : AttachPlan) : Type 0 where
-  pub range : (1 ≤ plan.task) × (plan.task ≤ 64)
   pub given : IsSome (numbers_in (model_of m) plan.attach.given)
   pub shared : IsSome (numbers_in (model_of m) plan.attach.shared)
   pub can : CanAttach (model_of m) plan.task (numbers m plan.attach.given) (numbers m plan.attach.shared)

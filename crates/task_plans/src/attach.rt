@@ -9,7 +9,7 @@ ghost use Rattle.storage_plans.specs.Places.{StandsSound};
 ghost use Rattle.storage_swap.specs.Reserve.{AreNames};
 ghost use Rattle.task_plans.specs.TaskPlans.{attach_change, CanBeAttached, IsAttachPlanned};
 
-use crate::listed::Listed;
+use crate::listed::{Listed, push_register};
 use crate::numbers::{has_bad_number, numbers_of, some_is_anothers};
 use crate::passing::{push_gifts, push_shares, push_zero};
 use std::alloc::{AllocError, Global};
@@ -27,7 +27,8 @@ pub struct AttachPlan {
 }
 
 /// A plan for a new task (*Assembler Services Reference*, ATTACH): it gets the least free number, shares subpool 0 or
-/// has one of its own, is given subpools, and shares others. No register is set. Reads alone, and takes no memory.
+/// has one of its own, is given subpools, and shares others. Register 15 gets 0 and register 1 its
+/// number. Reads alone, and takes no memory.
 ///
 /// The causes that refuse it, in order: `NotAssigned` where a byte of a list doesn't lie in an assigned page, that of
 /// the subpools that are given first; `BadList` where a number is 0, above 127 or named twice; `NotOwner` where a
@@ -80,6 +81,9 @@ impl AttachPlan {
             count += shared.len() as u32;
             push_shares(storage, &mut records, self.task, &shared)?;
         }
+        let current = storage.tasks.current();
+        push_register(&mut records, current, 15, 0)?;
+        push_register(&mut records, current, 1, u32::from(self.task))?;
         Ok(Listed {
             names: Vec::new(alloc),
             records,

@@ -17,7 +17,7 @@ ghost use Rattle.task_actions.specs.Ending.{unseeing, unshared, unshared_records
 ghost use Rattle.task_plans.specs.TaskPlans.{end_change, CanBeEnded, IsEndPlanned};
 
 use crate::ended::{is_ended, push_ended};
-use crate::listed::Listed;
+use crate::listed::{Listed, push_register};
 use descriptor_queue::Extents;
 use std::alloc::{AllocError, Global};
 use storage_changes::{OwnRecord, PagesRecord, QueuesRecord, Record, SharerRecord, TurnRecord};
@@ -41,8 +41,8 @@ pub struct EndPlan {
 const ELEMENTS_MOST: usize = 1 << 23;
 
 /// A plan for the end of a subtask of the current task, with all tasks below it (*Assembler Services Reference*,
-/// DETACH). The subpools that they own are released and are gone; those that they share stay. Reads alone, and takes no
-/// memory.
+/// DETACH). The subpools that they own are released and are gone; those that they share stay. Register 15 gets 0. Reads
+/// alone, and takes no memory.
 ///
 /// The causes that refuse it, in order: `NoTask` where there is no such task, and `NotParent` where the current task
 /// isn't its parent.
@@ -117,6 +117,9 @@ impl EndPlan {
         push_unshared(storage, &mut records, self.top)?;
         push_removed(&mut records, &names)?;
         push_ended(storage, &mut records, self.top)?;
+        if let Reply::Returned(code) = self.reply {
+            push_register(&mut records, self.next, 15, code)?;
+        }
         if names.len() + records.len() >= ELEMENTS_MOST {
             return Err(AllocError);
         }

@@ -6,8 +6,9 @@ ghost use Rattle.storage_exchange.specs.Storage.{state_of, Stand};
 ghost use Rattle.task_actions.specs.Ending.{is_below_by, ended_below, ended_level, ended_records};
 ghost use Rattle.std.specs.List.{flat_map};
 
+use crate::listed::push_register;
 use std::alloc::AllocError;
-use storage_changes::{Record, RegisterRecord, TaskRecord};
+use storage_changes::{Record, TaskRecord};
 use storage_exchange::Storage;
 
 /// The most steps from a task of the 64 to the first.
@@ -62,11 +63,7 @@ fn push_ended_task(
     ensures ok { OnOk result (records.new.items ≡ records.old.items ++ ended_records (state_of storage.now) task) }
 {
     for register in 0..16 {
-        records.push(Record::Register(RegisterRecord {
-            task,
-            register,
-            word: 0,
-        }))?;
+        push_register(records, task, register, 0)?;
     }
     records.push(Record::Task(TaskRecord {
         task,
