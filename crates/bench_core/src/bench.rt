@@ -75,7 +75,7 @@ impl Bench {
             Ok(planned) => planned,
             Err(refusal) => return Err(refusal),
         };
-        let reply = planned.plan.reply;
+        let reply = planned.plan.reply();
         self.history.reserve_place()?;
         let mut change = match reserve(&mut self.machine, planned) {
             Ok(change) => change,

@@ -14,6 +14,9 @@ pub mod Freemain
 pub mod Poke
 pub mod Peek
 pub mod Steps
+pub mod Attach
+pub mod Detach
+pub mod Run
 pub mod Statements
 pub mod Slots
 pub mod Validity

@@ -1,12 +1,16 @@
--- Tables of forms as the code keeps them, and what POKE, PEEK and steps ask for by what was read.
+-- Tables of forms as the code keeps them, and what each statement that has no form asks for by what was read.
 use Rattle.std.specs.Prelude.{ℕ, map, Result}
-use Rattle.macro_operands.specs.Slots.{Slots, slot, row_in, as_value, as_content, as_size, as_count}
+use Rattle.macro_operands.specs.Slots.{Slots, slot, row_in, as_value, as_condition, as_content}
+use Rattle.macro_operands.specs.Slots.{as_size, as_count}
 use Rattle.macro_operands.specs.declared.faults.FaultKind.{FaultKind}
 use Rattle.macro_statements.specs.Forms as forms
 use Rattle.macro_statements.specs.Poke.{poke_with}
 use Rattle.macro_statements.specs.Peek.{peek_with}
 use Rattle.macro_statements.specs.Steps.{count_with}
-use Rattle.macro_statements.specs.Requests.{Asked}
+use Rattle.macro_statements.specs.Attach.{subpools_by, shares_zero_by}
+use Rattle.macro_statements.specs.Detach.{detach_with}
+use Rattle.macro_statements.specs.Run.{run_with}
+use Rattle.macro_statements.specs.Requests.{Asked, act, attach}
 use Rattle.macro_statements.specs.declared.forms.StorageForm.{StorageForm}
 use Rattle.macro_statements.specs.declared.forms.StorageMacro.{StorageMacro}
 
@@ -24,3 +28,17 @@ peek_by slots = peek_with (as_value (slot slots 0)) (as_size (slot slots 1))
 
 abbrev pub count_by : Slots → Result ℕ FaultKind
 count_by slots = count_with (as_count (slot slots 0))
+
+abbrev pub attach_by : Slots → Asked
+attach_by slots =
+    act
+    (attach
+    (subpools_by (as_value (slot slots 1)) (as_value (slot slots 2)))
+    (subpools_by (as_value (slot slots 3)) (as_value (slot slots 4)))
+    (shares_zero_by (as_condition (slot slots 5))))
+
+abbrev pub detach_by : Slots → Result Asked FaultKind
+detach_by slots = detach_with (as_value (slot slots 0))
+
+abbrev pub run_by : Slots → Result Asked FaultKind
+run_by slots = run_with (as_value (slot slots 0))

@@ -1,30 +1,60 @@
 //! Changes of a storage: made of a plan, exchanged with it, and discarded.
-ghost use Rattle.std.specs.Prelude.{◌≡◌, ◌+◌, ◌*◌, ◌<◌, length, IsOk, OnErr, IfOk};
+ghost use Rattle.std.specs.Prelude.{◌≡◌, ◌+◌, ◌*◌, ◌^◌, ◌<◌, ◌≤◌, length, IsOk, OnErr, IfOk};
 ghost use Rattle.storage_changes.specs.Changes.{Fit, overlay};
 ghost use Rattle.storage_changes.specs.Meaning.{IsSound};
+ghost use Rattle.storage_changes.specs.Changes.{change_parking};
 ghost use Rattle.storage_plans.specs.Plans.{change_in};
-ghost use Rattle.storage_swap.specs.Reserve.{Reserves};
+ghost use Rattle.storage_swap.specs.Reserve.{Reserves, AreNames};
 ghost use Rattle.storage_swap.specs.Swap.{means, Ready, Swaps, Discards};
 ghost use Rattle.storage_core.specs.Meaning.{state_in_place, settings_of};
-ghost use Rattle.storage_core.specs.Planned.{extents_leaving, CanBeReserved, IsSpareFor};
+ghost use Rattle.storage_core.specs.Planned.{change_for, elements_below, pages_assigned, CanBeReserved, IsSpare};
+ghost use Rattle.storage_core.specs.Planned.{extents_leaving, HasRecords, IsSpareFor};
 ghost use Rattle.storage_core.specs.Stays.{Stays};
 
+use crate::plans::Plan;
 use crate::storage::Storage;
 use std::alloc::AllocError;
-use storage_plans::Plan;
+use storage_plans::Plan as StoragePlan;
 use storage_swap::Change;
+use task_plans::Listed;
 
 impl Storage {
     /// The change that carries out the plan, with all the memory that it needs: elements, and a frame and a place in a
     /// table for each page that comes to be assigned. The storage stays as it is, whatever the answer.
     ///
-    /// The change has at most 32 elements, one for a subpool that it has parked among them, and 8 for each extent that
-    /// leaves with a subpool that is emptied; and just as many frames as pages come to be assigned.
+    /// The change has fewer than 32 elements, and 8 more for each extent that leaves with a whole subpool that is
+    /// emptied, or 4 for each number that a new task is given or shares; that of tasks that end has one for each of its
+    /// records, and its blank ones. It has just as many frames as pages come to be assigned.
     ///
-    /// `AllocError` where memory is refused, which can be only where fewer elements or frames are spare, or a table
-    /// isn't there. What was made before that stays, as spare elements and frames.
+    /// `AllocError` where memory is refused. Of requests for storage that can be only where fewer elements or frames
+    /// are spare, or a table isn't there. What was made before that stays, as spare elements and frames.
     pub fn reserve(&mut self, plan: Plan) -> Result<Change, AllocError>
         requires { CanBeReserved (state_in_place self.old) plan }
+        ensures ok { IfOk result (λ change. Reserves self.old.parts
+            (change_for (state_in_place self.old) plan) change self.new.parts) }
+        ensures frames { IfOk result (λ change. length change.frames ≡ pages_assigned plan) }
+        ensures few { IfOk result (λ change. change.records.count + change.blanks.count
+            < elements_below (state_in_place self.old) plan) }
+        ensures err { OnErr result (Stays self.old.parts self.new.parts) }
+        ensures needless { IsSpare self.old.parts (state_in_place self.old) plan → IsOk result }
+        ensures settings { settings_of self.new ≡ settings_of self.old }
+    {
+        match plan {
+            Plan::Storage(plan) => self.reserve_storage(plan),
+            Plan::Attach(plan) => {
+                let listed = plan.listed(self.alloc, &self.parts)?;
+                self.reserve_listed(listed)
+            }
+            Plan::End(plan) => {
+                let listed = plan.listed(self.alloc, &self.parts)?;
+                self.reserve_listed(listed)
+            }
+        }
+    }
+
+    // The change of a request for storage, or of a turn.
+    fn reserve_storage(&mut self, plan: StoragePlan) -> Result<Change, AllocError>
+        requires { HasRecords (state_in_place self.old) plan }
         ensures ok { IfOk result (λ change. Reserves self.old.parts
             (change_in (state_in_place self.old) plan) change self.new.parts) }
         ensures frames { IfOk result (λ change. length change.frames ≡ plan.fresh.len) }
@@ -41,6 +71,24 @@ impl Storage {
             plan.records.as_slice(),
             plan.blanks,
             plan.fresh,
+        )
+    }
+
+    // The change of listed records.
+    fn reserve_listed(&mut self, listed: Listed) -> Result<Change, AllocError>
+        requires names { AreNames listed.names.items }
+        requires size { length listed.names.items + (length listed.records.items + listed.blanks) ≤ 2 ^ 24 }
+        ensures ok { IfOk result (λ change. Reserves self.old.parts
+            (change_parking listed.names.items listed.records.items listed.blanks) change self.new.parts) }
+        ensures frames { IfOk result (λ change. length change.frames ≡ 0) }
+        ensures err { OnErr result (Stays self.old.parts self.new.parts) }
+        ensures settings { settings_of self.new ≡ settings_of self.old }
+    {
+        Change::reserve_parking(
+            &mut self.parts,
+            &listed.names,
+            &listed.records,
+            listed.blanks,
         )
     }
 

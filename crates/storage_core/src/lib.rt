@@ -15,11 +15,12 @@ mod walks;
 pub use free_queue::Area;
 pub use run_set::Run;
 pub use storage::Storage;
-pub use storage_plans::{Plan, STORE_MOST};
+pub use plans::Plan;
+pub use storage_plans::STORE_MOST;
 pub use storage_swap::{Change, Released};
 pub use vsm_model::{
-    Boundary, Cause, Code, Family, Lengths, Location, Obtain, Release, Reply, Residence, Service,
-    Settings, Subpool,
+    Attach, Boundary, Cause, Code, Family, Lengths, Location, Obtain, Passed, Release, Reply,
+    Residence, Service, Settings, Subpool,
 };
 pub use walks::{ExtentPlace, FreeAreaPlace};
 

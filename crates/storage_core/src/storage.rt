@@ -19,6 +19,8 @@ use vsm_model::Settings;
 pub struct Storage {
     pub(crate) parts: Parts,
     pub(crate) settings: Settings,
+    // Where the lists come from of which a change of tasks is made.
+    pub(crate) alloc: Global,
     ghost held: { IsHeld settings parts } by { IsHeld-prop settings parts },
 }
 
@@ -35,7 +37,11 @@ impl Storage {
     {
         let parts = fresh(alloc, settings)?;
         first_is_first();
-        Ok(Storage { parts, settings })
+        Ok(Storage {
+            parts,
+            settings,
+            alloc,
+        })
     }
 
     /// The settings that it was made with.

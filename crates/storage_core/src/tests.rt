@@ -111,7 +111,7 @@ fn requests_come_and_go(rt: HostRuntime) -> Result<(), Fail> {
     let mut storage = Storage::new(rt.alloc(), SETTINGS)?;
     for (location, start) in [(Location::Low, 0x6000), (Location::Either, 0x0800_0000)] {
         let obtain = small_area(location);
-        let reply = storage.plan(obtain, false)?.reply;
+        let reply = storage.plan(obtain, false)?.reply();
         assert_eq!(rt;
             reply,
             Reply::Obtained {
@@ -195,7 +195,7 @@ fn whole_release_takes_elements_for_extents_alone(rt: HostRuntime) -> Result<(),
     storage.discard(change);
     // The free areas are those that there were.
     let again = small_area(Location::Low);
-    let reply = storage.plan(again, false)?.reply;
+    let reply = storage.plan(again, false)?.reply();
     assert_eq!(rt;
         reply,
         Reply::Obtained {

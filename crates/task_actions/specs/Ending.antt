@@ -21,11 +21,14 @@ abbrev pub is_below_by : (ℕ → Option ℕ) → ℕ → ℕ → ℕ → Bool
 is_below_by parents top zero task = task == top
 is_below_by parents top (suc steps) task = holds (is_below_by parents top steps) (parents task)
 
--- The tasks from so many steps below another on, those furthest below it first.
+-- the tasks that are so many steps below another
+abbrev pub ended_level : (ℕ → Option ℕ) → ℕ → ℕ → List ℕ
+ended_level parents top steps = filter (is_below_by parents top steps) (range_with_len 1 64)
+
+-- The tasks up to so many steps below another, those furthest below it first.
 abbrev pub ended_from : (ℕ → Option ℕ) → ℕ → ℕ → List ℕ
-ended_from parents top zero = filter (is_below_by parents top 0) (range_with_len 1 64)
-ended_from parents top (suc steps) =
-    filter (is_below_by parents top (suc steps)) (range_with_len 1 64) ++ ended_from parents top steps
+ended_from parents top zero = ended_level parents top 0
+ended_from parents top (suc steps) = ended_level parents top (suc steps) ++ ended_from parents top steps
 
 -- the subtree of a task: none of the 64 tasks is more than 63 steps below another
 abbrev pub ended_below : (ℕ → Option ℕ) → ℕ → List ℕ
@@ -35,24 +38,30 @@ ended_below parents top = ended_from parents top 63
 abbrev pub owned_by_these : Subpools → List ℕ → List Subpool
 owned_by_these m ended = filter (λ p. is_in ended p.owner) (subpools_in_order m)
 
--- The storage of each goes over into the change, and its pages become unassigned.
+-- The storage of a subpool goes over into the change, and its pages become unassigned.
+abbrev pub emptying_records : Subpools → Subpool → List Record
+emptying_records m p = Queues (record { subpool = p }) ∷ unassigned_records (extents m p)
+
 abbrev pub released_records : Subpools → List ℕ → List Record
-released_records m ended =
-    flat_map (λ p. Queues (record { subpool = p }) ∷ unassigned_records (extents m p)) (owned_by_these m ended)
+released_records m ended = flat_map (emptying_records m) (owned_by_these m ended)
 
 -- who shares a subpool and has ended, or whose owner has: none of them sees it any more
 abbrev pub unseeing : Subpools → List ℕ → Subpool → List ℕ
 unseeing m ended p =
     filter (λ task. is_in ended task || is_in ended p.owner) (sharers m.sight p.number p.owner)
 
+abbrev pub unshared : Subpool → ℕ → Record
+unshared p task = Sharer (record { subpool = p; task = task; present = false })
+
 abbrev pub unshared_records : Subpools → List ℕ → List Record
-unshared_records m ended =
-    flat_map (λ p. map (λ task. Sharer (record { subpool = p; task = task; present = false })) (unseeing m ended p))
-    (subpools_in_order m)
+unshared_records m ended = flat_map (λ p. map (unshared p) (unseeing m ended p)) (subpools_in_order m)
 
 -- the subpools, which are empty by then and seen by their owners alone, are gone
+abbrev pub removed : Subpool → Record
+removed p = Own (record { subpool = p; present = false })
+
 abbrev pub removed_records : Subpools → List ℕ → List Record
-removed_records m ended = map (λ p. Own (record { subpool = p; present = false })) (owned_by_these m ended)
+removed_records m ended = map removed (owned_by_these m ended)
 
 -- a task's registers become zeros, and it is gone
 abbrev pub ended_records : StorageState → ℕ → List Record
@@ -69,6 +78,10 @@ end_records m ended next =
     ∷ unshared_records m.subpools ended
     ++ removed_records m.subpools ended
     ++ flat_map (ended_records m) ended
+
+-- the storage at the task's turn
+abbrev pub with_turn : StorageState → ℕ → StorageState
+with_turn m next = record m { tasks = record m.tasks { current = next } }
 
 -- the blank elements
 abbrev pub end_blanks : StorageState → List ℕ → ℕ

@@ -1,27 +1,32 @@
 -- Each action's records lead to its effect on the plain machine.
-use Rattle.std.specs.Prelude.{◌≡◌, ◌≢◌, ℕ, Bool, true, List, []}
+use Rattle.std.specs.Prelude.{◌≡◌, ℕ, Bool, true, List, [], ◌++◌}
 use Rattle.vsm_model.specs.declared.limits.Settings.{Settings}
 use Rattle.vsm_model.specs.Ending.{is_in_subtree, without_tasks}
 use Rattle.vsm_model.specs.Regions.{settings_valid}
+use Rattle.vsm_model.specs.Registers.{with_registers}
 use Rattle.vsm_model.specs.Search.{is_in}
 use Rattle.vsm_model.specs.State.{State, is_task}
 use Rattle.vsm_model.specs.WellFormed.{IsWellFormed, TasksAreSound}
 use Rattle.storage_changes.specs.Changes.{change_parking}
 use Rattle.storage_changes.specs.Meaning.{model_of, IsSound}
 use Rattle.storage_changes.specs.State.{StorageState}
-use Rattle.storage_actions.specs.Leads.{Leads}
+use Rattle.storage_actions.specs.Actions.{register_records}
+use Rattle.storage_actions.specs.Leads.{Leads, AreRegisters}
 use Rattle.task_actions.specs.Attaching.{attach_records, attach_blanks, with_attached, CanAttach, turn_records}
-use Rattle.task_actions.specs.Ending.{ended_below, owned_by_these, end_records, end_blanks}
+use Rattle.task_actions.specs.Ending.{ended_below, owned_by_these, end_records, end_blanks, with_turn}
 use Rattle.task_actions.specs.Ending.{AreSubtasksFirst, CanEnd}
 
 -- A task comes, with its subpools;
 abbrev pub AttachingLeads : Type 0
 AttachingLeads =
-    (settings : Settings) (m : StorageState) (task : ℕ) (shares_zero : Bool) (gifts shares : List ℕ) →
-    IsSound settings m → CanAttach (model_of m) task gifts shares →
-    IsWellFormed settings (with_attached (model_of m) task shares_zero gifts shares) →
-    Leads settings m (change_parking [] (attach_records m task shares_zero gifts shares) (attach_blanks gifts shares))
-    (with_attached (model_of m) task shares_zero gifts shares)
+    (settings : Settings) (m : StorageState) (task : ℕ) (shares_zero : Bool) (gifts shares : List ℕ)
+    (rows : List (ℕ × ℕ)) →
+    IsSound settings m → CanAttach (model_of m) task gifts shares → AreRegisters rows →
+    IsWellFormed settings (with_registers (with_attached (model_of m) task shares_zero gifts shares) rows) →
+    Leads settings m
+    (change_parking [] (attach_records m task shares_zero gifts shares ++ register_records m rows)
+    (attach_blanks gifts shares))
+    (with_registers (with_attached (model_of m) task shares_zero gifts shares) rows)
 
 -- it's another task's turn;
 abbrev pub TurningLeads : Type 0
@@ -34,12 +39,13 @@ TurningLeads =
 -- or tasks end, with what they own.
 abbrev pub EndingLeads : Type 0
 EndingLeads =
-    (settings : Settings) (m : StorageState) (ended : List ℕ) (next : ℕ) →
-    settings_valid settings ≡ true → IsSound settings m → CanEnd (model_of m) ended next →
-    IsWellFormed settings (without_tasks (record (model_of m) { current = next }) (is_in ended)) →
+    (settings : Settings) (m : StorageState) (ended : List ℕ) (next : ℕ) (rows : List (ℕ × ℕ)) →
+    settings_valid settings ≡ true → IsSound settings m → CanEnd (model_of m) ended next → AreRegisters rows →
+    IsWellFormed settings (with_registers (without_tasks (record (model_of m) { current = next }) (is_in ended)) rows) →
     Leads settings m
-    (change_parking (owned_by_these m.subpools ended) (end_records m ended next) (end_blanks m ended))
-    (without_tasks (record (model_of m) { current = next }) (is_in ended))
+    (change_parking (owned_by_these m.subpools ended)
+    (end_records m ended next ++ register_records (with_turn m next) rows) (end_blanks m ended))
+    (with_registers (without_tasks (record (model_of m) { current = next }) (is_in ended)) rows)
 
 -- A subtree's tasks come in an order in which they can end, and are just those that are looked for.
 abbrev pub EndsAreInOrder : Type 0

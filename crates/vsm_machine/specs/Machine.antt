@@ -12,6 +12,8 @@ use Rattle.vsm_model.specs.declared.services.Boundary.{Boundary}
 use Rattle.vsm_model.specs.declared.services.Lengths.{Lengths}
 use Rattle.vsm_model.specs.declared.services.Lengths.TheVariants.{Fixed, Variable}
 use Rattle.vsm_model.specs.declared.services.Location.{Location}
+use Rattle.vsm_model.specs.declared.services.Passed.{Passed}
+use Rattle.vsm_model.specs.declared.services.Passed.TheVariants.{Nothing, Number, Listed}
 use Rattle.vsm_model.specs.Forms.{formed_step}
 use Rattle.vsm_model.specs.Names.{NamedState, word_of}
 use Rattle.vsm_model.specs.Services as services
@@ -19,7 +21,8 @@ use Rattle.vsm_model.specs.Services.{Service}
 use Rattle.vsm_model.specs.Standing.{Outcome, Accepted, Refused}
 use Rattle.macro_statements.specs.Requests.{Written, number, named, register, Target, in_name, in_register, Stored}
 use Rattle.macro_statements.specs.Requests.{spelled, word, WrittenLength, fixed, between}
-use Rattle.macro_statements.specs.Requests.{Act, obtain, release, whole, poke}
+use Rattle.macro_statements.specs.Requests.{Act, obtain, release, whole, attach, detach, run, end_task, poke}
+use Rattle.macro_statements.specs.Requests.{WrittenSubpools, nothing, one, listed}
 
 -- Why the plain machine refuses a statement: a name in a value isn't defined, or a service ends with a completion code.
 pub data Why : Type 0 where
@@ -88,6 +91,18 @@ area_back conditional bytes first subpool =
     services.release
     (record { length = bytes; address = first; number = subpool; conditional = conditional })
 
+-- the subpools that a new task is given, or that it shares, with the word of their number or of their list's address
+abbrev pub passed_asked : NamedState → WrittenSubpools → Option Passed
+passed_asked m nothing = Some Nothing
+passed_asked m (one number) = option_map Number (looked_up m number)
+passed_asked m (listed address) = option_map Listed (looked_up m address)
+
+-- a new task
+abbrev pub with_passed : Bool → Option Passed → Option Passed → Option Service
+with_passed shares_zero (Some given) (Some shared) =
+    Some (services.attach (record { given = given; shared = shared; shares_zero = shares_zero }))
+with_passed shares_zero _ _ = None
+
 -- The service that a statement asks for, with the words of its values; there is none where one of its names isn't
 -- defined.
 abbrev pub service_asked : NamedState → Act → Option Service
@@ -98,6 +113,11 @@ service_asked m (release length address subpool form) =
     with_three (area_back form.conditional)
     (looked_up m length) (looked_up m address) (looked_up m subpool)
 service_asked m (whole subpool form) = option_map services.whole (looked_up m subpool)
+service_asked m (attach given shared shares_zero) =
+    with_passed shares_zero (passed_asked m given) (passed_asked m shared)
+service_asked m (detach task) = option_map services.detach (looked_up m task)
+service_asked m (run task) = option_map services.run (looked_up m task)
+service_asked m end_task = Some services.end_task
 service_asked m (poke address content) = with_bytes (looked_up m address) (bytes_in m content)
 
 -- the name that is given the address of the area that a statement obtains, if it names one
@@ -105,14 +125,22 @@ abbrev pub name_asked : Act → Option (List ℕ)
 name_asked (obtain length subpool target boundary location form) = name_in target
 name_asked (release length address subpool form) = None
 name_asked (whole subpool form) = None
+name_asked (attach given shared shares_zero) = None
+name_asked (detach task) = None
+name_asked (run task) = None
+name_asked end_task = None
 name_asked (poke address content) = None
 
--- The family of a statement's completion codes, by its form. A statement of the bench's own has no form: its codes are
--- the same in each.
+-- The family of a statement's completion codes, by its form. A statement on tasks and one of the bench's own have no
+-- form: their codes are the same in each.
 abbrev pub family_asked : Act → Family
 family_asked (obtain length subpool target boundary location form) = form.family
 family_asked (release length address subpool form) = form.family
 family_asked (whole subpool form) = form.family
+family_asked (attach given shared shares_zero) = S
+family_asked (detach task) = S
+family_asked (run task) = S
+family_asked end_task = S
 family_asked (poke address content) = S
 
 -- a completion code is one of the reasons for which a statement is refused

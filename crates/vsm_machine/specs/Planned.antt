@@ -6,8 +6,7 @@ use Rattle.vsm_model.specs.declared.replies.Reply.TheVariants.{Obtained, Cell}
 use Rattle.vsm_model.specs.Standing.{Accepted, Refused}
 use Rattle.macro_statements.specs.Requests.{Act}
 use Rattle.storage_core.specs.Meaning.{state_in_place}
-use Rattle.storage_core.specs.Planned.{CanBeReserved}
-use Rattle.storage_plans.specs.Plans.{change_in}
+use Rattle.storage_core.specs.Planned.{CanBeReserved, change_for, reply_of}
 use Rattle.storage_swap.specs.Reserve.{Reserves}
 use Rattle.name_table.specs.Steps.{NameStep, define, step_in, step_to}
 use Rattle.vsm_machine.specs.declared.machine.Machine.{Machine}
@@ -36,14 +35,14 @@ step_planned p = option_map step_in p.name
 
 -- what the change of the plan will mean
 abbrev pub difference_in : MachineState → Planned → Difference
-difference_in m p = record { storage = change_in m.storage p.plan; step = step_planned p; known = true }
+difference_in m p = record { storage = change_for m.storage p.plan; step = step_planned p; known = true }
 
 -- A statement was planned: it is accepted, with this reply, in the state that the plan's change leads to; that change
 -- fits, and can be made.
 pub record IsAcceptedBy (m : MachineState) (x : Act) (p : Planned) : Type 0 where
   pub accepted :
-      statement_step m.settings (named_of m) x ≡ Accepted (named_of (overlay m (difference_in m p))) p.plan.reply
-  pub fits : StorageFits m.settings m.storage (change_in m.storage p.plan)
+      statement_step m.settings (named_of m) x ≡ Accepted (named_of (overlay m (difference_in m p))) (reply_of p.plan)
+  pub fits : StorageFits m.settings m.storage (change_for m.storage p.plan)
   pub reserved : CanBeReserved m.storage p.plan
   pub can : CanStepBy m.names (λ name. true) (step_planned p)
   pub gives : undefines_none (step_planned p) ≡ true
@@ -55,5 +54,5 @@ IsPlanned m x (Err e) = (why : Why) × (statement_step m.settings (named_of m) x
 
 -- The change was made of the plan: that of its storage beside this one, and the step of its name.
 pub record IsChangeOf (m : Machine) (p : Planned) (n : Machine) (c : Change) : Type 0 where
-  pub storage : Reserves m.storage.parts (change_in (state_in_place m.storage) p.plan) c.storage n.storage.parts
+  pub storage : Reserves m.storage.parts (change_for (state_in_place m.storage) p.plan) c.storage n.storage.parts
   pub step : step_of c ≡ step_planned p

@@ -66,7 +66,7 @@ pub fn plan_of(machine: &Machine, statement: &Statement) -> Result<Planned, Refu
     let full = is_one_too_many(&machine.names, name);
     match machine.storage.plan(service, full) {
         Ok(plan) => {
-            let name = name_change(&machine.names, name, plan.reply);
+            let name = name_change(&machine.names, name, plan.reply());
             Ok(Planned { plan, name })
         }
         Err(cause) => {

@@ -3,15 +3,17 @@ ghost use Rattle.std.specs.Prelude.{◌≡◌, IfSome};
 ghost use Rattle.std.specs.Option.{option_map};
 ghost use Rattle.vsm_model.specs.Meaning.{service_in};
 ghost use Rattle.storage_core.specs.Planned.{CanBePlanned};
-ghost use Rattle.macro_statements.specs.Requests.{act_in, length_in, target_in, IsLength, IsValidAct};
+ghost use Rattle.macro_statements.specs.Requests.{act_in, length_in, subpools_in, target_in};
+ghost use Rattle.macro_statements.specs.Requests.{IsLength, IsSubpools, IsValidAct};
 ghost use Rattle.vsm_machine.specs.Changes.{plain_of};
-ghost use Rattle.vsm_machine.specs.Machine.{service_asked, lengths_asked, name_asked, family_asked, register_in};
+ghost use Rattle.vsm_machine.specs.Machine.{service_asked, lengths_asked, passed_asked, name_asked};
+ghost use Rattle.vsm_machine.specs.Machine.{family_asked, register_in};
 
 use crate::machine::Machine;
 use crate::values::{bytes_of, look_up};
-use macro_statements::{Family, Length, Statement};
+use macro_statements::{Family, Length, Statement, Subpools};
 use operand_texts::{Name, Place};
-use storage_core::{Lengths, Obtain, Release, Service};
+use storage_core::{Attach, Lengths, Obtain, Passed, Release, Service};
 
 /// The register that is set besides register 1, if the place is one.
 fn register_of(place: &Option<Place>) -> Option<u8>
@@ -33,6 +35,20 @@ fn lengths_of(machine: &Machine, length: &Length) -> Option<Lengths>
         Length::Variable { maximum, minimum } => Some(Lengths::Variable {
             maximum: look_up(machine, maximum)?,
             minimum: look_up(machine, minimum)?,
+        }),
+    }
+}
+
+/// The subpools that a new task is given, or that it shares; `None` where a name in their value isn't defined.
+fn passed_of(machine: &Machine, subpools: &Subpools) -> Option<Passed>
+    requires { IsSubpools (subpools_in subpools.now) }
+    ensures { result ≡ passed_asked (plain_of machine.now) (subpools_in subpools.now) }
+{
+    match subpools {
+        Subpools::Nothing => Some(Passed::Nothing),
+        Subpools::Number(number) => Some(Passed::Number(look_up(machine, number)?)),
+        Subpools::Listed { address } => Some(Passed::Listed {
+            address: look_up(machine, address)?,
         }),
     }
 }
@@ -78,6 +94,22 @@ pub(crate) fn service_of<'a>(
         Statement::Whole { subpool, .. } => Some(Service::Whole {
             number: look_up(machine, subpool)?,
         }),
+        Statement::Attach {
+            given,
+            shared,
+            shares_zero,
+        } => Some(Service::Attach(Attach {
+            given: passed_of(machine, given)?,
+            shared: passed_of(machine, shared)?,
+            shares_zero: *shares_zero,
+        })),
+        Statement::Detach { task } => Some(Service::Detach {
+            task: look_up(machine, task)?,
+        }),
+        Statement::Run { task } => Some(Service::Run {
+            task: look_up(machine, task)?,
+        }),
+        Statement::EndTask => Some(Service::EndTask),
         Statement::Poke { address, content } => Some(Service::Store {
             address: look_up(machine, address)?,
             bytes: bytes_of(machine, content, room)?,
@@ -106,6 +138,10 @@ pub(crate) fn family_of(statement: &Statement) -> Family
         Statement::Obtain { form, .. }
         | Statement::Release { form, .. }
         | Statement::Whole { form, .. } => form.family,
-        Statement::Poke { .. } => Family::S,
+        Statement::Attach { .. }
+        | Statement::Detach { .. }
+        | Statement::Run { .. }
+        | Statement::EndTask
+        | Statement::Poke { .. } => Family::S,
     }
 }

@@ -1,0 +1,76 @@
+-- What the plans of tasks come to on the plain machine. Assembler Services Reference, ATTACH and DETACH; Assembler
+-- Services Guide, "Virtual storage management", "Subpool handling".
+use Rattle.std.specs.Prelude.{◌≡◌, ℕ, Bool, unwrap_or, IsSome, List, [], ◌∷◌, ◌++◌, Result, Ok, Err}
+use Rattle.vsm_model.specs.declared.causes.Cause.{Cause}
+use Rattle.vsm_model.specs.declared.limits.Settings.{Settings}
+use Rattle.vsm_model.specs.declared.replies.Reply.{Reply}
+use Rattle.vsm_model.specs.declared.replies.Reply.TheVariants.{Attached, Returned}
+use Rattle.vsm_model.specs.declared.services.Passed.{Passed}
+use Rattle.vsm_model.specs.Passing.{numbers_in}
+use Rattle.vsm_model.specs.Services.{Service}
+use Rattle.vsm_model.specs.Standing.{Accepted, Refused}
+use Rattle.vsm_model.specs.Step.{step}
+use Rattle.storage_changes.specs.State.{StorageState}
+use Rattle.storage_changes.specs.Changes.{Change, change_parking, Fit, overlay}
+use Rattle.storage_changes.specs.Meaning.{model_of, IsSound}
+use Rattle.storage_actions.specs.Actions.{register_records}
+use Rattle.task_actions.specs.Attaching.{attach_records, attach_blanks, CanAttach}
+use Rattle.task_actions.specs.Ending.{ended_below, owned_by_these, end_records, end_blanks, with_turn, CanEnd}
+use Rattle.task_plans.specs.declared.attach.AttachPlan.{AttachPlan}
+use Rattle.task_plans.specs.declared.end.EndPlan.{EndPlan}
+
+-- the numbers that an operand names, where its bytes are there
+abbrev pub numbers : StorageState → Passed → List ℕ
+numbers m passed = unwrap_or (numbers_in (model_of m) passed) []
+
+-- the change of a task that comes
+abbrev pub attach_change : StorageState → AttachPlan → Change
+attach_change m plan =
+    change_parking []
+    (attach_records m plan.task plan.attach.shares_zero
+    (numbers m plan.attach.given) (numbers m plan.attach.shared)
+    ++ register_records m ((15, 0) ∷ (1, plan.task) ∷ []))
+    (attach_blanks (numbers m plan.attach.given) (numbers m plan.attach.shared))
+
+-- the registers that the end of tasks sets: the return code of DETACH
+abbrev pub end_registers : Reply → List (ℕ × ℕ)
+end_registers (Returned code) = (15, code) ∷ []
+end_registers _ = []
+
+-- the change of a subtree that ends
+abbrev pub end_change : StorageState → EndPlan → Change
+end_change m plan =
+    let ended = ended_below m.tasks.parents plan.top in
+    change_parking (owned_by_these m.subpools ended)
+    (end_records m ended plan.next ++ register_records (with_turn m plan.next) (end_registers plan.reply))
+    (end_blanks m ended)
+
+-- The service is accepted with this reply, in the state that the change leads to. The change fits, and leads to a sound
+-- storage.
+pub record IsAccepted (settings : Settings) (names_full : Bool) (m : StorageState) (x : Service) (d : Change)
+    (reply : Reply) : Type 0 where
+  pub accepted : step settings names_full (model_of m) x ≡ Accepted (model_of (overlay m d)) reply
+  pub fits : Fit m d
+  pub sound : IsSound settings (overlay m d)
+
+-- The bytes of both operands are there, and the task can come with what they name.
+pub record CanBeAttached (m : StorageState) (plan : AttachPlan) : Type 0 where
+  pub given : IsSome (numbers_in (model_of m) plan.attach.given)
+  pub shared : IsSome (numbers_in (model_of m) plan.attach.shared)
+  pub can : CanAttach (model_of m) plan.task (numbers m plan.attach.given) (numbers m plan.attach.shared)
+
+-- The subtree can end, and it's then the turn of a task that stays.
+pub record CanBeEnded (m : StorageState) (plan : EndPlan) : Type 0 where
+  pub can : CanEnd (model_of m) (ended_below m.tasks.parents plan.top) plan.next
+
+-- A task's coming was planned; or it's refused for this cause.
+abbrev pub IsAttachPlanned : Settings → Bool → StorageState → Service → Result AttachPlan Cause → Type 0
+IsAttachPlanned settings names_full m x (Ok plan) =
+    (∥ IsAccepted settings names_full m x (attach_change m plan) (Attached plan.task) ∥₁) × CanBeAttached m plan
+IsAttachPlanned settings names_full m x (Err cause) = step settings names_full (model_of m) x ≡ Refused cause
+
+-- The end of tasks was planned; or it's refused for this cause.
+abbrev pub IsEndPlanned : Settings → Bool → StorageState → Service → Result EndPlan Cause → Type 0
+IsEndPlanned settings names_full m x (Ok plan) =
+    (∥ IsAccepted settings names_full m x (end_change m plan) plan.reply ∥₁) × CanBeEnded m plan
+IsEndPlanned settings names_full m x (Err cause) = step settings names_full (model_of m) x ≡ Refused cause

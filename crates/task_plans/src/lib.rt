@@ -1,0 +1,15 @@
+//! Plans of tasks that come, make requests and end, and the records of each.
+#![tactic(auto)]
+
+mod attach;
+mod end;
+mod ended;
+mod listed;
+mod numbers;
+mod passing;
+mod run;
+
+pub use attach::{AttachPlan, plan_attach};
+pub use end::{EndPlan, plan_detach, plan_end_task};
+pub use listed::Listed;
+pub use run::plan_run;

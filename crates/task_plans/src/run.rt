@@ -1,0 +1,44 @@
+//! Plans of turns.
+
+ghost use Rattle.std.specs.Prelude.{◌≡◌, Bool};
+ghost use Rattle.vsm_model.specs.declared.limits.Settings.{Settings};
+ghost use Rattle.vsm_model.specs.Services.{run};
+ghost use Rattle.storage_exchange.specs.Storage.{state_of, Stand};
+ghost use Rattle.storage_plans.specs.Places.{StandsSound};
+ghost use Rattle.storage_plans.specs.Plans.{IsPlanned};
+
+use arrayvec::ArrayVec;
+use run_set::Run;
+use storage_changes::{Record, TurnRecord};
+use storage_exchange::Storage;
+use storage_plans::Plan;
+use vsm_model::{Cause, Reply};
+
+/// A plan by which another task makes the requests, the bench's own RUN. No register is set. Reads alone, and takes no
+/// memory. Refused with `NoTask` where there is no such task.
+pub fn plan_run(storage: &Storage, task: u32) -> Result<Plan, Cause>
+    requires stands { Stand storage.now }
+    ensures { (settings : Settings) (names_full : Bool) → StandsSound settings storage.now
+        → IsPlanned settings names_full (state_of storage.now) (run task) result }
+{
+    if task > 64 {
+        return Err(Cause::NoTask);
+    }
+    let task = task as u8;
+    if storage
+        .tasks
+        .check_run(&storage.elements, task)
+        .is_err()
+    {
+        return Err(Cause::NoTask);
+    }
+    let mut records = ArrayVec::new();
+    records.push(Record::Turn(TurnRecord { task }));
+    Ok(Plan {
+        emptied: None,
+        records,
+        blanks: 0,
+        fresh: Run { start: 0, len: 0 },
+        reply: Reply::Turn(task),
+    })
+}
