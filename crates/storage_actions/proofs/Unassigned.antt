@@ -1,7 +1,7 @@
 -- Runs of pages that become unassigned, one record each.
-use Rattle.std.proofs.Common.{◌≡◌, ℕ, ◌+◌, ◌-◌, ◌<◌, Bool, true, false, ◌||◌, if◌then◌else◌, List, [], ◌∷◌, length, Option, None, IsSome, refl, sym, ◌∙◌, arith, subst, true≢false}
+use Rattle.std.proofs.Common.{◌≡◌, ℕ, ◌+◌, ◌-◌, ◌<◌, ◌≤◌, Bool, true, false, ◌||◌, if◌then◌else◌, List, [], ◌∷◌, length, Option, None, IsSome, refl, sym, ◌∙◌, arith, subst, true≢false}
 use Rattle.std.specs.Prelude.{◌^◌, ◌/◌}
-use Rattle.std.proofs.lemmas.Bool.{cond-false, or_left, or_right, false_from_ne_true}
+use Rattle.std.proofs.lemmas.Bool.{cond-false, or_left, or_right, or_parts, false_from_ne_true}
 use Rattle.run_set.specs.declared.run.Run.{Run}
 use Rattle.run_set.specs.Runs.{inside, contains, Spaced}
 use Rattle.run_set.proofs.RunLemmas.{inside_true, true_inside}
@@ -34,6 +34,10 @@ pub record Leave (w : Walk) (rs : List Run) : Type 0 where
   pub fits : FitInTurn w (unassigned_records rs)
   pub state : (walk w (unassigned_records rs)).state ≡ without_pages_in w.state (λ k. contains k rs)
   pub none_brought : (a : ℕ) → (walk w (unassigned_records rs)).brought a ≡ None
+  -- no other frame is given, what is parked stays, and each run takes one blank element at most
+  pub given_elsewhere : (a : ℕ) → contains (a / 4096) rs ≡ false → (walk w (unassigned_records rs)).given a ≡ w.given a
+  pub parked : (walk w (unassigned_records rs)).parked ≡ w.parked
+  pub spare : w.spare ≤ (walk w (unassigned_records rs)).spare + length rs
 
 none_either : (b : Bool) (o : Option ℕ) → o ≡ None → (if b then None else o) ≡ None
 none_either true o e = refl
@@ -101,11 +105,23 @@ module _ (low : ℕ) (w : Walk) (r : Run) (rs : List Run) (spaced : Spaced low (
   }
 
 pub runs_leave : (low : ℕ) (w : Walk) (rs : List Run) → Spaced low rs → CanLeave w rs → length rs < w.spare → Leave w rs
-runs_leave low w [] spaced can enough = record { fits = tt; state = refl; none_brought = can.none_brought }
+runs_leave low w [] spaced can enough = record {
+  fits = tt;
+  state = refl;
+  none_brought = can.none_brought;
+  given_elsewhere = λ a other. refl;
+  parked = refl;
+  spare = omega arith;
+}
 runs_leave low w (r ∷ rs) spaced can enough =
     let rest = runs_leave (r.start + r.len + 1) (next low w r rs spaced can enough) rs spaced.3 (can_next low w r rs spaced can enough) (enough_next low w r rs spaced can enough) in
     record {
       fits = (fits_first low w r rs spaced can enough, rest.fits);
       state = rest.state ∙ state_next low w r rs spaced can enough;
       none_brought = rest.none_brought;
+      given_elsewhere = λ a other.
+          let both = or_parts (inside (a / 4096) r) (contains (a / 4096) rs) other in
+          rest.given_elsewhere a both.1 ∙ cond-false (inside (a / 4096) r) (w.state.bytes a) (w.given a) both.0;
+      parked = rest.parked;
+      spare = let less = rest.spare in omega (arith, less);
     }

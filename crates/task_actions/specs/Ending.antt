@@ -100,5 +100,5 @@ pub record CanEnd (s : State) (ended : List ℕ) (next : ℕ) : Type 0 where
   pub order : AreSubtasksFirst s.parents [] ended
   pub tasks : (task : ℕ) → is_in ended task ≡ true → is_task s task ≡ true
   pub later : is_in ended 1 ≡ false
-  pub next : is_task s next ≡ true
+  pub turn : is_task s next ≡ true
   pub stays : is_in ended next ≡ false

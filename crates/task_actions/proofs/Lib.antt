@@ -1,0 +1,2 @@
+mod EndLists
+mod EndOrder
