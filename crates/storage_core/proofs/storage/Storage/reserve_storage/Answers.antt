@@ -2,7 +2,7 @@ use Rattle.storage_core.specs.Meaning.{state_in_place}
 use Rattle.storage_core.proofs.Counted.{few_answered}
 use Rattle.storage_core.proofs.Holding.{reserved_is_held, unassigned_in_region}
 use Rattle.storage_core.proofs.Staying.{failed_stays}
-use Rattle.storage_core.proofs.storage.Storage.reserve.Goals as goal
+use Rattle.storage_core.proofs.storage.Storage.reserve_storage.Goals as goal
 
 pub reserve-requires-clause-segments : goal.reserve-requires-clause-segments
 reserve-requires-clause-segments c =
