@@ -25,4 +25,6 @@ mod form_tests;
 #[cfg(test)]
 mod map_tests;
 #[cfg(test)]
+mod task_tests;
+#[cfg(test)]
 mod tests;
