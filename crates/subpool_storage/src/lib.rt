@@ -11,4 +11,6 @@ mod storage;
 pub use storage::SubpoolStorage;
 
 #[cfg(test)]
+mod sharing_tests;
+#[cfg(test)]
 mod tests;
