@@ -3,6 +3,7 @@ pub mod QueueLemmas
 pub mod ViewLemmas
 pub mod PutLemmas
 pub mod SetLemmas
+pub mod SharingLemmas
 pub mod LawLemmas
 pub mod ExchangeLemmas
 pub mod ExtentLemmas
