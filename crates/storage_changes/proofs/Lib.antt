@@ -3,6 +3,8 @@ pub mod Cases
 pub mod SetSteps
 pub mod PagesSteps
 pub mod OwnSteps
+pub mod TaskSteps
+pub mod SharingSteps
 pub mod ByteSteps
 pub mod WalkLemmas
 pub mod FirstLemmas
