@@ -17,6 +17,7 @@ pub use run_set::Run;
 pub use storage::Storage;
 pub use storage_plans::{Plan, STORE_MOST};
 pub use storage_swap::{Change, Released};
+pub use subpool_storage::{PoolPlace, SharerPlace};
 pub use vsm_model::{
     Boundary, Cause, Code, Family, Lengths, Location, Obtain, Release, Reply, Residence, Service,
     Settings, Subpool,

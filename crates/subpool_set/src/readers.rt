@@ -74,7 +74,8 @@ impl SubpoolSet {
     /// the way.
     pub fn pool_at(&self, elements: &Elements, i: u32) -> Option<PoolId>
         requires { IsSubpoolSet elements.now self.now }
-        ensures { result ≡ option_map (λ p. p.id) (slice_get (in_order (pool elements.now self.now)) i) }
+        ensures at { result ≡ option_map (λ p. p.id) (slice_get (in_order (pool elements.now self.now)) i) }
+        ensures pool { IfSome result (λ id. IsPool elements.now self.now id) }
     {
         let mut place = Self::first_place();
         for _ in 0..i {

@@ -8,6 +8,7 @@ mod readers;
 mod storage;
 
 pub use storage::SubpoolStorage;
+pub use subpool_set::{PoolPlace, SharerPlace};
 
 #[cfg(test)]
 mod tests;
