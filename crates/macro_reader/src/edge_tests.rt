@@ -3,7 +3,7 @@
 use crate::tests::{card, fault, more, name};
 use crate::{
     Boundary, Content, Family, Fault, FaultKind, Fed, Form, Length, Location, Place, Reader,
-    Request, Statement, Value,
+    Request, Statement, Subpools, Value,
 };
 use arrayvec::ArrayVec;
 use std::process::Abort;
@@ -288,4 +288,26 @@ fn tells_statements_that_can_be_spelled(rt: HostRuntime) {
         };
         assert_eq!(rt; statement.valid(), valid, "register {register}");
     }
+}
+
+#[test]
+fn tells_subpools_that_can_be_spelled(rt: HostRuntime) {
+    let number = Subpools::Number(Value::Number(0));
+    let lower = Value::Named(name("a"));
+    let past = Value::Register(16);
+    for (given, shared, valid) in [
+        (number, Subpools::Nothing, true),
+        (Subpools::Number(lower), number, false),
+        (number, Subpools::Listed { address: past }, false),
+    ] {
+        let statement = Statement::Attach {
+            given,
+            shared,
+            shares_zero: true,
+        };
+        assert_eq!(rt; statement.valid(), valid);
+    }
+    assert_eq!(rt; Statement::Run { task: lower }.valid(), false);
+    assert_eq!(rt; Statement::Detach { task: past }.valid(), false);
+    assert_eq!(rt; Statement::EndTask.valid(), true);
 }
