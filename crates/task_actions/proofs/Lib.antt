@@ -1,2 +1,7 @@
 mod EndLists
 mod EndOrder
+mod EndEach
+mod EndSubpools
+mod EndModel
+mod EndWalk
+mod EndStorage
