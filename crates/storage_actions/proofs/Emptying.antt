@@ -130,7 +130,7 @@ module _ (settings : Settings) (m : StorageState) (p : Subpool) (sound : IsSound
   }
 
   -- its pages lie in the regions, which end before 2^20
-  below : settings_valid settings ≡ true → (k : ℕ) → m.subpools.pages p k ≡ true → k < 2 ^ 20
+  pub below : settings_valid settings ≡ true → (k : ℕ) → m.subpools.pages p k ≡ true → k < 2 ^ 20
   below valid k own =
       let low = page_is_low settings k valid (sound.well_formed.pages.in_region k p (sound.named p k own)) in
       omega (arith, low)

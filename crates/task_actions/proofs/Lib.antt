@@ -6,3 +6,8 @@ mod EndLists
 mod EndOrder
 pub mod Attaching
 pub mod Turning
+mod EndEach
+mod EndSubpools
+mod EndModel
+mod EndWalk
+mod EndStorage
