@@ -290,24 +290,33 @@ fn tells_statements_that_can_be_spelled(rt: HostRuntime) {
     }
 }
 
+/// A name that isn't in upper case.
+fn lower() -> Value {
+    Value::Named(name("a"))
+}
+
+fn attach(given: Subpools, shared: Subpools) -> Statement {
+    Statement::Attach {
+        given,
+        shared,
+        shares_zero: true,
+    }
+}
+
 #[test]
 fn tells_subpools_that_can_be_spelled(rt: HostRuntime) {
-    let number = Subpools::Number(Value::Number(0));
-    let lower = Value::Named(name("a"));
-    let past = Value::Register(16);
     for (given, shared, valid) in [
-        (number, Subpools::Nothing, true),
-        (Subpools::Number(lower), number, false),
-        (number, Subpools::Listed { address: past }, false),
+        (Subpools::Number(Value::Number(0)), Subpools::Nothing, true),
+        (Subpools::Number(lower()), Subpools::Nothing, false),
+        (
+            Subpools::Nothing,
+            Subpools::Listed { address: lower() },
+            false,
+        ),
     ] {
-        let statement = Statement::Attach {
-            given,
-            shared,
-            shares_zero: true,
-        };
-        assert_eq!(rt; statement.valid(), valid);
+        assert_eq!(rt; attach(given, shared).valid(), valid);
     }
-    assert_eq!(rt; Statement::Run { task: lower }.valid(), false);
-    assert_eq!(rt; Statement::Detach { task: past }.valid(), false);
+    assert_eq!(rt; Statement::Run { task: lower() }.valid(), false);
+    assert_eq!(rt; Statement::Detach { task: lower() }.valid(), false);
     assert_eq!(rt; Statement::EndTask.valid(), true);
 }

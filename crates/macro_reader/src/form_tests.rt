@@ -76,6 +76,20 @@ fn whole(subpool: Value, form: Form) -> Request {
     Request::Act(Statement::Whole { subpool, form })
 }
 
+fn number(n: u32) -> Value {
+    Value::Number(n)
+}
+
+/// The length in a register.
+fn in_register(n: u8) -> Length {
+    Length::Fixed(Value::Register(n))
+}
+
+/// The pair (8,(4)).
+fn pair() -> Length {
+    between(Value::Number(8), Value::Register(4))
+}
+
 fn eight() -> Length {
     Length::Fixed(Value::Number(8))
 }
@@ -155,13 +169,11 @@ fn refuses_lengths(rt: HostRuntime) {
 #[test]
 fn reads_getmain(rt: HostRuntime) {
     let (low, caller) = (Location::Low, Location::Caller);
-    let (register_0, register_1) = (Value::Register(0), Value::Register(1));
-    let pair = between(Value::Number(8), Value::Register(4));
     let lines: [(&[u8], Request); 9] = [
         (b" GETMAIN R,LV=8", obtain(eight(), 0, None, low, FORM_R)),
         (
             b" getmain r,sp=5,lv=(1),related=(a,b)",
-            obtain(Length::Fixed(register_1), 5, None, low, FORM_R),
+            obtain(in_register(1), 5, None, low, FORM_R),
         ),
         (
             b" GETMAIN RC,LV=8",
@@ -173,15 +185,15 @@ fn reads_getmain(rt: HostRuntime) {
         ),
         (
             b" GETMAIN RU,LV=(0)",
-            obtain(Length::Fixed(register_0), 0, None, caller, FORM_S),
+            obtain(in_register(0), 0, None, caller, FORM_S),
         ),
         (
             b" GETMAIN VRC,LV=(8,(4))",
-            obtain(pair, 0, None, caller, CONDITIONAL_S),
+            obtain(pair(), 0, None, caller, CONDITIONAL_S),
         ),
         (
             b" GETMAIN VRU,LV=(8,(4)),SP=1",
-            obtain(pair, 1, None, caller, FORM_S),
+            obtain(pair(), 1, None, caller, FORM_S),
         ),
         (
             b" GETMAIN EC,LV=8,A=p",
@@ -212,31 +224,30 @@ fn reads_a_boundary_of_getmain(rt: HostRuntime) {
 
 #[test]
 fn reads_releases_of_areas(rt: HostRuntime) {
-    let eight = Value::Number(8);
     let lines: [(&[u8], Request); 6] = [
         (
             b" FREEMAIN R,LV=8,A=X'6000'",
-            release(eight, Value::Number(0x6000), 0, FORM_R),
+            release(number(8), Value::Number(0x6000), 0, FORM_R),
         ),
         (
             b" FREEMAIN RC,A=(5),LV=8,SP=1",
-            release(eight, Value::Register(5), 1, CONDITIONAL_S),
+            release(number(8), Value::Register(5), 1, CONDITIONAL_S),
         ),
         (
             b" FREEMAIN RU,LV=8,A=p",
-            release(eight, named("P"), 0, FORM_S),
+            release(number(8), named("P"), 0, FORM_S),
         ),
         (
             b" FREEMAIN E,LV=8,A=P",
-            release(eight, named("P"), 0, FORM_E),
+            release(number(8), named("P"), 0, FORM_E),
         ),
         (
             b" FREEMAIN EC,LV=8,A=P",
-            release(eight, named("P"), 0, CONDITIONAL_E),
+            release(number(8), named("P"), 0, CONDITIONAL_E),
         ),
         (
             b" FREEMAIN EU,LV=8,A=P,SP=3",
-            release(eight, named("P"), 3, FORM_E),
+            release(number(8), named("P"), 3, FORM_E),
         ),
     ];
     for (line, want) in lines {
@@ -246,18 +257,17 @@ fn reads_releases_of_areas(rt: HostRuntime) {
 
 #[test]
 fn reads_releases_of_subpools(rt: HostRuntime) {
-    let eight = Value::Number(8);
     let lines: [(&[u8], Request); 5] = [
         (b" FREEMAIN R,SP=P", whole(named("P"), FORM_R)),
-        (b" FREEMAIN RC,SP=8", whole(eight, CONDITIONAL_S)),
-        (b" FREEMAIN RU,SP=8,LINKAGE=X", whole(eight, FORM_S)),
+        (b" FREEMAIN RC,SP=8", whole(number(8), CONDITIONAL_S)),
+        (b" FREEMAIN RU,SP=8,LINKAGE=X", whole(number(8), FORM_S)),
         (
             b" STORAGE RELEASE,SP=(5)",
             whole(Value::Register(5), FORM_S),
         ),
         (
             b" STORAGE RELEASE,COND=YES,SP=8",
-            whole(eight, CONDITIONAL_S),
+            whole(number(8), CONDITIONAL_S),
         ),
     ];
     for (line, want) in lines {

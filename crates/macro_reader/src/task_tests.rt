@@ -11,6 +11,10 @@ fn attach(given: Subpools, shared: Subpools, shares_zero: bool) -> Request {
     })
 }
 
+fn nothing() -> Subpools {
+    Subpools::Nothing
+}
+
 /// The subpool of a number.
 fn subpool(number: u32) -> Subpools {
     Subpools::Number(Value::Number(number))
@@ -23,11 +27,13 @@ fn list_at(address: Value) -> Subpools {
 
 #[test]
 fn reads_attach(rt: HostRuntime) {
-    let none = Subpools::Nothing;
     let lines: [(&[u8], Request); 9] = [
-        (b" ATTACH", attach(none, none, true)),
-        (b" ATTACH  ", attach(none, none, true)),
-        (b" ATTACH EP=WORK remarks", attach(none, none, true)),
+        (b" ATTACH", attach(nothing(), nothing(), true)),
+        (b" ATTACH  ", attach(nothing(), nothing(), true)),
+        (
+            b" ATTACH EP=WORK remarks",
+            attach(nothing(), nothing(), true),
+        ),
         (
             b" ATTACH EP=WORK,GSPV=5,SHSPV=6",
             attach(subpool(5), subpool(6), true),
@@ -38,7 +44,7 @@ fn reads_attach(rt: HostRuntime) {
         ),
         (
             b" ATTACH SZERO=YES,SHSPL=X'9000'",
-            attach(none, list_at(Value::Number(0x9000)), true),
+            attach(nothing(), list_at(Value::Number(0x9000)), true),
         ),
         (
             b" ATTACH GSPV=(0),SHSPL=P",
@@ -50,11 +56,11 @@ fn reads_attach(rt: HostRuntime) {
         ),
         (
             b" ATTACH GSPV=4294967295",
-            attach(subpool(4_294_967_295), none, true),
+            attach(subpool(4_294_967_295), nothing(), true),
         ),
         (
             b" ATTACH RELATED=(A,'B C'),LINKAGE=SYSTEM,SZERO=NO,REGS=USE",
-            attach(none, none, false),
+            attach(nothing(), nothing(), false),
         ),
     ];
     for (line, want) in lines {
