@@ -1,3 +1,4 @@
 mod NumberLists
 mod AttachPlans
+mod RecordCounts
 mod RunPlans
