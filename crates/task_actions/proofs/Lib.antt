@@ -1,7 +1,12 @@
-mod EndLists
-mod EndOrder
-mod EndEach
-mod EndSubpools
+pub mod EndLists
+pub mod EndOrder
+pub mod EndEach
+pub mod EndSubpools
 mod EndModel
 mod EndWalk
 mod EndStorage
+mod EndSight
+mod EndTasks
+mod EndParked
+mod EndRows
+pub mod EndLeads
