@@ -17,9 +17,8 @@ use Rattle.storage_swap.specs.declared.change.Change.{Change as RawChange}
 use Rattle.storage_history.specs.Apart.{AreWhole}
 use Rattle.storage_history.specs.Kept.{apart-put, hold-append, frames-append}
 use Rattle.storage_history.specs.Reserved.{reserve-others, reserve-apart, reserve-whole}
-use Rattle.storage_plans.specs.Plans.{change_in}
 use Rattle.storage_core.specs.Meaning.{state_in_place, settings_of}
-use Rattle.storage_core.specs.Planned.{CanBeReserved}
+use Rattle.storage_core.specs.Planned.{change_for, reply_of}
 use Rattle.storage_core.specs.Stays.{Stays}
 use Rattle.name_table.specs.Steps.{NameStep}
 use Rattle.name_table.specs.Table.{rows_of, knows}
@@ -48,17 +47,14 @@ Why-set : IsSet Why
 Why-set = hlevel props
 
 module _ (m : MachineState) (x : Act) (p : Planned) (h : ∥ IsAcceptedBy m x p ∥₁) where
-  pub accepted_of : statement_step m.settings (named_of m) x ≡ Accepted (named_of (overlay m (difference_in m p))) p.plan.reply
+  pub accepted_of : statement_step m.settings (named_of m) x ≡ Accepted (named_of (overlay m (difference_in m p))) (reply_of p.plan)
   accepted_of = ∥∥₁_elim h (Outcome-set NamedState-set Reply-set Why-set _ _) (λ a. a.accepted)
 
   pub is_accepted : IsAccepted (statement_step m.settings (named_of m) x)
   is_accepted = subst (λ o. IsAccepted o) (sym accepted_of) tt
 
-  pub fits_of : StorageFits m.settings m.storage (change_in m.storage p.plan)
-  fits_of = ∥∥₁_elim h (hlevel (Fit-prop m.storage (change_in m.storage p.plan))) (λ a. a.fits)
-
-  pub is_reservable : CanBeReserved m.storage p.plan
-  is_reservable = ∥∥₁_elim h (hlevel props) (λ a. a.reserved)
+  pub fits_of : StorageFits m.settings m.storage (change_for m.storage p.plan)
+  fits_of = ∥∥₁_elim h (hlevel (Fit-prop m.storage (change_for m.storage p.plan))) (λ a. a.fits)
 
   pub can_of : CanStepBy m.names (λ name. true) (step_planned p)
   can_of = taken_step m.names (step_planned p) (∥∥₁_elim h (Bool-set _ _) (λ a. step_taken m.names (step_planned p) a.can))
@@ -86,28 +82,28 @@ module _ (s r : Machine) (settings : settings_of r.storage ≡ settings_of s.sto
   -- a machine beside which a change was made
   module _ (p : Planned) (change : Change) (is : IsChangeOf s p r change) where
     made_apart : (xs : List Change) → Apart s xs → Apart r (change ∷ xs)
-    made_apart xs = reserve-apart s.storage.parts r.storage.parts (change_in (state_in_place s.storage) p.plan) change.storage is.storage (storages xs)
+    made_apart xs = reserve-apart s.storage.parts r.storage.parts (change_for (state_in_place s.storage) p.plan) change.storage is.storage (storages xs)
 
     made_whole : (ks us : List Change) → Whole s (ks ++ us) → Whole r (ks ++ change ∷ us)
     made_whole ks us h =
         subst (AreWhole r.storage.parts) (sym (storages_at ks us change))
         (whole_put (storages ks) (storages us) change.storage r.storage.parts
-        (reserve-whole s.storage.parts r.storage.parts (change_in (state_in_place s.storage) p.plan) change.storage is.storage (storages ks ++ storages us)
+        (reserve-whole s.storage.parts r.storage.parts (change_for (state_in_place s.storage) p.plan) change.storage is.storage (storages ks ++ storages us)
         (subst (AreWhole s.storage.parts) (storages_of ks us) h)))
 
     made_readied : Readied s r
     made_readied = record {
       shows = λ i. record { settings = settings i; storage = is.storage.shows i; names = rows i };
-      others = λ x. reserve-others s.storage.parts r.storage.parts (change_in (state_in_place s.storage) p.plan) change.storage is.storage x.storage;
+      others = λ x. reserve-others s.storage.parts r.storage.parts (change_for (state_in_place s.storage) p.plan) change.storage is.storage x.storage;
       apart = λ xs h. machine_steps.rest xs change r (made_apart xs h);
     }
 
-    made_fits : StorageFits (settings_of s.storage) (state_in_place s.storage) (change_in (state_in_place s.storage) p.plan) → CanStepBy (rows_of r.names) (knows r.names) (step_of change) →
+    made_fits : StorageFits (settings_of s.storage) (state_in_place s.storage) (change_for (state_in_place s.storage) p.plan) → CanStepBy (rows_of r.names) (knows r.names) (step_of change) →
         fit (shown r) (means r change)
     made_fits h can = (
       subst (λ (d : StorageChange). StorageFits (settings_of r.storage) (state_in_place r.storage) d) (sym is.storage.meaning)
-          (subst (λ (m : StorageState). StorageFits (settings_of r.storage) m (change_in (state_in_place s.storage) p.plan)) (sym is.storage.shows)
-          (subst (λ (c : Settings). StorageFits c (state_in_place s.storage) (change_in (state_in_place s.storage) p.plan)) (sym settings) h)),
+          (subst (λ (m : StorageState). StorageFits (settings_of r.storage) m (change_for (state_in_place s.storage) p.plan)) (sym is.storage.shows)
+          (subst (λ (c : Settings). StorageFits c (state_in_place s.storage) (change_for (state_in_place s.storage) p.plan)) (sym settings) h)),
       can_fit r.names (step_of change) can,
     )
 
@@ -129,9 +125,9 @@ module _ (s r : Machine) (settings : settings_of r.storage ≡ settings_of s.sto
 
 -- the statement is accepted with the state that its change leads to
 pub accepted_as : (s r : Machine) (x : Act) (p : Planned) (c : Change) → ∥ IsAcceptedBy (shown s) x p ∥₁ → IsChangeOf s p r c →
-    statement_step (settings_of s.storage) (plain_of s) x ≡ Accepted (named_of (overlay (shown s) (means r c))) p.plan.reply
+    statement_step (settings_of s.storage) (plain_of s) x ≡ Accepted (named_of (overlay (shown s) (means r c))) (reply_of p.plan)
 accepted_as s r x p c a is =
-    subst (λ (m : NamedState). statement_step (settings_of s.storage) (plain_of s) x ≡ Accepted m p.plan.reply)
+    subst (λ (m : NamedState). statement_step (settings_of s.storage) (plain_of s) x ≡ Accepted m (reply_of p.plan))
     (λ i. record {
       storage = model_of (storage.overlay (state_in_place s.storage) (sym is.storage.meaning i));
       names = stepped_by (rows_of s.names) (sym is.step i);

@@ -1,11 +1,10 @@
 -- The rows of a macro's forms are of the shape that its slots have.
-use Rattle.std.proofs.Common.{◌≡◌, ℕ, ◌==◌, ◌&&◌, ◌||◌, Bool, true, false, List, [], ◌∷◌, length, Option, Some, None, if◌then◌else◌, refl, sym, ap, ◌∙◌, eqb-true}
+use Rattle.std.proofs.Common.{◌≡◌, ℕ, ◌==◌, ◌&&◌, Bool, true, false, List, [], ◌∷◌, length, Some, None, if◌then◌else◌, refl, sym, ap, ◌∙◌, eqb-true}
 use Rattle.std.specs.List.{list_all}
 use Rattle.operand_texts.specs.Words.{is_word}
 use Rattle.macro_operands.specs.Rows.{Entry, Row}
 use Rattle.macro_operands.specs.Slots.{Slots, no_slots, are_apart}
-use Rattle.macro_statements.specs.Forms.{StorageForm, form_for, condition_by, form_by, is_storage_row}
-use Rattle.macro_statements.specs.declared.requests.Form.{Form}
+use Rattle.macro_statements.specs.Forms.{StorageForm, form_for, is_storage_row}
 
 pub both : (x y : Bool) → (x && y) ≡ true → (x ≡ true) × (y ≡ true)
 both true y h = (refl, h)

@@ -1,26 +1,22 @@
 -- The requests that operand fields spell are those that are valid.
-use Rattle.std.proofs.Common.{◌≡◌, ℕ, suc, ◌^◌, ◌<◌, ◌≤◌, ◌↔◌, ◌==◌, Bool, true, false, ◌&&◌, ◌||◌, List, [], ◌∷◌, length, Option, Some, None, Result, Ok, Err, is_some, nat_le, codes, option_and_then, if◌then◌else◌, decimal, arith, refl, ap, sym, subst, ◌∙◌, ◌+◌, ◌⊎◌, inl, inr}
-use Rattle.std.specs.List.{AllByRecursion}
+use Rattle.std.proofs.Common.{◌≡◌, ℕ, ◌^◌, ◌<◌, ◌≤◌, ◌↔◌, Bool, true, false, ◌&&◌, List, [], ◌∷◌, length, Option, Some, None, Result, Ok, Err, is_some, nat_le, codes, option_and_then, if◌then◌else◌, decimal, arith, refl, ap, sym, subst, ◌∙◌, ◌+◌, ◌⊎◌, inl, inr}
 use Rattle.std.specs.Option.{IfSome, option_map}
 use Rattle.std.specs.Prelude.{IfOk}
 use Rattle.std.proofs.lemmas.Bool.Decides.{nat_tests}
 use Rattle.std.proofs.lemmas.List.{length-append}
 use Rattle.operand_texts.specs.Field.{outside, is_balanced, operands}
-use Rattle.operand_texts.specs.Words.{is_name}
-use Rattle.operand_texts.specs.Written.{Written, number, named, register, Target, in_name, in_register, Stored, spelled, word, is_upper_name, IsValue, IsTarget, IsStored, HasBytes}
+use Rattle.operand_texts.specs.Written.{Written, number, named, register, Stored, spelled, word, IsValue, IsStored, HasBytes}
 use Rattle.operand_texts.specs.Values.{number_of, value_of, content_of, within_size, size_of}
-use Rattle.macro_operands.specs.Rows.{Key, position, keyword, is_among, Entry, entry, Row}
-use Rattle.macro_operands.specs.Operands.{entry_for, is_excluded, first_fault, text_at, value_at, unless_fault}
-use Rattle.macro_operands.specs.Lengths.{is_register_0, is_named}
-use Rattle.macro_operands.specs.Said.{Said, said_of, value_said, content, size, count, boundary, location, condition}
-use Rattle.macro_operands.specs.Slots.{Slots, as_value, as_place, as_boundary, as_location, as_condition}
+use Rattle.macro_operands.specs.Rows.{position, keyword, entry}
+use Rattle.macro_operands.specs.Operands.{first_fault, text_at, value_at, unless_fault}
+use Rattle.macro_operands.specs.Said.{content, size, count}
 use Rattle.macro_operands.specs.declared.faults.FaultKind.{FaultKind}
 use Rattle.macro_operands.specs.declared.faults.FaultKind.TheVariants as fault
 use Rattle.macro_operands.specs.declared.rows.Behind.TheVariants as behind
 use Rattle.macro_operands.specs.declared.rows.Kind.TheVariants as kind
-use Rattle.macro_statements.specs.Requests.{WrittenLength, fixed, between, IsLength, is_fixed, obtain, release, whole, WrittenSubpools, IsSubpools, attach, detach, run, end_task, poke, Asked, act, peek, map_asked, back, forward, IsRegisterObtain, IsNamedObtain, IsObtainForm, IsReleaseForm, IsWholeForm, IsValidAsked, AskedHasBytes, HasRoom, seen, asked_in}
-use Rattle.macro_statements.specs.Forms.{StorageForm, obtaining, releasing, lacks_place, obtain_by, has_whole, release_by, asked_by, form_with, boundary_by, location_by, form_by, as_length}
-use Rattle.macro_statements.specs.Storage.{obtain_row, release_row, storage_macro}
+use Rattle.macro_statements.specs.Requests.{obtain, release, whole, WrittenSubpools, IsSubpools, attach, detach, run, end_task, poke, Asked, act, peek, map_asked, back, forward, IsValidAsked, AskedHasBytes, HasRoom, seen, asked_in}
+use Rattle.macro_statements.specs.Forms.{obtaining, releasing}
+use Rattle.macro_statements.specs.Storage.{storage_macro}
 use Rattle.macro_statements.specs.Getmain as getmain
 use Rattle.macro_statements.specs.Getmain.{getmain_macro}
 use Rattle.macro_statements.specs.Freemain as freemain
@@ -32,26 +28,18 @@ use Rattle.macro_statements.specs.Detach.{detach_row, detach_with}
 use Rattle.macro_statements.specs.Run.{run_row, run_with}
 use Rattle.macro_statements.specs.Steps.{steps_row, count_with, step_with, count_in}
 use Rattle.macro_statements.specs.Statements.{asked_of, behind_of, SpellsRequest}
-use Rattle.macro_statements.specs.declared.requests.Form.{Form}
 use Rattle.macro_statements.specs.declared.requests.Request.{Request}
 use Rattle.macro_statements.specs.declared.statements.Operation.{Operation}
 use Rattle.macro_statements.specs.declared.statements.Operation.TheVariants as operation
-use Rattle.vsm_model.specs.declared.causes.Family.{Family}
 use Rattle.vsm_model.specs.declared.causes.Family.TheVariants as family
-use Rattle.vsm_model.specs.declared.services.Boundary.{Boundary}
-use Rattle.vsm_model.specs.declared.services.Boundary.TheVariants.{Doubleword, Page}
-use Rattle.vsm_model.specs.declared.services.Location.{Location}
-use Rattle.vsm_model.specs.declared.services.Location.TheVariants.{Low, Either, Caller}
-use Rattle.operand_texts.proofs.OperandTexts.{IsOperand, joined, balanced_joined, operands_joined}
+use Rattle.operand_texts.proofs.OperandTexts.{joined, balanced_joined, operands_joined}
 use Rattle.operand_texts.proofs.ValueTexts.{ValueText, ContentText, value_text_of, content_text_of, number_text}
 use Rattle.operand_texts.proofs.Spelling.{written, below}
 use Rattle.operand_texts.proofs.SpelledBytes.{spelled_content_is_valid}
 use Rattle.macro_operands.proofs.WrittenOperands.{placed, Item, item, Fits, AllFit, no_fault_from, lookup, finds}
 use Rattle.macro_operands.proofs.WrittenOperands as operands
-use Rattle.macro_operands.proofs.ReadValues.{value_kept, some_kept}
-use Rattle.macro_statements.proofs.FormTexts.{unsaid, value_spelled, fixed_spelled, one_length, besides_0_spelled, length_spelled, place_spelled, named_value_spelled, named_place_spelled, name_stands, condition_spelled, boundary_spelled, location_spelled, WrittenForm, six_said, length_form, lv_form}
 use Rattle.macro_statements.proofs.ReadForms.{some_value, ReadsValid, AllReadValid, macro_valid, obtains_s, releases_s, obtains_r, releases_r, obtains_e, releases_e, any_length, values_length, pairs_length, places, no_places}
-use Rattle.macro_statements.proofs.SpelledOperands.{Good, no_fault, text, in_position, less, room, Operands, Remarks, value_says}
+use Rattle.macro_statements.proofs.SpelledOperands.{Good, no_fault, text, in_position, Operands, Remarks, value_says}
 use Rattle.macro_statements.proofs.StorageTexts.{obtain_operands, release_operands, whole_operands}
 use Rattle.macro_statements.proofs.TaskTexts.{attach_operands, detach_operands, run_operands}
 

@@ -1,16 +1,14 @@
 -- Operands for each valid request on tasks.
-use Rattle.std.proofs.Common.{◌≡◌, ℕ, ◌+◌, ◌≤◌, ◌==◌, Bool, true, false, not, List, [], ◌∷◌, length, Option, Some, None, is_some, Result, Ok, codes, option_and_then, if◌then◌else◌, arith, refl, ap, ◌∙◌}
-use Rattle.std.specs.List.{AllByRecursion}
-use Rattle.std.specs.Option.{IfSome, option_map}
+use Rattle.std.proofs.Common.{◌≡◌, ℕ, ◌≤◌, Bool, true, false, not, List, [], ◌∷◌, length, Option, Some, None, is_some, Ok, codes, option_and_then, if◌then◌else◌, arith, refl, ap, ◌∙◌}
+use Rattle.std.specs.Option.{IfSome}
 use Rattle.std.proofs.lemmas.List.{length-append}
 use Rattle.operand_texts.specs.Written.{Written, IsValue}
 use Rattle.operand_texts.specs.Values.{value_of}
-use Rattle.operand_texts.proofs.OperandTexts.{IsOperand, joined}
+use Rattle.operand_texts.proofs.OperandTexts.{IsOperand}
 use Rattle.operand_texts.proofs.ValueTexts.{value_text_of}
-use Rattle.macro_operands.specs.Rows.{Key, position, keyword, Entry, entry, excluding, Row}
+use Rattle.macro_operands.specs.Rows.{Key, position, keyword, entry, excluding, Row}
 use Rattle.macro_operands.specs.Operands.{entry_for, first_fault, text_at, value_at}
 use Rattle.macro_operands.specs.Said.{said_of, condition_of}
-use Rattle.macro_operands.specs.declared.faults.FaultKind.{FaultKind}
 use Rattle.macro_operands.specs.declared.rows.Behind.TheVariants as behind
 use Rattle.macro_operands.specs.declared.rows.Kind.TheVariants as kind
 use Rattle.macro_operands.proofs.WrittenOperands.{Item, item, operand_text, Fits, lookup, stand, long}

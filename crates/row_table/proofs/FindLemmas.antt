@@ -1,12 +1,11 @@
 -- A walk to a key from the front, each element read once.
-use Rattle.std.proofs.Common.{◌≡◌, ℕ, zero, suc, ◌-◌, ◌<◌, true, false, ◌⊎◌, inl, inr, List, [], ◌∷◌, Option, Some, None, refl, sym, ap, ◌∙◌, subst, arith}
+use Rattle.std.proofs.Common.{◌≡◌, ℕ, zero, suc, ◌-◌, ◌<◌, true, false, ◌⊎◌, inl, inr, List, ◌∷◌, Some, None, sym, ap, ◌∙◌, subst, arith}
 use Rattle.vsm_elements.specs.declared.element.Element.{Element}
 use Rattle.vsm_elements.specs.Store.{Store, at}
 use Rattle.vsm_elements.specs.Chain.{Link, follow, Holds}
 use Rattle.vsm_elements.proofs.ChainCalls.{element_is}
-use Rattle.row_table.specs.declared.row.Row.{Row}
 use Rattle.row_table.specs.Rows.{comes_before, is_under, row_in, AllBehind, Ascends}
-use Rattle.row_table.proofs.RowLemmas.{either, not_both, same_by, first, second, row_here, row_later, none_by}
+use Rattle.row_table.proofs.RowLemmas.{not_both, same_by, first, second, row_here, row_later, none_by}
 use Rattle.row_table.proofs.NextLemmas.{before_or}
 use Rattle.row_table.proofs.AscendLemmas.{none_behind, behind_more, other_before}
 

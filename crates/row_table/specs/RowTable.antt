@@ -26,6 +26,10 @@ rows s q = map row_of (links s q.chain)
 unfoldable pub place_index : RowPlace → ℕ
 place_index place = place.index
 
+-- the id of the row before the place
+unfoldable pub id_before : RowPlace → ℕ
+id_before place = place.before
+
 -- the place is before, between or behind the table's rows
 unfoldable pub IsPlace : Store → RowTable → RowPlace → Type 0
 IsPlace s q place = StandsAt s q.chain place.index place.before

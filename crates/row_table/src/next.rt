@@ -3,7 +3,7 @@
 ghost use Rattle.std.specs.Prelude.{◌≡◌, ◌+◌, ℕ, true, Some, None, IfSome, IfNone, option_map, slice_get};
 ghost use Rattle.vsm_elements.specs.Store.{Store};
 ghost use Rattle.row_table.specs.Rows.{word, comes_before};
-ghost use Rattle.row_table.specs.RowTable.{row, rows, place_index, IsTable, IsPlace};
+ghost use Rattle.row_table.specs.RowTable.{row, rows, place_index, id_before, IsTable, IsPlace};
 
 use crate::places::RowPlace;
 use crate::row::Row;
@@ -14,7 +14,7 @@ use vsm_elements::Elements;
 // what stands in the elements
 crate::specs::RowTable::row, crate::specs::RowTable::rows, crate::specs::RowTable::IsTable,
 // where a walk stands
-crate::specs::RowTable::place_index, crate::specs::RowTable::IsPlace))]
+crate::specs::RowTable::place_index, crate::specs::RowTable::id_before, crate::specs::RowTable::IsPlace))]
 impl RowTable {
     /// The row that comes next behind these two numbers, by its second number and then by its first; `None` past
     /// the last.
@@ -55,6 +55,7 @@ impl RowTable {
         ensures row { option_map (λ r. r.0) result ≡ slice_get (rows elements.now self.now) (place_index place) }
         ensures next { IfSome result (λ r. IsPlace elements.now self.now r.1
             × (place_index r.1 ≡ place_index place + 1)) }
+        ensures before { IfSome result (λ r. id_before r.1 ≡ r.0.id) }
     {
         let count = self.chain.count;
         if place.index >= count {

@@ -1,4 +1,4 @@
-ghost use Rattle.std.specs.Prelude.{◌≡◌, ◌+◌, ◌%◌, ◌≤◌};
+ghost use Rattle.std.specs.Prelude.{◌≡◌, ◌+◌, ◌%◌, ◌≤◌, ◌==◌};
 ghost use Rattle.vsm_model.specs.Bytes.{fullword};
 ghost use Rattle.storage_changes.specs.Records.{record_of, words_of, word, subpool_in, run_in, register_in, bytes_in};
 ghost use Rattle.storage_changes.specs.Records.{four_at, task_in};
@@ -206,11 +206,7 @@ impl Record {
             TURN => Record::Turn(TurnRecord {
                 task: low_byte(words[1]),
             }),
-            SHARER => Record::Sharer(SharerRecord {
-                subpool,
-                task: low_byte(words[3]),
-                present: value,
-            }),
+            SHARER => Record::Sharer(sharer_of(words)),
             PASS => Record::Pass(PassRecord {
                 subpool,
                 to: low_byte(words[3]),
@@ -307,6 +303,16 @@ fn task_of(words: [u32; 7]) -> TaskRecord
     TaskRecord {
         task: low_byte(words[1]),
         parent: low_byte(words[2]),
+        present: words[5] == 1,
+    }
+}
+
+fn sharer_of(words: [u32; 7]) -> SharerRecord
+    ensures { result ≡ record { subpool = subpool_in words; task = word words 3 % 256; present = word words 5 == 1 } }
+{
+    SharerRecord {
+        subpool: subpool_of(words),
+        task: low_byte(words[3]),
         present: words[5] == 1,
     }
 }

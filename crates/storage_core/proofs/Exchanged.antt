@@ -11,8 +11,9 @@ use Rattle.storage_changes.specs.Meaning.{IsSound}
 use Rattle.storage_changes.specs.Props.{Fit-prop}
 use Rattle.storage_exchange.specs.declared.storage.Storage.{Storage as Parts}
 use Rattle.storage_exchange.specs.Storage.{state_of}
-use Rattle.storage_plans.specs.declared.plan.Plan.{Plan}
-use Rattle.storage_plans.specs.Plans.{change_in, CarriesOut}
+use Rattle.storage_core.specs.declared.plans.Plan.{Plan}
+use Rattle.storage_core.specs.Planned.{change_for, reply_of}
+use Rattle.task_plans.specs.TaskPlans.{IsAccepted}
 use Rattle.storage_swap.specs.declared.change.Change.{Change}
 use Rattle.storage_swap.specs.Reserve.{Reserves}
 use Rattle.storage_swap.specs.Swap.{means, Swaps}
@@ -20,33 +21,29 @@ use Rattle.storage_swap.proofs.BackLemmas.{swaps-lead-back}
 use Rattle.storage_history.specs.Apart.{CanSwap}
 use Rattle.storage_history.specs.Reserved.{reserved-changes-fit}
 use Rattle.storage_history.specs.Steps.{storage_inverts}
-use Rattle.storage_core.specs.Planned.{CanBeReserved}
 
 -- the change leads to a sound storage
 abbrev pub LeadsSound : Settings → StorageState → Meaning → Type 0
 LeadsSound settings m d = ∥ IsSound settings (overlay m d) ∥₁
 
 module _ (settings : Settings) (names_full : Bool) (m : StorageState) (x : Service) (plan : Plan)
-    (planned : ∥ CarriesOut settings names_full m x plan ∥₁)
+    (planned : ∥ IsAccepted settings names_full m x (change_for m plan) (reply_of plan) ∥₁)
   where
-    pub can_be_reserved : CanBeReserved m plan
-    can_be_reserved = ∥∥₁_elim planned (hlevel props)
-        (λ k. record { few = k.few; range = k.range; there = k.there; unassigned = k.unassigned })
+    plan_fits : Fit m (change_for m plan)
+    plan_fits = ∥∥₁_elim planned (Fit-prop m (change_for m plan)) (λ k. k.fits)
 
-    plan_fits : Fit m (change_in m plan)
-    plan_fits = ∥∥₁_elim planned (Fit-prop m (change_in m plan)) (λ k. k.fits)
-
-    plan_is_sound : LeadsSound settings m (change_in m plan)
+    plan_is_sound : LeadsSound settings m (change_for m plan)
     plan_is_sound = ∥∥₁_map planned (λ k. k.sound)
 
 module _ (settings : Settings) (names_full : Bool) (p t : Parts) (x : Service) (plan : Plan)
-    (planned : ∥ CarriesOut settings names_full (state_of p) x plan ∥₁) (c : Change)
-    (made : Reserves p (change_in (state_of p) plan) c t)
+    (planned : ∥ IsAccepted settings names_full (state_of p) x (change_for (state_of p) plan) (reply_of plan) ∥₁)
+    (c : Change)
+    (made : Reserves p (change_for (state_of p) plan) c t)
   where
     pub reserved_can : CanSwap t c
     reserved_can = record {
       ready = made.ready;
-      fits = (reserved-changes-fit p t (change_in (state_of p) plan) c made (plan_fits settings names_full (state_of p) x plan planned)).0;
+      fits = (reserved-changes-fit p t (change_for (state_of p) plan) c made (plan_fits settings names_full (state_of p) x plan planned)).0;
     }
 
     pub reserved_sound : LeadsSound settings (state_of t) (means t.elements c)

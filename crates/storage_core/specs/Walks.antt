@@ -1,14 +1,39 @@
--- Places among the extents and the free areas of a subpool.
-use Rattle.std.specs.Prelude.{◌≡◌, ℕ}
+-- Places among the subpools, their sharers, and the extents and the free areas of a subpool.
+-- Assembler Services Guide, "Virtual storage management", "Subpool handling".
+use Rattle.std.specs.Prelude.{◌≡◌, ℕ, List}
 use Rattle.run_set.specs.RunSet.{place_index}
 use Rattle.descriptor_queue.specs.Extents as queue
 use Rattle.free_queue.specs.FreeQueue as free_queue
 use Rattle.vsm_model.specs.declared.Subpool.{Subpool}
+use Rattle.subpool_set.specs.declared.places.PoolPlace.{PoolPlace}
+use Rattle.subpool_set.specs.declared.places.SharerPlace.{SharerPlace}
+use Rattle.subpool_storage.specs.SubpoolStorage as subpools
 use Rattle.subpool_storage.specs.Extents.{extents, free_areas}
 use Rattle.storage_core.specs.declared.storage.Storage.{Storage}
 use Rattle.storage_core.specs.declared.walks.ExtentPlace.{ExtentPlace}
 use Rattle.storage_core.specs.declared.walks.FreeAreaPlace.{FreeAreaPlace}
 use Rattle.storage_core.specs.Meaning.{state_in_place}
+
+-- the place is before, between or behind the subpools, and these are behind it
+abbrev pub IsSubpoolPlace : Storage → PoolPlace → Type 0
+IsSubpoolPlace s place = subpools.IsSubpoolPlace s.parts.elements s.parts.subpools place
+
+abbrev pub subpools_left : Storage → PoolPlace → List Subpool
+subpools_left s place = subpools.subpools_left s.parts.elements s.parts.subpools place
+
+-- the place is behind a subpool that was read, and this is that subpool
+abbrev pub IsBehindSubpool : Storage → PoolPlace → Type 0
+IsBehindSubpool s place = subpools.IsBehindSubpool s.parts.elements s.parts.subpools place
+
+abbrev pub subpool_before : Storage → PoolPlace → Subpool
+subpool_before s place = subpools.subpool_before s.parts.elements place
+
+-- the place is before, between or behind sharers, and these tasks behind it see the subpool besides its owner
+abbrev pub IsSharerPlace : Storage → SharerPlace → Type 0
+IsSharerPlace s place = subpools.IsSharerPlace s.parts.elements s.parts.subpools place
+
+abbrev pub sharers_left : Storage → SharerPlace → Subpool → List ℕ
+sharers_left s place p = subpools.sharers_left s.parts.elements s.parts.subpools place p
 
 -- the place stands before the extent of this index, from 0 on, of the subpool
 pub record IsExtentPlace (s : Storage) (p : Subpool) (w : ExtentPlace) (i : ℕ) : Type 0 where

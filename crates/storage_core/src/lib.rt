@@ -18,6 +18,7 @@ pub use storage::Storage;
 pub use plans::Plan;
 pub use storage_plans::STORE_MOST;
 pub use storage_swap::{Change, Released};
+pub use subpool_storage::{PoolPlace, SharerPlace};
 pub use vsm_model::{
     Attach, Boundary, Cause, Code, Family, Lengths, Location, Obtain, Passed, Release, Reply,
     Residence, Service, Settings, Subpool,

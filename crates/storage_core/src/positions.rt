@@ -10,8 +10,6 @@ ghost use Rattle.storage_core.specs.Meaning.{state_in_place, state_of};
 use crate::storage::Storage;
 use free_queue::Area;
 use run_set::Run;
-use subpool_set::laws::readers_begin;
-use subpool_storage::laws::subpools_begin;
 use vsm_model::Subpool;
 
 impl Storage {
@@ -26,15 +24,7 @@ impl Storage {
     pub fn subpool_at(&self, i: u32) -> Option<Subpool>
         ensures { result ≡ slice_get (subpools_in_order (state_in_place self.now).subpools) i }
     {
-        subpools_begin();
-        let mut number = 0;
-        let mut owner = 0;
-        for _ in 0..i {
-            let subpool = self.subpool_after(number, owner)?;
-            number = subpool.number;
-            owner = subpool.owner;
-        }
-        self.subpool_after(number, owner)
+        self.parts.subpools.subpool_at(&self.parts.elements, i)
     }
 
     /// The sharer of this index of a subpool, in ascending order. The owner is none.
@@ -42,12 +32,9 @@ impl Storage {
         ensures { result ≡ slice_get (sharers (state_in_place self.now).subpools.sight
             subpool.number subpool.owner) i }
     {
-        readers_begin();
-        let mut task = 0;
-        for _ in 0..i {
-            task = self.sharer_after(subpool, task)?;
-        }
-        self.sharer_after(subpool, task)
+        self.parts
+            .subpools
+            .sharer_at(&self.parts.elements, subpool, i)
     }
 
     /// The extent of this index of a subpool, in pages of 4,096 bytes, ascending.

@@ -1,18 +1,20 @@
 //! What a storage holds, one after the other, in the order in which the storage map shows it. Nothing takes memory.
 ghost use Rattle.std.specs.Prelude.{◌≡◌, ℕ, ◌+◌, ◌^◌, ◌<◌, [], ◌∷◌, option_map, slice_get, true, IfNone, IfSome};
 ghost use Rattle.vsm_model.specs.declared.Subpool.{Subpool as Named};
-ghost use Rattle.subpool_set.specs.Pools.{sharers_after};
+ghost use Rattle.subpool_set.specs.Pools.{sharers};
 ghost use Rattle.subpool_storage.specs.Extents.{extents, free_areas};
-ghost use Rattle.subpool_storage.specs.Order.{subpools_after};
+ghost use Rattle.subpool_storage.specs.Order.{subpools_in_order};
 ghost use Rattle.subpool_storage.specs.Subpools.{is_there};
 ghost use Rattle.storage_core.specs.Meaning.{state_in_place, state_of};
-ghost use Rattle.storage_core.specs.Walks.{IsExtentPlace, IsFreeAreaPlace};
+ghost use Rattle.storage_core.specs.Walks.{IsSubpoolPlace, subpools_left, IsBehindSubpool, subpool_before};
+ghost use Rattle.storage_core.specs.Walks.{IsSharerPlace, sharers_left, IsExtentPlace, IsFreeAreaPlace};
 
 use crate::storage::Storage;
 use descriptor_queue::Extents;
 use free_queue::{Area, FreeQueue};
 use map_laws::laws::runs_are_shown;
 use run_set::{Run, RunPlace};
+use subpool_storage::{PoolPlace, SharerPlace, SubpoolStorage};
 use vsm_model::Subpool;
 
 /// A place among the extents of a subpool, from which [`Storage::next_extent`] goes on at the cost of one element. It
@@ -38,31 +40,82 @@ impl Storage {
         self.parts.tasks.parent_of(&self.parts.elements, task)
     }
 
-    /// The subpool that comes next behind this number and this owner, by number and then by owner; `None` behind the
-    /// last. Behind 0 and 0 comes the first.
-    pub fn subpool_after(&self, number: u8, owner: u8) -> Option<Subpool>
-        ensures none { IfNone result (subpools_after (state_in_place self.now).subpools number owner ≡ []) }
-        ensures there { IfSome result (λ p. is_there (state_in_place self.now).subpools p ≡ true) }
-        ensures next { IfSome result (λ p. subpools_after (state_in_place self.now).subpools number owner
-            ≡ p ∷ subpools_after (state_in_place self.now).subpools p.number p.owner) }
+    /// The place before the first subpool of any storage. A place is one as long as the storage stays as it is.
+    pub fn first_subpool_place() -> PoolPlace
+        ensures place { (s : Storage) → IsSubpoolPlace s result }
+        ensures all { (s : Storage) → subpools_left s result ≡ subpools_in_order (state_in_place s).subpools }
     {
-        self.parts
-            .subpools
-            .subpool_after(&self.parts.elements, number, owner)
+        SubpoolStorage::first_subpool_place()
     }
 
-    /// The task with the lowest number above this task's that sees the subpool besides its owner; `None` above the
-    /// last. Above 0 is the first. (z/OS MVS Programming: Assembler Services Guide, "Subpool handling".)
-    pub fn sharer_after(&self, subpool: Subpool, task: u8) -> Option<u8>
-        ensures none { IfNone result (sharers_after (state_in_place self.now).subpools.sight
-            subpool.number subpool.owner task ≡ []) }
-        ensures next { IfSome result (λ t. sharers_after (state_in_place self.now).subpools.sight
-            subpool.number subpool.owner task
-            ≡ t ∷ sharers_after (state_in_place self.now).subpools.sight subpool.number subpool.owner t) }
+    /// The subpool behind the place, and the place behind that subpool; `None` behind the last. From the first place
+    /// on, the subpools come by number and then by owner. (z/OS MVS Programming: Assembler Services Guide, "Subpool
+    /// handling".)
+    pub fn next_subpool(&self, place: PoolPlace) -> Option<(Subpool, PoolPlace)>
+        requires { IsSubpoolPlace self.now place }
+        ensures none { IfNone result (subpools_left self.now place ≡ []) }
+        ensures next { IfSome result (λ r. subpools_left self.now place ≡ r.0 ∷ subpools_left self.now r.1) }
+        ensures there { IfSome result (λ r. is_there (state_in_place self.now).subpools r.0 ≡ true) }
+        ensures place { IfSome result (λ r. IsSubpoolPlace self.now r.1) }
+        ensures behind { IfSome result (λ r. IsBehindSubpool self.now r.1) }
+        ensures before { IfSome result (λ r. subpool_before self.now r.1 ≡ r.0) }
     {
         self.parts
             .subpools
-            .sharer_after(&self.parts.elements, subpool, task)
+            .next_subpool(&self.parts.elements, place)
+    }
+
+    /// The place before the first task that shares the subpool before the place.
+    pub fn first_sharer_place(place: PoolPlace) -> SharerPlace
+        ensures place { (s : Storage) → IsBehindSubpool s place → IsSharerPlace s result }
+        ensures all { (s : Storage) → IsBehindSubpool s place
+            → sharers_left s result (subpool_before s place) ≡ sharers (state_in_place s).subpools.sight
+            (subpool_before s place).number (subpool_before s place).owner }
+    {
+        SubpoolStorage::first_sharer_place(place)
+    }
+
+    /// The task behind the place that sees the subpool besides its owner, and the place behind that task; `None` behind
+    /// the last. From the first place on, the tasks come in ascending order. (z/OS MVS Programming: Assembler Services
+    /// Guide, "Subpool handling".)
+    pub fn next_sharer(&self, subpool: Subpool, place: SharerPlace) -> Option<(u8, SharerPlace)>
+        requires { IsSharerPlace self.now place }
+        ensures none { IfNone result (sharers_left self.now place subpool ≡ []) }
+        ensures next { IfSome result (λ r. sharers_left self.now place subpool
+            ≡ r.0 ∷ sharers_left self.now r.1 subpool) }
+        ensures place { IfSome result (λ r. IsSharerPlace self.now r.1) }
+    {
+        self.parts
+            .subpools
+            .next_sharer(&self.parts.elements, subpool, place)
+    }
+
+    /// The place before the first extent of the subpool before the place, with no look-up.
+    pub fn first_extent_at(&self, place: PoolPlace) -> ExtentPlace
+        requires { IsBehindSubpool self.now place }
+        ensures { IsExtentPlace self.now (subpool_before self.now place) result 0 }
+    {
+        ExtentPlace {
+            extents: self
+                .parts
+                .subpools
+                .extents_at(&self.parts.elements, place),
+            place: Extents::first_place(),
+        }
+    }
+
+    /// The place before the first free area of the subpool before the place, with no look-up.
+    pub fn first_free_area_at(&self, place: PoolPlace) -> FreeAreaPlace
+        requires { IsBehindSubpool self.now place }
+        ensures { IsFreeAreaPlace self.now (subpool_before self.now place) result 0 }
+    {
+        FreeAreaPlace {
+            areas: self
+                .parts
+                .subpools
+                .free_areas_at(&self.parts.elements, place),
+            place: FreeQueue::first_place(),
+        }
     }
 
     /// The place before the first extent of the subpool.

@@ -7,6 +7,7 @@ use Rattle.descriptor_queue.specs.declared.pages.Pages.{Pages as PageSet}
 use Rattle.descriptor_queue.specs.Pages.{IsPages}
 use Rattle.descriptor_queue.specs.Pages
 use Rattle.raw_region.specs.Pages.{Pages as Tables}
+use Rattle.task_tree.specs.declared.tree.TaskTree.{TaskTree as Tree}
 use Rattle.task_tree.specs.TaskTree.{IsTaskTree}
 use Rattle.task_tree.specs.TaskTree
 use Rattle.subpool_storage.specs.declared.storage.SubpoolStorage.{SubpoolStorage as Subpools}
@@ -101,14 +102,14 @@ module _ (p : Storage) (parked : Subpools) (k : StandsWith p parked) (e : Store)
     pages-move = moves-by p.elements e in_pages (λ i. times i (Pages.owned e q)) (hold_with p parked) (hold_with with-pages parked) m (λ i. omega arith)
         (λ i. omega (arith, pages-subpools.held i, pages-tasks.held i, pages-parked.held i))
 
-  -- a call on the tasks, whose head stays
-  module _ (m : Moves p.elements e in_tasks (λ i. times i (TaskTree.owned e p.tasks))) (new : IsTaskTree e p.tasks) where
+  -- a call on the tasks
+  module _ (q : Tree) (m : Moves p.elements e in_tasks (λ i. times i (TaskTree.owned e q))) (new : IsTaskTree e q) where
     abbrev pub with-tasks : Storage
-    with-tasks = record { elements = e; region = p.region; unassigned = p.unassigned; subpools = p.subpools; tasks = p.tasks }
+    with-tasks = record { elements = e; region = p.region; unassigned = p.unassigned; subpools = p.subpools; tasks = q }
 
-    beside-tasks : ((i : ℕ) → 0 < in_pages i + in_subpools i + in_parked i → at e i ≡ at p.elements i) × ((i : ℕ) → times i (TaskTree.owned e p.tasks) + (in_pages i + in_subpools i + in_parked i) ≤ 1)
-    beside-tasks = others-kept p.elements e in_tasks (λ i. times i (TaskTree.owned e p.tasks)) (λ i. in_pages i + in_subpools i + in_parked i) m (λ i. omega (arith, k.once i))
-        (three-live p.elements in_pages in_subpools in_parked live-in-pages live-in-subpools live-in-parked) (tasks-once e p.tasks new)
+    beside-tasks : ((i : ℕ) → 0 < in_pages i + in_subpools i + in_parked i → at e i ≡ at p.elements i) × ((i : ℕ) → times i (TaskTree.owned e q) + (in_pages i + in_subpools i + in_parked i) ≤ 1)
+    beside-tasks = others-kept p.elements e in_tasks (λ i. times i (TaskTree.owned e q)) (λ i. in_pages i + in_subpools i + in_parked i) m (λ i. omega (arith, k.once i))
+        (three-live p.elements in_pages in_subpools in_parked live-in-pages live-in-subpools live-in-parked) (tasks-once e q new)
 
     pub tasks-pages : PagesStay p.elements e p.unassigned
     tasks-pages = pages-stay p.elements e p.unassigned k.storage.unassigned (λ i n. beside-tasks.0 i (omega (arith, n)))
@@ -127,7 +128,7 @@ module _ (p : Storage) (parked : Subpools) (k : StandsWith p parked) (e : Store)
     }
 
     pub tasks-move : Moves p.elements e (hold_with p parked) (hold_with with-tasks parked)
-    tasks-move = moves-by p.elements e in_tasks (λ i. times i (TaskTree.owned e p.tasks)) (hold_with p parked) (hold_with with-tasks parked) m (λ i. omega arith)
+    tasks-move = moves-by p.elements e in_tasks (λ i. times i (TaskTree.owned e q)) (hold_with p parked) (hold_with with-tasks parked) m (λ i. omega arith)
         (λ i. omega (arith, tasks-pages.held i, tasks-subpools.held i, tasks-parked.held i))
 
   -- the pages and the free storage of a subpool change places with parked ones

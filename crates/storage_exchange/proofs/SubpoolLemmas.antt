@@ -1,4 +1,4 @@
--- A record of an area, of an extent or of an owner's subpool changed sides with the storage.
+-- A record of an area, of an extent, or of whose a subpool is and who sees it, changed sides with the storage.
 use Rattle.std.proofs.Common.{◌≡◌, ℕ, ◌+◌, ◌-◌, ◌/◌, ◌≤◌, Bool, true, false, None, if◌then◌else◌, List, refl, ap, sym, subst, ◌∙◌, arith}
 use Rattle.std.specs.Prelude.{nat_lt}
 use Rattle.vsm_elements.specs.Store.{Store}
@@ -8,13 +8,15 @@ use Rattle.vsm_model.specs.declared.Subpool.{Subpool}
 use Rattle.raw_region.specs.Frames.{PageFrame}
 use Rattle.raw_region.specs.Pages.{Pages as Tables, byte_at, SameTables}
 use Rattle.subpool_storage.specs.declared.storage.SubpoolStorage.{SubpoolStorage as Head}
-use Rattle.subpool_storage.specs.Subpools.{Subpools, with_pages, with_free, with_own}
+use Rattle.subpool_storage.specs.Subpools.{Subpools, with_pages, with_free, with_own, with_sharer, with_passed}
 use Rattle.subpool_storage.specs.SubpoolStorage.{subpools_of, Becomes}
 use Rattle.storage_changes.specs.declared.record.AreaRecord.{AreaRecord}
 use Rattle.storage_changes.specs.declared.record.ExtentRecord.{ExtentRecord}
 use Rattle.storage_changes.specs.declared.record.OwnRecord.{OwnRecord}
+use Rattle.storage_changes.specs.declared.record.SharerRecord.{SharerRecord}
+use Rattle.storage_changes.specs.declared.record.PassRecord.{PassRecord}
 use Rattle.storage_changes.specs.declared.record.Record.{Record}
-use Rattle.storage_changes.specs.declared.record.Record.TheVariants.{Area, Extent, Own}
+use Rattle.storage_changes.specs.declared.record.Record.TheVariants.{Area, Extent, Own, Sharer, Pass}
 use Rattle.storage_changes.specs.Walk.{Walk}
 use Rattle.storage_changes.specs.Steps.{step}
 use Rattle.storage_changes.specs.Fits.{Fits}
@@ -135,6 +137,42 @@ module _ (p : Storage) (e : Store) (q : Head) (subpool : Subpool) where
         ap (walk_with (walk_of p given parked kept) (with_own (subpools_of p.elements p.subpools) subpool false)) (omega (arith, spares, le)),
       ))
 
+-- a subpool that another task sees
+
+module _ (p : Storage) (e : Store) (q : Head) (subpool : Subpool) (task : ℕ) where
+  abbrev sharer_record : Bool → SharerRecord
+  sharer_record present = record { subpool = subpool; task = task; present = present }
+
+  pub shared : Becomes p.elements e p.subpools q (with_sharer (subpools_of p.elements p.subpools) subpool task true) → e.spare + 1 ≡ p.elements.spare
+      → (given : List PageFrame) (parked : Head) → StandsWith p parked → Exchanges p (record p { elements = e; subpools = q }) given given parked parked (Sharer (sharer_record true))
+  shared b spares given parked k =
+      exchanges p e q parked k (with_sharer (subpools_of p.elements p.subpools) subpool task true) b given (Sharer (sharer_record true))
+      (λ kept le h. (
+        omega (arith, spares, le, h.room),
+        ap (walk_with (walk_of p given parked kept) (with_sharer (subpools_of p.elements p.subpools) subpool task true)) (omega (arith, spares, le, h.room)),
+      ))
+
+  pub unshared : Becomes p.elements e p.subpools q (with_sharer (subpools_of p.elements p.subpools) subpool task false) → e.spare ≡ p.elements.spare + 1
+      → (given : List PageFrame) (parked : Head) → StandsWith p parked → Exchanges p (record p { elements = e; subpools = q }) given given parked parked (Sharer (sharer_record false))
+  unshared b spares given parked k =
+      exchanges p e q parked k (with_sharer (subpools_of p.elements p.subpools) subpool task false) b given (Sharer (sharer_record false))
+      (λ kept le h. (
+        omega (arith, spares, le),
+        ap (walk_with (walk_of p given parked kept) (with_sharer (subpools_of p.elements p.subpools) subpool task false)) (omega (arith, spares, le)),
+      ))
+
+-- a subpool that passes to another task
+
+pub passed : (p : Storage) (e : Store) (q : Head) (r : PassRecord)
+    → Becomes p.elements e p.subpools q (with_passed (subpools_of p.elements p.subpools) r.subpool r.to) → e.spare ≡ p.elements.spare
+    → (given : List PageFrame) (parked : Head) → StandsWith p parked → Exchanges p (record p { elements = e; subpools = q }) given given parked parked (Pass r)
+passed p e q r b spares given parked k =
+    exchanges p e q parked k (with_passed (subpools_of p.elements p.subpools) r.subpool r.to) b given (Pass r)
+    (λ kept le h. (
+      omega (arith, spares, le),
+      ap (walk_with (walk_of p given parked kept) (with_passed (subpools_of p.elements p.subpools) r.subpool r.to)) (omega (arith, spares, le)),
+    ))
+
 -- a record whose test has a value
 pub area-as : (r : AreaRecord) (v : Bool) → r.free ≡ v → Area (record { subpool = r.subpool; area = r.area; free = v }) ≡ Area r
 area-as r v e = λ i. Area (record { subpool = r.subpool; area = r.area; free = sym e i })
@@ -145,5 +183,14 @@ extent-as r v e = λ i. Extent (record { subpool = r.subpool; run = r.run; prese
 pub own-as : (r : OwnRecord) (v : Bool) → r.present ≡ v → Own (record { subpool = r.subpool; present = v }) ≡ Own r
 own-as r v e = λ i. Own (record { subpool = r.subpool; present = sym e i })
 
+pub sharer-as : (r : SharerRecord) (v : Bool) → r.present ≡ v → Sharer (record { subpool = r.subpool; task = r.task; present = v }) ≡ Sharer r
+sharer-as r v e = λ i. Sharer (record { subpool = r.subpool; task = r.task; present = sym e i })
+
 pub exchanges-as : (p t : Storage) (given given' : List PageFrame) (parked parked' : Head) (r s : Record) → r ≡ s → Exchanges p t given given' parked parked' r → Exchanges p t given given' parked parked' s
 exchanges-as p t given given' parked parked' r s e h = let P : Record → Type 0 = λ z. Exchanges p t given given' parked parked' z in subst P e h
+
+-- a storage and a record that are equal to those
+pub exchanges-by : (p t u : Storage) (given : List PageFrame) (parked : Head) (r s : Record) → u ≡ t → r ≡ s → Exchanges p t given given parked parked r → Exchanges p u given given parked parked s
+exchanges-by p t u given parked r s e k h =
+    let P : Storage → Type 0 = λ z. Exchanges p z given given parked parked s in
+    subst P (sym e) (exchanges-as p t given given parked parked r s k h)

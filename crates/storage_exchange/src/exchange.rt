@@ -1,4 +1,5 @@
-//! One record of a change changes sides with the storage: a function for each kind.
+//! One record of a change changes sides with the storage: a function for each kind. Those of tasks and of who sees a
+//! subpool are in `sharing.rt`.
 
 ghost use Rattle.std.specs.Prelude.{◌≡◌, ℕ, ◌*◌, ◌≤◌, List, true, false};
 ghost use Rattle.raw_region.specs.Frames.{PageFrame};
@@ -7,8 +8,7 @@ ghost use Rattle.storage_changes.specs.declared.record.Record.TheVariants.{Area,
 ghost use Rattle.storage_changes.specs.declared.record.Record.TheVariants.{Pages as Assignment, Register, Bytes};
 ghost use Rattle.storage_changes.specs.Turned.{turned, read};
 ghost use Rattle.storage_changes.specs.Fits.{Fits, AreaFits, ExtentFits, PagesFits, OwnFits, QueuesFits};
-ghost use Rattle.storage_changes.specs.Fits.{RegisterFits, BytesFits, TaskFits, TurnFits, SharerFits, PassFits};
-ghost use Rattle.storage_changes.specs.declared.record.Record.TheVariants.{Task, Turn, Sharer, Pass};
+ghost use Rattle.storage_changes.specs.Fits.{RegisterFits, BytesFits};
 ghost use Rattle.storage_exchange.specs.Storage.{state_of, walk_of, Stand, StandsWith};
 ghost use Rattle.storage_exchange.specs.Exchange.{Exchanges};
 
@@ -17,8 +17,8 @@ use raw_region::Parked;
 use run_set::Run;
 use std::mem;
 use storage_changes::{
-    AreaRecord, BytesRecord, ExtentRecord, OwnRecord, PagesRecord, PassRecord, QueuesRecord,
-    Record, RegisterRecord, SharerRecord, TaskRecord, TurnRecord,
+    AreaRecord, BytesRecord, ExtentRecord, OwnRecord, PagesRecord, QueuesRecord, Record,
+    RegisterRecord,
 };
 use subpool_storage::SubpoolStorage;
 
@@ -72,21 +72,9 @@ impl Storage {
                 Record::Queues(r)
             }
             Record::Register(r) => Record::Register(self.exchange_register(r)),
-            Record::Task(r) => {
-                self.exchange_task(r);
-                Record::Task(TaskRecord {
-                    present: !r.present,
-                    ..r
-                })
-            }
+            Record::Task(r) => Record::Task(self.exchange_task(r)),
             Record::Turn(r) => Record::Turn(self.exchange_turn(r)),
-            Record::Sharer(r) => {
-                self.exchange_sharer(r);
-                Record::Sharer(SharerRecord {
-                    present: !r.present,
-                    ..r
-                })
-            }
+            Record::Sharer(r) => Record::Sharer(self.exchange_sharer(r)),
             Record::Pass(r) => Record::Pass(self.exchange_pass(r)),
             Record::Bytes(r) => Record::Bytes(self.exchange_bytes(r)),
         }

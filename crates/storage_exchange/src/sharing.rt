@@ -1,6 +1,6 @@
 //! Records of tasks, and of subpools that are shared or pass to another task, change sides with the storage.
 
-ghost use Rattle.std.specs.Prelude.{◌≡◌, ℕ, ◌≤◌, List};
+ghost use Rattle.std.specs.Prelude.{◌≡◌, ℕ, ◌≤◌, not, List};
 ghost use Rattle.raw_region.specs.Frames.{PageFrame};
 ghost use Rattle.subpool_storage.specs.declared.storage.SubpoolStorage.{SubpoolStorage as TheParked};
 ghost use Rattle.subpool_storage.specs.Subpools.{owned_by};
@@ -14,19 +14,23 @@ use storage_changes::{PassRecord, SharerRecord, TaskRecord, TurnRecord};
 use vsm_model::Subpool;
 
 impl Storage {
-    // The task is there, or it is gone.
-    pub(crate) fn exchange_task(&mut self, r: TaskRecord)
+    // The task is there, or it is gone, and the record by which that is taken back is answered.
+    pub(crate) fn exchange_task(&mut self, r: TaskRecord) -> TaskRecord
         requires stands { Stand self.old }
         requires fits { (given : List PageFrame) × (parked : TheParked) × (kept : ℕ) × (kept ≤ self.old.elements.spare)
             × TaskFits (walk_of self.old given parked kept) r }
-        ensures { (given : List PageFrame) (parked : TheParked) → StandsWith self.old parked
+        ensures exchanges { (given : List PageFrame) (parked : TheParked) → StandsWith self.old parked
             → Exchanges self.old self.new given given parked parked (Task r) }
+        ensures turned { result ≡ record r { present = not r.present } }
     {
         if r.present {
             self.tasks.attach(&mut self.elements, r.parent, r.task);
         } else {
-            let parked = self.tasks.park_subtree(&mut self.elements, r.task);
-            parked.discard(&mut self.elements);
+            self.tasks.end_task(&mut self.elements, r.task);
+        }
+        TaskRecord {
+            present: !r.present,
+            ..r
         }
     }
 
@@ -44,20 +48,23 @@ impl Storage {
         TurnRecord { task }
     }
 
-    // The task sees the subpool, or doesn't any more.
-    pub(crate) fn exchange_sharer(&mut self, r: SharerRecord)
+    // The task sees the subpool, or doesn't any more, and the record by which that is taken back is answered.
+    pub(crate) fn exchange_sharer(&mut self, r: SharerRecord) -> SharerRecord
         requires stands { Stand self.old }
         requires fits { (given : List PageFrame) × (parked : TheParked) × (kept : ℕ) × (kept ≤ self.old.elements.spare)
             × SharerFits (walk_of self.old given parked kept) r }
-        ensures { (given : List PageFrame) (parked : TheParked) → StandsWith self.old parked
+        ensures exchanges { (given : List PageFrame) (parked : TheParked) → StandsWith self.old parked
             → Exchanges self.old self.new given given parked parked (Sharer r) }
+        ensures turned { result ≡ record r { present = not r.present } }
     {
         if r.present {
-            self.subpools
-                .share(&mut self.elements, r.subpool, r.task);
+            self.subpools.share(&mut self.elements, r.subpool, r.task);
         } else {
-            self.subpools
-                .unshare(&mut self.elements, r.subpool, r.task);
+            self.subpools.unshare(&mut self.elements, r.subpool, r.task);
+        }
+        SharerRecord {
+            present: !r.present,
+            ..r
         }
     }
 

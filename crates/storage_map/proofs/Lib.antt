@@ -2,3 +2,4 @@
 mod Remaining
 mod Shown
 mod Bounds
+mod Walked

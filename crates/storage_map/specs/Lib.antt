@@ -1,3 +1,2 @@
 pub mod Totals
 pub mod Lines
-pub mod Laws

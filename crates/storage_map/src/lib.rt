@@ -4,7 +4,6 @@
 mod areas;
 mod counts;
 mod fields;
-mod laws;
 mod maps;
 mod subpools;
 mod sums;

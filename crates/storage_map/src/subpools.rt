@@ -3,17 +3,16 @@ ghost use Rattle.std.specs.Prelude.{◌≡◌, flat_map, true};
 ghost use Rattle.subpool_storage.specs.Order.{subpools_in_order};
 ghost use Rattle.subpool_storage.specs.Subpools.{is_there};
 ghost use Rattle.storage_core.specs.Meaning.{state_in_place, state_of, settings_of};
+ghost use Rattle.storage_core.specs.Walks.{IsBehindSubpool, subpool_before};
 ghost use Rattle.storage_map.specs.Lines.{sharer_text, subpool_line};
 ghost use Rattle.vsm_model.specs.Map.{listed, sharers, subpool_lines};
 ghost use Rattle.text_output.specs.Writing.{Puts};
 
 use crate::areas::{put_extents, put_free_areas};
 use crate::fields::put_field;
-use crate::laws::sharers_begin;
-use map_laws::laws::runs_are_shown;
+use map_laws::laws::{runs_are_shown, subpools_are_shown};
 use std::io::Write;
-use storage_core::{Storage, Subpool};
-use subpool_storage::laws::subpools_begin;
+use storage_core::{PoolPlace, Storage, Subpool};
 use text_output::{Gathered, put_decimal};
 
 /// Puts a comma and a task.
@@ -25,62 +24,72 @@ fn put_sharer<W: Write>(gathered: &mut Gathered, writer: &mut W, task: u8)
     put_decimal(gathered, writer, u64::from(task));
 }
 
-/// Puts the tasks that see the subpool besides its owner, with commas between, or NONE.
+/// Puts the tasks that see the subpool before the place besides its owner, with commas between, or NONE.
 fn put_sharers<W: Write>(
     gathered: &mut Gathered,
     writer: &mut W,
     storage: &Storage,
     subpool: Subpool,
+    subpool_place: PoolPlace,
 )
+    requires behind { IsBehindSubpool storage.now subpool_place }
+    requires before { subpool_before storage.now subpool_place ≡ subpool }
     ensures { Puts (W.contents writer.old) (W.contents writer.new) gathered.old gathered.new
         (listed (sharers (state_of storage.now) subpool.number subpool.owner)) }
 {
-    sharers_begin();
-    let Some(first) = storage.sharer_after(subpool, 0) else {
+    subpools_are_shown();
+    let front = Storage::first_sharer_place(subpool_place);
+    let Some((first, second)) = storage.next_sharer(subpool, front) else {
         gathered.put(writer, b"NONE");
         return;
     };
     put_decimal(gathered, writer, u64::from(first));
-    let mut last = first;
-    while let Some(task) = storage.sharer_after(subpool, last) {
+    let mut place = second;
+    while let Some((task, behind)) = storage.next_sharer(subpool, place) {
         put_sharer(gathered, writer, task);
-        last = task;
+        place = behind;
     }
 }
 
-/// Puts the first line of a subpool.
+/// Puts the first line of the subpool before the place.
 #[tactic(auto, using(text_output::proofs::Gathering::puts_both))]
 fn put_subpool_line<W: Write>(
     gathered: &mut Gathered,
     writer: &mut W,
     storage: &Storage,
     subpool: Subpool,
+    subpool_place: PoolPlace,
 )
+    requires behind { IsBehindSubpool storage.now subpool_place }
+    requires before { subpool_before storage.now subpool_place ≡ subpool }
     ensures { Puts (W.contents writer.old) (W.contents writer.new) gathered.old gathered.new
         (subpool_line (state_of storage.now) subpool) }
 {
     put_field(gathered, writer, b" SUBPOOL", u64::from(subpool.number));
     put_field(gathered, writer, b" OWNER", u64::from(subpool.owner));
     gathered.put(writer, b" SHARERS ");
-    put_sharers(gathered, writer, storage, subpool);
+    put_sharers(gathered, writer, storage, subpool, subpool_place);
     gathered.put(writer, b"\n");
 }
 
-/// Puts the lines of a subpool that is there.
+/// Puts the lines of the subpool before the place.
 fn put_subpool<W: Write>(
     gathered: &mut Gathered,
     writer: &mut W,
     storage: &Storage,
     subpool: Subpool,
+    subpool_place: PoolPlace,
 )
-    requires { is_there (state_in_place storage.now).subpools subpool ≡ true }
+    requires there { is_there (state_in_place storage.now).subpools subpool ≡ true }
+    requires behind { IsBehindSubpool storage.now subpool_place }
+    requires before { subpool_before storage.now subpool_place ≡ subpool }
     ensures { Puts (W.contents writer.old) (W.contents writer.new) gathered.old gathered.new
         (subpool_lines (settings_of storage.now) (state_of storage.now) subpool.number subpool.owner) }
 {
     runs_are_shown();
-    put_subpool_line(gathered, writer, storage, subpool);
-    put_extents(gathered, writer, storage, subpool);
-    put_free_areas(gathered, writer, storage, subpool);
+    put_subpool_line(gathered, writer, storage, subpool, subpool_place);
+    put_extents(gathered, writer, storage, subpool_place);
+    put_free_areas(gathered, writer, storage, subpool_place);
 }
 
 /// Puts the lines of all subpools, by number and then by owner.
@@ -89,12 +98,9 @@ pub(crate) fn put_subpools<W: Write>(gathered: &mut Gathered, writer: &mut W, st
         (flat_map (λ p. subpool_lines (settings_of storage.now) (state_of storage.now) p.number p.owner)
         (subpools_in_order (state_in_place storage.now).subpools)) }
 {
-    subpools_begin();
-    let mut number = 0;
-    let mut owner = 0;
-    while let Some(subpool) = storage.subpool_after(number, owner) {
-        put_subpool(gathered, writer, storage, subpool);
-        number = subpool.number;
-        owner = subpool.owner;
+    let mut place = Storage::first_subpool_place();
+    while let Some((subpool, behind)) = storage.next_subpool(place) {
+        put_subpool(gathered, writer, storage, subpool, behind);
+        place = behind;
     }
 }

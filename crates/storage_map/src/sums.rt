@@ -2,12 +2,12 @@
 ghost use Rattle.std.specs.Prelude.{◌≡◌, ◌+◌, ◌<◌, ◌^◌, true, false};
 ghost use Rattle.map_laws.specs.Totals.{pages_on_side, subpool_pages, subpool_free, all_pages, all_free};
 ghost use Rattle.storage_core.specs.Meaning.{state_in_place, state_of, settings_of};
+ghost use Rattle.storage_core.specs.Walks.{IsBehindSubpool, subpool_before};
 ghost use Rattle.storage_map.specs.Totals.{totals_of};
 
 use crate::counts::Totals;
 use map_laws::laws::totals_are_sums;
-use storage_core::{Run, Storage, Subpool};
-use subpool_storage::laws::subpools_begin;
+use storage_core::{PoolPlace, Run, Storage};
 
 /// The pages of a subpool, or of all subpools, on each side of the 16 MB line.
 #[derive(Clone, Copy)]
@@ -36,15 +36,16 @@ fn with_run(pages: Pages, run: Run) -> Pages
     }
 }
 
-/// The pages of a subpool.
-fn pages_of(storage: &Storage, subpool: Subpool) -> Pages
-    requires low { subpool_pages (state_in_place storage.now).subpools true subpool < 2 ^ 32 }
-    requires high { subpool_pages (state_in_place storage.now).subpools false subpool < 2 ^ 32 }
-    ensures low { result.low ≡ subpool_pages (state_in_place storage.now).subpools true subpool }
-    ensures high { result.high ≡ subpool_pages (state_in_place storage.now).subpools false subpool }
+/// The pages of the subpool before the place.
+fn pages_of(storage: &Storage, subpool_place: PoolPlace) -> Pages
+    requires behind { IsBehindSubpool storage.now subpool_place }
+    requires low { subpool_pages (state_in_place storage.now).subpools true (subpool_before storage.now subpool_place) < 2 ^ 32 }
+    requires high { subpool_pages (state_in_place storage.now).subpools false (subpool_before storage.now subpool_place) < 2 ^ 32 }
+    ensures low { result.low ≡ subpool_pages (state_in_place storage.now).subpools true (subpool_before storage.now subpool_place) }
+    ensures high { result.high ≡ subpool_pages (state_in_place storage.now).subpools false (subpool_before storage.now subpool_place) }
 {
     let mut pages = Pages { low: 0, high: 0 };
-    let mut place = storage.first_extent(subpool);
+    let mut place = storage.first_extent_at(subpool_place);
     while let Some((run, behind)) = storage.next_extent(place) {
         pages = with_run(pages, run);
         place = behind;
@@ -52,13 +53,14 @@ fn pages_of(storage: &Storage, subpool: Subpool) -> Pages
     pages
 }
 
-/// The free doublewords of a subpool.
-fn free_of(storage: &Storage, subpool: Subpool) -> u32
-    requires { subpool_free (state_in_place storage.now).subpools subpool < 2 ^ 32 }
-    ensures { result ≡ subpool_free (state_in_place storage.now).subpools subpool }
+/// The free doublewords of the subpool before the place.
+fn free_of(storage: &Storage, subpool_place: PoolPlace) -> u32
+    requires behind { IsBehindSubpool storage.now subpool_place }
+    requires few { subpool_free (state_in_place storage.now).subpools (subpool_before storage.now subpool_place) < 2 ^ 32 }
+    ensures { result ≡ subpool_free (state_in_place storage.now).subpools (subpool_before storage.now subpool_place) }
 {
     let mut free = 0;
-    let mut place = storage.first_free_area(subpool);
+    let mut place = storage.first_free_area_at(subpool_place);
     while let Some((area, behind)) = storage.next_free_area(place) {
         free += area.len;
         place = behind;
@@ -75,18 +77,15 @@ fn sums(storage: &Storage) -> (Pages, u32)
     ensures high { result.0.high ≡ all_pages (state_in_place storage.now).subpools false }
     ensures free { result.1 ≡ all_free (state_in_place storage.now).subpools }
 {
-    subpools_begin();
     let mut pages = Pages { low: 0, high: 0 };
     let mut free = 0;
-    let mut number = 0;
-    let mut owner = 0;
-    while let Some(subpool) = storage.subpool_after(number, owner) {
-        let own = pages_of(storage, subpool);
+    let mut place = Storage::first_subpool_place();
+    while let Some((_, behind)) = storage.next_subpool(place) {
+        let own = pages_of(storage, behind);
         pages.low += own.low;
         pages.high += own.high;
-        free += free_of(storage, subpool);
-        number = subpool.number;
-        owner = subpool.owner;
+        free += free_of(storage, behind);
+        place = behind;
     }
     (pages, free)
 }

@@ -1,6 +1,6 @@
 mod BlockBytes
 mod BytesRead
-mod Carried
+pub mod Carried
 mod Obtained
 pub mod AskedLengths
 pub mod LeastFits

@@ -6,7 +6,7 @@
 use Rattle.std.specs.Prelude.{◌≡◌, ℕ, List, drop, Some, option_map}
 use Rattle.vsm_elements.specs.Store.{Store}
 use Rattle.row_table.specs.Rows.{word}
-use Rattle.row_table.specs.RowTable.{row, rows, words_of}
+use Rattle.row_table.specs.RowTable.{row, rows, words_of, id_before}
 use Rattle.row_table.specs.RowTable
 use Rattle.subpool_set.specs.declared.set.SubpoolSet.{SubpoolSet}
 use Rattle.subpool_set.specs.declared.parked.ParkedPool.{ParkedPool}
@@ -64,6 +64,10 @@ pools_left s q place = pool_ids (drop (RowTable.place_index place.next) (rows s 
 -- the number of the subpool before the place
 unfoldable pub number_at : PoolPlace → ℕ
 number_at place = place.number
+
+-- the id of the subpool before the place, behind one that was read
+unfoldable pub pool_before : PoolPlace → ℕ
+pool_before place = id_before place.next
 
 -- the place is before, between or behind sharers
 unfoldable pub IsSharerPlace : Store → SubpoolSet → SharerPlace → Type 0

@@ -3,12 +3,13 @@
 ghost use Rattle.std.specs.Prelude.{◌≡◌, ℕ, ◌+◌, [], ◌∷◌, IfSome, IfNone, option_map, slice_get};
 ghost use Rattle.vsm_elements.specs.Store.{Store};
 ghost use Rattle.row_table.specs.Rows.{word};
-ghost use Rattle.row_table.specs.RowTable.{rows, place_index};
+ghost use Rattle.row_table.specs.RowTable.{rows, place_index, id_before};
 ghost use Rattle.subpool_set.specs.Pools.{sharers, ids_in_order};
 ghost use Rattle.subpool_set.specs.Kept.{IsKept};
 ghost use Rattle.subpool_set.specs.Walks.{IsWalkPlace};
 ghost use Rattle.subpool_set.specs.SubpoolSet.{sight, pool, number_of, IsSubpoolSet, IsPool};
-ghost use Rattle.subpool_set.specs.SubpoolSet.{pools_left, number_at, sharers_left, IsPoolPlace, IsSharerPlace};
+ghost use Rattle.subpool_set.specs.SubpoolSet.{pools_left, number_at, pool_before, sharers_left};
+ghost use Rattle.subpool_set.specs.SubpoolSet.{IsPoolPlace, IsSharerPlace};
 
 use crate::set::{PoolId, SubpoolSet};
 use row_table::{Row, RowPlace, RowTable};
@@ -24,6 +25,16 @@ pub struct PoolPlace {
     pub(crate) number: u32,
 }
 
+#[tactic(auto, unfolding(crate::specs::SubpoolSet::pool_before))]
+impl PoolPlace {
+    /// The subpool before the place: behind one that [`SubpoolSet::next_pool`] gave, that one.
+    pub fn pool(self) -> PoolId
+        ensures { result ≡ pool_before self }
+    {
+        self.next.row_before()
+    }
+}
+
 /// A place before, between or behind the sharers of a subpool, from which [`SubpoolSet::next_sharer`] goes on. It is
 /// one as long as the set stays as it is.
 #[derive(Clone, Copy, Debug, PartialEq, Eq)]
@@ -37,7 +48,7 @@ crate::specs::SubpoolSet::sight, crate::specs::SubpoolSet::pool,
 // what an id names
 crate::specs::SubpoolSet::number_of, crate::specs::SubpoolSet::owner_of,
 // where a walk over subpools stands, and what is left of it
-crate::specs::SubpoolSet::pools_left, crate::specs::SubpoolSet::number_at, crate::specs::SubpoolSet::IsPoolPlace,
+crate::specs::SubpoolSet::pools_left, crate::specs::SubpoolSet::number_at, crate::specs::SubpoolSet::pool_before, crate::specs::SubpoolSet::IsPoolPlace,
 // where one over sharers does
 crate::specs::SubpoolSet::sharers_left, crate::specs::SubpoolSet::IsSharerPlace,
 // where the set stands
@@ -65,6 +76,7 @@ impl SubpoolSet {
             ≡ slice_get (rows elements.now self.now.rows) (place_index place.next) }
         ensures next { IfSome result (λ r. IsWalkPlace elements.now self.now.rows r.1
             × (place_index r.1.next ≡ place_index place.next + 1) × (r.1.number ≡ word r.0.words 1)) }
+        ensures before { IfSome result (λ r. id_before r.1.next ≡ r.0.id) }
     {
         let (row, next) = self.rows.next_row(elements, place.next)?;
         let number = row.words[1];
@@ -94,6 +106,7 @@ impl SubpoolSet {
         ensures pool { IfSome result (λ r. IsPool elements.now self.now r.0) }
         ensures place { IfSome result (λ r. IsPoolPlace elements.now self.now r.1) }
         ensures number { IfSome result (λ r. number_at r.1 ≡ number_of elements.now r.0) }
+        ensures before { IfSome result (λ r. pool_before r.1 ≡ r.0) }
     {
         let mut at = place;
         while let Some((row, next)) = self.next_sight(elements, at) {

@@ -3,7 +3,9 @@
 ghost use Rattle.std.specs.Prelude.{◌≡◌, [], ◌∷◌, IfSome, IfNone, option_map, slice_get};
 ghost use Rattle.subpool_set.specs.Pools.{sharers, sharers_after, in_order, ids_in_order, pools_after};
 ghost use Rattle.subpool_set.specs.SubpoolSet.{sight, pool, number_of, owner_of, IsSubpoolSet, IsPool};
+ghost use Rattle.subpool_set.specs.SubpoolSet.{number_at, IsPoolPlace};
 
+use crate::places::PoolPlace;
 use crate::set::{PoolId, SubpoolSet};
 use vsm_elements::Elements;
 
@@ -68,33 +70,53 @@ impl SubpoolSet {
         None
     }
 
-    /// The `i`-th subpool by number and then by owner, from 0 on; `None` past the last.
+    /// The `i`-th subpool by number and then by owner, from 0 on; `None` past the last. Each row of sight is read once on
+    /// the way.
     pub fn pool_at(&self, elements: &Elements, i: u32) -> Option<PoolId>
         requires { IsSubpoolSet elements.now self.now }
-        ensures { result ≡ option_map (λ p. p.id) (slice_get (in_order (pool elements.now self.now)) i) }
+        ensures at { result ≡ option_map (λ p. p.id) (slice_get (in_order (pool elements.now self.now)) i) }
+        ensures pool { IfSome result (λ id. IsPool elements.now self.now id) }
     {
-        let mut number = 0;
-        let mut owner = 0;
+        let mut place = Self::first_place();
         for _ in 0..i {
-            let id = self.pool_after(elements, number, owner)?;
-            number = self.number(elements, id);
-            owner = self.owner(elements, id);
+            (_, place) = self.next_pool(elements, place)?;
         }
-        self.pool_after(elements, number, owner)
+        let (id, _) = self.next_pool(elements, place)?;
+        Some(id)
+    }
+
+    // The place behind the subpool.
+    fn place_of(&self, elements: &Elements, id: PoolId) -> PoolPlace
+        requires set { IsSubpoolSet elements.now self.now }
+        requires pool { IsPool elements.now self.now id }
+        ensures place { IsPoolPlace elements.now self.now result }
+        ensures number { number_at result ≡ number_of elements.now id }
+    {
+        let mut place = Self::first_place();
+        while let Some((pool, behind)) = self.next_pool(elements, place) {
+            if pool == id {
+                return behind;
+            }
+            place = behind;
+        }
+        place
     }
 
     /// The `i`-th of the tasks that share the subpool with its owner, in ascending order from 0 on; `None` past the
-    /// last.
+    /// last. Each row of sight up to the subpool, and each of its number, is read once on the way.
     pub fn sharer_at(&self, elements: &Elements, id: PoolId, i: u32) -> Option<u8>
         requires set { IsSubpoolSet elements.now self.now }
         requires pool { IsPool elements.now self.now id }
         ensures { result ≡ slice_get (sharers (sight elements.now self.now)
             (number_of elements.now id) (owner_of elements.now id)) i }
     {
-        let mut task = 0;
+        let number = self.number(elements, id);
+        let owner = self.owner(elements, id);
+        let mut place = Self::first_sharer(self.place_of(elements, id));
         for _ in 0..i {
-            task = self.sharer_after(elements, id, task)?;
+            (_, place) = self.next_sharer(elements, number, owner, place)?;
         }
-        self.sharer_after(elements, id, task)
+        let (task, _) = self.next_sharer(elements, number, owner, place)?;
+        Some(task)
     }
 }

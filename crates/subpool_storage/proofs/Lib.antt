@@ -8,3 +8,4 @@ pub mod LawLemmas
 pub mod ExchangeLemmas
 pub mod ExtentLemmas
 pub mod OrderLemmas
+pub mod PlaceLemmas

@@ -8,6 +8,7 @@ use Rattle.descriptor_queue.specs.Extents.{has_page}
 use Rattle.free_queue.specs.FreeQueue.{is_free}
 use Rattle.subpool_set.specs.Pools.{Pool}
 use Rattle.subpool_set.specs.SubpoolSet.{sight, pool, owned, queue_ids, number_of, owner_of, IsSubpoolSet, QueuesStand}
+use Rattle.subpool_set.specs.SubpoolSet.{number_at, pool_before}
 use Rattle.subpool_set.specs.SubpoolSet
 use Rattle.subpool_set.specs.declared.places.PoolPlace.{PoolPlace}
 use Rattle.subpool_set.specs.declared.places.SharerPlace.{SharerPlace}
@@ -55,6 +56,19 @@ IsSubpoolPlace s q place = SubpoolSet.IsPoolPlace s q.set place
 -- the subpools behind the place
 unfoldable pub subpools_left : Store → SubpoolStorage → PoolPlace → List Subpool
 subpools_left s q place = map (named s) (SubpoolSet.pools_left s q.set place)
+
+-- the subpool before the place, behind one that was read
+unfoldable pub subpool_before : Store → PoolPlace → Subpool
+subpool_before s place = named s (pool_before place)
+
+-- the place is behind a subpool that was read
+pub record IsBehind (s : Store) (q : SubpoolStorage) (place : PoolPlace) : Type 0 where
+  pub walked : SubpoolSet.IsPoolPlace s q.set place
+  pub pool : SubpoolSet.IsPool s q.set (pool_before place)
+  pub number : number_at place ≡ number_of s (pool_before place)
+
+unfoldable pub IsBehindSubpool : Store → SubpoolStorage → PoolPlace → Type 0
+IsBehindSubpool s q place = IsBehind s q place
 
 -- the place is before, between or behind sharers
 unfoldable pub IsSharerPlace : Store → SubpoolStorage → SharerPlace → Type 0

@@ -9,6 +9,9 @@ mod sharing;
 mod storage;
 
 pub use storage::SubpoolStorage;
+pub use subpool_set::{PoolPlace, SharerPlace};
 
+#[cfg(test)]
+mod sharing_tests;
 #[cfg(test)]
 mod tests;

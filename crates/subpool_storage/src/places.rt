@@ -1,16 +1,23 @@
 //! The subpools and their sharers in ascending order, from place to place.
 
-ghost use Rattle.std.specs.Prelude.{◌≡◌, true, [], ◌∷◌, IfSome, IfNone};
+ghost use Rattle.std.specs.Prelude.{◌≡◌, ℕ, ◌≤◌, true, [], ◌∷◌, slice_get, IfSome, IfNone};
 ghost use Rattle.vsm_elements.specs.Store.{Store};
+ghost use Rattle.vsm_elements.specs.Owners.{times};
+ghost use Rattle.descriptor_queue.specs.Extents.{extents as extents_in, has_page as extents_have, owned as extents_own};
+ghost use Rattle.descriptor_queue.specs.Extents.{IsExtents};
+ghost use Rattle.free_queue.specs.FreeQueue.{areas, is_free, owned as areas_own, IsFreeQueue};
 ghost use Rattle.subpool_set.specs.Pools.{sharers};
-ghost use Rattle.subpool_set.specs.SubpoolSet.{number_at};
+ghost use Rattle.subpool_set.specs.SubpoolSet.{number_at, IsPool};
+ghost use Rattle.subpool_storage.specs.Extents.{extents, free_areas};
 ghost use Rattle.subpool_storage.specs.Subpools.{is_there};
 ghost use Rattle.subpool_storage.specs.Order.{subpools_in_order};
-ghost use Rattle.subpool_storage.specs.SubpoolStorage.{subpools_of, subpools_left, sharers_left, Stands};
-ghost use Rattle.subpool_storage.specs.SubpoolStorage.{IsSubpoolPlace, IsSharerPlace};
+ghost use Rattle.subpool_storage.specs.SubpoolStorage.{subpools_of, hold, named, subpools_left, sharers_left, Stands};
+ghost use Rattle.subpool_storage.specs.SubpoolStorage.{subpool_before, IsSubpoolPlace, IsBehindSubpool, IsSharerPlace};
 
 use crate::storage::SubpoolStorage;
-use subpool_set::{PoolPlace, SharerPlace, SubpoolSet};
+use descriptor_queue::Extents;
+use free_queue::FreeQueue;
+use subpool_set::{PoolId, PoolPlace, Queues, SharerPlace, SubpoolSet};
 use vsm_elements::Elements;
 use vsm_model::Subpool;
 
@@ -19,6 +26,8 @@ use vsm_model::Subpool;
 crate::specs::SubpoolStorage::subpools_of, crate::specs::SubpoolStorage::Stands,
 // where a walk over subpools stands, and what is left of it
 crate::specs::SubpoolStorage::subpools_left, crate::specs::SubpoolStorage::IsSubpoolPlace,
+// which subpool is before it
+crate::specs::SubpoolStorage::subpool_before, crate::specs::SubpoolStorage::IsBehindSubpool,
 // where one over sharers does
 crate::specs::SubpoolStorage::sharers_left, crate::specs::SubpoolStorage::IsSharerPlace))]
 impl SubpoolStorage {
@@ -47,13 +56,71 @@ impl SubpoolStorage {
         ensures there { IfSome result (λ r. is_there (subpools_of elements.now self.now) r.0 ≡ true) }
         ensures place { IfSome result (λ r. IsSubpoolPlace elements.now self.now r.1) }
         ensures number { IfSome result (λ r. number_at r.1 ≡ r.0.number) }
+        ensures behind { IfSome result (λ r. IsBehindSubpool elements.now self.now r.1) }
+        ensures before { IfSome result (λ r. subpool_before elements.now r.1 ≡ r.0) }
     {
         let (id, next) = self.set.next_pool(elements, place)?;
-        let subpool = Subpool {
+        Some((self.subpool_of(elements, id), next))
+    }
+
+    // The subpool that the id names.
+    fn subpool_of(&self, elements: &Elements, id: PoolId) -> Subpool
+        requires stands { Stands elements.now self.now }
+        requires pool { IsPool elements.now self.now.set id }
+        ensures { result ≡ named elements.now id }
+    {
+        Subpool {
             number: self.set.number(elements, id),
             owner: self.set.owner(elements, id),
-        };
-        Some((subpool, next))
+        }
+    }
+
+    // The queues of the subpool before the place.
+    fn queues_at(&self, elements: &Elements, place: PoolPlace) -> Queues
+        requires stands { Stands elements.now self.now }
+        requires behind { IsBehindSubpool elements.now self.now place }
+        ensures extents { IsExtents elements.now result.extents }
+        ensures free { IsFreeQueue elements.now result.free }
+        ensures pages { (p : ℕ) → extents_have elements.now result.extents p
+            ≡ (subpools_of elements.now self.now).pages (subpool_before elements.now place) p }
+        ensures areas { (d : ℕ) → is_free elements.now result.free d
+            ≡ (subpools_of elements.now self.now).free (subpool_before elements.now place) d }
+        ensures held { (i : ℕ) → times i (extents_own elements.now result.extents) ≤ hold elements.now self.now i }
+        ensures areas_held { (i : ℕ) → times i (areas_own elements.now result.free) ≤ hold elements.now self.now i }
+    {
+        self.set.queues(elements, place.pool())
+    }
+
+    /// The extents of the subpool before the place, which was read just before: what
+    /// [`SubpoolStorage::extents`] gives for it, with no look-up. (z/OS MVS Programming: Assembler Services Guide,
+    /// "Subpool handling".)
+    pub fn extents_at(&self, elements: &Elements, place: PoolPlace) -> Extents
+        requires stands { Stands elements.now self.now }
+        requires behind { IsBehindSubpool elements.now self.now place }
+        ensures stands { IsExtents elements.now result }
+        ensures pages { (page : ℕ) → extents_have elements.now result page
+            ≡ (subpools_of elements.now self.now).pages (subpool_before elements.now place) page }
+        ensures held { (i : ℕ) → times i (extents_own elements.now result) ≤ hold elements.now self.now i }
+        ensures runs { extents_in elements.now result
+            ≡ extents (subpools_of elements.now self.now) (subpool_before elements.now place) }
+    {
+        self.queues_at(elements, place).extents
+    }
+
+    /// The free areas of the subpool before the place, which was read just before: what
+    /// [`SubpoolStorage::free_areas`] gives for it, with no look-up. (z/OS MVS Programming: Assembler Services Guide,
+    /// "Subpool handling".)
+    pub fn free_areas_at(&self, elements: &Elements, place: PoolPlace) -> FreeQueue
+        requires stands { Stands elements.now self.now }
+        requires behind { IsBehindSubpool elements.now self.now place }
+        ensures stands { IsFreeQueue elements.now result }
+        ensures free { (d : ℕ) → is_free elements.now result d
+            ≡ (subpools_of elements.now self.now).free (subpool_before elements.now place) d }
+        ensures held { (i : ℕ) → times i (areas_own elements.now result) ≤ hold elements.now self.now i }
+        ensures runs { areas elements.now result
+            ≡ free_areas (subpools_of elements.now self.now) (subpool_before elements.now place) }
+    {
+        self.queues_at(elements, place).free
     }
 
     /// The place before the first task that shares the subpool before the place, or another one of its number.
@@ -84,5 +151,30 @@ impl SubpoolStorage {
     {
         self.set
             .next_sharer(elements, subpool.number, subpool.owner, place)
+    }
+
+    /// The subpool of this index, from 0 on, by number and then by owner; `None` past the last. Each row of sight up to
+    /// it is read once.
+    pub fn subpool_at(&self, elements: &Elements, i: u32) -> Option<Subpool>
+        requires { Stands elements.now self.now }
+        ensures { result ≡ slice_get (subpools_in_order (subpools_of elements.now self.now)) i }
+    {
+        let id = self.set.pool_at(elements, i)?;
+        Some(self.subpool_of(elements, id))
+    }
+
+    /// The task of this index, from 0 on, of those that see the subpool besides its owner, in ascending order; `None`
+    /// past the last, and where the subpool isn't there. (z/OS MVS Programming: Assembler Services Guide, "Subpool
+    /// handling".)
+    pub fn sharer_at(&self, elements: &Elements, subpool: Subpool, i: u32) -> Option<u8>
+        requires { Stands elements.now self.now }
+        ensures { result ≡ slice_get (sharers (subpools_of elements.now self.now).sight
+            subpool.number subpool.owner) i }
+    {
+        if !self.has_subpool(elements, subpool) {
+            return None;
+        }
+        let id = self.id(elements, subpool);
+        self.set.sharer_at(elements, id, i)
     }
 }

@@ -1,3 +1,9 @@
+mod AttachNumbers
+mod AttachOpen
+mod AttachPassed
+mod AttachSteps
+pub mod Attaching
+pub mod Turning
 pub mod EndLists
 pub mod EndOrder
 pub mod EndEach

@@ -16,7 +16,7 @@ use Rattle.task_actions.specs.Attaching.{attach_records, attach_blanks, with_att
 use Rattle.task_actions.specs.Ending.{ended_below, owned_by_these, end_records, end_blanks, with_turn}
 use Rattle.task_actions.specs.Ending.{AreSubtasksFirst, CanEnd}
 
--- A task comes, with its subpools;
+-- A task comes, with its subpools, and registers of the current task are set;
 abbrev pub AttachingLeads : Type 0
 AttachingLeads =
     (settings : Settings) (m : StorageState) (task : ℕ) (shares_zero : Bool) (gifts shares : List ℕ)

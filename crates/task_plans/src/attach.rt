@@ -10,11 +10,12 @@ ghost use Rattle.storage_swap.specs.Reserve.{AreNames};
 ghost use Rattle.task_plans.specs.TaskPlans.{attach_change, CanBeAttached, IsAttachPlanned};
 
 use crate::listed::{Listed, push_register};
-use crate::numbers::{has_bad_number, numbers_of, some_is_anothers};
+use crate::numbers::{has_bad_number, numbers_of, numbers_or_none, some_is_anothers};
 use crate::passing::{push_gifts, push_shares, push_zero};
 use std::alloc::{AllocError, Global};
 use storage_changes::{Record, TaskRecord};
 use storage_exchange::Storage;
+use task_actions::laws::attaching_leads;
 use vsm_model::{Attach, Cause};
 
 /// A task that comes, below the current one. Nothing is changed yet.
@@ -39,6 +40,7 @@ pub fn plan_attach(storage: &Storage, attach: Attach) -> Result<AttachPlan, Caus
     ensures { (settings : Settings) (names_full : Bool) → StandsSound settings storage.now
         → IsAttachPlanned settings names_full (state_of storage.now) (attach attach) result }
 {
+    attaching_leads();
     let given = numbers_of(storage, attach.given)?;
     let shared = numbers_of(storage, attach.shared)?;
     if has_bad_number(&given, &shared) {
@@ -65,25 +67,21 @@ impl AttachPlan {
         ensures names { IfOk result (λ l. AreNames l.names.items) }
         ensures size { IfOk result (λ l. length l.names.items + (length l.records.items + l.blanks) ≤ 2 ^ 24) }
     {
+        let current = storage.tasks.current();
+        let given = numbers_or_none(storage, self.attach.given);
+        let shared = numbers_or_none(storage, self.attach.shared);
         let mut records = Vec::new(alloc);
         records.push(Record::Task(TaskRecord {
             task: self.task,
-            parent: storage.tasks.current(),
+            parent: current,
             present: true,
         }))?;
         push_zero(storage, &mut records, self.task, self.attach.shares_zero)?;
-        let mut count = 0;
-        if let Ok(given) = numbers_of(storage, self.attach.given) {
-            count += given.len() as u32;
-            push_gifts(storage, &mut records, self.task, &given)?;
-        }
-        if let Ok(shared) = numbers_of(storage, self.attach.shared) {
-            count += shared.len() as u32;
-            push_shares(storage, &mut records, self.task, &shared)?;
-        }
-        let current = storage.tasks.current();
+        push_gifts(storage, &mut records, self.task, &given)?;
+        push_shares(storage, &mut records, self.task, &shared)?;
         push_register(&mut records, current, 15, 0)?;
         push_register(&mut records, current, 1, u32::from(self.task))?;
+        let count = (given.len() + shared.len()) as u32;
         Ok(Listed {
             names: Vec::new(alloc),
             records,

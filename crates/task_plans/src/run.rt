@@ -12,6 +12,7 @@ use run_set::Run;
 use storage_changes::{Record, TurnRecord};
 use storage_exchange::Storage;
 use storage_plans::Plan;
+use task_actions::laws::turning_leads;
 use vsm_model::{Cause, Reply};
 
 /// A plan by which another task makes the requests, the bench's own RUN. No register is set. Reads alone, and takes no
@@ -21,6 +22,7 @@ pub fn plan_run(storage: &Storage, task: u32) -> Result<Plan, Cause>
     ensures { (settings : Settings) (names_full : Bool) → StandsSound settings storage.now
         → IsPlanned settings names_full (state_of storage.now) (run task) result }
 {
+    turning_leads();
     if task > 64 {
         return Err(Cause::NoTask);
     }

@@ -45,6 +45,22 @@ pub(crate) fn move_task(rows: &mut RowTable, elements: &mut Elements, task: u32,
     }
 }
 
+// The task's rows go.
+pub(crate) fn remove_task(rows: &mut RowTable, elements: &mut Elements, task: u32)
+    requires table { IsTable elements.old rows.old }
+    requires there { (k : ℕ) → k < 4 → IsSome (row elements.old rows.old task k) }
+    ensures table { IsTable elements.new rows.new }
+    ensures left { (a b : ℕ) → row elements.new rows.new a b
+        ≡ (if (a == task) && nat_lt b 4 then None else row elements.old rows.old a b) }
+    ensures owned { Leaves elements.old elements.new
+        (owned elements.old rows.old) (owned elements.new rows.new) }
+    ensures spares { elements.new.spare ≡ elements.old.spare + 4 }
+{
+    for quarter in 0..4 {
+        rows.remove(elements, task, quarter);
+    }
+}
+
 // The words of a new task's row, whose registers are zero.
 fn first_words(task: u32, quarter: u32, parent: u32) -> [u32; 7]
     ensures { result ≡ zero_words task quarter parent }

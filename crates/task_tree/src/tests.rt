@@ -120,6 +120,18 @@ fn end(rt: &impl Abort, elements: &mut Elements, tree: &mut TaskTree, task: u8)
     parked.discard(elements);
 }
 
+// The task ends, with none below it.
+fn end_alone(rt: &impl Abort, elements: &mut Elements, tree: &mut TaskTree, task: u8)
+    requires { IsTaskTree elements.old tree.old }
+    ensures { IsTaskTree elements.new tree.new }
+{
+    assert!(rt; task > 1);
+    assert!(rt; tree.current() == 1);
+    assert!(rt; tree.check_run(elements, task).is_ok());
+    assert!(rt; tree.check_end(elements, task).is_ok());
+    tree.end_task(elements, task);
+}
+
 #[test]
 fn a_subtree_comes_back_as_it_was(rt: HostRuntime) -> Result<(), Fail> {
     let mut elements = Elements::new(rt.alloc());
@@ -154,7 +166,7 @@ fn a_subtree_comes_back_as_it_was(rt: HostRuntime) -> Result<(), Fail> {
     assert_eq!(rt; tree.check_end(&elements, 3), Err(TreeFault::HasSubtasks));
     end(&rt, &mut elements, &mut tree, 3);
     compare(&rt, &elements, &tree, &[(1, 0), (2, 1), (4, 2), (6, 1)]);
-    end(&rt, &mut elements, &mut tree, 6);
+    end_alone(&rt, &mut elements, &mut tree, 6);
     end(&rt, &mut elements, &mut tree, 2);
     compare(&rt, &elements, &tree, &[(1, 0)]);
     assert_eq!(rt; elements.spare(), 124);

@@ -6,7 +6,7 @@ ghost use Rattle.row_table.specs.Rows.{either_of};
 ghost use Rattle.task_tree.specs.Tasks.{IsBelow, IsLeastFree, IsTaken, IsLeft, parents_with, tasks_in};
 
 use crate::faults::TreeFault;
-use crate::moves::{add_task, move_task, orphan, parent_in};
+use crate::moves::{add_task, move_task, orphan, parent_in, remove_task};
 use crate::parked::ParkedTasks;
 use row_table::RowTable;
 use vsm_elements::Elements;
@@ -218,6 +218,28 @@ impl TaskTree {
             u32::from(number),
             u32::from(under),
         );
+    }
+
+    /// The task is gone, with its words: it isn't task 1 nor the current task, and no task is below it.
+    ///
+    /// Four elements become spare.
+    pub fn end_task(&mut self, elements: &mut Elements, task: u8)
+        requires tree { IsTaskTree elements.old self.old }
+        requires there { IsSome (parent elements.old self.old task) }
+        requires other { task ≢ 1 }
+        requires idle { current self.old ≢ task }
+        requires childless { (t : ℕ) → parent elements.old self.old t ≢ Some task }
+        ensures tree { IsTaskTree elements.new self.new }
+        ensures parents { (t : ℕ) → parent elements.new self.new t
+            ≡ (if t == task then None else parent elements.old self.old t) }
+        ensures words { (t r : ℕ) → r < 16 → word elements.new self.new t r
+            ≡ (if t == task then 0 else word elements.old self.old t r) }
+        ensures current { current self.new ≡ current self.old }
+        ensures owned { Leaves elements.old elements.new
+            (owned elements.old self.old) (owned elements.new self.new) }
+        ensures spares { elements.new.spare ≡ elements.old.spare + 4 }
+    {
+        remove_task(&mut self.rows, elements, u32::from(task));
     }
 
     /// The tree of task 1 alone, which is current and has zero words.

@@ -12,7 +12,8 @@ use Rattle.vsm_model.specs.Step.{step}
 use Rattle.macro_statements.specs.Requests.{Act}
 use Rattle.storage_changes.specs.Changes as storage
 use Rattle.storage_changes.specs.Meaning.{model_of, IsSound}
-use Rattle.storage_plans.specs.Plans.{change_in, CarriesOut}
+use Rattle.storage_core.specs.Planned.{change_for, reply_of}
+use Rattle.task_plans.specs.TaskPlans.{IsAccepted}
 use Rattle.name_table.specs.Steps.{define, reword, step_to}
 use Rattle.name_table.proofs.StepsBack.{step_to_can, step_to_rows}
 use Rattle.name_table.proofs.SameName.{same_name-self}
@@ -84,19 +85,18 @@ gives names (Some name) (Turn task) = refl
 gives names (Some name) Stored = refl
 
 module _ (m : MachineState) (x : Act) (service : Service) (is : Some service ≡ service_asked (named_of m) x) where
-  pub accepted_by : (p : Planned) → CarriesOut m.settings (is_one_too_many m.names (name_asked x)) m.storage service p.plan →
-      ∥ IsSound m.settings m.storage ∥₁ → step_planned p ≡ step_for m.names (name_asked x) p.plan.reply → IsAcceptedBy m x p
+  pub accepted_by : (p : Planned) → IsAccepted m.settings (is_one_too_many m.names (name_asked x)) m.storage service (change_for m.storage p.plan) (reply_of p.plan) →
+      ∥ IsSound m.settings m.storage ∥₁ → step_planned p ≡ step_for m.names (name_asked x) (reply_of p.plan) → IsAcceptedBy m x p
   accepted_by p carried sound named_by =
-      let reply = p.plan.reply in
+      let reply = reply_of p.plan in
       let names : names_after m.names (name_asked x) reply ≡ stepped_by m.names (step_planned p) =
       sym (names_stepped m.names (name_asked x) reply) ∙ ap (stepped_by m.names) (sym named_by) in
       record {
         accepted =
             ap (served m.settings (named_of m) x) (sym is)
             ∙ ap (λ o. or_abend (with_code (family_asked x) service (named m.names (name_asked x) o))) carried.accepted
-            ∙ (λ i. Accepted (record { storage = model_of (storage.overlay m.storage (change_in m.storage p.plan)); names = names i }) reply);
+            ∙ (λ i. Accepted (record { storage = model_of (storage.overlay m.storage (change_for m.storage p.plan)); names = names i }) reply);
         fits = record { fits = carried.fits; before = sound; after = ∣ carried.sound ∣₁ };
-        reserved = record { few = carried.few; range = carried.range; there = carried.there; unassigned = carried.unassigned };
         can = subst (CanStepBy m.names (λ name. true)) (sym named_by) (can_step m.names (name_asked x) reply);
         gives = ap undefines_none named_by ∙ gives m.names (name_asked x) reply;
       }

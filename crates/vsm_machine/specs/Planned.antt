@@ -37,19 +37,18 @@ step_planned p = option_map step_in p.name
 abbrev pub difference_in : MachineState → Planned → Difference
 difference_in m p = record { storage = change_for m.storage p.plan; step = step_planned p; known = true }
 
--- A statement was planned: it is accepted, with this reply, in the state that the plan's change leads to; that change
--- fits, and can be made.
+-- A statement was planned: it is accepted, with this reply, in the state that the plan's change leads to; and that
+-- change fits.
 pub record IsAcceptedBy (m : MachineState) (x : Act) (p : Planned) : Type 0 where
   pub accepted :
       statement_step m.settings (named_of m) x ≡ Accepted (named_of (overlay m (difference_in m p))) (reply_of p.plan)
   pub fits : StorageFits m.settings m.storage (change_for m.storage p.plan)
-  pub reserved : CanBeReserved m.storage p.plan
   pub can : CanStepBy m.names (λ name. true) (step_planned p)
   pub gives : undefines_none (step_planned p) ≡ true
 
--- Or it is refused for this.
+-- The change can be made then; or the statement is refused for this.
 abbrev pub IsPlanned : MachineState → Act → Result Planned Refusal → Type 0
-IsPlanned m x (Ok p) = ∥ IsAcceptedBy m x p ∥₁
+IsPlanned m x (Ok p) = (∥ IsAcceptedBy m x p ∥₁) × CanBeReserved m.storage p.plan
 IsPlanned m x (Err e) = (why : Why) × (statement_step m.settings (named_of m) x ≡ Refused why) × (e ≡ refusal_for why)
 
 -- The change was made of the plan: that of its storage beside this one, and the step of its name.

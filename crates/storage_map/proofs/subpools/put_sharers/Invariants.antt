@@ -1,6 +1,6 @@
 use Rattle.std.proofs.Common.{flat_map, length}
-use Rattle.subpool_set.specs.Pools.{sharers_after}
-use Rattle.storage_core.specs.Meaning.{state_in_place, state_of}
+use Rattle.storage_core.specs.Meaning.{state_of}
+use Rattle.storage_core.specs.Walks.{IsSharerPlace, sharers_left}
 use Rattle.vsm_model.specs.Map.{listed, sharers}
 use Rattle.storage_map.specs.Lines.{sharer_text}
 use Rattle.storage_map.proofs.Remaining.{Remains}
@@ -9,9 +9,11 @@ use Rattle.storage_map.proofs.subpools.put_sharers.Given as goal
 abbrev pub invariant-loop-task : goal.invariant-loop-task
 invariant-loop-task g l =
     let p = l.fn.subpool in
-    Remains (g.W.Write.contents l.fn.writer) (g.W.Write.contents l.writer) l.fn.gathered l.gathered
-    (listed (sharers (state_of l.storage) p.number p.owner))
-    (flat_map sharer_text (sharers_after (state_in_place l.storage).subpools.sight p.number p.owner l.last))
+    record {
+      place : IsSharerPlace l.storage l.place;
+      text : Remains (g.W.Write.contents l.fn.writer) (g.W.Write.contents l.writer) l.fn.gathered l.gathered
+          (listed (sharers (state_of l.storage) p.number p.owner)) (flat_map sharer_text (sharers_left l.storage l.place p));
+    }
 
 abbrev pub decreases-loop-task : goal.decreases-loop-task
-decreases-loop-task g l = length (sharers_after (state_in_place l.storage).subpools.sight l.fn.subpool.number l.fn.subpool.owner l.last)
+decreases-loop-task g l = length (sharers_left l.storage l.place l.fn.subpool)

@@ -2,6 +2,7 @@ use Rattle.std.proofs.Common.{◌++◌, flat_map, sym, subst}
 use Rattle.subpool_storage.specs.Extents.{extents, free_areas}
 use Rattle.storage_core.specs.Meaning.{state_in_place, state_of, settings_of}
 use Rattle.text_output.specs.Writing.{Puts}
+use Rattle.vsm_model.specs.declared.Subpool.{Subpool}
 use Rattle.text_output.proofs.Gathering.{puts_both}
 use Rattle.storage_map.specs.Lines.{extent_line, free_line, subpool_line}
 use Rattle.storage_map.proofs.Shown.{subpool_there}
@@ -21,6 +22,8 @@ returns g c =
     let g2 = c.put_extents.new.gathered in
     let g3 = c.put_free_areas.new.gathered in
     subst (Puts w0 w3 g0 g3)
-    (sym (subpool_there (settings_of s) m p s.held.valid s.held.sound c.runs_are_shown.ensures.extents c.runs_are_shown.ensures.areas c.requires))
+    (sym (subpool_there (settings_of s) m p s.held.valid s.held.sound c.runs_are_shown.ensures.extents c.runs_are_shown.ensures.areas c.requires.there))
     (puts_both w0 w2 w3 g0 g2 g3 (subpool_line (state_of s) p ++ flat_map extent_line (extents m.subpools p)) (flat_map free_line (free_areas m.subpools p))
-    (puts_both w0 w1 w2 g0 g1 g2 (subpool_line (state_of s) p) (flat_map extent_line (extents m.subpools p)) c.put_subpool_line.ensures c.put_extents.ensures) c.put_free_areas.ensures)
+    (puts_both w0 w1 w2 g0 g1 g2 (subpool_line (state_of s) p) (flat_map extent_line (extents m.subpools p)) c.put_subpool_line.ensures
+    (subst (λ (q : Subpool). Puts w1 w2 g1 g2 (flat_map extent_line (extents m.subpools q))) c.requires.before c.put_extents.ensures))
+    (subst (λ (q : Subpool). Puts w2 w3 g2 g3 (flat_map free_line (free_areas m.subpools q))) c.requires.before c.put_free_areas.ensures))

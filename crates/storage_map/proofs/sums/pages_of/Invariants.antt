@@ -3,18 +3,18 @@ use Rattle.run_set.specs.RunSet.{place_index}
 use Rattle.subpool_storage.specs.Extents.{extents}
 use Rattle.map_laws.specs.Totals.{sum_of, pages_on_side, subpool_pages}
 use Rattle.storage_core.specs.Meaning.{state_in_place}
-use Rattle.storage_core.specs.Walks.{IsExtentPlace}
+use Rattle.storage_core.specs.Walks.{subpool_before, IsExtentPlace}
 use Rattle.storage_map.proofs.sums.pages_of.Given as goal
 
 abbrev pub invariant-loop-run : goal.invariant-loop-run
 invariant-loop-run l =
     let m = (state_in_place l.storage).subpools in
-    let rest = drop (place_index l.place.place) (extents m l.fn.subpool) in
+    let rest = drop (place_index l.place.place) (extents m (subpool_before l.storage l.fn.subpool_place)) in
     record {
-      place : IsExtentPlace l.storage l.fn.subpool l.place (place_index l.place.place);
-      low : l.pages.low + sum_of (pages_on_side true) rest ≡ subpool_pages m true l.fn.subpool;
-      high : l.pages.high + sum_of (pages_on_side false) rest ≡ subpool_pages m false l.fn.subpool;
+      place : IsExtentPlace l.storage (subpool_before l.storage l.fn.subpool_place) l.place (place_index l.place.place);
+      low : l.pages.low + sum_of (pages_on_side true) rest ≡ subpool_pages m true (subpool_before l.storage l.fn.subpool_place);
+      high : l.pages.high + sum_of (pages_on_side false) rest ≡ subpool_pages m false (subpool_before l.storage l.fn.subpool_place);
     }
 
 abbrev pub decreases-loop-run : goal.decreases-loop-run
-decreases-loop-run l = length (extents (state_in_place l.storage).subpools l.fn.subpool) - place_index l.place.place
+decreases-loop-run l = length (extents (state_in_place l.storage).subpools (subpool_before l.storage l.fn.subpool_place)) - place_index l.place.place

@@ -5,10 +5,10 @@ use Rattle.vsm_model.specs.Names.{is_one_too_many}
 use Rattle.macro_statements.specs.Requests.{act_in}
 use Rattle.storage_core.specs.Meaning.{state_in_place, settings_of}
 use Rattle.storage_core.proofs.Soundness.{is_sound}
-use Rattle.storage_plans.specs.Plans.{IsPlanned}
+use Rattle.storage_core.specs.Planned.{IsPlanned}
 use Rattle.vsm_machine.specs.declared.refusals.Refusal.TheVariants.{Abend}
 use Rattle.vsm_machine.specs.Changes.{shown}
-use Rattle.vsm_machine.specs.Machine.{family_asked}
+use Rattle.vsm_machine.specs.Machine.{family_asked, name_asked}
 use Rattle.vsm_machine.specs.Planned.{step_for}
 use Rattle.vsm_machine.proofs.Planning.{accepted_by, refused_by}
 use Rattle.vsm_machine.proofs.plans.plan_of.Goals as goal
@@ -21,10 +21,11 @@ returns-in-Ok c =
     let service = service_in c.in-Some.service in
     let planned = subst (λ (full : Bool). IsPlanned (settings_of s) full (state_in_place s) service (Ok c.in-Ok.plan))
     (c.is_one_too_many-full.ensures ∙ ap (is_one_too_many m.names) c.name_of-name.ensures) c.in-Ok.ensures in
-    ∥∥₁_elim planned ∥∥₁_prop
+    (∥∥₁_elim planned.0 ∥∥₁_prop
     (λ carried. ∣ accepted_by m (act_in c.args.statement.now) service c.in-Some.ensures.is
     (record { plan = c.in-Ok.plan; name = c.name_change-name.result }) carried (is_sound s)
-    (c.name_change-name.ensures ∙ ap (λ n. step_for m.names n c.in-Ok.plan.reply) c.name_of-name.ensures) ∣₁)
+    (c.name_change-name.ensures ∙ ap (λ n. step_for m.names n c.reply.result) c.name_of-name.ensures ∙ ap (step_for m.names (name_asked (act_in c.args.statement.now))) c.reply.ensures) ∣₁),
+    planned.1)
 
 pub returns-in-Err : goal.returns-in-Err
 returns-in-Err c =

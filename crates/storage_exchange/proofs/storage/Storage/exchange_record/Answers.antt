@@ -29,3 +29,19 @@ returns-in-Register-clause-exchanges c = exchanges-as c.args.self.now _ c.args.g
 pub returns-in-Bytes-clause-exchanges : goal.returns-in-Bytes-clause-exchanges
 returns-in-Bytes-clause-exchanges c = exchanges-as c.args.self.now _ c.args.given.now c.args.given.now c.args.parked.now c.args.parked.now _ c.args.change (sym c.in-Bytes.is)
     (c.exchange_bytes.ensures.exchanges c.args.given.now c.args.parked.now c.requires.stands)
+
+pub returns-in-Task-clause-exchanges : goal.returns-in-Task-clause-exchanges
+returns-in-Task-clause-exchanges c = exchanges-as c.args.self.now _ c.args.given.now c.args.given.now c.args.parked.now c.args.parked.now _ c.args.change (sym c.in-Task.is)
+    (c.exchange_task.ensures.exchanges c.args.given.now c.args.parked.now c.requires.stands)
+
+pub returns-in-Turn-clause-exchanges : goal.returns-in-Turn-clause-exchanges
+returns-in-Turn-clause-exchanges c = exchanges-as c.args.self.now _ c.args.given.now c.args.given.now c.args.parked.now c.args.parked.now _ c.args.change (sym c.in-Turn.is)
+    (c.exchange_turn.ensures.exchanges c.args.given.now c.args.parked.now c.requires.stands)
+
+pub returns-in-Sharer-clause-exchanges : goal.returns-in-Sharer-clause-exchanges
+returns-in-Sharer-clause-exchanges c = exchanges-as c.args.self.now _ c.args.given.now c.args.given.now c.args.parked.now c.args.parked.now _ c.args.change (sym c.in-Sharer.is)
+    (c.exchange_sharer.ensures.exchanges c.args.given.now c.args.parked.now c.requires.stands)
+
+pub returns-in-Pass-clause-exchanges : goal.returns-in-Pass-clause-exchanges
+returns-in-Pass-clause-exchanges c = exchanges-as c.args.self.now _ c.args.given.now c.args.given.now c.args.parked.now c.args.parked.now _ c.args.change (sym c.in-Pass.is)
+    (c.exchange_pass.ensures.exchanges c.args.given.now c.args.parked.now c.requires.stands)

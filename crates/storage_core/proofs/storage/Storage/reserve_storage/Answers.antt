@@ -1,0 +1,30 @@
+use Rattle.storage_core.specs.Meaning.{state_in_place}
+use Rattle.storage_core.proofs.Counted.{few_answered}
+use Rattle.storage_core.proofs.Holding.{reserved_is_held, unassigned_in_region}
+use Rattle.storage_core.proofs.Staying.{failed_stays}
+use Rattle.storage_core.proofs.storage.Storage.reserve_storage.Goals as goal
+
+pub reserve-requires-clause-segments : goal.reserve-requires-clause-segments
+reserve-requires-clause-segments c =
+    let s = c.args.self.now in
+    λ page its. s.held.segments page (unassigned_in_region s.settings s.parts s.held page (c.requires.unassigned page its))
+
+pub invariant_of-self : goal.invariant_of-self
+invariant_of-self c =
+    let s = c.args.self.now in
+    record {
+      held = reserved_is_held s.settings s.parts c.reserve.new.storage _ s.held c.reserve.result
+          c.reserve.ensures.ok c.reserve.ensures.grown;
+    }
+
+pub returns-clause-err : goal.returns-clause-err
+returns-clause-err c =
+    let s = c.args.self.now in
+    failed_stays s.parts c.reserve.new.storage s.held.stands c.reserve.result c.reserve.ensures.grown
+
+pub returns-clause-few : goal.returns-clause-few
+returns-clause-few c =
+    let s = c.args.self.now in
+    let plan = c.args.plan in
+    few_answered s.parts c.reserve.new.storage (state_in_place s).subpools plan.emptied c.as_slice.result.now plan.blanks plan.fresh
+    c.reserve.result c.reserve.ensures.ok c.as_slice.ensures.fits c.requires.few

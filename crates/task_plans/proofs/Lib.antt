@@ -1,0 +1,3 @@
+mod NumberLists
+mod AttachPlans
+mod RunPlans
