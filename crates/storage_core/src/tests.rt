@@ -242,6 +242,27 @@ fn count_free_areas(rt: &impl Abort, storage: &Storage, subpool: Subpool) -> u32
     8
 }
 
+// How many subpools there are: each comes on the walk as at its position, with its own extents and free areas, and
+// nobody shares it.
+fn count_subpools(rt: &impl Abort, storage: &Storage) -> u32 {
+    let mut place = Storage::first_subpool_place();
+    for i in 0..8 {
+        let position = storage.subpool_at(i);
+        let Some((subpool, behind)) = storage.next_subpool(place) else {
+            assert_eq!(rt; position, None);
+            return i;
+        };
+        assert_eq!(rt; position, Some(subpool));
+        assert_eq!(rt; storage.first_extent_at(behind), storage.first_extent(subpool));
+        assert_eq!(rt; storage.first_free_area_at(behind), storage.first_free_area(subpool));
+        let front = Storage::first_sharer_place(behind);
+        assert_eq!(rt; storage.next_sharer(subpool, front), None);
+        assert_eq!(rt; storage.sharer_at(subpool, 0), None);
+        place = behind;
+    }
+    8
+}
+
 // Subpool 1 has a page on either side of the 16 MB line. Of the low one, bytes 24 to 31 are taken, of the high one the
 // first 24.
 fn make_two_extents(storage: &mut Storage) -> Result<(), Fail> {
@@ -266,7 +287,7 @@ fn make_two_extents(storage: &mut Storage) -> Result<(), Fail> {
 }
 
 #[test]
-fn walks_and_positions_agree(rt: HostRuntime) -> Result<(), Fail> {
+fn extents_and_free_areas_agree(rt: HostRuntime) -> Result<(), Fail> {
     let mut storage = Storage::new(rt.alloc(), SETTINGS)?;
     make_two_extents(&mut storage)?;
     assert_eq!(rt; count_extents(&rt, &storage, FIRST), 2);
@@ -292,21 +313,22 @@ fn walks_and_positions_agree(rt: HostRuntime) -> Result<(), Fail> {
             len: 508
         })
     );
-    let first = storage.subpool_after(0, 0);
+    Ok(())
+}
+
+#[test]
+fn subpools_and_tasks_agree(rt: HostRuntime) -> Result<(), Fail> {
+    let mut storage = Storage::new(rt.alloc(), SETTINGS)?;
+    make_two_extents(&mut storage)?;
+    assert_eq!(rt; count_subpools(&rt, &storage), 2);
     assert_eq!(rt;
-        first,
+        storage.subpool_at(0),
         Some(Subpool {
             number: 0,
             owner: 1
         })
     );
-    assert_eq!(rt; storage.subpool_at(0), first);
-    assert_eq!(rt; storage.subpool_after(0, 1), Some(FIRST));
     assert_eq!(rt; storage.subpool_at(1), Some(FIRST));
-    assert_eq!(rt; storage.subpool_after(1, 1), None);
-    assert_eq!(rt; storage.subpool_at(2), None);
-    assert_eq!(rt; storage.sharer_after(FIRST, 0), None);
-    assert_eq!(rt; storage.sharer_at(FIRST, 0), None);
     assert_eq!(rt; storage.task_at(0), Some(1));
     assert_eq!(rt; storage.task_at(1), None);
     assert_eq!(rt; storage.parent(1), Some(0));

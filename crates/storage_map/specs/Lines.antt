@@ -1,4 +1,5 @@
 -- The lines of runs, as the storage in place has them, and parts of the lines of tasks and subpools.
+-- Assembler Services Guide, "Virtual storage management", "Subpool handling".
 use Rattle.std.specs.Prelude.{ℕ, ◌*◌, ◌==◌, if◌then◌else◌, List, [], ◌++◌, codes, flat_map}
 use Rattle.std.specs.Fmt.{decimal}
 use Rattle.run_set.specs.declared.run.Run.{Run}

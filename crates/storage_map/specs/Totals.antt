@@ -1,4 +1,5 @@
 -- The totals of a storage.
+-- Assembler Services Guide, "Virtual storage management".
 use Rattle.std.specs.Prelude.{true, false}
 use Rattle.vsm_model.specs.declared.limits.Settings.{Settings}
 use Rattle.vsm_model.specs.Regions.{low_region, high_region}

@@ -7,6 +7,7 @@ pub mod SwapLemmas
 mod DiscardLemmas
 mod AppendLemmas
 pub mod ReserveLemmas
+mod ParkingLemmas
 mod SettingsLemmas
 pub mod FreshLemmas
 pub mod BackLemmas

@@ -1,5 +1,6 @@
 -- A change that was reserved.
-use Rattle.std.specs.Prelude.{◌≡◌, ℕ, ◌+◌, ◌*◌, ◌≤◌, true, false, List, [], ◌∷◌, length, IsTrue, Option, Some, None, All, AllPairs}
+use Rattle.std.specs.Prelude.{◌≡◌, ℕ, ◌+◌, ◌*◌, ◌≤◌, true, false, List, [], ◌∷◌, length, IsTrue}
+use Rattle.std.specs.Prelude.{Option, Some, None, All, AllPairs}
 use Rattle.vsm_elements.specs.Store.{SameElements}
 use Rattle.vsm_elements.specs.Owners.{Moves}
 use Rattle.raw_region.specs.Pages.{Pages, has_table, has_segment, SamePages}

@@ -1,18 +1,27 @@
--- Readers that go on from where they were.
-use Rattle.std.proofs.Common.{◌≡◌, ◌≢◌, ℕ, suc, ◌+◌, ◌-◌, ◌<◌, ◌≤◌, Bool, true, false, ◌&&◌, ◌==◌, not, nat_lt, List, [], ◌∷◌, Option, Some, None, IsSome, ◌⊎◌, inl, inr, refl, sym, ap, ◌∙◌, subst, arith}
-use Rattle.std.specs.Prelude.{filter, map, option_map, slice_get, IfSome, IfNone}
+-- What is behind a number and an owner, or behind a task, of what is walked over in order.
+use Rattle.std.proofs.Common.{◌≡◌, ◌≢◌, ℕ, ◌<◌, ◌≤◌, Bool, true, false, ◌&&◌, ◌==◌, not, nat_lt, List, [], ◌∷◌, Option, Some, None, IsSome, ◌⊎◌, inl, inr, refl, sym, ap, ◌∙◌, subst, arith}
+use Rattle.std.specs.Prelude.{if◌then◌else◌, filter, map, option_map}
 use Rattle.std.proofs.lemmas.Bool.{cases_lt, ltb-true, lt-ltb}
 use Rattle.row_table.specs.declared.row.Row.{Row}
 use Rattle.row_table.specs.Rows.{word, comes_before}
 use Rattle.row_table.proofs.RowLemmas.{either, not_both, if_true, if_false, eqb_same, eqb_refl}
 use Rattle.row_table.proofs.NextLemmas.{and_join, before_says, says_before, before_more, before_or}
-use Rattle.subpool_set.specs.Pools.{Pool, Sight, is_owner, sees, tasks, sharers, sharers_after, ids_in_order, pools_after}
+use Rattle.subpool_set.specs.Pools.{Pool, Sight, is_owner, sees, Pools, tasks, sharers, ids_in_order}
 use Rattle.vsm_elements.specs.Store.{Store}
 use Rattle.row_table.specs.declared.table.RowTable.{RowTable}
 use Rattle.row_table.specs.RowTable.{row}
 use Rattle.subpool_set.specs.Kept.{Rows, IsKept, owner_in, queues_of, pool_in, sight_in, pools_in}
 use Rattle.subpool_set.proofs.KeptLemmas.{pool_own, pool_none, some_nat}
 use Rattle.subpool_set.proofs.OrderLemmas.{order_none, order_first, passed_none, passed_first, passed_behind, tasks_are}
+
+-- the subpools behind this number and this owner
+abbrev pub pools_after : Pools → ℕ → ℕ → Pools
+pools_after p number owner n o = if comes_before owner number o n then p n o else None
+
+-- the sharers of a subpool behind this task
+abbrev pub sharers_after : Sight → ℕ → ℕ → ℕ → List ℕ
+sharers_after f number owner behind =
+    filter (λ task. nat_lt behind task && (sees f number owner task && not (task == owner))) tasks
 
 -- From one key on to another there is no subpool, and the other is not before the one.
 pub record IsPast (f : Rows) (owner number last_owner last_number : ℕ) : Type 0 where
@@ -233,14 +242,3 @@ row_range s q kept r there = kept.sound.ranges (word r.words 0) (word r.words 1)
 
 pub sharers_by : (f : Rows) (n o number owner t : ℕ) → number ≡ n → owner ≡ o → sharers_after (sight_in f) n o t ≡ sharers_after (sight_in f) number owner t
 sharers_by f n o number owner t p q = ap (λ (z : ℕ). sharers_after (sight_in f) z o t) (sym p) ∙ ap (λ (z : ℕ). sharers_after (sight_in f) number z t) (sym q)
-
--- what a reader gives is the first of what is behind
-pub first_is : (o : Option ℕ) (xs : List ℕ) (rest : ℕ → List ℕ) → IfNone o (xs ≡ []) → IfSome o (λ x. xs ≡ x ∷ rest x) → o ≡ slice_get xs 0
-first_is None xs rest h k = sym (ap (λ (z : List ℕ). slice_get z 0) h)
-first_is (Some x) xs rest h k = sym (ap (λ (z : List ℕ). slice_get z 0) k)
-
--- and the k-th but one of the rest is the k-th
-pub next_is : (xs rest : List ℕ) (x i k : ℕ) → xs ≡ x ∷ rest → k < i → slice_get rest (i - (k + 1)) ≡ slice_get xs (i - k)
-next_is xs rest x i k e h =
-    let j : i - k ≡ suc (i - (k + 1)) = omega (arith, h) in
-    sym (ap (slice_get xs) j ∙ ap (λ (z : List ℕ). slice_get z (suc (i - (k + 1)))) e)

@@ -18,10 +18,10 @@ use Rattle.row_table.proofs.NextLemmas.{before_says, says_before, before_more}
 use Rattle.row_table.proofs.AscendLemmas.{other_behind, other_before}
 use Rattle.row_table.proofs.TableLemmas.{rows_ascend}
 use Rattle.subpool_set.specs.declared.places.PoolPlace.{PoolPlace}
-use Rattle.subpool_set.specs.Pools.{Pool, ids_in_order, pools_after, sharers, sharers_after}
+use Rattle.subpool_set.specs.Pools.{Pool, ids_in_order, sharers}
 use Rattle.subpool_set.specs.Kept.{Rows, IsKept, owner_in, sight_in, pools_in}
 use Rattle.subpool_set.specs.Walks.{pool_ids, is_shared, sharer_tasks, AreBelow, AreUpTo, AreFrom, IsWalkPlace}
-use Rattle.subpool_set.proofs.ReaderLemmas.{IsPast, past_begin, past_end, past_more, past_found, IsPassed, passed_begin, passed_all, passed_other, passed_row, passed_sharer, sharers_begin}
+use Rattle.subpool_set.proofs.ReaderLemmas.{pools_after, sharers_after, IsPast, past_begin, past_end, past_more, past_found, IsPassed, passed_begin, passed_all, passed_other, passed_row, passed_sharer, sharers_begin}
 use Rattle.subpool_set.proofs.OrderLemmas.{order_begins}
 
 -- rows in order

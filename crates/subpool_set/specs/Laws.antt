@@ -10,7 +10,6 @@ use Rattle.free_queue.specs.FreeQueue
 use Rattle.subpool_set.specs.declared.set.SubpoolSet.{SubpoolSet}
 use Rattle.row_table.specs.Rows.{same_key, either_of}
 use Rattle.subpool_set.specs.Pools.{Pool, Sight, Pools, no_queues, sight_of_pool, sight_without, pools_with, pool_alone}
-use Rattle.subpool_set.specs.Pools.{in_order, pools_after, sharers, sharers_after}
 use Rattle.subpool_set.specs.SubpoolSet.{sight, pool, owned, number_of, owner_of, IsSubpoolSet, IsPool}
 use Rattle.subpool_set.specs.SubpoolSet.{queue_ids, QueuesStand, IsParked, parked_pool, parked_owned, parked_queue_ids}
 use Rattle.subpool_set.specs.SubpoolSet.{IsPoolPlace, pools_left, IsSharerPlace, sharers_left}
@@ -144,8 +143,3 @@ PutBack = (f : Sight) (p : Pools) (number owner : ℕ)
     × ((n o : ℕ) → either_of (pool_alone p number owner n o) (pools_with p number owner None n o) ≡ p n o)
     × ((t n : ℕ) → IsSome (sight_of_pool f number owner t n) → sight_without f number owner t n ≡ None)
     × ((n o : ℕ) → IsSome (pool_alone p number owner n o) → pools_with p number owner None n o ≡ None)
-
--- behind 0 and 0 are all subpools, and behind task 0 all sharers
-abbrev pub ReadersBegin : Type 0
-ReadersBegin = ((p : Pools) → in_order (pools_after p 0 0) ≡ in_order p)
-    × ((f : Sight) (number owner : ℕ) → sharers_after f number owner 0 ≡ sharers f number owner)

@@ -1,6 +1,6 @@
 //! A set beside the plain slow program: the owner that each task sees at each number.
 
-ghost use Rattle.subpool_set.specs.SubpoolSet.{IsSubpoolSet, QueuesStand};
+ghost use Rattle.subpool_set.specs.SubpoolSet.{IsSubpoolSet, IsPoolPlace, QueuesStand};
 
 use super::*;
 use laws::{discards_keep, put_back, sets_stay};
@@ -25,53 +25,76 @@ fn compare(rt: &impl Abort, elements: &Elements, set: &SubpoolSet, seen: &Seen)
     }
 }
 
-// The subpools have these numbers and owners, in this order.
+// The subpools have these numbers and owners, in this order, on a walk as by position.
 fn list_subpools(rt: &impl Abort, elements: &Elements, set: &SubpoolSet, want: &[(u8, u8)])
     requires { IsSubpoolSet elements.now set.now }
 {
-    let mut last = (0, 0);
+    let mut place = SubpoolSet::first_place();
     let mut i = 0u32;
     for subpool in want {
-        match set.pool_after(elements, last.0, last.1) {
-            Some(id) => {
+        match set.next_pool(elements, place) {
+            Some((id, behind)) => {
+                let named = (set.number(elements, id), set.owner(elements, id));
+                assert_eq!(rt; named, *subpool);
+                assert_eq!(rt; behind.pool(), id);
                 assert_eq!(rt; set.pool_at(elements, i), Some(id));
-                last = (set.number(elements, id), set.owner(elements, id));
-                assert_eq!(rt; last, *subpool);
+                place = behind;
             }
             None => assert!(rt; false),
         }
         i = i.saturating_add(1);
     }
-    assert_eq!(rt; set.pool_after(elements, last.0, last.1), None);
+    assert_eq!(rt; set.next_pool(elements, place), None);
     assert_eq!(rt; set.pool_at(elements, i), None);
+    assert_eq!(rt; set.pool_at(elements, i.saturating_add(1)), None);
 }
 
-// These other tasks see the subpool that the task sees at the number, in this order.
+// The place behind the subpool, or behind the last one.
+fn place_behind(elements: &Elements, set: &SubpoolSet, id: PoolId) -> PoolPlace
+    requires { IsSubpoolSet elements.now set.now }
+    ensures { IsPoolPlace elements.now set.now result }
+{
+    let mut place = SubpoolSet::first_place();
+    while let Some((pool, behind)) = set.next_pool(elements, place) {
+        if pool == id {
+            return behind;
+        }
+        place = behind;
+    }
+    place
+}
+
+// These tasks share the subpool of this number with its owner, in this order, on a walk as by position.
 fn list_sharers(
     rt: &impl Abort,
     elements: &Elements,
     set: &SubpoolSet,
-    task: u8,
+    owner: u8,
     number: u8,
     want: &[u8],
 )
     requires { IsSubpoolSet elements.now set.now }
 {
-    match set.visible(elements, task, number) {
-        Some(id) => {
-            let mut last = 0;
-            let mut i = 0u32;
-            for sharer in want {
+    let Some(id) = set.visible(elements, owner, number) else {
+        assert!(rt; false);
+        return;
+    };
+    let mut place = SubpoolSet::first_sharer(place_behind(elements, set, id));
+    let mut i = 0u32;
+    for sharer in want {
+        match set.next_sharer(elements, number, owner, place) {
+            Some((task, behind)) => {
+                assert_eq!(rt; task, *sharer);
                 assert_eq!(rt; set.sharer_at(elements, id, i), Some(*sharer));
-                assert_eq!(rt; set.sharer_after(elements, id, last), Some(*sharer));
-                last = *sharer;
-                i = i.saturating_add(1);
+                place = behind;
             }
-            assert_eq!(rt; set.sharer_at(elements, id, i), None);
-            assert_eq!(rt; set.sharer_after(elements, id, last), None);
+            None => assert!(rt; false),
         }
-        None => assert!(rt; false),
+        i = i.saturating_add(1);
     }
+    assert_eq!(rt; set.next_sharer(elements, number, owner, place), None);
+    assert_eq!(rt; set.sharer_at(elements, id, i), None);
+    assert_eq!(rt; set.sharer_at(elements, id, i.saturating_add(1)), None);
 }
 
 fn create(rt: &impl Abort, elements: &mut Elements, set: &mut SubpoolSet, task: u8, number: u8)
@@ -232,7 +255,7 @@ fn the_set_is_the_plain_one(rt: HostRuntime) -> Result<(), Fail> {
     out_and_in(&rt, &mut elements, &mut set, 4, 2, &without);
     compare(&rt, &elements, &set, &given);
     list_subpools(&rt, &elements, &set, &[(1, 1), (1, 2), (2, 3)]);
-    list_sharers(&rt, &elements, &set, 2, 2, &[2, 4]);
+    list_sharers(&rt, &elements, &set, 3, 2, &[2, 4]);
     assert_eq!(rt; elements.spare(), 122);
     discard(&rt, &mut elements, &mut set, 2, 1);
     let left = [[0, 1, 0], [0, 0, 3], [0, 1, 3], [0, 0, 3]];
@@ -266,5 +289,32 @@ fn two_subpools_come_back_as_one(rt: HostRuntime) -> Result<(), Fail> {
     list_sharers(&rt, &elements, &set, 1, 1, &[4]);
     list_sharers(&rt, &elements, &set, 3, 2, &[1]);
     assert_eq!(rt; elements.spare(), 123);
+    Ok(())
+}
+
+#[test]
+fn walks_come_in_order(rt: HostRuntime) -> Result<(), Fail> {
+    let mut elements = Elements::new(rt.alloc());
+    elements.reserve(64)?;
+    let mut set = SubpoolSet::new();
+    list_subpools(&rt, &elements, &set, &[]);
+    create(&rt, &mut elements, &mut set, 3, 127);
+    create(&rt, &mut elements, &mut set, 2, 1);
+    create(&rt, &mut elements, &mut set, 64, 0);
+    create(&rt, &mut elements, &mut set, 1, 1);
+    create(&rt, &mut elements, &mut set, 2, 0);
+    share(&rt, &mut elements, &mut set, 64, 2, 1);
+    share(&rt, &mut elements, &mut set, 4, 1, 1);
+    share(&rt, &mut elements, &mut set, 9, 2, 1);
+    share(&rt, &mut elements, &mut set, 5, 2, 1);
+    share(&rt, &mut elements, &mut set, 1, 3, 127);
+    share(&rt, &mut elements, &mut set, 1, 64, 0);
+    let subpools = [(0, 2), (0, 64), (1, 1), (1, 2), (127, 3)];
+    list_subpools(&rt, &elements, &set, &subpools);
+    list_sharers(&rt, &elements, &set, 2, 0, &[]);
+    list_sharers(&rt, &elements, &set, 64, 0, &[1]);
+    list_sharers(&rt, &elements, &set, 1, 1, &[4]);
+    list_sharers(&rt, &elements, &set, 2, 1, &[5, 9, 64]);
+    list_sharers(&rt, &elements, &set, 3, 127, &[1]);
     Ok(())
 }

@@ -1,7 +1,6 @@
 //! What follows from the definitions. Each law is the contract of a function that does nothing.
 
 ghost use Rattle.subpool_storage.specs.Extents.{ExtentsAreRuns, ExtentsAreFew, FreeAreasAreRuns};
-ghost use Rattle.subpool_storage.specs.Order.{SubpoolsBegin};
 ghost use Rattle.subpool_storage.specs.Laws.{StorageOwns, SubpoolsAreThere, StorageStays};
 
 /// No element has two owners among the subpools and their queues, and each is live.
@@ -32,9 +31,4 @@ pub fn extents_are_few()
 /// The free areas of a subpool are the maximal runs of its free doublewords, in ascending order.
 pub fn free_areas_are_runs()
     ensures { FreeAreasAreRuns }
-{}
-
-/// Behind number 0 and owner 0 are all subpools.
-pub fn subpools_begin()
-    ensures { SubpoolsBegin }
 {}

@@ -1,14 +1,12 @@
-ghost use Rattle.std.specs.Prelude.{◌≡◌, ℕ, ◌+◌, ◌^◌, ◌<◌, ◌≤◌, true, false, [], ◌∷◌, IfSome, IfNone};
+ghost use Rattle.std.specs.Prelude.{◌≡◌, ℕ, ◌+◌, ◌^◌, ◌<◌, ◌≤◌, true, false, IfSome, IfNone};
 ghost use Rattle.vsm_elements.specs.Owners.{times};
 ghost use Rattle.run_set.specs.Runs.{IsCover};
 ghost use Rattle.run_set.specs.Fits.{Fits, IsLeastFit, IsLongest};
 ghost use Rattle.descriptor_queue.specs.Extents.{extents as extents_in, has_page as extents_have, owned as extents_own};
 ghost use Rattle.descriptor_queue.specs.Extents.{IsExtents};
 ghost use Rattle.free_queue.specs.FreeQueue.{areas, is_free, owned as areas_own, IsFreeQueue};
-ghost use Rattle.subpool_set.specs.Pools.{sharers_after};
 ghost use Rattle.subpool_storage.specs.Subpools.{is_there};
 ghost use Rattle.subpool_storage.specs.Extents.{extents, free_areas};
-ghost use Rattle.subpool_storage.specs.Order.{subpools_after};
 ghost use Rattle.subpool_storage.specs.SubpoolStorage.{subpools_of, hold, Stands};
 
 use crate::storage::SubpoolStorage;
@@ -87,44 +85,6 @@ impl SubpoolStorage {
     {
         let queues = self.queues(elements, subpool);
         queues.free
-    }
-
-    /// The subpool that comes next behind this number and this owner, by number and then by owner; `None` behind the
-    /// last. Behind 0 and 0 comes the first.
-    ///
-    /// It walks the rows of sight once for each of them that it passes over.
-    pub fn subpool_after(&self, elements: &Elements, number: u8, owner: u8) -> Option<Subpool>
-        requires { Stands elements.now self.now }
-        ensures none { IfNone result (subpools_after (subpools_of elements.now self.now) number owner ≡ []) }
-        ensures there { IfSome result (λ p. is_there (subpools_of elements.now self.now) p ≡ true) }
-        ensures next { IfSome result (λ p. subpools_after (subpools_of elements.now self.now) number owner
-            ≡ p ∷ subpools_after (subpools_of elements.now self.now) p.number p.owner) }
-    {
-        let id = self.set.pool_after(elements, number, owner)?;
-        Some(Subpool {
-            number: self.set.number(elements, id),
-            owner: self.set.owner(elements, id),
-        })
-    }
-
-    /// The task with the lowest number above this task's that sees the subpool besides its owner; `None` above the
-    /// last, and where the subpool isn't there. Above 0 is the first. (z/OS MVS Programming: Assembler Services Guide,
-    /// "Subpool handling".)
-    ///
-    /// It walks the rows of sight once for each of them that it passes over.
-    pub fn sharer_after(&self, elements: &Elements, subpool: Subpool, task: u8) -> Option<u8>
-        requires { Stands elements.now self.now }
-        ensures none { IfNone result (sharers_after (subpools_of elements.now self.now).sight
-            subpool.number subpool.owner task ≡ []) }
-        ensures next { IfSome result (λ t. sharers_after (subpools_of elements.now self.now).sight
-            subpool.number subpool.owner task
-            ≡ t ∷ sharers_after (subpools_of elements.now self.now).sight subpool.number subpool.owner t) }
-    {
-        if !self.has_subpool(elements, subpool) {
-            return None;
-        }
-        let id = self.id(elements, subpool);
-        self.set.sharer_after(elements, id, task)
     }
 
     /// Whether the page is the subpool's.

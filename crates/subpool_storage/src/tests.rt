@@ -192,15 +192,30 @@ fn only_area(elements: &Elements, storage: &SubpoolStorage, subpool: Subpool) ->
     (areas.count() == 1).then_some(area)
 }
 
-// The two subpools come in order, and nobody shares the first.
+// The two subpools come in order, on a walk as by position, and nobody shares the first.
 fn in_order(rt: &impl Abort, elements: &Elements, storage: &SubpoolStorage)
     requires { Stands elements.now storage.now }
 {
-    assert_eq!(rt; storage.subpool_after(elements, 0, 0), Some(FIRST));
-    assert_eq!(rt; storage.subpool_after(elements, 1, 1), Some(SECOND));
-    assert_eq!(rt; storage.subpool_after(elements, 2, 2), Some(SECOND));
-    assert_eq!(rt; storage.subpool_after(elements, 2, 3), None);
-    assert_eq!(rt; storage.sharer_after(elements, FIRST, 0), None);
+    let front = SubpoolStorage::first_subpool_place();
+    let Some((subpool, place)) = storage.next_subpool(elements, front) else {
+        assert!(rt; false);
+        return;
+    };
+    assert_eq!(rt; subpool, FIRST);
+    assert_eq!(rt; storage.extents_at(elements, place), storage.extents(elements, FIRST));
+    assert_eq!(rt; storage.free_areas_at(elements, place), storage.free_areas(elements, FIRST));
+    let sharers = SubpoolStorage::first_sharer_place(place);
+    assert_eq!(rt; storage.next_sharer(elements, FIRST, sharers), None);
+    assert_eq!(rt; storage.sharer_at(elements, FIRST, 0), None);
+    let Some((subpool, place)) = storage.next_subpool(elements, place) else {
+        assert!(rt; false);
+        return;
+    };
+    assert_eq!(rt; subpool, SECOND);
+    assert_eq!(rt; storage.next_subpool(elements, place), None);
+    assert_eq!(rt; storage.subpool_at(elements, 0), Some(FIRST));
+    assert_eq!(rt; storage.subpool_at(elements, 1), Some(SECOND));
+    assert_eq!(rt; storage.subpool_at(elements, 2), None);
 }
 
 #[test]

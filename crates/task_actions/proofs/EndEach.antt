@@ -119,6 +119,14 @@ pub any_none : {A : Type 0} (f : A → Bool) (xs : List A) → Each (λ x. f x �
 any_none f [] e = refl
 any_none f (x ∷ xs) e = ap (λ b. b || list_any f xs) e.0 ∙ any_none f xs e.1
 
+pub any_so : {A : Type 0} (f g : A → Bool) (xs : List A) → ((x : A) → f x ≡ true → g x ≡ true) → list_any f xs ≡ true → list_any g xs ≡ true
+any_so f g [] so any = any
+any_so f g (x ∷ xs) so any =
+    elim (or_cases (f x) (list_any f xs) any) [
+      | inl here ↦ or_left (g x) _ (so x here)
+      | inr later ↦ or_right (g x) _ (any_so f g xs so later)
+    ]
+
 any_first : {A : Type 0} (f : A → Bool) (xs ys : List A) → list_any f xs ≡ true → list_any f (xs ++ ys) ≡ true
 any_first f [] ys any = absurd (true≢false (sym any))
 any_first f (x ∷ xs) ys any =

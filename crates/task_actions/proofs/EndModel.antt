@@ -15,7 +15,7 @@ use Rattle.storage_actions.proofs.Rows.{Stands}
 use Rattle.task_laws.proofs.Options.{held}
 
 module _ (settings : Settings) (m : StorageState) (sound : IsSound settings m) (gone : Subpool → Bool) (sight : ℕ → ℕ → Option ℕ) where
-  abbrev left : Subpools
+  abbrev pub left : Subpools
   left =
       record {
         sight = sight;
@@ -24,10 +24,10 @@ module _ (settings : Settings) (m : StorageState) (sound : IsSound settings m) (
       }
 
   -- the page was one of theirs
-  abbrev theirs : ℕ → Bool
+  abbrev pub theirs : ℕ → Bool
   theirs k = holds gone (subpool_of m.subpools k)
 
-  abbrev unassigned : ℕ → Bool
+  abbrev pub unassigned : ℕ → Bool
   unassigned k = if theirs k then true else m.unassigned k
 
   was : (b x : Bool) → (if b then false else x) ≡ true → (b ≡ false) × (x ≡ true)

@@ -60,7 +60,7 @@ pub record IsShared (f : Sight) (row : Subpool × ℕ) : Type 0 where
   pub range : (1 ≤ row.1) × (row.1 ≤ 64)
 
 -- who sees its own subpool has no row of another's that goes
-own_stays : (f : Sight) (row : Subpool × ℕ) (p : Subpool) → IsShared f row → f p.owner p.number ≡ Some p.owner → is_row row.1 row.0.number p.owner p.number ≡ false
+pub own_stays : (f : Sight) (row : Subpool × ℕ) (p : Subpool) → IsShared f row → f p.owner p.number ≡ Some p.owner → is_row row.1 row.0.number p.owner p.number ≡ false
 own_stays f row p shared sees = false_from_ne_true (is_row row.1 row.0.number p.owner p.number) (λ is.
     let parts = and_parts (p.owner == row.1) (p.number == row.0.number) is in
     let task = eqb-true p.owner row.1 parts.0 in

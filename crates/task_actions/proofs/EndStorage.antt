@@ -56,6 +56,15 @@ abbrev pub onto : List Subpool → List Subpool → List Subpool
 onto done [] = done
 onto done (p ∷ left) = onto (p ∷ done) left
 
+any_move : (a b c : Bool) → (b || (a || c)) ≡ ((a || b) || c)
+any_move true true c = refl
+any_move true false c = refl
+any_move false b c = refl
+
+pub any_onto : (f : Subpool → Bool) (done left : List Subpool) → list_any f (onto done left) ≡ (list_any f left || list_any f done)
+any_onto f done [] = refl
+any_onto f done (p ∷ left) = any_onto f (p ∷ done) left ∙ any_move (f p) (list_any f left) (list_any f done)
+
 -- where these are emptied, and those are yet to be
 pub record IsAmid (m : StorageState) (w : Walk) (done left : List Subpool) : Type 0 where
   pub state : w.state ≡ emptied_of m done

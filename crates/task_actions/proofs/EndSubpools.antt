@@ -27,6 +27,10 @@ picked : {A : Type 0} (b : Bool) (x y : A) → ◌≡◌ {A = Option A} (if b th
 picked true x y e = (refl, same_some x y e)
 picked false x y e = absurd (none_some y e)
 
+pub in_tasks : (task : ℕ) → 1 ≤ task → task ≤ 64 → list_any (λ k. k == task) tasks ≡ true
+unfolding tasks
+in_tasks task low high = in_range 1 64 task low (omega (arith, high))
+
 module _ (m : Subpools) where
   at_is : (number owner : ℕ) (p : Subpool) → subpool_at m number owner ≡ Some p → (p.number ≡ number) × (p.owner ≡ owner) × (is_there m p ≡ true)
   at_is number owner p e =
@@ -43,7 +47,7 @@ module _ (m : Subpools) where
       each_given (λ owner. Unit {0}) (λ p. (p.number ≡ number) × (is_there m p ≡ true)) (subpool_at m number) tasks
       (λ owner p _ e. let at = at_is number owner p e in (at.0, at.2)) (each_all (λ owner. Unit {0}) tasks (λ _. tt))
 
-  tasks_ascend : Apart (λ j k. j < k) tasks
+  pub tasks_ascend : Apart (λ j k. j < k) tasks
   unfolding tasks
   tasks_ascend = range_ascends 1 64
 

@@ -1,12 +1,15 @@
 -- Records that lead from one state to another, whatever is parked, with a blank element left.
-use Rattle.std.proofs.Common.{◌≡◌, ℕ, ◌≤◌, List, [], ◌∷◌, ◌++◌, Option, None, refl, sym, ◌∙◌, ap, subst}
+use Rattle.std.proofs.Common.{◌≡◌, ℕ, ◌≤◌, List, [], ◌∷◌, ◌++◌, Option, None, IsSome, refl, sym, ◌∙◌, ap, subst}
 use Rattle.subpool_storage.specs.Subpools.{Subpools}
 use Rattle.storage_changes.specs.declared.record.Record.{Record}
 use Rattle.storage_changes.specs.State.{StorageState}
 use Rattle.storage_changes.specs.Walk.{Walk}
 use Rattle.storage_changes.specs.Steps.{step, walk}
 use Rattle.storage_changes.specs.Fits.{Fits, FitInTurn}
+use Rattle.storage_actions.specs.Actions.{register_records}
+use Rattle.storage_actions.specs.Leads.{AreRegisters}
 use Rattle.storage_actions.proofs.Goes.{walk_on, fits_on}
+use Rattle.storage_actions.proofs.Rows.{with_rows, rows_fit, rows_walk}
 
 -- no frame is to come, and there is a blank element
 pub record Rests (w : Walk) (m : StorageState) : Type 0 where
@@ -60,3 +63,13 @@ leads_to_same m n o rs e leads = let P : StorageState → Type 0 = λ x. LeadsOn
 
 pub leads_by_same : (m n : StorageState) (rs ss : List Record) → rs ≡ ss → LeadsOn m rs n → LeadsOn m ss n
 leads_by_same m n rs ss e leads = let P : List Record → Type 0 = λ x. LeadsOn m x n in subst P e leads
+
+-- registers of the current task are set behind them
+pub rows_then : (w : Walk) (rs : List Record) (n : StorageState) (rows : List (ℕ × ℕ)) → IsSome (n.tasks.parents n.tasks.current) → AreRegisters rows
+    → Comes w rs n → Comes w (rs ++ register_records n rows) (with_rows n rows)
+rows_then w rs n rows task are comes = comes_on w rs (register_records n rows) n (with_rows n rows) comes (λ v rests. record {
+  fits = rows_fit (with_state v n) rows task are;
+  rests =
+      let P : Walk → Type 0 = λ u. Rests u (with_rows n rows) in
+      subst P (sym (rows_walk (with_state v n) rows)) (record { state = refl; none_brought = rests.none_brought; spare = rests.spare });
+})

@@ -2,12 +2,17 @@ mod AttachNumbers
 mod AttachOpen
 mod AttachPassed
 mod AttachSteps
-mod EndLists
-mod EndOrder
 pub mod Attaching
 pub mod Turning
-mod EndEach
-mod EndSubpools
+pub mod EndLists
+pub mod EndOrder
+pub mod EndEach
+pub mod EndSubpools
 mod EndModel
 mod EndWalk
 mod EndStorage
+mod EndSight
+mod EndTasks
+mod EndParked
+mod EndRows
+pub mod EndLeads

@@ -2,7 +2,7 @@ use Rattle.std.proofs.Common.{◌≡◌, ℕ, Bool, true, false, List, ◌++◌,
 use Rattle.std.specs.Prelude.{if◌then◌else◌}
 use Rattle.vsm_elements.specs.Store.{Store, among, at}
 use Rattle.vsm_elements.specs.Ownership.{Owns, Leaves, Apart}
-use Rattle.vsm_elements.proofs.ChainFrame.{false_if, gone, either}
+use Rattle.vsm_elements.proofs.ChainFrame.{false_if, gone}
 use Rattle.row_table.specs.Rows.{either_of}
 use Rattle.row_table.proofs.RowLemmas.{not_both}
 use Rattle.subpool_set.specs.Pools.{Sight, is_owner, sight_of_pool, sight_without}

@@ -1,4 +1,4 @@
-use Rattle.std.proofs.Common.{ℕ, Option, IsSome, ◌∙◌, subst}
+use Rattle.std.proofs.Common.{Option, IsSome, ◌∙◌, subst}
 use Rattle.subpool_set.specs.Pools.{Pool}
 use Rattle.subpool_set.specs.SubpoolSet.{sight, pool, number_of, owner_of}
 use Rattle.subpool_set.proofs.LawLemmas.{put_back}
