@@ -1,5 +1,5 @@
 use Rattle.storage_exchange.specs.Storage.{state_of}
-use Rattle.task_plans.proofs.RunPlans.{no_task, past_tasks, run_carried}
+use Rattle.task_plans.proofs.RunPlans.{past_tasks, run_carried}
 use Rattle.task_plans.proofs.run.plan_run.Goals as goal
 
 pub returns-then-task-gt64 : goal.returns-then-task-gt64
