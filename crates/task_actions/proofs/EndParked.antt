@@ -20,6 +20,7 @@ use Rattle.storage_actions.proofs.Owned.{has_pages, there_is_named, own_is_there
 use Rattle.storage_actions.proofs.Rows.{none_brought}
 use Rattle.task_laws.proofs.Options.{held}
 use Rattle.task_actions.specs.Ending.{owned_by_these, released_records, end_blanks, emptying_records}
+use Rattle.task_actions.proofs.EndLists.{or_nothing}
 use Rattle.task_actions.proofs.EndEach.{Each, each_all, each_so, some_has, any_so}
 use Rattle.task_actions.proofs.EndSubpools.{IsAnother, is_listed, owned_have, owned_are_apart, owned_list}
 use Rattle.task_actions.proofs.EndModel.{left, theirs, unassigned}
@@ -55,10 +56,6 @@ none_either true true x e = refl
 none_either true false x e = sym e
 none_either false true x e = e
 none_either false false x e = refl
-
-or_nothing : (b : Bool) → (b || false) ≡ b
-or_nothing true = refl
-or_nothing false = refl
 
 module _ (settings : Settings) (m : StorageState) (sound : IsSound settings m) (valid : settings_valid settings ≡ true) (ended : List ℕ) where
   abbrev pub owned : List Subpool

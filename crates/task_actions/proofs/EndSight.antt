@@ -113,7 +113,7 @@ pub record IsAlone (m : StorageState) (f : Sight) (p : Subpool) : Type 0 where
   pub no_pages : (page : ℕ) → m.subpools.pages p page ≡ false
   pub none_free : (d : ℕ) → m.subpools.free p d ≡ false
 
-saw : (b : Bool) (o : Option ℕ) (x : ℕ) → (if b then None else o) ≡ Some x → o ≡ Some x
+pub saw : (b : Bool) (o : Option ℕ) (x : ℕ) → (if b then None else o) ≡ Some x → o ≡ Some x
 saw true o x e = absurd (none_some x e)
 saw false o x e = e
 

@@ -14,6 +14,7 @@ use Rattle.storage_changes.specs.State.{StorageState}
 use Rattle.task_laws.proofs.Ends.{comes}
 use Rattle.task_laws.proofs.Options.{none_some, held, some_there}
 use Rattle.task_actions.specs.Ending.{ended_records, AreSubtasksFirst}
+use Rattle.task_actions.proofs.EndLists.{or_nothing}
 use Rattle.task_actions.proofs.EndEach.{Each, each_to, in_range}
 use Rattle.task_actions.proofs.EndWalk.{Rests, LeadsOn, leads_nowhere, leads_first, leads_then}
 
@@ -213,10 +214,6 @@ module _ (m : StorageState) (w : TasksAreSound (model_of m)) where
     same_words = λ t r stays. have.same_words t r (e t ∙ stays);
   }
 
-  or_nothing : (b : Bool) → b ≡ (b || false)
-  or_nothing true = refl
-  or_nothing false = refl
-
   -- all of them
   pub ends_go : (n : StorageState) (tasks gone : List ℕ) (parents : Parents) (words : Words) → HaveGone m (is_in gone) parents words
       → ((t subtask : ℕ) → is_in gone t ≡ true → m.tasks.parents subtask ≡ Some t → is_in gone subtask ≡ true)
@@ -226,7 +223,7 @@ module _ (m : StorageState) (w : TasksAreSound (model_of m)) where
   ends_go n [] gone parents words have closed order are = record {
     after_parents = parents;
     after_words = words;
-    have_gone = same_gone (is_in gone) (λ t. is_in gone t || false) parents words (λ t. or_nothing (is_in gone t)) have;
+    have_gone = same_gone (is_in gone) (λ t. is_in gone t || false) parents words (λ t. sym (or_nothing (is_in gone t))) have;
     leads = leads_nowhere (having n parents words);
   }
   ends_go n (task ∷ tasks) gone parents words have closed order are =

@@ -16,8 +16,8 @@ pub fn turning_leads()
 {}
 
 /// Tasks end, each behind those below it: the subpools that they own go over into the change with all that they have,
-/// and their rows of sight and their registers become records. One blank element is enough besides those for the
-/// extents of their subpools.
+/// and their rows of sight and their registers become records; and registers are set of the task whose turn it is then.
+/// One blank element is enough besides those for the subpools and their extents.
 pub fn ending_leads()
     ensures { EndingLeads }
 {}
