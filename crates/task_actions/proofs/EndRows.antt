@@ -1,6 +1,6 @@
 -- The rows of sight that go when tasks end, and what is seen then.
-use Rattle.std.proofs.Common.{◌≡◌, ◌≢◌, ℕ, ◌<◌, ◌≤◌, Bool, true, false, not, ◌&&◌, ◌||◌, ◌==◌, if◌then◌else◌, List, [], ◌∷◌, Option, Some, None, refl, sym, ◌∙◌, ap, arith, inl, inr, true≢false}
-use Rattle.std.specs.Prelude.{map, filter}
+use Rattle.std.proofs.Common.{◌≡◌, ◌≢◌, ℕ, ◌<◌, Bool, true, false, not, ◌&&◌, ◌||◌, ◌==◌, if◌then◌else◌, List, Option, Some, None, refl, sym, ◌∙◌, ap, arith, inl, inr, true≢false}
+use Rattle.std.specs.Prelude.{map}
 use Rattle.std.specs.List.{flat_map, list_any}
 use Rattle.std.proofs.lemmas.Bool.{cond-true, cond-false, and_parts, and_left, and_from, or_left, or_right, or_parts, eqb-true, eq-eqb, ne_eqb, cases_Bool, both_ways, not-true, false_from_ne_true}
 use Rattle.vsm_model.specs.declared.Subpool.{Subpool}
@@ -13,12 +13,12 @@ use Rattle.subpool_storage.specs.Subpools.{is_there}
 use Rattle.storage_changes.specs.declared.record.Record.{Record}
 use Rattle.storage_changes.specs.Meaning.{IsSound}
 use Rattle.storage_changes.specs.State.{StorageState}
-use Rattle.storage_changes.proofs.Cases.{same-is, same-self}
+use Rattle.storage_changes.proofs.Cases.{same-is}
 use Rattle.storage_actions.proofs.Owned.{there_is_named}
 use Rattle.task_laws.proofs.Options.{none_some, same_some}
 use Rattle.task_actions.specs.Ending.{owned_by_these, unseeing, unshared, unshared_records}
 use Rattle.task_actions.proofs.EndEach.{Each, Apart, each_all, each_so, each_flat, each_map, each_filter, apart_flat, apart_map, apart_filter, some_has, any_none, any_map, any_flat, any_filter, any_so, map_flat, map_map}
-use Rattle.task_actions.proofs.EndSubpools.{IsAnother, is_listed, in_tasks, tasks_ascend, order_has, order_is_apart, order_lists, owned_have, owned_list}
+use Rattle.task_actions.proofs.EndSubpools.{IsAnother, in_tasks, tasks_ascend, order_has, order_is_apart, order_lists, owned_have, owned_list}
 use Rattle.task_actions.proofs.EndSight.{Sight, is_row, without_rows, is_among_rows, without_rows_is, IsOtherRow, IsShared, IsAlone, own_stays, own_rows, saw}
 
 owner_is : (owner : ℕ) (o : Option ℕ) → is_owner owner o ≡ true → o ≡ Some owner
@@ -122,9 +122,11 @@ module _ (settings : Settings) (m : StorageState) (sound : IsSound settings m) (
       let range = sound.well_formed.tasks.numbered t (sound.well_formed.sight.seer_is_task t n o at) in
       any_filter (λ k. k == t) (λ k. k == t) (λ k. sees sight n o k && not (k == o)) tasks
       (λ k same.
-      let is = eqb-true k t same in
-      (and_from (sees sight n o k) (not (k == o)) (ap (λ j. sees sight n o j) is ∙ ap (is_owner o) at ∙ eq-eqb o o refl)
-      (ap not (ap (λ j. j == o) is ∙ ne_eqb t o apart)), same))
+      let is = eqb-true k t same in (
+        and_from (sees sight n o k) (not (k == o)) (ap (λ j. sees sight n o j) is ∙ ap (is_owner o) at ∙ eq-eqb o o refl)
+            (ap not (ap (λ j. j == o) is ∙ ne_eqb t o apart)),
+        same,
+      ))
       (in_tasks t range.0 range.1)
 
   of_pool_has : (t n o : ℕ) → sight t n ≡ Some o → t ≢ o → (is_in ended t || is_in ended o) ≡ true
