@@ -4,8 +4,8 @@
 ghost use Rattle.task_actions.specs.Laws.{AttachingLeads, EndingLeads, EndsAreInOrder, TurningLeads};
 
 /// A task comes, below the current one: it shares subpool 0 or has one of its own, it is given subpools, and it shares
-/// others; and registers of the current task are set. Seven blank elements are enough, and two more for each number that
-/// is given or shared.
+/// others; and registers of the current task are set. Seven blank elements are enough, and two more for each number
+/// that is given or shared.
 pub fn attaching_leads()
     ensures { AttachingLeads }
 {}
