@@ -30,8 +30,8 @@ abbrev pub ended_from : (ℕ → Option ℕ) → ℕ → ℕ → List ℕ
 ended_from parents top zero = ended_level parents top 0
 ended_from parents top (suc steps) = ended_level parents top (suc steps) ++ ended_from parents top steps
 
--- the subtree of a task: none of the 64 tasks is more than 63 steps below another
-abbrev pub ended_below : (ℕ → Option ℕ) → ℕ → List ℕ
+-- The subtree of a task: none of the 64 tasks is more than 63 steps below another. Closed, since it is long.
+unfoldable pub ended_below : (ℕ → Option ℕ) → ℕ → List ℕ
 ended_below parents top = ended_from parents top 63
 
 -- the subpools that these tasks own
