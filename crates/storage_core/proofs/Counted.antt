@@ -20,7 +20,7 @@ follow-length : (s : Store) (id n : ℕ) → length (follow s id n) ≡ n
 follow-length s id zero = refl
 follow-length s id (suc n) = ap suc (follow-length s ((element s id).next) n)
 
-records-length : (s : Store) (c : Chain) → length (records_of s c) ≡ c.count
+pub records-length : (s : Store) (c : Chain) → length (records_of s c) ≡ c.count
 records-length s c = length-map (links s c) record_at ∙ follow-length s c.first c.count
 
 unassigned-length : (rs : List Run) → length (unassigned_records rs) ≡ length rs

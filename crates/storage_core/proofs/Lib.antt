@@ -5,3 +5,5 @@ pub mod Holding
 pub mod Soundness
 pub mod Staying
 mod Walking
+mod PlanCases
+mod TaskCounts

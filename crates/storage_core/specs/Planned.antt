@@ -1,5 +1,5 @@
 -- Which services can be planned, what their plans come to, and which plans can be made into changes.
-use Rattle.std.specs.Prelude.{◌≡◌, ℕ, suc, ◌+◌, ◌*◌, ◌^◌, ◌<◌, ◌≤◌, Bool, true, IfSome, length, Option, Some, None, ⊤}
+use Rattle.std.specs.Prelude.{◌≡◌, ℕ, ◌+◌, ◌*◌, ◌^◌, ◌<◌, ◌≤◌, Bool, true, IfSome, length, Option, Some, None, ⊤}
 use Rattle.std.specs.Prelude.{Result, Ok, Err}
 use Rattle.raw_region.specs.Pages.{HaveTables}
 use Rattle.run_set.specs.declared.run.Run.{Run}
@@ -88,14 +88,15 @@ pages_assigned (Attach plan) = 0
 pages_assigned (End plan) = 0
 
 -- The change has fewer elements than this: 32, 8 more for each extent that leaves with a whole subpool, and 4 for each
--- number that is given or shared. That of tasks that end has one for each of its records, and its blank ones.
+-- number that is given or shared. That of tasks that end has one for each of their records, one for the return code, and
+-- its blank ones.
 abbrev pub elements_below : StorageState → Plan → ℕ
 elements_below m (Storage plan) = 32 + 8 * extents_leaving m.subpools plan.emptied
 elements_below m (Attach plan) =
     32 + 4 * (length (numbers m plan.attach.given) + length (numbers m plan.attach.shared))
 elements_below m (End plan) =
     let ended = ended_below m.tasks.parents plan.top in
-    suc (length (end_records m ended plan.next) + end_blanks m ended)
+    2 + (length (end_records m ended plan.next) + end_blanks m ended)
 
 -- Nothing has to grow for the plan's change. Where tasks come or end that isn't said: the list of its records is made
 -- first.

@@ -1,6 +1,11 @@
 //! The plan of any service.
-ghost use Rattle.std.specs.Prelude.{◌≡◌};
+ghost use Rattle.std.specs.Prelude.{◌≡◌, Bool};
+ghost use Rattle.vsm_model.specs.declared.limits.Settings.{Settings};
 ghost use Rattle.vsm_model.specs.Meaning.{service_in};
+ghost use Rattle.vsm_model.specs.Services.{Service as Asked};
+ghost use Rattle.storage_changes.specs.State.{StorageState};
+ghost use Rattle.storage_plans.specs.Plans.{IsPlanned as IsStoragePlanned};
+ghost use Rattle.task_plans.specs.TaskPlans.{IsAttachPlanned, IsEndPlanned};
 ghost use Rattle.storage_core.specs.Meaning.{state_in_place, settings_of};
 ghost use Rattle.storage_core.specs.Planned.{reply_of, CanBePlanned, IsPlanned};
 
@@ -33,6 +38,39 @@ impl Plan {
     }
 }
 
+// The plan of a request for storage, or of a turn.
+fn storage_planned(planned: Result<StoragePlan, Cause>) -> Result<Plan, Cause>
+    ensures { (settings : Settings) (names_full : Bool) (m : StorageState) (x : Asked)
+        → IsStoragePlanned settings names_full m x planned → IsPlanned settings names_full m x result }
+{
+    match planned {
+        Ok(plan) => Ok(Plan::Storage(plan)),
+        Err(cause) => Err(cause),
+    }
+}
+
+// The plan of a task that comes.
+fn attach_planned(planned: Result<AttachPlan, Cause>) -> Result<Plan, Cause>
+    ensures { (settings : Settings) (names_full : Bool) (m : StorageState) (x : Asked)
+        → IsAttachPlanned settings names_full m x planned → IsPlanned settings names_full m x result }
+{
+    match planned {
+        Ok(plan) => Ok(Plan::Attach(plan)),
+        Err(cause) => Err(cause),
+    }
+}
+
+// The plan of tasks that end.
+fn end_planned(planned: Result<EndPlan, Cause>) -> Result<Plan, Cause>
+    ensures { (settings : Settings) (names_full : Bool) (m : StorageState) (x : Asked)
+        → IsEndPlanned settings names_full m x planned → IsPlanned settings names_full m x result }
+{
+    match planned {
+        Ok(plan) => Ok(Plan::End(plan)),
+        Err(cause) => Err(cause),
+    }
+}
+
 impl Storage {
     /// A plan for the service, or the first cause that refuses it. `names_full` says that the statement defines a name
     /// for which there is no room. Reads alone, and takes no memory. What can be planned are areas of one length or of
@@ -47,14 +85,18 @@ impl Storage {
             result }
     {
         match service {
-            Service::Obtain(o) => Ok(Plan::Storage(plan_obtain(&self.parts, self.settings, o, names_full)?)),
-            Service::Release(r) => Ok(Plan::Storage(plan_release(&self.parts, self.settings, r)?)),
-            Service::Whole { number } => Ok(Plan::Storage(plan_whole(&self.parts, number)?)),
-            Service::Store { address, bytes } => Ok(Plan::Storage(plan_store(&self.parts, address, bytes)?)),
-            Service::Attach(a) => Ok(Plan::Attach(plan_attach(&self.parts, a)?)),
-            Service::Detach { task } => Ok(Plan::End(plan_detach(&self.parts, task)?)),
-            Service::EndTask => Ok(Plan::End(plan_end_task(&self.parts)?)),
-            Service::Run { task } => Ok(Plan::Storage(plan_run(&self.parts, task)?)),
+            Service::Obtain(o) => {
+                storage_planned(plan_obtain(&self.parts, self.settings, o, names_full))
+            }
+            Service::Release(r) => storage_planned(plan_release(&self.parts, self.settings, r)),
+            Service::Whole { number } => storage_planned(plan_whole(&self.parts, number)),
+            Service::Store { address, bytes } => {
+                storage_planned(plan_store(&self.parts, address, bytes))
+            }
+            Service::Attach(a) => attach_planned(plan_attach(&self.parts, a)),
+            Service::Detach { task } => end_planned(plan_detach(&self.parts, task)),
+            Service::EndTask => end_planned(plan_end_task(&self.parts)),
+            Service::Run { task } => storage_planned(plan_run(&self.parts, task)),
             Service::Build { .. }
             | Service::Get { .. }
             | Service::Free { .. }
