@@ -1,3 +1,8 @@
 mod NumberLists
 mod AttachPlans
 mod RunPlans
+mod Rests
+mod Climbs
+mod Registers
+mod OwnedNames
+mod EndPlans

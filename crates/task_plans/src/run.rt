@@ -27,11 +27,7 @@ pub fn plan_run(storage: &Storage, task: u32) -> Result<Plan, Cause>
         return Err(Cause::NoTask);
     }
     let task = task as u8;
-    if storage
-        .tasks
-        .check_run(&storage.elements, task)
-        .is_err()
-    {
+    if storage.tasks.check_run(&storage.elements, task).is_err() {
         return Err(Cause::NoTask);
     }
     let mut records = ArrayVec::new();
