@@ -1,9 +1,8 @@
 -- The records of tasks that end. Assembler Services Reference, DETACH; Assembler Services Guide, "Virtual storage
 -- management", "Subpool handling": when a task ends, the subpools that it owns are released.
-use Rattle.std.specs.Prelude.{◌≡◌, ◌≢◌, ℕ, zero, suc, ◌+◌, Bool, true, false, ◌||◌, ◌==◌, Option, Some, unwrap_or}
+use Rattle.std.specs.Prelude.{◌≡◌, ℕ, zero, suc, ◌+◌, Bool, true, false, ◌||◌, ◌==◌, Option, Some, unwrap_or}
 use Rattle.std.specs.Prelude.{List, [], ◌∷◌, ◌++◌, length, map, filter}
 use Rattle.std.specs.List.{flat_map, range_with_len}
-use Rattle.run_set.specs.declared.run.Run.{Run}
 use Rattle.vsm_model.specs.declared.Subpool.{Subpool}
 use Rattle.vsm_model.specs.Search.{holds, is_in}
 use Rattle.vsm_model.specs.State.{State, is_task}
