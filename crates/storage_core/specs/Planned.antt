@@ -1,5 +1,5 @@
 -- Which services can be planned, what their plans come to, and which plans can be made into changes.
-use Rattle.std.specs.Prelude.{◌≡◌, ℕ, suc, ◌+◌, ◌*◌, ◌^◌, ◌<◌, ◌≤◌, Bool, true, IfSome, length, Option, Some, None, ⊤, ⊥}
+use Rattle.std.specs.Prelude.{◌≡◌, ℕ, suc, ◌+◌, ◌*◌, ◌^◌, ◌<◌, ◌≤◌, Bool, true, IfSome, length, Option, Some, None, ⊤}
 use Rattle.std.specs.Prelude.{Result, Ok, Err}
 use Rattle.raw_region.specs.Pages.{HaveTables}
 use Rattle.run_set.specs.declared.run.Run.{Run}

@@ -253,8 +253,14 @@ fn count_subpools(rt: &impl Abort, storage: &Storage) -> u32 {
             return i;
         };
         assert_eq!(rt; position, Some(subpool));
-        assert_eq!(rt; storage.first_extent_at(behind), storage.first_extent(subpool));
-        assert_eq!(rt; storage.first_free_area_at(behind), storage.first_free_area(subpool));
+        assert_eq!(rt;
+            storage.first_extent_at(behind),
+            storage.first_extent(subpool)
+        );
+        assert_eq!(rt;
+            storage.first_free_area_at(behind),
+            storage.first_free_area(subpool)
+        );
         let front = Storage::first_sharer_place(behind);
         assert_eq!(rt; storage.next_sharer(subpool, front), None);
         assert_eq!(rt; storage.sharer_at(subpool, 0), None);

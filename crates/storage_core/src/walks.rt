@@ -96,10 +96,7 @@ impl Storage {
         ensures { IsExtentPlace self.now (subpool_before self.now place) result 0 }
     {
         ExtentPlace {
-            extents: self
-                .parts
-                .subpools
-                .extents_at(&self.parts.elements, place),
+            extents: self.parts.subpools.extents_at(&self.parts.elements, place),
             place: Extents::first_place(),
         }
     }

@@ -1,12 +1,12 @@
 -- The subpools and the sharers in order, as the set of subpools reads them.
-use Rattle.std.proofs.Common.{◌≡◌, ℕ, Bool, true, false, ◌==◌, ◌&&◌, not, nat_lt, List, [], ◌∷◌, ◌++◌, map, Option, Some, None, refl, sym, ap, ◌∙◌}
-use Rattle.std.specs.Prelude.{if◌then◌else◌, option_map, IfSome, IfNone}
+use Rattle.std.proofs.Common.{◌≡◌, ℕ, true, false, ◌==◌, List, [], ◌∷◌, ◌++◌, map, Option, Some, None, refl, sym, ap, ◌∙◌}
+use Rattle.std.specs.Prelude.{if◌then◌else◌, option_map}
 use Rattle.std.specs.List.{flat_map, filter_map, cons_option}
 use Rattle.std.proofs.lemmas.List.{map-append}
 use Rattle.vsm_elements.specs.Store.{Store}
 use Rattle.vsm_elements.proofs.ChainFrame.{false_if}
 use Rattle.subpool_set.proofs.KeyLemmas.{not_both, if_true, if_false, eqb_refl, eqb_same}
-use Rattle.subpool_set.specs.Pools.{Pool, is_owner, sees, tasks, numbers, ids_in_order}
+use Rattle.subpool_set.specs.Pools.{Pool, tasks, numbers, ids_in_order}
 use Rattle.subpool_set.specs.SubpoolSet.{sight, pool, number_of, owner_of, IsPool}
 use Rattle.subpool_set.proofs.LawLemmas.{pools_are_named, own_is_there}
 use Rattle.subpool_set.proofs.PoolLemmas.{ids_some}
@@ -14,9 +14,8 @@ use Rattle.vsm_model.specs.declared.Subpool.{Subpool}
 use Rattle.vsm_model.specs.Search.{holds}
 use Rattle.subpool_storage.specs.declared.storage.SubpoolStorage.{SubpoolStorage}
 use Rattle.subpool_storage.specs.Subpools.{is_there}
-use Rattle.subpool_storage.specs.SubpoolStorage.{subpools_of, named, subpools_left, Stands}
+use Rattle.subpool_storage.specs.SubpoolStorage.{subpools_of, named, Stands}
 use Rattle.subpool_storage.specs.Order.{subpool_at, subpools_in_order}
-use Rattle.subpool_storage.proofs.LawLemmas.{subpools_are_there}
 
 -- what a list in order gives, each turned by a function
 module _ {A B : Type 0} (f : A → B) where

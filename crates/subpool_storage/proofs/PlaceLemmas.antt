@@ -1,5 +1,5 @@
 -- The subpool before a place, the subpool of an index, and that nobody shares a subpool that isn't there.
-use Rattle.std.proofs.Common.{◌≡◌, ℕ, Bool, true, false, ◌==◌, ◌&&◌, not, List, [], map, Option, Some, None, refl, sym, ap, ◌∙◌}
+use Rattle.std.proofs.Common.{◌≡◌, ℕ, Bool, true, false, ◌==◌, ◌&&◌, not, List, [], Option, Some, None, refl, sym, ap, ◌∙◌}
 use Rattle.std.specs.Prelude.{option_map, slice_get}
 use Rattle.std.proofs.lemmas.Option.{slice_get-map}
 use Rattle.vsm_elements.specs.Store.{Store}
@@ -9,7 +9,7 @@ use Rattle.subpool_set.proofs.OrderLemmas.{passed_none}
 use Rattle.subpool_set.specs.declared.places.PoolPlace.{PoolPlace}
 use Rattle.subpool_set.specs.declared.queues.Queues.{Queues}
 use Rattle.subpool_set.specs.Pools.{Pool, is_owner, sees, tasks, in_order, ids_in_order, sharers}
-use Rattle.subpool_set.specs.SubpoolSet.{sight, pool, pool_before, number_at, number_of, owner_of, IsPool}
+use Rattle.subpool_set.specs.SubpoolSet.{sight, pool, pool_before, number_at, number_of, owner_of}
 use Rattle.vsm_model.specs.declared.Subpool.{Subpool}
 use Rattle.vsm_model.specs.Search.{holds}
 use Rattle.subpool_storage.specs.declared.storage.SubpoolStorage.{SubpoolStorage}

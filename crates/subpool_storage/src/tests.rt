@@ -202,8 +202,14 @@ fn in_order(rt: &impl Abort, elements: &Elements, storage: &SubpoolStorage)
         return;
     };
     assert_eq!(rt; subpool, FIRST);
-    assert_eq!(rt; storage.extents_at(elements, place), storage.extents(elements, FIRST));
-    assert_eq!(rt; storage.free_areas_at(elements, place), storage.free_areas(elements, FIRST));
+    assert_eq!(rt;
+        storage.extents_at(elements, place),
+        storage.extents(elements, FIRST)
+    );
+    assert_eq!(rt;
+        storage.free_areas_at(elements, place),
+        storage.free_areas(elements, FIRST)
+    );
     let sharers = SubpoolStorage::first_sharer_place(place);
     assert_eq!(rt; storage.next_sharer(elements, FIRST, sharers), None);
     assert_eq!(rt; storage.sharer_at(elements, FIRST, 0), None);

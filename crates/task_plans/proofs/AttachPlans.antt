@@ -40,10 +40,7 @@ free_is s task h = sym (least_by (λ t. not (is_task s t)) 1 64 (Some task) (
   λ t low below. ap not (h.least t low below),
 ))
 
-pub none_is_free : (s : State) → ((t : ℕ) → 1 ≤ t → t ≤ 64 → IsSome (s.parents t)) → free_number s ≡ None
-none_is_free s all = sym (least_by (λ t. not (is_task s t)) 1 64 None (λ t low below. ap not (all t low (omega (arith, below)))))
-
-module _ (settings : Settings) (names_full : Bool) (s : State) (a : Attach) where
+module _ (s : State) (a : Attach) (given shared : List ℕ) (are_given : numbers_in s a.given ≡ Some given) (are_shared : numbers_in s a.shared ≡ Some shared) where
   -- the causes by what the operands name and by the free number
   abbrev causes_of : Option (List ℕ) → Option (List ℕ) → Option ℕ → Causes
   causes_of given shared free =
@@ -54,33 +51,11 @@ module _ (settings : Settings) (names_full : Bool) (s : State) (a : Attach) wher
   abbrev chosen : Bool → Bool → Option ℕ → Option Cause
   chosen bad others free = if bad then Some BadList else if others then Some NotOwner else if is_none free then Some TooManyTasks else None
 
-  refused : (cause : Cause) → first_cause (attach_causes s a) ≡ Some cause → step settings names_full s (attach a) ≡ Refused cause
-  refused cause first = ap (answered settings s (attach a)) first
-
-  pub given_not_there : numbers_in s a.given ≡ None → step settings names_full s (attach a) ≡ Refused NotAssigned
-  given_not_there none = refused NotAssigned (ap (λ o. first_cause (causes_of o (numbers_in s a.shared) (free_number s))) none)
-
-  module _ (given : List ℕ) (are_given : numbers_in s a.given ≡ Some given) where
-    pub shared_not_there : numbers_in s a.shared ≡ None → step settings names_full s (attach a) ≡ Refused NotAssigned
-    shared_not_there none = refused NotAssigned (λ i. first_cause (causes_of (are_given i) (none i) (free_number s)))
-
-    module _ (shared : List ℕ) (are_shared : numbers_in s a.shared ≡ Some shared) where
-      behind_lists : first_cause (attach_causes s a) ≡ chosen (is_bad_list (given ++ shared)) (list_any (is_anothers s) given) (free_number s)
-      behind_lists = λ i. first_cause (causes_of (are_given i) (are_shared i) (free_number s))
-
-      pub bad_list : is_bad_list (given ++ shared) ≡ true → step settings names_full s (attach a) ≡ Refused BadList
-      bad_list bad = refused BadList (behind_lists ∙ ap (λ b. chosen b (list_any (is_anothers s) given) (free_number s)) bad)
-
-      module _ (fine : is_bad_list (given ++ shared) ≡ false) where
-        pub not_owner : list_any (is_anothers s) given ≡ true → step settings names_full s (attach a) ≡ Refused NotOwner
-        not_owner others = refused NotOwner (behind_lists ∙ (λ i. chosen (fine i) (others i) (free_number s)))
-
-        module _ (own : list_any (is_anothers s) given ≡ false) where
-          pub too_many : free_number s ≡ None → step settings names_full s (attach a) ≡ Refused TooManyTasks
-          too_many none = refused TooManyTasks (behind_lists ∙ (λ i. chosen (fine i) (own i) (none i)))
-
-          no_cause : (task : ℕ) → free_number s ≡ Some task → first_cause (attach_causes s a) ≡ None
-          no_cause task free = behind_lists ∙ (λ i. chosen (fine i) (own i) (free i))
+  no_cause : (task : ℕ) → is_bad_list (given ++ shared) ≡ false → list_any (is_anothers s) given ≡ false → free_number s ≡ Some task → first_cause (attach_causes s a) ≡ None
+  no_cause task fine own free =
+      let behind_lists : first_cause (attach_causes s a) ≡ chosen (is_bad_list (given ++ shared)) (list_any (is_anothers s) given) (free_number s) =
+      λ i. first_cause (causes_of (are_given i) (are_shared i) (free_number s)) in
+      behind_lists ∙ (λ i. chosen (fine i) (own i) (free i))
 
 module _ (settings : Settings) (names_full : Bool) (m : StorageState) (a : Attach) (task : ℕ) (given shared : List ℕ)
     (are_given : numbers_in (model_of m) a.given ≡ Some given) (are_shared : numbers_in (model_of m) a.shared ≡ Some shared)
@@ -104,7 +79,7 @@ module _ (settings : Settings) (names_full : Bool) (m : StorageState) (a : Attac
   accepted : step settings names_full s (attach a) ≡ Accepted (after task) (Attached task)
   accepted =
       let outcome : Option ℕ → Stepped = λ o. let number = unwrap_or o 0 in Accepted (after number) (Attached number) in
-      ap (answered settings s (attach a)) (no_cause settings names_full s a given are_given shared are_shared fine own task free) ∙ ap outcome free
+      ap (answered settings s (attach a)) (no_cause s a given shared are_given are_shared task fine own free) ∙ ap outcome free
 
   gifts_are : gifts ≡ given
   gifts_are = ap (λ (o : Option (List ℕ)). unwrap_or o []) are_given

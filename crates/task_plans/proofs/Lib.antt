@@ -1,5 +1,6 @@
 mod NumberLists
 mod AttachPlans
+mod RecordCounts
 mod RunPlans
 mod Rests
 mod Climbs

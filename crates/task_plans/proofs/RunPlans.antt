@@ -31,13 +31,12 @@ module _ (settings : Settings) (names_full : Bool) (m : StorageState) (task : �
       step settings names_full s (run task) ≡ answered settings s (run task) (if not there then Some NoTask else None)
   by_task there e = ap (λ b. answered settings s (run task) (if not b then Some NoTask else None)) e
 
-  pub no_task : is_task s task ≡ false → step settings names_full s (run task) ≡ Refused NoTask
-  no_task none = by_task false none
-
   -- a number past those of tasks
   pub past_tasks : ∥ IsSound settings m ∥₁ → 64 < task → step settings names_full s (run task) ≡ Refused NoTask
-  past_tasks sound high = no_task (∥∥₁_elim sound (Bool-set (is_task s task) false)
-  (λ h. false_from_ne_true (is_task s task) (λ there. absurd (omega (arith, high, (h.well_formed.tasks.numbered task there).1)))))
+  past_tasks sound high =
+      let none : IsSound settings m → is_task s task ≡ false =
+      λ h. false_from_ne_true (is_task s task) (λ there. absurd (omega (arith, high, (h.well_formed.tasks.numbered task there).1))) in
+      by_task false (∥∥₁_elim sound (Bool-set (is_task s task) false) none)
 
   pub run_carried : TurningLeads → is_task s task ≡ true → ∥ IsSound settings m ∥₁ → (plan : Plan) → plan.emptied ≡ None → plan.records.items ≡ turn_records task →
       plan.blanks ≡ 0 → plan.fresh ≡ run_of 0 0 → plan.reply ≡ Turn task → ∥ CarriesOut settings names_full m (run task) plan ∥₁

@@ -34,15 +34,15 @@ pub struct AttachPlan {
 /// The causes that refuse it, in order: `NotAssigned` where a byte of a list doesn't lie in an assigned page, that of
 /// the subpools that are given first; `BadList` where a number is 0, above 127 or named twice; `NotOwner` where a
 /// subpool that is given is another task's; and `TooManyTasks`.
-pub fn plan_attach(storage: &Storage, attach: Attach) -> Result<AttachPlan, Cause>
+pub fn plan_attach(storage: &Storage, request: Attach) -> Result<AttachPlan, Cause>
     requires stands { Stand storage.now }
     requires frameless { IsFrameless storage.now }
     ensures { (settings : Settings) (names_full : Bool) → StandsSound settings storage.now
-        → IsAttachPlanned settings names_full (state_of storage.now) (attach attach) result }
+        → IsAttachPlanned settings names_full (state_of storage.now) (attach request) result }
 {
     attaching_leads();
-    let given = numbers_of(storage, attach.given)?;
-    let shared = numbers_of(storage, attach.shared)?;
+    let given = numbers_of(storage, request.given)?;
+    let shared = numbers_of(storage, request.shared)?;
     if has_bad_number(&given, &shared) {
         return Err(Cause::BadList);
     }
@@ -50,7 +50,10 @@ pub fn plan_attach(storage: &Storage, attach: Attach) -> Result<AttachPlan, Caus
         return Err(Cause::NotOwner);
     }
     match storage.tasks.check_attach(&storage.elements) {
-        Ok(task) => Ok(AttachPlan { task, attach }),
+        Ok(task) => Ok(AttachPlan {
+            task,
+            attach: request,
+        }),
         Err(_) => Err(Cause::TooManyTasks),
     }
 }

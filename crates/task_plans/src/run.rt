@@ -1,11 +1,14 @@
 //! Plans of turns.
 
-ghost use Rattle.std.specs.Prelude.{◌≡◌, Bool};
+ghost use Rattle.std.specs.Prelude.{◌≡◌, Bool, None};
 ghost use Rattle.vsm_model.specs.declared.limits.Settings.{Settings};
+ghost use Rattle.vsm_model.specs.declared.replies.Reply.TheVariants.{Turn};
 ghost use Rattle.vsm_model.specs.Services.{run};
+ghost use Rattle.storage_actions.specs.Actions.{run_of};
 ghost use Rattle.storage_exchange.specs.Storage.{state_of, Stand};
 ghost use Rattle.storage_plans.specs.Places.{StandsSound};
 ghost use Rattle.storage_plans.specs.Plans.{IsPlanned};
+ghost use Rattle.task_actions.specs.Attaching.{turn_records};
 
 use arrayvec::ArrayVec;
 use run_set::Run;
@@ -14,6 +17,25 @@ use storage_exchange::Storage;
 use storage_plans::Plan;
 use task_actions::laws::turning_leads;
 use vsm_model::{Cause, Reply};
+
+// The plan of a turn to a task that is there.
+fn turn_to(task: u8) -> Plan
+    ensures emptied { result.emptied ≡ None }
+    ensures records { result.records.items ≡ turn_records task }
+    ensures blanks { result.blanks ≡ 0 }
+    ensures fresh { result.fresh ≡ run_of 0 0 }
+    ensures reply { result.reply ≡ Turn task }
+{
+    let mut records = ArrayVec::new();
+    records.push(Record::Turn(TurnRecord { task }));
+    Plan {
+        emptied: None,
+        records,
+        blanks: 0,
+        fresh: Run { start: 0, len: 0 },
+        reply: Reply::Turn(task),
+    }
+}
 
 /// A plan by which another task makes the requests, the bench's own RUN. No register is set. Reads alone, and takes no
 /// memory. Refused with `NoTask` where there is no such task.
@@ -27,16 +49,8 @@ pub fn plan_run(storage: &Storage, task: u32) -> Result<Plan, Cause>
         return Err(Cause::NoTask);
     }
     let task = task as u8;
-    if storage.tasks.check_run(&storage.elements, task).is_err() {
-        return Err(Cause::NoTask);
+    match storage.tasks.check_run(&storage.elements, task) {
+        Ok(()) => Ok(turn_to(task)),
+        Err(_) => Err(Cause::NoTask),
     }
-    let mut records = ArrayVec::new();
-    records.push(Record::Turn(TurnRecord { task }));
-    Ok(Plan {
-        emptied: None,
-        records,
-        blanks: 0,
-        fresh: Run { start: 0, len: 0 },
-        reply: Reply::Turn(task),
-    })
 }

@@ -33,9 +33,9 @@ loop-subpool-preserved g c =
     record {
       place = c.in-Some.ensures.place;
       text = remains_less (g.W.Write.contents c.args.writer.now) (g.W.Write.contents c.loop-subpool.writer) (g.W.Write.contents c.put_subpool.new.writer)
-    c.args.gathered.now c.loop-subpool.gathered c.put_subpool.new.gathered
-    (flat_map lines (subpools_in_order m)) (flat_map lines (subpools_left s c.loop-subpool.place)) (lines p) (flat_map lines (subpools_left s c.in-Some.behind))
-    c.loop-subpool.invariant.text (ap (flat_map lines) c.in-Some.ensures.next) c.put_subpool.ensures;
+          c.args.gathered.now c.loop-subpool.gathered c.put_subpool.new.gathered
+          (flat_map lines (subpools_in_order m)) (flat_map lines (subpools_left s c.loop-subpool.place)) (lines p) (flat_map lines (subpools_left s c.in-Some.behind))
+          c.loop-subpool.invariant.text (ap (flat_map lines) c.in-Some.ensures.next) c.put_subpool.ensures;
     }
 
 pub returns : goal.returns
