@@ -1,10 +1,9 @@
 -- The end of tasks: their records lead to its effect.
-use Rattle.std.proofs.Common.{◌≡◌, ◌≢◌, ℕ, Bool, true, false, not, ◌&&◌, ◌||◌, ◌==◌, if◌then◌else◌, List, [], ◌∷◌, ◌++◌, Option, Some, None, IsSome, is_some, refl, sym, ◌∙◌, ap, arith, inl, inr, true≢false}
+use Rattle.std.proofs.Common.{◌≡◌, ◌≢◌, ℕ, Bool, true, false, not, ◌&&◌, ◌||◌, ◌==◌, if◌then◌else◌, List, [], ◌∷◌, ◌++◌, Option, Some, None, is_some, refl, sym, ◌∙◌, ap, true≢false}
 use Rattle.std.specs.Prelude.{◌/◌, map}
 use Rattle.std.specs.List.{flat_map}
 use Rattle.run_set.specs.Runs.{inside}
-use Rattle.std.proofs.lemmas.Bool.{cond-true, cases_Bool, both_ways, eqb-true, false_from_ne_true}
-use Rattle.vsm_model.specs.declared.Subpool.{Subpool}
+use Rattle.std.proofs.lemmas.Bool.{cond-true, both_ways, eqb-true, false_from_ne_true}
 use Rattle.vsm_model.specs.declared.limits.Settings.{Settings}
 use Rattle.vsm_model.specs.Ending.{without_tasks}
 use Rattle.vsm_model.specs.Regions.{settings_valid}
@@ -21,7 +20,7 @@ use Rattle.storage_changes.specs.Meaning.{model_of, IsSound}
 use Rattle.storage_actions.specs.Actions.{register_records, run_of}
 use Rattle.storage_actions.specs.Leads.{Leads, AreRegisters}
 use Rattle.storage_actions.proofs.Rows.{with_rows, task_is_there, leads_to, none_fresh, fresh_of}
-use Rattle.task_actions.specs.Ending.{owned_by_these, released_records, unshared, removed, unshared_records, removed_records, ended_records}
+use Rattle.task_actions.specs.Ending.{owned_by_these, released_records, unshared, unshared_records, removed_records, ended_records}
 use Rattle.task_actions.specs.Ending.{end_records, end_blanks, with_turn, CanEnd}
 use Rattle.task_actions.specs.Laws.{EndingLeads}
 use Rattle.task_actions.proofs.EndModel.{pages_lead, taken_lead, stands}
@@ -29,7 +28,7 @@ use Rattle.task_actions.proofs.EndParked.{gone, released, released_go}
 use Rattle.task_actions.proofs.EndRows.{rows, records_are_rows, rows_are_shared, rows_are_apart, unshared_sight, last_sight, owned_are_alone, sight_leads}
 use Rattle.task_actions.proofs.EndSight.{seeing, unshared_lead, removed_lead}
 use Rattle.task_actions.proofs.EndSubpools.{owned_are_apart}
-use Rattle.task_actions.proofs.EndTasks.{having, HaveGone, AllGo, ends_go}
+use Rattle.task_actions.proofs.EndTasks.{having, AllGo, ends_go}
 use Rattle.task_actions.proofs.EndWalk.{Comes, LeadsOn, leads_first, leads_by_same, comes_on, rows_then}
 
 module _ (settings : Settings) (m : StorageState) (ended : List ℕ) (next : ℕ) (set : List (ℕ × ℕ)) (valid : settings_valid settings ≡ true)
@@ -135,15 +134,15 @@ module _ (settings : Settings) (m : StorageState) (ended : List ℕ) (next : ℕ
       ≡ (not (is_in ended owner) && is_there m.subpools (record { number = number; owner = owner }))
   subpools_lead number owner =
       ap (holds (λ o. o == owner)) (sight_leads settings m sound ended owner number) ∙ go (is_in ended owner) (m.subpools.sight owner number) refl where
-    own : (x : ℕ) (c : Bool) → is_in ended x ≡ c → is_in ended owner ≡ false → holds (λ o. o == owner) (if c then None else Some x) ≡ (x == owner)
-    own x true gone_too stays = sym (false_from_ne_true (x == owner) (λ same. true≢false (sym gone_too ∙ ap (is_in ended) (eqb-true x owner same) ∙ stays)))
-    own x false kept stays = refl
+        own : (x : ℕ) (c : Bool) → is_in ended x ≡ c → is_in ended owner ≡ false → holds (λ o. o == owner) (if c then None else Some x) ≡ (x == owner)
+        own x true gone_too stays = sym (false_from_ne_true (x == owner) (λ same. true≢false (sym gone_too ∙ ap (is_in ended) (eqb-true x owner same) ∙ stays)))
+        own x false kept stays = refl
 
-    go : (b : Bool) (o : Option ℕ) → is_in ended owner ≡ b
-        → holds (λ o. o == owner) (if b || holds (is_in ended) o then None else o) ≡ (not b && holds (λ o. o == owner) o)
-    go true o ends = refl
-    go false None stays = refl
-    go false (Some x) stays = own x (is_in ended x) refl stays
+        go : (b : Bool) (o : Option ℕ) → is_in ended owner ≡ b
+            → holds (λ o. o == owner) (if b || holds (is_in ended) o then None else o) ≡ (not b && holds (λ o. o == owner) o)
+        go true o ends = refl
+        go false None stays = refl
+        go false (Some x) stays = own x (is_in ended x) refl stays
 
   model_leads : model_of last ≡ plain
   model_leads = λ i. record plain {

@@ -1,8 +1,7 @@
 -- What is left of a storage without the pages and the free storage of some subpools, on the plain machine.
-use Rattle.std.proofs.Common.{◌≡◌, ℕ, ◌<◌, Bool, true, false, not, ◌&&◌, if◌then◌else◌, List, [], ◌∷◌, Option, Some, None, is_some, refl, sym, ◌∙◌, ap, true≢false}
+use Rattle.std.proofs.Common.{◌≡◌, ℕ, Bool, true, false, not, ◌&&◌, if◌then◌else◌, Option, Some, None, is_some, refl, sym, ◌∙◌, ap, true≢false}
 use Rattle.std.specs.Prelude.{◌/◌}
-use Rattle.std.specs.List.{list_any}
-use Rattle.std.proofs.lemmas.Bool.{and_from, cases_Bool, false_from_ne_true, cond-false}
+use Rattle.std.proofs.lemmas.Bool.{and_from, false_from_ne_true, cond-false}
 use Rattle.vsm_model.specs.declared.Subpool.{Subpool}
 use Rattle.vsm_model.specs.declared.limits.Settings.{Settings}
 use Rattle.vsm_model.specs.Regions.{in_a_region}

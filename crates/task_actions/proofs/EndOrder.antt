@@ -1,5 +1,5 @@
 -- A subtree's tasks end in an order in which each comes behind its subtasks, and they are those of the subtree.
-use Rattle.std.proofs.Common.{◌≡◌, ℕ, zero, suc, ◌+◌, ◌<◌, ◌≤◌, ◌⊎◌, Bool, true, false, ◌||◌, ◌==◌, Option, Some, None, List, [], ◌∷◌, ◌++◌, is_some, refl, sym, ◌∙◌, ap, subst, arith, inl, inr, true≢false}
+use Rattle.std.proofs.Common.{◌≡◌, ℕ, zero, suc, ◌+◌, ◌<◌, ◌≤◌, Bool, true, false, ◌==◌, Some, List, [], ◌∷◌, ◌++◌, is_some, sym, ◌∙◌, ap, subst, arith, inl, inr, true≢false}
 use Rattle.std.specs.Prelude.{filter}
 use Rattle.std.specs.List.{range_with_len}
 use Rattle.std.proofs.lemmas.Bool.{or_cases, or_left, or_right, eqb-true, eq-eqb, cases_lt, cond_both, false_from_ne_true}
@@ -180,6 +180,7 @@ module _ (s : State) (top : ℕ) (w : TasksAreSound s) (there : is_task s top �
       ]
 
   is_subtree : (t : ℕ) → is_in (ended_below s.parents top) t ≡ is_in_subtree s top t
+  unfolding ended_below
   is_subtree t =
       let whole = subtree_is_whole s w top t there in
       same_answers (is_in (ended_below s.parents top) t) (is_in_subtree s top t)
@@ -187,4 +188,5 @@ module _ (s : State) (top : ℕ) (w : TasksAreSound s) (there : is_task s top �
       (λ e. let (k, deep) = whole.0 e in let at = below_by k t deep in found 63 k t (not_deep k t at) at)
 
 pub ends_are_in_order : EndsAreInOrder
+unfolding ended_below
 ends_are_in_order s top w there = (in_order s top w there 63 [] (none_done s top w there), is_subtree s top w there)

@@ -1,7 +1,6 @@
 -- Empty subpools are parked, and all of them go.
-use Rattle.std.proofs.Common.{◌≡◌, ℕ, ◌+◌, ◌<◌, Bool, true, false, ◌&&◌, ◌||◌, ◌==◌, if◌then◌else◌, List, [], ◌∷◌, length, Option, Some, None, refl, sym, ◌∙◌, ap, subst, arith, true≢false}
+use Rattle.std.proofs.Common.{◌≡◌, ℕ, Bool, true, false, ◌&&◌, ◌==◌, if◌then◌else◌, List, [], ◌∷◌, Some, None, refl, sym, ◌∙◌, ap, subst, arith}
 use Rattle.std.specs.Prelude.{◌/◌}
-use Rattle.std.specs.List.{flat_map, list_any}
 use Rattle.std.proofs.lemmas.Bool.{cond_both, and_parts, eqb-true, eq-eqb}
 use Rattle.vsm_model.specs.declared.Subpool.{Subpool}
 use Rattle.vsm_model.specs.declared.limits.Settings.{Settings}
@@ -10,19 +9,20 @@ use Rattle.vsm_model.specs.Search.{holds, is_in}
 use Rattle.vsm_model.specs.Subpools.{same_subpool}
 use Rattle.subpool_storage.specs.Subpools.{Subpools, is_there, with_own}
 use Rattle.storage_changes.specs.State.{StorageState}
-use Rattle.storage_changes.specs.Changes.{Change, empties, change_parking, outset}
+use Rattle.storage_changes.specs.Changes.{empties, change_parking, outset}
 use Rattle.storage_changes.specs.Meaning.{subpool_of, IsSound}
 use Rattle.storage_changes.specs.declared.record.Record.{Record}
-use Rattle.storage_changes.proofs.Cases.{same-is, same-self}
+use Rattle.storage_changes.proofs.Cases.{same-is}
 use Rattle.storage_changes.proofs.MeaningLemmas.{named_pages_are_there}
 use Rattle.storage_actions.proofs.Cases.{same_answers}
 use Rattle.storage_actions.proofs.Owned.{has_pages, there_is_named, own_is_there}
 use Rattle.storage_actions.proofs.Rows.{none_brought}
 use Rattle.task_laws.proofs.Options.{held}
-use Rattle.task_actions.specs.Ending.{owned_by_these, released_records, end_blanks, emptying_records}
+use Rattle.task_actions.specs.Ending.{owned_by_these, released_records, end_blanks}
+use Rattle.task_actions.proofs.EndLists.{or_nothing}
 use Rattle.task_actions.proofs.EndEach.{Each, each_all, each_so, some_has, any_so}
 use Rattle.task_actions.proofs.EndSubpools.{IsAnother, is_listed, owned_have, owned_are_apart, owned_list}
-use Rattle.task_actions.proofs.EndModel.{left, theirs, unassigned}
+use Rattle.task_actions.proofs.EndModel.{left, unassigned}
 use Rattle.task_actions.proofs.EndStorage.{have, emptied_of, onto, any_onto, IsParked, IsAmid, empties_go}
 use Rattle.task_actions.proofs.EndWalk.{Comes}
 
@@ -55,10 +55,6 @@ none_either true true x e = refl
 none_either true false x e = sym e
 none_either false true x e = e
 none_either false false x e = refl
-
-or_nothing : (b : Bool) → (b || false) ≡ b
-or_nothing true = refl
-or_nothing false = refl
 
 module _ (settings : Settings) (m : StorageState) (sound : IsSound settings m) (valid : settings_valid settings ≡ true) (ended : List ℕ) where
   abbrev pub owned : List Subpool

@@ -1,6 +1,6 @@
 -- The rows of sight that go when tasks end, and what is seen then.
-use Rattle.std.proofs.Common.{◌≡◌, ◌≢◌, ℕ, ◌<◌, ◌≤◌, Bool, true, false, not, ◌&&◌, ◌||◌, ◌==◌, if◌then◌else◌, List, [], ◌∷◌, Option, Some, None, refl, sym, ◌∙◌, ap, arith, inl, inr, true≢false}
-use Rattle.std.specs.Prelude.{map, filter}
+use Rattle.std.proofs.Common.{◌≡◌, ◌≢◌, ℕ, ◌<◌, Bool, true, false, not, ◌&&◌, ◌||◌, ◌==◌, if◌then◌else◌, List, Option, Some, None, refl, sym, ◌∙◌, ap, arith, inl, inr, true≢false}
+use Rattle.std.specs.Prelude.{map}
 use Rattle.std.specs.List.{flat_map, list_any}
 use Rattle.std.proofs.lemmas.Bool.{cond-true, cond-false, and_parts, and_left, and_from, or_left, or_right, or_parts, eqb-true, eq-eqb, ne_eqb, cases_Bool, both_ways, not-true, false_from_ne_true}
 use Rattle.vsm_model.specs.declared.Subpool.{Subpool}
@@ -13,13 +13,13 @@ use Rattle.subpool_storage.specs.Subpools.{is_there}
 use Rattle.storage_changes.specs.declared.record.Record.{Record}
 use Rattle.storage_changes.specs.Meaning.{IsSound}
 use Rattle.storage_changes.specs.State.{StorageState}
-use Rattle.storage_changes.proofs.Cases.{same-is, same-self}
+use Rattle.storage_changes.proofs.Cases.{same-is}
 use Rattle.storage_actions.proofs.Owned.{there_is_named}
 use Rattle.task_laws.proofs.Options.{none_some, same_some}
 use Rattle.task_actions.specs.Ending.{owned_by_these, unseeing, unshared, unshared_records}
 use Rattle.task_actions.proofs.EndEach.{Each, Apart, each_all, each_so, each_flat, each_map, each_filter, apart_flat, apart_map, apart_filter, some_has, any_none, any_map, any_flat, any_filter, any_so, map_flat, map_map}
-use Rattle.task_actions.proofs.EndSubpools.{IsAnother, is_listed, in_tasks, tasks_ascend, order_has, order_is_apart, order_lists, owned_have, owned_list}
-use Rattle.task_actions.proofs.EndSight.{Sight, is_row, without_rows, is_among_rows, without_rows_is, IsOtherRow, IsShared, IsAlone, own_stays, own_rows}
+use Rattle.task_actions.proofs.EndSubpools.{IsAnother, in_tasks, tasks_ascend, order_has, order_is_apart, order_lists, owned_have, owned_list}
+use Rattle.task_actions.proofs.EndSight.{Sight, is_row, without_rows, is_among_rows, without_rows_is, IsOtherRow, IsShared, IsAlone, own_stays, own_rows, saw}
 
 owner_is : (owner : ℕ) (o : Option ℕ) → is_owner owner o ≡ true → o ≡ Some owner
 owner_is owner None e = absurd (true≢false (sym e))
@@ -117,27 +117,35 @@ module _ (settings : Settings) (m : StorageState) (sound : IsSound settings m) (
       let owner = same_some o row.0.owner both in
       true≢false (sym facts.1.ends ∙ sym (λ i. is_in ended (task i) || is_in ended (owner i)) ∙ stays))
 
+  sharers_have : (t n o : ℕ) → sight t n ≡ Some o → t ≢ o → list_any (λ k. k == t) (sharers sight n o) ≡ true
+  sharers_have t n o at apart =
+      let range = sound.well_formed.tasks.numbered t (sound.well_formed.sight.seer_is_task t n o at) in
+      any_filter (λ k. k == t) (λ k. k == t) (λ k. sees sight n o k && not (k == o)) tasks
+      (λ k same.
+      let is = eqb-true k t same in (
+        and_from (sees sight n o k) (not (k == o)) (ap (λ j. sees sight n o j) is ∙ ap (is_owner o) at ∙ eq-eqb o o refl)
+            (ap not (ap (λ j. j == o) is ∙ ne_eqb t o apart)),
+        same,
+      ))
+      (in_tasks t range.0 range.1)
+
+  of_pool_has : (t n o : ℕ) → sight t n ≡ Some o → t ≢ o → (is_in ended t || is_in ended o) ≡ true
+      → is_among_rows (of_pool (record { number = n; owner = o })) t n ≡ true
+  of_pool_has t n o at apart ends =
+      let p : Subpool = record { number = n; owner = o } in
+      any_map (λ row. is_row row.1 row.0.number t n) (λ task. (p, task)) (unseeing m.subpools ended p)
+      ∙ any_filter (λ k. is_row k n t n) (λ k. k == t) (λ k. is_in ended k || is_in ended o) (sharers sight n o)
+      (λ k same.
+      let is = eqb-true k t same in
+      (ap (λ j. is_in ended j || is_in ended o) is ∙ ends, and_from (t == k) (n == n) (eq-eqb t k (sym is)) (eq-eqb n n refl)))
+      (sharers_have t n o at apart)
+
   rows_all : (t n o : ℕ) → sight t n ≡ Some o → t ≢ o → (is_in ended t || is_in ended o) ≡ true → is_among_rows rows t n ≡ true
   rows_all t n o at apart ends =
       let p : Subpool = record { number = n; owner = o } in
       let there = sound.well_formed.sight.seen_is_there t n o at in
-      let range = sound.well_formed.tasks.numbered t (sound.well_formed.sight.seer_is_task t n o at) in
-      let shares : list_any (λ k. k == t) (sharers sight n o) ≡ true =
-      any_filter (λ k. k == t) (λ k. k == t) (λ k. sees sight n o k && not (k == o)) tasks
-      (λ k same.
-      let is = eqb-true k t same in
-      (and_from (sees sight n o k) (not (k == o)) (ap (λ j. sees sight n o j) is ∙ ap (is_owner o) at ∙ eq-eqb o o refl)
-      (ap not (ap (λ j. j == o) is ∙ ne_eqb t o apart)), same))
-      (in_tasks t range.0 range.1) in
       any_flat (λ row. is_row row.1 row.0.number t n) (same_subpool p) of_pool (subpools_in_order m.subpools)
-      (λ q same.
-      let is = same-is p q same in
-      ap (λ r. list_any (λ row. is_row row.1 row.0.number t n) (of_pool r)) (sym is)
-      ∙ any_map (λ row. is_row row.1 row.0.number t n) (λ task. (p, task)) (unseeing m.subpools ended p)
-      ∙ any_filter (λ k. is_row k n t n) (λ k. k == t) (λ k. is_in ended k || is_in ended o) (sharers sight n o)
-      (λ k same.
-      let is = eqb-true k t same in
-      (ap (λ j. is_in ended j || is_in ended o) is ∙ ends, and_from (t == k) (n == n) (eq-eqb t k (sym is)) (eq-eqb n n refl))) shares)
+      (λ q same. ap (λ r. is_among_rows (of_pool r) t n) (sym (same-is p q same)) ∙ of_pool_has t n o at apart ends)
       (order_lists m.subpools p (there_is_named settings m sound p there) there)
 
   -- the subpools that go are seen by their owners alone
@@ -167,10 +175,7 @@ module _ (settings : Settings) (m : StorageState) (sound : IsSound settings m) (
             let seen = saw (is_among_rows rows task p.number) (sight task p.number) p.owner (sym (unshared_is task p.number) ∙ at) in
             let among = rows_all task p.number p.owner seen (λ same. both_ways (task == p.owner) other (eq-eqb task p.owner same)) (or_right (is_in ended task) (is_in ended p.owner) ends) in
             absurd (none_some p.owner (sym (cond-true (is_among_rows rows task p.number) None (sight task p.number) among) ∙ sym (unshared_is task p.number) ∙ at))
-      ] where
-        saw : (b : Bool) (o : Option ℕ) (x : ℕ) → (if b then None else o) ≡ Some x → o ≡ Some x
-        saw true o x e = absurd (none_some x e)
-        saw false o x e = e
+      ]
 
   pub owned_are_alone : (n : StorageState) → ((p : Subpool) (k : ℕ) → is_in ended p.owner ≡ true → n.subpools.pages p k ≡ false)
       → ((p : Subpool) (d : ℕ) → is_in ended p.owner ≡ true → n.subpools.free p d ≡ false) → Each (IsAlone n unshared_sight) owned

@@ -1,19 +1,16 @@
 -- Rows of sight that go, and subpools that their owners don't see any more.
-use Rattle.std.proofs.Common.{◌≡◌, ◌≢◌, ℕ, ◌+◌, ◌≤◌, Bool, true, false, ◌&&◌, ◌||◌, ◌==◌, if◌then◌else◌, List, [], ◌∷◌, Option, Some, None, refl, sym, ◌∙◌, ap, arith, true≢false}
+use Rattle.std.proofs.Common.{◌≡◌, ◌≢◌, ℕ, ◌≤◌, Bool, true, false, ◌&&◌, ◌||◌, ◌==◌, if◌then◌else◌, List, [], ◌∷◌, Option, Some, None, refl, sym, ◌∙◌, ap, arith, true≢false}
 use Rattle.std.specs.Prelude.{map}
 use Rattle.std.specs.List.{list_any}
 use Rattle.std.proofs.lemmas.Bool.{cond-false, and_parts, and_from, eqb-true, eq-eqb, false_from_ne_true}
 use Rattle.vsm_model.specs.declared.Subpool.{Subpool}
 use Rattle.vsm_model.specs.Search.{holds}
-use Rattle.subpool_storage.specs.Subpools.{Subpools, is_there}
-use Rattle.storage_changes.specs.declared.record.Record.{Record}
 use Rattle.storage_changes.specs.State.{StorageState}
-use Rattle.storage_changes.specs.Walk.{Walk}
 use Rattle.task_laws.proofs.Options.{none_some, same_some}
 use Rattle.task_actions.specs.Ending.{unshared, removed}
 use Rattle.task_actions.proofs.EndEach.{Each, Apart, each_both}
 use Rattle.task_actions.proofs.EndSubpools.{IsAnother}
-use Rattle.task_actions.proofs.EndWalk.{Rests, LeadsOn, leads_nowhere, leads_first}
+use Rattle.task_actions.proofs.EndWalk.{LeadsOn, leads_nowhere, leads_first}
 
 abbrev pub Sight : Type 0
 Sight = ℕ → ℕ → Option ℕ
@@ -113,7 +110,7 @@ pub record IsAlone (m : StorageState) (f : Sight) (p : Subpool) : Type 0 where
   pub no_pages : (page : ℕ) → m.subpools.pages p page ≡ false
   pub none_free : (d : ℕ) → m.subpools.free p d ≡ false
 
-saw : (b : Bool) (o : Option ℕ) (x : ℕ) → (if b then None else o) ≡ Some x → o ≡ Some x
+pub saw : (b : Bool) (o : Option ℕ) (x : ℕ) → (if b then None else o) ≡ Some x → o ≡ Some x
 saw true o x e = absurd (none_some x e)
 saw false o x e = e
 

@@ -1,6 +1,6 @@
 -- The storage of subpools goes over into a change that has an empty one parked under each of their names.
-use Rattle.std.proofs.Common.{◌≡◌, ℕ, suc, ◌+◌, ◌<◌, ◌≤◌, Bool, true, false, not, ◌&&◌, ◌||◌, if◌then◌else◌, List, [], ◌∷◌, ◌++◌, length, Option, Some, None, IsSome, is_some, refl, sym, ◌∙◌, ap, subst, arith, true≢false}
-use Rattle.std.specs.Prelude.{◌/◌, ◌^◌}
+use Rattle.std.proofs.Common.{◌≡◌, ℕ, suc, ◌+◌, ◌<◌, Bool, true, false, not, ◌||◌, if◌then◌else◌, List, [], ◌∷◌, ◌++◌, length, None, IsSome, is_some, refl, sym, ◌∙◌, ap, subst, arith, true≢false}
+use Rattle.std.specs.Prelude.{◌/◌}
 use Rattle.std.specs.List.{flat_map, list_any}
 use Rattle.std.proofs.lemmas.Bool.{cond-false, and_right, or_parts, false_from_ne_true}
 use Rattle.run_set.specs.declared.run.Run.{Run}
@@ -10,22 +10,22 @@ use Rattle.vsm_model.specs.declared.limits.Settings.{Settings}
 use Rattle.vsm_model.specs.Regions.{in_a_region, settings_valid}
 use Rattle.vsm_model.specs.Subpools.{same_subpool}
 use Rattle.subpool_storage.specs.Extents.{extents}
-use Rattle.subpool_storage.specs.Subpools.{Subpools, is_there, with_storage_of}
+use Rattle.subpool_storage.specs.Subpools.{Subpools, is_there}
 use Rattle.subpool_storage.proofs.ExtentLemmas.{extents_are_runs}
 use Rattle.storage_changes.specs.declared.record.Record.{Record}
 use Rattle.storage_changes.specs.declared.record.Record.TheVariants.{Queues}
 use Rattle.storage_changes.specs.State.{StorageState}
 use Rattle.storage_changes.specs.Walk.{Walk}
-use Rattle.storage_changes.specs.Steps.{walk, queues_step, step}
+use Rattle.storage_changes.specs.Steps.{walk, queues_step}
 use Rattle.storage_changes.specs.Fits.{FitInTurn}
 use Rattle.storage_changes.specs.Changes.{unassigned_records}
 use Rattle.storage_changes.specs.Meaning.{IsSound}
 use Rattle.storage_changes.proofs.Cases.{same-is, same-self}
 use Rattle.storage_actions.proofs.Goes.{walk_on, fits_on}
-use Rattle.storage_actions.proofs.Unassigned.{without_pages_in, CanLeave, Leave, runs_leave}
+use Rattle.storage_actions.proofs.Unassigned.{CanLeave, Leave, runs_leave}
 use Rattle.storage_actions.proofs.Emptying.{below, none_beyond}
 use Rattle.task_actions.specs.Ending.{emptying_records}
-use Rattle.task_actions.proofs.EndEach.{Each, Apart, each_both, each_so}
+use Rattle.task_actions.proofs.EndEach.{Each, Apart, each_both}
 use Rattle.task_actions.proofs.EndSubpools.{IsAnother, is_listed}
 use Rattle.task_actions.proofs.EndWalk.{Rests, Comes}
 
@@ -94,7 +94,7 @@ module _ (settings : Settings) (m : StorageState) (sound : IsSound settings m) (
   not_had p k [] others own = refl
   not_had p k (q ∷ done) others own =
       let not_its : m.subpools.pages q k ≡ false = false_from_ne_true (m.subpools.pages q k)
-          (λ its. true≢false (sym (same-self p) ∙ ap (λ r. same_subpool r p) (sound.apart p q k own its) ∙ others.0)) in
+      (λ its. true≢false (sym (same-self p) ∙ ap (λ r. same_subpool r p) (sound.apart p q k own its) ∙ others.0)) in
       ap (λ b. b || have m done k) not_its ∙ not_had p k done others.1 own
 
   runs : (p : Subpool) → AreRunsOf (extents m.subpools p) (m.subpools.pages p)

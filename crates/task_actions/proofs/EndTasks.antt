@@ -1,21 +1,21 @@
 -- Tasks that end one by one, each behind its subtasks, with registers of zeros.
-use Rattle.std.proofs.Common.{◌≡◌, ◌≢◌, ℕ, suc, ◌+◌, ◌<◌, ◌≤◌, Bool, true, false, ◌&&◌, ◌||◌, ◌==◌, if◌then◌else◌, List, [], ◌∷◌, ◌++◌, Option, Some, None, IsSome, is_some, refl, sym, ◌∙◌, ap, subst, arith, inl, inr, true≢false}
+use Rattle.std.proofs.Common.{◌≡◌, ◌≢◌, ℕ, ◌<◌, Bool, true, false, ◌&&◌, ◌||◌, ◌==◌, if◌then◌else◌, List, [], ◌∷◌, Option, Some, None, IsSome, is_some, refl, sym, ◌∙◌, ap, arith, inl, inr, true≢false}
 use Rattle.std.specs.Prelude.{map, unwrap_or}
 use Rattle.std.specs.List.{range_with_len, flat_map, list_any}
-use Rattle.std.proofs.lemmas.Bool.{cond-true, cond-false, and_left, and_from, or_left, or_right, or_cases, or_parts, or_from, eqb-true, eq-eqb, ne_eqb, cases_Bool, cases_lt, both_ways, false_from_ne_true}
+use Rattle.std.proofs.lemmas.Bool.{cond-true, cond-false, and_left, and_from, or_left, or_right, or_cases, or_parts, eqb-true, eq-eqb, ne_eqb, cases_Bool, cases_lt, both_ways, false_from_ne_true}
 use Rattle.vsm_model.specs.Search.{holds, is_in}
 use Rattle.vsm_model.specs.Ending.{climbs}
-use Rattle.vsm_model.specs.State.{is_task}
 use Rattle.vsm_model.specs.WellFormed.{TasksAreSound}
 use Rattle.storage_changes.specs.declared.record.Record.{Record}
 use Rattle.storage_changes.specs.declared.record.Record.TheVariants.{Register, Task}
 use Rattle.storage_changes.specs.Meaning.{model_of}
 use Rattle.storage_changes.specs.State.{StorageState}
 use Rattle.task_laws.proofs.Ends.{comes}
-use Rattle.task_laws.proofs.Options.{none_some, held, some_there}
+use Rattle.task_laws.proofs.Options.{none_some, held}
 use Rattle.task_actions.specs.Ending.{ended_records, AreSubtasksFirst}
+use Rattle.task_actions.proofs.EndLists.{or_nothing}
 use Rattle.task_actions.proofs.EndEach.{Each, each_to, in_range}
-use Rattle.task_actions.proofs.EndWalk.{Rests, LeadsOn, leads_nowhere, leads_first, leads_then}
+use Rattle.task_actions.proofs.EndWalk.{LeadsOn, leads_nowhere, leads_first, leads_then}
 
 abbrev pub Parents : Type 0
 Parents = ℕ → Option ℕ
@@ -213,10 +213,6 @@ module _ (m : StorageState) (w : TasksAreSound (model_of m)) where
     same_words = λ t r stays. have.same_words t r (e t ∙ stays);
   }
 
-  or_nothing : (b : Bool) → b ≡ (b || false)
-  or_nothing true = refl
-  or_nothing false = refl
-
   -- all of them
   pub ends_go : (n : StorageState) (tasks gone : List ℕ) (parents : Parents) (words : Words) → HaveGone m (is_in gone) parents words
       → ((t subtask : ℕ) → is_in gone t ≡ true → m.tasks.parents subtask ≡ Some t → is_in gone subtask ≡ true)
@@ -226,7 +222,7 @@ module _ (m : StorageState) (w : TasksAreSound (model_of m)) where
   ends_go n [] gone parents words have closed order are = record {
     after_parents = parents;
     after_words = words;
-    have_gone = same_gone (is_in gone) (λ t. is_in gone t || false) parents words (λ t. or_nothing (is_in gone t)) have;
+    have_gone = same_gone (is_in gone) (λ t. is_in gone t || false) parents words (λ t. sym (or_nothing (is_in gone t))) have;
     leads = leads_nowhere (having n parents words);
   }
   ends_go n (task ∷ tasks) gone parents words have closed order are =
@@ -234,7 +230,7 @@ module _ (m : StorageState) (w : TasksAreSound (model_of m)) where
       let next_parents = fewer n task tasks gone parents words have closed order it.0 it.1 it.2 in
       let next_words = zeros n task tasks gone parents words have closed order it.0 it.1 it.2 in
       let rest = ends_go n tasks (task ∷ gone) next_parents next_words (have_one n task tasks gone parents words have closed order it.0 it.1 it.2)
-          (closed_one n task tasks gone parents words have closed order it.0 it.1 it.2) order.2 (λ t own. are t (or_right (task == t) (is_in tasks t) own)) in
+      (closed_one n task tasks gone parents words have closed order it.0 it.1 it.2) order.2 (λ t own. are t (or_right (task == t) (is_in tasks t) own)) in
       record {
         after_parents = rest.after_parents;
         after_words = rest.after_words;

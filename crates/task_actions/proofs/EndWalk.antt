@@ -1,6 +1,5 @@
 -- Records that lead from one state to another, whatever is parked, with a blank element left.
-use Rattle.std.proofs.Common.{◌≡◌, ℕ, ◌≤◌, List, [], ◌∷◌, ◌++◌, Option, None, IsSome, refl, sym, ◌∙◌, ap, subst}
-use Rattle.subpool_storage.specs.Subpools.{Subpools}
+use Rattle.std.proofs.Common.{◌≡◌, ℕ, ◌≤◌, List, [], ◌∷◌, ◌++◌, None, IsSome, refl, sym, ap, subst}
 use Rattle.storage_changes.specs.declared.record.Record.{Record}
 use Rattle.storage_changes.specs.State.{StorageState}
 use Rattle.storage_changes.specs.Walk.{Walk}

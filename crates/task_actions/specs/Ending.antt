@@ -1,9 +1,8 @@
 -- The records of tasks that end. Assembler Services Reference, DETACH; Assembler Services Guide, "Virtual storage
 -- management", "Subpool handling": when a task ends, the subpools that it owns are released.
-use Rattle.std.specs.Prelude.{◌≡◌, ◌≢◌, ℕ, zero, suc, ◌+◌, Bool, true, false, ◌||◌, ◌==◌, Option, Some, unwrap_or}
+use Rattle.std.specs.Prelude.{◌≡◌, ℕ, zero, suc, ◌+◌, Bool, true, false, ◌||◌, ◌==◌, Option, Some, unwrap_or}
 use Rattle.std.specs.Prelude.{List, [], ◌∷◌, ◌++◌, length, map, filter}
 use Rattle.std.specs.List.{flat_map, range_with_len}
-use Rattle.run_set.specs.declared.run.Run.{Run}
 use Rattle.vsm_model.specs.declared.Subpool.{Subpool}
 use Rattle.vsm_model.specs.Search.{holds, is_in}
 use Rattle.vsm_model.specs.State.{State, is_task}
@@ -30,8 +29,8 @@ abbrev pub ended_from : (ℕ → Option ℕ) → ℕ → ℕ → List ℕ
 ended_from parents top zero = ended_level parents top 0
 ended_from parents top (suc steps) = ended_level parents top (suc steps) ++ ended_from parents top steps
 
--- the subtree of a task: none of the 64 tasks is more than 63 steps below another
-abbrev pub ended_below : (ℕ → Option ℕ) → ℕ → List ℕ
+-- The subtree of a task: none of the 64 tasks is more than 63 steps below another. Closed, since it is long.
+unfoldable pub ended_below : (ℕ → Option ℕ) → ℕ → List ℕ
 ended_below parents top = ended_from parents top 63
 
 -- the subpools that these tasks own

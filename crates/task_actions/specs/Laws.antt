@@ -36,7 +36,7 @@ TurningLeads =
     IsWellFormed settings (record (model_of m) { current = task }) →
     Leads settings m (change_parking [] (turn_records task) 0) (record (model_of m) { current = task })
 
--- or tasks end, with what they own.
+-- or tasks end, with what they own, and registers are set of the task whose turn it is then.
 abbrev pub EndingLeads : Type 0
 EndingLeads =
     (settings : Settings) (m : StorageState) (ended : List ℕ) (next : ℕ) (rows : List (ℕ × ℕ)) →

@@ -4,8 +4,8 @@
 ghost use Rattle.task_actions.specs.Laws.{AttachingLeads, EndingLeads, EndsAreInOrder, TurningLeads};
 
 /// A task comes, below the current one: it shares subpool 0 or has one of its own, it is given subpools, and it shares
-/// others; and registers of the current task are set. Seven blank elements are enough, and two more for each number that
-/// is given or shared.
+/// others; and registers of the current task are set. Seven blank elements are enough, and two more for each number
+/// that is given or shared.
 pub fn attaching_leads()
     ensures { AttachingLeads }
 {}
@@ -16,8 +16,8 @@ pub fn turning_leads()
 {}
 
 /// Tasks end, each behind those below it: the subpools that they own go over into the change with all that they have,
-/// and their rows of sight and their registers become records. One blank element is enough besides those for the
-/// extents of their subpools.
+/// and their rows of sight and their registers become records; and registers are set of the task whose turn it is then.
+/// One blank element is enough besides those for the subpools and their extents.
 pub fn ending_leads()
     ensures { EndingLeads }
 {}
