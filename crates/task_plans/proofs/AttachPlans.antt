@@ -1,6 +1,6 @@
 -- ATTACH, by what its operands name, and its plan on the plain machine.
-use Rattle.std.proofs.Common.{◌≡◌, ◌≢◌, ℕ, ◌+◌, ◌<◌, ◌≤◌, Bool, true, false, not, if◌then◌else◌, ◌++◌, Option, Some, None, is_some, List, [], ◌∷◌, refl, sym, ◌∙◌, ap, arith}
-use Rattle.std.specs.Prelude.{unwrap_or, is_none, IsSome, Ok}
+use Rattle.std.proofs.Common.{◌≡◌, ℕ, Bool, false, not, if◌then◌else◌, ◌++◌, Option, Some, None, is_some, List, [], ◌∷◌, sym, ◌∙◌, ap, arith}
+use Rattle.std.specs.Prelude.{unwrap_or, is_none, Ok}
 use Rattle.std.specs.List.{list_any}
 use Rattle.std.proofs.Math.Logic.{∥∥₁_map}
 use Rattle.vsm_model.specs.declared.causes.Cause.{Cause}
@@ -11,13 +11,11 @@ use Rattle.vsm_model.specs.declared.services.Attach.{Attach}
 use Rattle.vsm_model.specs.Causes.{Causes, first_cause}
 use Rattle.vsm_model.specs.Passing.{numbers_in, is_bad_list, is_anothers}
 use Rattle.vsm_model.specs.Registers.{with_registers}
-use Rattle.vsm_model.specs.Search.{least, IsLeastAmong}
 use Rattle.vsm_model.specs.Services.{attach}
-use Rattle.vsm_model.specs.Standing.{Accepted, Refused}
+use Rattle.vsm_model.specs.Standing.{Accepted}
 use Rattle.vsm_model.specs.State.{State, is_task}
 use Rattle.vsm_model.specs.Step.{step, answered}
 use Rattle.vsm_model.specs.Tasks.{attach_causes, free_number}
-use Rattle.vsm_model.specs.WellFormed.{IsWellFormed}
 use Rattle.vsm_model.proofs.Chosen.{Stepped}
 use Rattle.vsm_model.proofs.Least.{least_by}
 use Rattle.task_laws.proofs.Attaches.{attach_leaves_well_formed}
@@ -29,7 +27,7 @@ use Rattle.storage_plans.proofs.Carried.{no_registers, register_and}
 use Rattle.task_actions.specs.Attaching.{with_attached, CanAttach}
 use Rattle.task_actions.specs.Laws.{AttachingLeads}
 use Rattle.task_plans.specs.declared.attach.AttachPlan.{AttachPlan}
-use Rattle.task_plans.specs.TaskPlans.{numbers, attach_change, IsAccepted, CanBeAttached, IsAttachPlanned}
+use Rattle.task_plans.specs.TaskPlans.{numbers, attach_change, IsAccepted, IsAttachPlanned}
 
 -- the least number that no task has is the plain machine's free number
 pub free_is : (s : State) (task : ℕ) → IsLeastFree s.parents task → free_number s ≡ Some task

@@ -2,3 +2,8 @@ mod NumberLists
 mod AttachPlans
 mod RecordCounts
 mod RunPlans
+mod Rests
+mod Climbs
+mod Registers
+mod OwnedNames
+mod EndPlans

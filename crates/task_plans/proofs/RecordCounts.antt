@@ -1,5 +1,5 @@
 -- How many records a task's coming takes.
-use Rattle.std.proofs.Common.{◌≡◌, ℕ, ◌+◌, ◌*◌, ◌≤◌, Bool, true, false, Option, Some, None, List, [], ◌∷◌, ◌++◌, length, length-append, arith}
+use Rattle.std.proofs.Common.{ℕ, ◌*◌, ◌≤◌, Bool, true, false, Option, Some, None, List, [], ◌∷◌, length, length-append, arith}
 use Rattle.std.specs.List.{flat_map}
 use Rattle.storage_changes.specs.State.{StorageState}
 use Rattle.task_actions.specs.Attaching.{given_records, gift_records, sharing_records, share_records, zero_records}

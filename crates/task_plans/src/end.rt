@@ -1,8 +1,9 @@
 //! Plans of tasks that end.
 
-ghost use Rattle.std.specs.Prelude.{◌≡◌, ◌+◌, ◌^◌, ◌≤◌, ◌++◌, Bool, length, map, IfOk, OnOk};
+ghost use Rattle.std.specs.Prelude.{◌≡◌, ◌+◌, ◌^◌, ◌≤◌, ◌++◌, Bool, true, length, map, IfOk, OnOk};
 ghost use Rattle.std.specs.List.{flat_map};
 ghost use Rattle.vsm_model.specs.declared.limits.Settings.{Settings};
+ghost use Rattle.vsm_model.specs.Regions.{settings_valid};
 ghost use Rattle.vsm_model.specs.Services.{detach, end_task};
 ghost use Rattle.storage_changes.specs.Changes.{change_parking};
 ghost use Rattle.storage_exchange.specs.Storage.{state_of, Stand};
@@ -24,7 +25,10 @@ use storage_changes::{OwnRecord, PagesRecord, QueuesRecord, Record, SharerRecord
 use storage_exchange::Storage;
 use subpool_set::PoolPlace;
 use subpool_storage::SubpoolStorage;
+use subpool_storage::laws::subpools_are_there;
+use task_actions::laws::{ending_leads, ends_are_in_order};
 use task_tree::TreeFault;
+use task_tree::laws::trees_stand;
 use vsm_model::{Cause, Reply, Subpool};
 
 /// A task that ends, with all below it. Nothing is changed yet.
@@ -48,18 +52,19 @@ const ELEMENTS_MOST: usize = 1 << 23;
 /// isn't its parent.
 pub fn plan_detach(storage: &Storage, task: u32) -> Result<EndPlan, Cause>
     requires stands { Stand storage.now }
-    ensures { (settings : Settings) (names_full : Bool) → StandsSound settings storage.now
+    ensures { (settings : Settings) (names_full : Bool) → settings_valid settings ≡ true
+        → StandsSound settings storage.now
         → IsEndPlanned settings names_full (state_of storage.now) (detach task) result }
 {
+    trees_stand();
+    ends_are_in_order();
+    ending_leads();
     if task > 64 {
         return Err(Cause::NoTask);
     }
     let task = task as u8;
     let current = storage.tasks.current();
-    match storage
-        .tasks
-        .check_detach(&storage.elements, current, task)
-    {
+    match storage.tasks.check_detach(&storage.elements, current, task) {
         Ok(()) => Ok(EndPlan {
             top: task,
             next: current,
@@ -76,9 +81,13 @@ pub fn plan_detach(storage: &Storage, task: u32) -> Result<EndPlan, Cause>
 /// The causes that refuse it, in order: `HasSubtask`, and `NotParent` for task 1, which has no parent.
 pub fn plan_end_task(storage: &Storage) -> Result<EndPlan, Cause>
     requires stands { Stand storage.now }
-    ensures { (settings : Settings) (names_full : Bool) → StandsSound settings storage.now
+    ensures { (settings : Settings) (names_full : Bool) → settings_valid settings ≡ true
+        → StandsSound settings storage.now
         → IsEndPlanned settings names_full (state_of storage.now) end_task result }
 {
+    trees_stand();
+    ends_are_in_order();
+    ending_leads();
     let current = storage.tasks.current();
     match storage.tasks.check_end(&storage.elements, current) {
         Ok(()) => {
@@ -92,8 +101,10 @@ pub fn plan_end_task(storage: &Storage) -> Result<EndPlan, Cause>
                 reply: Reply::Turn(parent),
             })
         }
-        Err(TreeFault::HasSubtasks) => Err(Cause::HasSubtask),
-        Err(_) => Err(Cause::NotParent),
+        Err(fault) => match fault {
+            TreeFault::HasSubtasks => Err(Cause::HasSubtask),
+            _ => Err(Cause::NotParent),
+        },
     }
 }
 
@@ -109,6 +120,7 @@ impl EndPlan {
         ensures names { IfOk result (λ l. AreNames l.names.items) }
         ensures size { IfOk result (λ l. length l.names.items + (length l.records.items + l.blanks) ≤ 2 ^ 24) }
     {
+        subpools_are_there();
         let names = owned_names(alloc, storage, self.top)?;
         let mut records = Vec::new(alloc);
         push_released(storage, &mut records, &names)?;
@@ -189,11 +201,7 @@ fn push_extents(
 }
 
 // Tasks of the subtree see no subpool of others any more, nor others theirs.
-fn push_unshared(
-    storage: &Storage,
-    records: &mut Vec<Record>,
-    top: u8,
-) -> Result<(), AllocError>
+fn push_unshared(storage: &Storage, records: &mut Vec<Record>, top: u8) -> Result<(), AllocError>
     requires stands { Stand storage.now }
     ensures ok { OnOk result (records.new.items ≡ records.old.items
         ++ unshared_records (state_of storage.now).subpools
@@ -224,10 +232,9 @@ fn push_unseeing(
 {
     let owner_ends = is_ended(storage, top, subpool.owner);
     let mut place = SubpoolStorage::first_sharer_place(behind);
-    while let Some((task, next)) =
-        storage
-            .subpools
-            .next_sharer(&storage.elements, subpool, place)
+    while let Some((task, next)) = storage
+        .subpools
+        .next_sharer(&storage.elements, subpool, place)
     {
         if owner_ends || is_ended(storage, top, task) {
             records.push(Record::Sharer(SharerRecord {

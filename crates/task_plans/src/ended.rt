@@ -54,11 +54,7 @@ pub(crate) fn is_ended(storage: &Storage, top: u8, task: u8) -> bool
 }
 
 // The registers of a task become zeros, and it is gone.
-fn push_ended_task(
-    storage: &Storage,
-    records: &mut Vec<Record>,
-    task: u8,
-) -> Result<(), AllocError>
+fn push_ended_task(storage: &Storage, records: &mut Vec<Record>, task: u8) -> Result<(), AllocError>
     requires { Stand storage.now }
     ensures ok { OnOk result (records.new.items ≡ records.old.items ++ ended_records (state_of storage.now) task) }
 {
@@ -107,8 +103,9 @@ pub(crate) fn push_ended(
         ++ flat_map (ended_records (state_of storage.now))
         (ended_below (state_of storage.now).tasks.parents top)) }
 {
-    for steps in (0..=MOST_STEPS).rev() {
-        push_ended_level(storage, records, top, steps)?;
+    for done in 0..MOST_STEPS {
+        push_ended_level(storage, records, top, MOST_STEPS - done)?;
     }
+    push_ended_level(storage, records, top, 0)?;
     Ok(())
 }

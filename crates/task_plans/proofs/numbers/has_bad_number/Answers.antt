@@ -1,4 +1,4 @@
-use Rattle.std.proofs.Common.{◌≡◌, ℕ, ◌-◌, ◌++◌, true, false, List, [], ◌∷◌, length, get_or, sym, ◌∙◌, ap, arith, refl}
+use Rattle.std.proofs.Common.{ℕ, ◌-◌, ◌++◌, true, false, List, length, sym, ◌∙◌, arith, refl}
 use Rattle.std.proofs.lemmas.List.{get_or-replicate, length-set}
 use Rattle.task_plans.proofs.NumberLists.{bad_zero, bad_high, bad_again, fine_here, seen_here, fine_behind_all, none_behind_all}
 use Rattle.task_plans.proofs.numbers.has_bad_number.Goals.{then-number-eq0-via-then-number-eq0, then-number-eq0-via-else-number-eq0+then-number-gt127}
