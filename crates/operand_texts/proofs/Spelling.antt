@@ -207,14 +207,6 @@ valid_has_spelling (register n) h = register_spelled n h
 pub valid_is_spelled : (value : Written) → IsValue value ↔ ((text : List ℕ) × Spells text value)
 valid_is_spelled value = (valid_has_spelling value, λ s. spelled_is_valid s.0 value s.1)
 
--- a register where something may be stored
-pub register_target : (text : List ℕ) (r : ℕ) → is_name text ≡ false → register_of text ≡ Some r → 1 ≤ r → r ≤ 12
-    → target_of text ≡ Some (in_register r)
-register_target text r n e h k =
-    let least : nat_le 1 r ≡ true = grind (arith, nat_tests) in
-    let most : nat_le r 12 ≡ true = grind (arith, nat_tests) in
-    rw (n, e, least, most) refl
-
 -- a place that is spelled is valid
 spelled_register : (n : ℕ) (target : Target) → target_register (Some n) ≡ Some target → IsTarget target
 spelled_register n target h =

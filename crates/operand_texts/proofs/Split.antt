@@ -1,11 +1,10 @@
 -- The first operand of a field, and those behind it.
 use Rattle.std.proofs.lemmas.List.{take_rest, take_all}
 use Rattle.std.proofs.lemmas.Bool.{cases_lt}
-use Rattle.std.proofs.Common.{inl, inr, ◌-◌, ◌≡◌, ℕ, suc, ◌+◌, ◌<◌, ◌≤◌, ◌&&◌, List, [], ◌∷◌, Bool, Option, Some, None, length, take, drop, cond, true, false, refl, arith}
+use Rattle.std.proofs.Common.{inl, inr, ◌-◌, ◌≡◌, ℕ, suc, ◌+◌, ◌<◌, ◌≤◌, List, [], ◌∷◌, length, take, drop, cond, true, false, refl, arith}
 use Rattle.std.proofs.Math.Numerals.{one-add, add-one}
 use Rattle.operand_texts.specs.declared.nesting.Nesting.{Nesting}
 use Rattle.operand_texts.specs.Field.{outside, past, separates, operand_len, operands_from, onto}
-use Rattle.operand_texts.specs.Values.{is_value, two_of, are_two_values}
 
 -- one byte more in front
 step : (c : ℕ) (cs : List ℕ) (k : ℕ) (os : List (List ℕ)) → os ≡ take k cs ∷ operands_from outside (drop (k + 1) cs)
@@ -44,14 +43,3 @@ last_at t n e h = rw (take_all n t h) (last_of outside t (omega arith))
 
 pub some_at : (t : List ℕ) (n : ℕ) → n ≡ operand_len outside t → (rest : List (List ℕ)) × (operands_from outside t ≡ take n t ∷ rest)
 some_at t n e = elim (cases_lt n (length t)) [ inl below ↦ (_, first_at t n e below) | inr past ↦ (_, last_at t n e past) ]
-
--- two operands that are values
-abbrev pub are_values : Option (List ℕ × List ℕ) → Bool
-are_values None = false
-are_values (Some parts) = is_value parts.0 && is_value parts.1
-
-pub two_values : (os : List (List ℕ)) → are_values (two_of os) ≡ are_two_values os
-two_values [] = refl
-two_values (x ∷ []) = refl
-two_values (x ∷ y ∷ []) = refl
-two_values (x ∷ y ∷ z ∷ os) = refl

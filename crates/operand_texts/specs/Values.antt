@@ -1,12 +1,12 @@
 -- Values as operands spell them: numbers, names, registers and pairs.
-use Rattle.std.specs.Prelude.{◌≡◌, ℕ, ◌+◌, ◌-◌, ◌*◌, ◌%◌, ◌^◌, Bool, false, ◌&&◌, ◌||◌, ◌==◌, nat_lt, nat_le}
-use Rattle.std.specs.Prelude.{if◌then◌else◌, List, [], ◌∷◌, length, drop, map, codes, Option, Some, None, is_some}
+use Rattle.std.specs.Prelude.{◌≡◌, ℕ, ◌+◌, ◌-◌, ◌*◌, ◌%◌, ◌^◌, Bool, ◌&&◌, ◌==◌, nat_lt, nat_le}
+use Rattle.std.specs.Prelude.{if◌then◌else◌, List, [], ◌∷◌, length, drop, map, Option, Some, None}
 use Rattle.std.specs.Prelude.{slice_index, slice_range}
 use Rattle.std.specs.List.{list_all}
 use Rattle.std.specs.Option.{option_map}
 use Rattle.std.specs.Char.{to_ascii_uppercase, is_digit, digit_value}
 use Rattle.std.specs.Str.Parse.{digits_value}
-use Rattle.operand_texts.specs.Words.{is_name, is_word}
+use Rattle.operand_texts.specs.Words.{is_name}
 use Rattle.operand_texts.specs.Written.{Written, number, named, register, Target, in_name, in_register, Stored, spelled}
 use Rattle.operand_texts.specs.Written.{word}
 use Rattle.operand_texts.specs.Field.{outside, is_balanced, operands_from}
@@ -74,10 +74,6 @@ value_of text = or_other (number_of text) text
 abbrev pub Spells : List ℕ → Written → Type 0
 Spells text value = value_of text ≡ Some value
 
--- A text is a value.
-abbrev pub is_value : List ℕ → Bool
-is_value text = is_some (value_of text)
-
 -- A register where something may be stored goes from 1 to 12.
 abbrev pub target_register : Option ℕ → Option Target
 target_register None = None
@@ -92,21 +88,6 @@ target_of text =
 -- A text spells this place.
 abbrev pub SpellsPlace : List ℕ → Target → Type 0
 SpellsPlace text target = target_of text ≡ Some target
-
--- A condition is YES or NO, in either case.
-abbrev pub is_condition : List ℕ → Bool
-is_condition text = is_word text (codes "YES") || is_word text (codes "NO")
-
--- Two operands, each of them a value.
-abbrev pub are_two_values : List (List ℕ) → Bool
-are_two_values [] = false
-are_two_values (a ∷ []) = false
-are_two_values (a ∷ b ∷ []) = is_value a && is_value b
-are_two_values (a ∷ b ∷ c ∷ os) = false
-
--- A pair is two values in parentheses: a maximum and a minimum length.
-abbrev pub is_pair : List ℕ → Bool
-is_pair text = is_enclosed text && are_two_values (operands_from outside (enclosed text))
 
 -- Two operands, whatever they are.
 abbrev pub two_of : List (List ℕ) → Option (List ℕ × List ℕ)

@@ -5,8 +5,7 @@ ghost use Rattle.std.specs.Option.{option_map};
 ghost use Rattle.operand_texts.specs.Field.{outside, operands_from};
 ghost use Rattle.operand_texts.specs.Written.{written_in, target_in, is_upper_name, IsValue, IsTarget};
 ghost use Rattle.operand_texts.specs.Values.{register_number, without_r, is_enclosed, enclosed, register_of, value_of};
-ghost use Rattle.operand_texts.specs.Values.{is_value, target_of, is_condition, two_of, are_two_values, is_pair};
-ghost use Rattle.operand_texts.specs.Values.{parts_of};
+ghost use Rattle.operand_texts.specs.Values.{two_of, parts_of};
 
 use crate::nesting::{is_balanced, split};
 use crate::numbers::number_of;
@@ -135,36 +134,6 @@ pub fn value_of(text: &[u8]) -> Option<Value>
     }
 }
 
-/// Whether a text is a number, a name or a register.
-pub fn is_value(text: &[u8]) -> bool
-    ensures { result ≡ is_value text.now }
-{
-    value_of(text).is_some()
-}
-
-/// The place that a text spells: a name, or a register from 1 to 12. Nothing where it spells none.
-pub fn place_of(text: &[u8]) -> Option<Place>
-    ensures value { option_map target_in result ≡ target_of text.now }
-    ensures valid { IfSome result (λ p. IsTarget (target_in p)) }
-{
-    if is_name(text) {
-        return Some(Place::Named(upper_name(text)));
-    }
-    let register = register_of(text)?;
-    if matches!(register, 1..=12) {
-        Some(Place::Register(register))
-    } else {
-        None
-    }
-}
-
-/// Whether a text is YES or NO, in either case.
-pub fn is_condition(text: &[u8]) -> bool
-    ensures { result ≡ is_condition text.now }
-{
-    is_word(text, b"YES") || is_word(text, b"NO")
-}
-
 /// The two operands of a text, where it has two.
 fn two_of(text: &[u8]) -> Option<(&[u8], &[u8])>
     ensures { option_map (λ p. (p.0.now, p.1.now)) result ≡ two_of (operands_from outside text.now) }
@@ -175,23 +144,6 @@ fn two_of(text: &[u8]) -> Option<(&[u8], &[u8])>
         Some(_) => None,
         None => Some((first, second)),
     }
-}
-
-/// Whether a text is two values with a comma between them.
-fn are_two_values(text: &[u8]) -> bool
-    ensures { result ≡ are_two_values (operands_from outside text.now) }
-{
-    match two_of(text) {
-        Some((first, second)) => is_value(first) && is_value(second),
-        None => false,
-    }
-}
-
-/// Whether a text is two values in parentheses, with a comma between them: a maximum and a minimum length.
-pub fn is_pair(text: &[u8]) -> bool
-    ensures { result ≡ is_pair text.now }
-{
-    is_enclosed(text) && are_two_values(enclosed(text))
 }
 
 /// The two parts of a text in parentheses, with a comma between them, whatever they are. Nothing where a text isn't
