@@ -1,5 +1,5 @@
 -- Rows: the operands that a statement has, and the keywords that are left out.
-use Rattle.std.specs.Prelude.{ℕ, Bool, false, ◌==◌, List, Option, None}
+use Rattle.std.specs.Prelude.{ℕ, Bool, false, ◌==◌, List, Option, Some, None}
 use Rattle.std.specs.List.{list_any}
 use Rattle.std.specs.Str.{bytes_eq}
 use Rattle.macro_operands.specs.declared.rows.Kind.{Kind}
@@ -34,3 +34,7 @@ pub record Row : Type 0 where
 -- An operand that may stand beside any other.
 abbrev pub entry : Key → Kind → Entry
 entry key k = record { key = key; kind = k; excluded = None }
+
+-- An operand that can't stand beside the one of another key.
+abbrev pub excluding : Key → Kind → Key → Entry
+excluding key k other = record { key = key; kind = k; excluded = Some other }

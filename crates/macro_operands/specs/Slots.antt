@@ -143,9 +143,9 @@ as_place (Some (says.register n)) = Some (in_register n)
 as_place (Some (says.name text)) = option_map in_name (name_of text)
 as_place _ = None
 
-abbrev pub as_condition : Option says.Said → Bool
-as_condition (Some (says.condition b)) = b
-as_condition _ = false
+abbrev pub as_condition : Option says.Said → Option Bool
+as_condition (Some (says.condition b)) = Some b
+as_condition _ = None
 
 abbrev pub as_content : Option says.Said → Option Stored
 as_content (Some (says.content text)) = content_of text

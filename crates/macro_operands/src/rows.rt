@@ -16,7 +16,7 @@ pub enum Kind {
     /// A name, or a register from 1 to 12.
     Place,
     /// A name.
-    NamedPlace,
+    Name,
     /// YES or NO.
     Condition,
     /// COND or C, or UNCOND or U, as a word in a position. Any other word there is no operand of the statement.
@@ -72,7 +72,8 @@ pub struct Row {
     pub left_out: &'static [&'static [u8]],
 }
 
-/// An operand with a keyword, in upper case.
+/// An operand with a keyword, in upper case; and the keyword of an operand beside which it can't stand, where there is
+/// one.
 #[macro_export]
 macro_rules! keyword {
     ($word:literal, $kind:ident) => {
@@ -80,6 +81,13 @@ macro_rules! keyword {
             key: $crate::rows::Key::Keyword($word),
             kind: $crate::rows::Kind::$kind,
             excluded: None,
+        }
+    };
+    ($word:literal, $kind:ident, $excluded:literal) => {
+        $crate::rows::Entry {
+            key: $crate::rows::Key::Keyword($word),
+            kind: $crate::rows::Kind::$kind,
+            excluded: Some($crate::rows::Key::Keyword($excluded)),
         }
     };
 }

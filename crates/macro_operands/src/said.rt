@@ -146,7 +146,7 @@ pub(crate) fn said_of(kind: Kind, text: &[u8]) -> Option<Said<'_>>
         Kind::RegisterLength => register_length_said(text),
         Kind::NamedValue => name_said(text),
         Kind::Place => place_said(text),
-        Kind::NamedPlace => name_said(text),
+        Kind::Name => name_said(text),
         Kind::Condition => Some(Said::Condition(condition_of(text)?)),
         Kind::ConditionWord => Some(Said::Condition(condition_word_of(text)?)),
         Kind::Content if is_content(text) => Some(Said::Content(text)),
@@ -229,14 +229,14 @@ pub fn place_at(said: &[Option<Said>], i: usize) -> Option<Place>
     }
 }
 
-/// Whether YES was read at a place.
-pub fn condition_at(said: &[Option<Said>], i: usize) -> bool
+/// The condition that was read at a place: whether it's YES.
+pub fn condition_at(said: &[Option<Said>], i: usize) -> Option<bool>
     requires { i < length said.now }
     ensures { result ≡ as_condition (slot (slots_in said.now) i) }
 {
     match &said[i] {
-        Some(Said::Condition(condition)) => *condition,
-        _ => false,
+        Some(Said::Condition(condition)) => Some(*condition),
+        _ => None,
     }
 }
 

@@ -162,6 +162,8 @@ abbrev pub front_of : Operation → List ℕ
 front_of operation.Storage = 32 ∷ (codes "STORAGE" ++ 32 ∷ [])
 front_of operation.Getmain = 32 ∷ (codes "GETMAIN" ++ 32 ∷ [])
 front_of operation.Freemain = 32 ∷ (codes "FREEMAIN" ++ 32 ∷ [])
+front_of operation.Attach = 32 ∷ (codes "ATTACH" ++ 32 ∷ [])
+front_of operation.Run = 32 ∷ (codes "RUN" ++ 32 ∷ [])
 front_of operation.Poke = 32 ∷ (codes "POKE" ++ 32 ∷ [])
 front_of operation.Peek = 32 ∷ (codes "PEEK" ++ 32 ∷ [])
 front_of operation.Map = 32 ∷ (codes "MAP" ++ 32 ∷ [])

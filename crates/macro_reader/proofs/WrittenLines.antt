@@ -3,10 +3,10 @@ use Rattle.std.proofs.Common.{◌≡◌, ℕ, ◌+◌, ◌-◌, ◌<◌, ◌≤�
 use Rattle.std.proofs.lemmas.Bool.{cases_lt}
 use Rattle.std.proofs.lemmas.Bool.Decides.{nat_tests}
 use Rattle.std.proofs.lemmas.List.{length-drop, take-append-drop}
-use Rattle.macro_reader.specs.Columns.{Line, used, is_blank, is_comment, is_skipped}
+use Rattle.macro_reader.specs.Columns.{Line, used, is_blank, is_comment, is_skipped, is_continued}
 use Rattle.operand_texts.specs.Field.{outside}
 use Rattle.macro_reader.specs.Continuation.{Joined, no_field, begun, with_part, with_lines}
-use Rattle.macro_statements.specs.Requests.{Asked, map_asked}
+use Rattle.macro_statements.specs.Requests.{Asked}
 use Rattle.macro_statements.specs.Statements.{of_operation, behind_of, from_operands, is_misplaced, statement_with, SpellsRequest}
 use Rattle.macro_reader.specs.Scripts.{Answer, Answers, IsGroup, Part, whole, said_by}
 use Rattle.macro_operands.specs.declared.rows.Behind.TheVariants as behind
@@ -14,12 +14,14 @@ use Rattle.macro_statements.specs.declared.statements.Operation.{Operation}
 use Rattle.macro_statements.specs.declared.statements.Operation.TheVariants as operation
 use Rattle.operand_texts.proofs.OperandTexts.{ends}
 use Rattle.macro_reader.proofs.FieldLines.{Unbroken, field_stops, whole_part, used_full, continued_full, used_last, continued_last, full_goes_on, full_unbroken, laid, front_of}
-use Rattle.macro_statements.proofs.RequestTexts.{less, room}
+use Rattle.macro_statements.proofs.SpelledOperands.{less, room, Remarks}
 
 front_fits : (o : Operation) → length (front_of o) + room o ≡ 71
 front_fits operation.Storage = refl
 front_fits operation.Getmain = refl
 front_fits operation.Freemain = refl
+front_fits operation.Attach = refl
+front_fits operation.Run = refl
 front_fits operation.Poke = refl
 front_fits operation.Peek = refl
 front_fits operation.Map = refl
@@ -30,6 +32,8 @@ in_place : (o : Operation) (t : List ℕ) → is_misplaced (front_of o ++ t) ≡
 in_place operation.Storage t = refl
 in_place operation.Getmain t = refl
 in_place operation.Freemain t = refl
+in_place operation.Attach t = refl
+in_place operation.Run t = refl
 in_place operation.Poke t = refl
 in_place operation.Peek t = refl
 in_place operation.Map t = refl
@@ -40,6 +44,8 @@ no_comment : (o : Operation) (t : List ℕ) → (is_blank (front_of o ++ t) || i
 no_comment operation.Storage t = refl
 no_comment operation.Getmain t = refl
 no_comment operation.Freemain t = refl
+no_comment operation.Attach t = refl
+no_comment operation.Run t = refl
 no_comment operation.Poke t = refl
 no_comment operation.Peek t = refl
 no_comment operation.Map t = refl
@@ -50,6 +56,8 @@ says : (o : Operation) (t text : List ℕ) → statement_with (front_of o ++ t) 
 says operation.Storage t text = refl
 says operation.Getmain t text = refl
 says operation.Freemain t text = refl
+says operation.Attach t text = refl
+says operation.Run t text = refl
 says operation.Poke t text = refl
 says operation.Peek t text = refl
 says operation.Map t text = refl
@@ -60,6 +68,8 @@ operands_behind_front : (o : Operation) (c : ℕ) (cs : List ℕ) → behind_of 
 operands_behind_front operation.Storage c cs has h = rw h refl
 operands_behind_front operation.Getmain c cs has h = rw h refl
 operands_behind_front operation.Freemain c cs has h = rw h refl
+operands_behind_front operation.Attach c cs has h = rw h refl
+operands_behind_front operation.Run c cs has h = rw h refl
 operands_behind_front operation.Poke c cs has h = rw h refl
 operands_behind_front operation.Peek c cs has h = rw h refl
 operands_behind_front operation.Map c cs has h = cc
@@ -162,19 +172,24 @@ pub written_on : (o : Operation) (t : List ℕ) (asked : Asked) → behind_of (S
     → length t ≤ room o + 504 → (lines : List Line) × (length lines ≤ 10) × Answers lines (record { line = 1; what = Ok asked } ∷ [])
 written_on o t asked has e h some few = answered o t asked e (on o t has h some few)
 
--- the map's line
-map_line : On operation.Map []
-map_line = record {
-  first = 32 ∷ codes "MAP";
+-- a line with an operation that has remarks alone
+bare_line : (o : Operation) (first : Line) → is_skipped first ≡ false → ((text : List ℕ) → statement_with (used first) text ≡ of_operation (Some o) text)
+    → is_continued first ≡ false → begun (used first) ≡ no_field → On o []
+bare_line o first begins says ends none = record {
+  first = first;
   rest = [];
   few = omega arith;
-  begins = refl;
-  says = λ text. refl;
-  group = refl;
+  begins = begins;
+  says = says;
+  group = ends;
   field = no_field;
-  joins = refl;
+  joins = ap (λ j. Some j) none;
   text = refl;
 }
 
-pub map_written : (lines : List Line) × (length lines ≤ 10) × Answers lines (record { line = 1; what = Ok map_asked } ∷ [])
-map_written = answered operation.Map [] map_asked refl map_line
+bare : (o : Operation) → behind_of (Some o) ≡ behind.Remarks → On o []
+bare operation.Map has = bare_line operation.Map (32 ∷ codes "MAP") refl (λ text. refl) refl refl
+bare _ has = cc
+
+pub written_bare : (asked : Asked) (r : Remarks asked) → (lines : List Line) × (length lines ≤ 10) × Answers lines (record { line = 1; what = Ok asked } ∷ [])
+written_bare asked r = answered r.operation [] asked r.asks (bare r.operation r.has)

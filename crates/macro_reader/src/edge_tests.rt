@@ -3,7 +3,7 @@
 use crate::tests::{card, fault, more, name};
 use crate::{
     Boundary, Content, Family, Fault, FaultKind, Fed, Form, Length, Location, Place, Reader,
-    Request, Statement, Value,
+    Request, Statement, Subpools, Value,
 };
 use arrayvec::ArrayVec;
 use std::process::Abort;
@@ -288,4 +288,33 @@ fn tells_statements_that_can_be_spelled(rt: HostRuntime) {
         };
         assert_eq!(rt; statement.valid(), valid, "register {register}");
     }
+}
+
+/// A name that isn't in upper case.
+fn lower() -> Value {
+    Value::Named(name("a"))
+}
+
+fn attach(given: Subpools, shared: Subpools) -> Statement {
+    Statement::Attach {
+        given,
+        shared,
+        shares_zero: true,
+    }
+}
+
+#[test]
+fn tells_subpools_that_can_be_spelled(rt: HostRuntime) {
+    for (given, shared, valid) in [
+        (Subpools::Number(Value::Number(0)), Subpools::Nothing, true),
+        (Subpools::Number(lower()), Subpools::Nothing, false),
+        (
+            Subpools::Nothing,
+            Subpools::Listed { address: lower() },
+            false,
+        ),
+    ] {
+        assert_eq!(rt; attach(given, shared).valid(), valid);
+    }
+    assert_eq!(rt; Statement::Run { task: lower() }.valid(), false);
 }

@@ -8,7 +8,7 @@ use crate::{
 use std::process::Abort;
 
 /// Feeds a script of one line, and compares the answer.
-fn feed(rt: &impl Abort, line: &[u8], want: Result<Request, FaultKind>) {
+pub(crate) fn feed(rt: &impl Abort, line: &[u8], want: Result<Request, FaultKind>) {
     let want = match want {
         Ok(request) => Ok(Fed::Ready(request, 1)),
         Err(kind) => Err(Fault { kind, line: 1 }),
@@ -17,12 +17,30 @@ fn feed(rt: &impl Abort, line: &[u8], want: Result<Request, FaultKind>) {
     assert_eq!(rt; Reader::new().next(line), want, "{text}");
 }
 
-fn form(family: Family, conditional: bool) -> Form {
-    Form {
-        family,
-        conditional,
-    }
-}
+const FORM_R: Form = Form {
+    family: Family::R,
+    conditional: false,
+};
+
+const FORM_S: Form = Form {
+    family: Family::S,
+    conditional: false,
+};
+
+const FORM_E: Form = Form {
+    family: Family::E,
+    conditional: false,
+};
+
+const CONDITIONAL_S: Form = Form {
+    family: Family::S,
+    conditional: true,
+};
+
+const CONDITIONAL_E: Form = Form {
+    family: Family::E,
+    conditional: true,
+};
 
 fn obtain(
     length: Length,
@@ -42,7 +60,7 @@ fn obtain(
 }
 
 fn storage_obtain(length: Length) -> Request {
-    obtain(length, 0, None, Location::Caller, form(Family::S, false))
+    obtain(length, 0, None, Location::Caller, FORM_S)
 }
 
 fn release(length: Value, address: Value, subpool: u32, form: Form) -> Request {
@@ -58,11 +76,25 @@ fn whole(subpool: Value, form: Form) -> Request {
     Request::Act(Statement::Whole { subpool, form })
 }
 
+fn number(n: u32) -> Value {
+    Value::Number(n)
+}
+
+/// The length in a register.
+fn in_register(n: u8) -> Length {
+    Length::Fixed(Value::Register(n))
+}
+
+/// The pair (8,(4)).
+fn pair() -> Length {
+    between(Value::Number(8), Value::Register(4))
+}
+
 fn eight() -> Length {
     Length::Fixed(Value::Number(8))
 }
 
-fn named(text: &str) -> Value {
+pub(crate) fn named(text: &str) -> Value {
     Value::Named(name(text))
 }
 
@@ -137,77 +169,39 @@ fn refuses_lengths(rt: HostRuntime) {
 #[test]
 fn reads_getmain(rt: HostRuntime) {
     let (low, caller) = (Location::Low, Location::Caller);
-    let lines: [(&[u8], Request); 10] = [
-        (
-            b" GETMAIN R,LV=8",
-            obtain(eight(), 0, None, low, form(Family::R, false)),
-        ),
+    let lines: [(&[u8], Request); 9] = [
+        (b" GETMAIN R,LV=8", obtain(eight(), 0, None, low, FORM_R)),
         (
             b" getmain r,sp=5,lv=(1),related=(a,b)",
-            obtain(
-                Length::Fixed(Value::Register(1)),
-                5,
-                None,
-                low,
-                form(Family::R, false),
-            ),
+            obtain(in_register(1), 5, None, low, FORM_R),
         ),
         (
             b" GETMAIN RC,LV=8",
-            obtain(eight(), 0, None, caller, form(Family::S, true)),
+            obtain(eight(), 0, None, caller, CONDITIONAL_S),
         ),
         (
             b" GETMAIN RU,LV=8,LOC=BELOW",
-            obtain(eight(), 0, None, low, form(Family::S, false)),
+            obtain(eight(), 0, None, low, FORM_S),
         ),
         (
             b" GETMAIN RU,LV=(0)",
-            obtain(
-                Length::Fixed(Value::Register(0)),
-                0,
-                None,
-                caller,
-                form(Family::S, false),
-            ),
+            obtain(in_register(0), 0, None, caller, FORM_S),
         ),
         (
             b" GETMAIN VRC,LV=(8,(4))",
-            obtain(
-                between(Value::Number(8), Value::Register(4)),
-                0,
-                None,
-                caller,
-                form(Family::S, true),
-            ),
+            obtain(pair(), 0, None, caller, CONDITIONAL_S),
         ),
         (
             b" GETMAIN VRU,LV=(8,(4)),SP=1",
-            obtain(
-                between(Value::Number(8), Value::Register(4)),
-                1,
-                None,
-                caller,
-                form(Family::S, false),
-            ),
+            obtain(pair(), 1, None, caller, FORM_S),
         ),
         (
             b" GETMAIN EC,LV=8,A=p",
-            obtain(eight(), 0, place_p(), low, form(Family::E, true)),
+            obtain(eight(), 0, place_p(), low, CONDITIONAL_E),
         ),
         (
             b" GETMAIN EU,A=P,LV=8,SP=2",
-            obtain(eight(), 2, place_p(), low, form(Family::E, false)),
-        ),
-        (
-            b" GETMAIN EU,LV=8,A=P,BNDRY=PAGE",
-            Request::Act(Statement::Obtain {
-                length: eight(),
-                subpool: Value::Number(0),
-                place: place_p(),
-                boundary: Boundary::Page,
-                location: low,
-                form: form(Family::E, false),
-            }),
+            obtain(eight(), 2, place_p(), low, FORM_E),
         ),
     ];
     for (line, want) in lines {
@@ -216,61 +210,64 @@ fn reads_getmain(rt: HostRuntime) {
 }
 
 #[test]
-fn reads_releases(rt: HostRuntime) {
-    let lines: [(&[u8], Request); 11] = [
+fn reads_a_boundary_of_getmain(rt: HostRuntime) {
+    let want = Request::Act(Statement::Obtain {
+        length: eight(),
+        subpool: Value::Number(0),
+        place: place_p(),
+        boundary: Boundary::Page,
+        location: Location::Low,
+        form: FORM_E,
+    });
+    feed(&rt, b" GETMAIN EU,LV=8,A=P,BNDRY=PAGE", Ok(want));
+}
+
+#[test]
+fn reads_releases_of_areas(rt: HostRuntime) {
+    let lines: [(&[u8], Request); 6] = [
         (
             b" FREEMAIN R,LV=8,A=X'6000'",
-            release(
-                Value::Number(8),
-                Value::Number(0x6000),
-                0,
-                form(Family::R, false),
-            ),
+            release(number(8), Value::Number(0x6000), 0, FORM_R),
         ),
         (
             b" FREEMAIN RC,A=(5),LV=8,SP=1",
-            release(
-                Value::Number(8),
-                Value::Register(5),
-                1,
-                form(Family::S, true),
-            ),
+            release(number(8), Value::Register(5), 1, CONDITIONAL_S),
         ),
         (
             b" FREEMAIN RU,LV=8,A=p",
-            release(Value::Number(8), named("P"), 0, form(Family::S, false)),
+            release(number(8), named("P"), 0, FORM_S),
         ),
         (
             b" FREEMAIN E,LV=8,A=P",
-            release(Value::Number(8), named("P"), 0, form(Family::E, false)),
+            release(number(8), named("P"), 0, FORM_E),
         ),
         (
             b" FREEMAIN EC,LV=8,A=P",
-            release(Value::Number(8), named("P"), 0, form(Family::E, true)),
+            release(number(8), named("P"), 0, CONDITIONAL_E),
         ),
         (
             b" FREEMAIN EU,LV=8,A=P,SP=3",
-            release(Value::Number(8), named("P"), 3, form(Family::E, false)),
+            release(number(8), named("P"), 3, FORM_E),
         ),
-        (
-            b" FREEMAIN R,SP=P",
-            whole(named("P"), form(Family::R, false)),
-        ),
-        (
-            b" FREEMAIN RC,SP=8",
-            whole(Value::Number(8), form(Family::S, true)),
-        ),
-        (
-            b" FREEMAIN RU,SP=8,LINKAGE=X",
-            whole(Value::Number(8), form(Family::S, false)),
-        ),
+    ];
+    for (line, want) in lines {
+        feed(&rt, line, Ok(want));
+    }
+}
+
+#[test]
+fn reads_releases_of_subpools(rt: HostRuntime) {
+    let lines: [(&[u8], Request); 5] = [
+        (b" FREEMAIN R,SP=P", whole(named("P"), FORM_R)),
+        (b" FREEMAIN RC,SP=8", whole(number(8), CONDITIONAL_S)),
+        (b" FREEMAIN RU,SP=8,LINKAGE=X", whole(number(8), FORM_S)),
         (
             b" STORAGE RELEASE,SP=(5)",
-            whole(Value::Register(5), form(Family::S, false)),
+            whole(Value::Register(5), FORM_S),
         ),
         (
             b" STORAGE RELEASE,COND=YES,SP=8",
-            whole(Value::Number(8), form(Family::S, true)),
+            whole(number(8), CONDITIONAL_S),
         ),
     ];
     for (line, want) in lines {
@@ -357,11 +354,11 @@ fn passes_over_what_has_no_effect(rt: HostRuntime) {
         ),
         (
             b" GETMAIN RU,REGS=+,LINKAGE=5,RELATED=X,LV=8",
-            Ok(obtain(eight(), 0, None, caller, form(Family::S, false))),
+            Ok(obtain(eight(), 0, None, caller, FORM_S)),
         ),
         (
             b" FREEMAIN R,SP=1,RELATED==,REGS=USE",
-            Ok(whole(Value::Number(1), form(Family::R, false))),
+            Ok(whole(Value::Number(1), FORM_R)),
         ),
         (b" STORAGE OBTAIN,LENGTH=8,RELATED=", Err(FaultKind::Value)),
         (

@@ -1,11 +1,10 @@
 -- The rows of a macro's forms are of the shape that its slots have.
-use Rattle.std.proofs.Common.{◌≡◌, ℕ, ◌==◌, ◌&&◌, ◌||◌, Bool, true, false, List, [], ◌∷◌, length, Some, None, if◌then◌else◌, refl, sym, ap, ◌∙◌, eqb-true}
+use Rattle.std.proofs.Common.{◌≡◌, ℕ, ◌==◌, ◌&&◌, Bool, true, false, List, [], ◌∷◌, length, Some, None, if◌then◌else◌, refl, sym, ap, ◌∙◌, eqb-true}
 use Rattle.std.specs.List.{list_all}
 use Rattle.operand_texts.specs.Words.{is_word}
 use Rattle.macro_operands.specs.Rows.{Entry, Row}
 use Rattle.macro_operands.specs.Slots.{Slots, no_slots, are_apart}
-use Rattle.macro_statements.specs.Forms.{StorageForm, form_for, form_by, is_storage_row}
-use Rattle.macro_statements.specs.declared.requests.Form.{Form}
+use Rattle.macro_statements.specs.Forms.{StorageForm, form_for, is_storage_row}
 
 pub both : (x y : Bool) → (x && y) ≡ true → (x ≡ true) × (y ≡ true)
 both true y h = (refl, h)
@@ -31,18 +30,3 @@ nine_slots _ w = cc
 
 pub row_slots : (row : Row) → is_storage_row row ≡ true → nothing_read ≡ no_slots row.entries
 row_slots row h = nine_slots row.entries (eqb-true (length row.entries) 9 (both (length row.entries == 9) (are_apart row.entries) h).0)
-
--- a form that is conditional by its word or by COND
-or_left : (a b : Bool) → a ≡ true → a ≡ (a || b)
-or_left true b h = refl
-or_left false b h = cc
-
-or_right : (a b : Bool) → a ≡ false → b ≡ (a || b)
-or_right true b h = cc
-or_right false b h = refl
-
-pub by_word : (form : Form) (b : Bool) → form.conditional ≡ true → ◌≡◌ {A = Form} (record { family = form.family; conditional = form.conditional }) (form_by form b)
-by_word form b h = ap {B = Form} (λ c. record { family = form.family; conditional = c }) (or_left form.conditional b h)
-
-pub by_condition : (form : Form) (a b : Bool) → form.conditional ≡ false → a ≡ b → ◌≡◌ {A = Form} (record { family = form.family; conditional = a }) (form_by form b)
-by_condition form a b h e = ap {B = Form} (λ c. record { family = form.family; conditional = c }) (e ∙ or_right form.conditional b h)

@@ -146,12 +146,12 @@ named_value_spelled n h =
     let b = both (is_name n) (is_word n n) h in
     kept 63 kind.NamedValue (named n) (Some (name n)) n (name_kept n b.0) (ap (λ x. option_map named x) (name_is n h)) refl (name_stands n b.0) (name_few n b.0)
 
-pub named_place_spelled : (n : List ℕ) → is_upper_name n ≡ true → SpelledPlace kind.NamedPlace (Some (in_name n))
+pub named_place_spelled : (n : List ℕ) → is_upper_name n ≡ true → SpelledPlace kind.Name (Some (in_name n))
 named_place_spelled n h =
     let b = both (is_name n) (is_word n n) h in
     record {
       said = Some (name n);
-      spelled = spelled_as 63 kind.NamedPlace (name n) n (name_kept n b.0) (name_stands n b.0) (name_few n b.0);
+      spelled = spelled_as 63 kind.Name (name n) n (name_kept n b.0) (name_stands n b.0) (name_few n b.0);
       is = ap (λ x. option_map in_name x) (name_is n h);
     }
 
@@ -178,7 +178,7 @@ other_items address_word s a b o c =
 abbrev pub form_items : List ℕ → List ℕ → Option (List ℕ) → Option (List ℕ) → Option (List ℕ) → Option (List ℕ) → Option (List ℕ) → Option (List ℕ) → List Item
 form_items length_word address_word l s a b o c = item (keyword length_word) l ∷ other_items address_word s a b o c
 
-with_keyword : (row : Row) (before : List Key) (i : ℕ) (k : List ℕ) (e : Entry) (t : Option (List ℕ)) → is_name k ≡ true → map to_ascii_uppercase k ≡ k
+pub with_keyword : (row : Row) (before : List Key) (i : ℕ) (k : List ℕ) (e : Entry) (t : Option (List ℕ)) → is_name k ≡ true → map to_ascii_uppercase k ≡ k
     → entry_for row.entries (keyword k) ≡ Some e → is_excluded before e.excluded ≡ false → is_among before (keyword k) ≡ false
     → IfSome t (λ t. (is_some (said_of e.kind t) ≡ true) × IsOperand t) → Fits row before i (keyword k) t
 with_keyword row before i k e None n u has free once says = record { entry = e; has = has; free = free; once = once; says = tt }
@@ -236,7 +236,7 @@ lv_fit lk ak bk ok ck ls ss ps bs os cs l s a b o c =
     )
 
 -- how long they are
-keyed_few : (k : List ℕ) (most all : ℕ) (t : Option (List ℕ)) → length k + most + 1 ≤ all → IfSome t (λ t. length t ≤ most)
+pub keyed_few : (k : List ℕ) (most all : ℕ) (t : Option (List ℕ)) → length k + most + 1 ≤ all → IfSome t (λ t. length t ≤ most)
     → IfSome t (λ t. length (operand_text (keyword k) t) ≤ all)
 keyed_few k most all None h few = tt
 keyed_few k most all (Some t) h few = let a = length-append k (61 ∷ t) in omega (arith, a, h, few)

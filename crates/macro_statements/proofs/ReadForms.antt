@@ -18,7 +18,7 @@ use Rattle.macro_operands.specs.declared.rows.Kind.TheVariants as kind
 use Rattle.macro_operands.specs.declared.faults.FaultKind.{FaultKind}
 use Rattle.macro_operands.specs.declared.faults.FaultKind.TheVariants as fault
 use Rattle.macro_statements.specs.Requests.{WrittenLength, fixed, IsLength, is_fixed, obtain, release, whole, Asked, act, IsObtainForm, IsReleaseForm, IsWholeForm, IsValidAsked}
-use Rattle.macro_statements.specs.Forms.{storage_row, StorageForm, obtaining, releasing, StorageMacro, either_length, as_length, subpool_by, lacks_place, obtain_with, has_whole, release_with, asked_by, form_with, form_for, with_form, macro_of, boundary_by, location_by, form_by}
+use Rattle.macro_statements.specs.Forms.{storage_row, StorageForm, obtaining, releasing, StorageMacro, either_length, as_length, subpool_by, lacks_place, obtain_with, has_whole, release_with, asked_by, form_with, form_for, with_form, macro_of, boundary_by, condition_by, location_by, form_by}
 use Rattle.macro_statements.specs.declared.requests.Form.{Form}
 use Rattle.vsm_model.specs.declared.causes.Family.{Family}
 use Rattle.vsm_model.specs.declared.causes.Family.TheVariants as family
@@ -213,7 +213,7 @@ named_target_if t true e =
     subst (λ o. IfSome (option_map in_name o) IsNamedTarget) (sym (name_in t e)) (upper_named t e, (map to_ascii_uppercase t, refl))
 named_target_if t false e = tt
 
-named_target : (t : Option (List ℕ)) → IfSome (as_place (read kind.NamedPlace t)) IsNamedTarget
+named_target : (t : Option (List ℕ)) → IfSome (as_place (read kind.Name t)) IsNamedTarget
 named_target None = tt
 named_target (Some t) = named_target_if t (is_name t) refl
 
@@ -238,7 +238,7 @@ no_location : (f : Family) (t : Option (List ℕ)) → location_by f (as_locatio
 no_location f None = refl
 no_location f (Some t) = refl
 
-no_condition : (t : Option (List ℕ)) → as_condition (read kind.OtherForm t) ≡ false
+no_condition : (t : Option (List ℕ)) → condition_by (as_condition (read kind.OtherForm t)) ≡ false
 no_condition None = refl
 no_condition (Some t) = refl
 
@@ -361,9 +361,9 @@ has_place None h e = cc
 has_place (Some p) h e = (h.1.0, ap (λ x. Some x) h.1.1)
 
 pub obtains_e : (word lw aw : List ℕ) (bk ck : Kind) (c : Bool)
-    → ReadsValid (obtaining word (storage_row lw kind.Value aw kind.NamedPlace bk kind.OtherForm ck) family.E c)
+    → ReadsValid (obtaining word (storage_row lw kind.Value aw kind.Name bk kind.OtherForm ck) family.E c)
 obtains_e word lw aw bk ck c os asked h =
-    let f : StorageForm = obtaining word (storage_row lw kind.Value aw kind.NamedPlace bk kind.OtherForm ck) family.E c in
+    let f : StorageForm = obtaining word (storage_row lw kind.Value aw kind.Name bk kind.OtherForm ck) family.E c in
     let slots : Slots = readings f.row.entries os in
     let l : Option (List ℕ) = text_at (keyword lw) os in
     let s : Option (List ℕ) = text_at (keyword (codes "SP")) os in

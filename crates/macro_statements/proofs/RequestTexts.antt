@@ -1,70 +1,46 @@
 -- The requests that operand fields spell are those that are valid.
-use Rattle.std.proofs.Common.{◌≡◌, ℕ, suc, ◌^◌, ◌<◌, ◌≤◌, ◌↔◌, ◌==◌, Bool, true, false, ◌&&◌, ◌||◌, List, [], ◌∷◌, length, Option, Some, None, Result, Ok, Err, is_some, nat_le, codes, option_and_then, if◌then◌else◌, decimal, arith, refl, ap, sym, subst, ◌∙◌, ◌+◌, ◌⊎◌, inl, inr}
-use Rattle.std.specs.List.{AllByRecursion}
+use Rattle.std.proofs.Common.{◌≡◌, ℕ, ◌^◌, ◌<◌, ◌≤◌, ◌↔◌, Bool, true, false, ◌&&◌, List, [], ◌∷◌, length, Option, Some, None, Result, Ok, Err, is_some, nat_le, codes, option_and_then, if◌then◌else◌, decimal, arith, refl, ap, sym, subst, ◌∙◌, ◌+◌, ◌⊎◌, inl, inr}
 use Rattle.std.specs.Option.{IfSome, option_map}
 use Rattle.std.specs.Prelude.{IfOk}
 use Rattle.std.proofs.lemmas.Bool.Decides.{nat_tests}
 use Rattle.std.proofs.lemmas.List.{length-append}
 use Rattle.operand_texts.specs.Field.{outside, is_balanced, operands}
-use Rattle.operand_texts.specs.Words.{is_name}
-use Rattle.operand_texts.specs.Written.{Written, number, named, register, Target, in_name, in_register, Stored, spelled, word, is_upper_name, IsValue, IsTarget, IsStored, HasBytes}
+use Rattle.operand_texts.specs.Written.{Written, number, named, register, Stored, spelled, word, IsValue, IsStored, HasBytes}
 use Rattle.operand_texts.specs.Values.{number_of, value_of, content_of, within_size, size_of}
-use Rattle.macro_operands.specs.Rows.{Key, position, is_among, Entry, entry, Row}
-use Rattle.macro_operands.specs.Operands.{entry_for, is_excluded, first_fault, text_at, value_at, unless_fault}
-use Rattle.macro_operands.specs.Lengths.{is_register_0, is_named}
-use Rattle.macro_operands.specs.Said.{Said, said_of, value_said, content, size, count, boundary, location, condition}
-use Rattle.macro_operands.specs.Slots.{Slots, as_value, as_place, as_boundary, as_location, as_condition}
+use Rattle.macro_operands.specs.Rows.{position, keyword, entry}
+use Rattle.macro_operands.specs.Operands.{first_fault, text_at, value_at, unless_fault}
+use Rattle.macro_operands.specs.Said.{content, size, count}
 use Rattle.macro_operands.specs.declared.faults.FaultKind.{FaultKind}
 use Rattle.macro_operands.specs.declared.faults.FaultKind.TheVariants as fault
 use Rattle.macro_operands.specs.declared.rows.Behind.TheVariants as behind
 use Rattle.macro_operands.specs.declared.rows.Kind.TheVariants as kind
-use Rattle.macro_statements.specs.Requests.{WrittenLength, fixed, between, IsLength, is_fixed, obtain, release, whole, poke, Asked, act, peek, map_asked, back, forward, IsRegisterObtain, IsNamedObtain, IsObtainForm, IsReleaseForm, IsWholeForm, IsValidAsked, AskedHasBytes, HasRoom, seen, asked_in}
-use Rattle.macro_statements.specs.Forms.{StorageForm, obtaining, releasing, lacks_place, obtain_by, has_whole, release_by, asked_by, form_with, boundary_by, location_by, form_by, as_length}
-use Rattle.macro_statements.specs.Storage.{obtain_row, release_row, storage_macro}
+use Rattle.macro_statements.specs.Requests.{obtain, release, whole, WrittenSubpools, IsSubpools, attach, run, poke, Asked, act, peek, map_asked, back, forward, IsValidAsked, AskedHasBytes, HasRoom, seen, asked_in}
+use Rattle.macro_statements.specs.Forms.{obtaining, releasing}
+use Rattle.macro_statements.specs.Storage.{storage_macro}
 use Rattle.macro_statements.specs.Getmain as getmain
 use Rattle.macro_statements.specs.Getmain.{getmain_macro}
 use Rattle.macro_statements.specs.Freemain as freemain
 use Rattle.macro_statements.specs.Freemain.{freemain_macro}
 use Rattle.macro_statements.specs.Poke.{poke_row, poke_of, poke_with}
 use Rattle.macro_statements.specs.Peek.{peek_row, peek_of, peek_with}
+use Rattle.macro_statements.specs.Attach.{attach_row, subpools_by}
+use Rattle.macro_statements.specs.Run.{run_row, run_with}
 use Rattle.macro_statements.specs.Steps.{steps_row, count_with, step_with, count_in}
 use Rattle.macro_statements.specs.Statements.{asked_of, behind_of, SpellsRequest}
-use Rattle.macro_statements.specs.declared.requests.Form.{Form}
 use Rattle.macro_statements.specs.declared.requests.Request.{Request}
 use Rattle.macro_statements.specs.declared.statements.Operation.{Operation}
 use Rattle.macro_statements.specs.declared.statements.Operation.TheVariants as operation
-use Rattle.vsm_model.specs.declared.causes.Family.{Family}
 use Rattle.vsm_model.specs.declared.causes.Family.TheVariants as family
-use Rattle.vsm_model.specs.declared.services.Boundary.{Boundary}
-use Rattle.vsm_model.specs.declared.services.Boundary.TheVariants.{Doubleword, Page}
-use Rattle.vsm_model.specs.declared.services.Location.{Location}
-use Rattle.vsm_model.specs.declared.services.Location.TheVariants.{Low, Either, Caller}
-use Rattle.operand_texts.proofs.OperandTexts.{IsOperand, joined, balanced_joined, operands_joined}
+use Rattle.operand_texts.proofs.OperandTexts.{joined, balanced_joined, operands_joined}
 use Rattle.operand_texts.proofs.ValueTexts.{ValueText, ContentText, value_text_of, content_text_of, number_text}
 use Rattle.operand_texts.proofs.Spelling.{written, below}
 use Rattle.operand_texts.proofs.SpelledBytes.{spelled_content_is_valid}
 use Rattle.macro_operands.proofs.WrittenOperands.{placed, Item, item, Fits, AllFit, no_fault_from, lookup, finds}
 use Rattle.macro_operands.proofs.WrittenOperands as operands
-use Rattle.macro_operands.proofs.ReadValues.{value_kept, some_kept}
-use Rattle.macro_statements.proofs.FormTexts.{unsaid, value_spelled, fixed_spelled, one_length, besides_0_spelled, length_spelled, place_spelled, named_value_spelled, named_place_spelled, name_stands, condition_spelled, boundary_spelled, location_spelled, WrittenForm, six_said, length_form, lv_form}
 use Rattle.macro_statements.proofs.ReadForms.{some_value, ReadsValid, AllReadValid, macro_valid, obtains_s, releases_s, obtains_r, releases_r, obtains_e, releases_e, any_length, values_length, pairs_length, places, no_places}
-
--- operands that a row has, each once and of its kind
-abbrev Good : Row → List Item → Type 0
-Good row items = AllFit row [] 0 items
-
-no_fault : (row : Row) (items : List Item) → Good row items → first_fault row (operands.written items) ≡ None
-no_fault row items h = no_fault_from row [] [] (λ k e. e) 0 items h
-
-text : (row : Row) (key : Key) (items : List Item) → Good row items → text_at key (operands.written items) ≡ lookup key items
-text row key items h = finds row [] key 0 items h
-
-in_position : (row : Row) (before : List Key) (i : ℕ) (e : Entry) (t : List ℕ)
-    → entry_for row.entries (position i) ≡ Some e → is_excluded before e.excluded ≡ false → is_among before (position i) ≡ false
-    → is_some (said_of e.kind t) ≡ true → 1 ≤ length t → AllByRecursion (λ c. (c == 61) ≡ false) t → IsOperand t
-    → Fits row before i (position i) (Some t)
-in_position row before i e t has free once says some no_equals stands =
-    record { entry = e; has = has; free = free; once = once; says = (says, placed i t some no_equals stands) }
+use Rattle.macro_statements.proofs.SpelledOperands.{Good, no_fault, text, in_position, Operands, Remarks, value_says}
+use Rattle.macro_statements.proofs.StorageTexts.{obtain_operands, release_operands, whole_operands}
+use Rattle.macro_statements.proofs.TaskTexts.{attach_operands, run_operands}
 
 poke_is : (os : List (List ℕ)) (a : Written) (c : Stored) → first_fault poke_row os ≡ None
     → value_at (position 0) os ≡ Some a → option_and_then content_of (text_at (position 1) os) ≡ Some c → poke_of os ≡ Ok (act (poke a c))
@@ -84,32 +60,6 @@ size_is n h k =
     let most : nat_le n 256 ≡ true = grind (arith, nat_tests) in
     rw (written n (omega (arith, k)), least, most) refl
 
--- how many bytes of operands have room behind the operation on a first line, less one and all
-abbrev pub less : Operation → ℕ
-less operation.Storage = 61
-less operation.Getmain = 61
-less operation.Freemain = 60
-less operation.Poke = 64
-less operation.Peek = 64
-less operation.Map = 65
-less operation.Back = 64
-less operation.Forward = 61
-
-abbrev pub room : Operation → ℕ
-room o = suc (less o)
-
--- an operation and operands that ask for this
-pub record Operands (asked : Asked) : Type 0 where
-  pub operation : Operation
-  pub has : behind_of (Some operation) ≡ behind.Operands
-  pub first : List ℕ
-  pub rest : List (List ℕ)
-  pub some : 1 ≤ length first
-  pub stands : IsOperand first
-  pub stand : AllByRecursion IsOperand rest
-  pub reads : asked_of operation (first ∷ rest) ≡ Ok asked
-  pub fits : HasRoom asked → length (joined first rest) ≤ room operation + 504
-
 -- how long they are
 two_long : (o p : List ℕ) → length (joined o (p ∷ [])) ≡ length o + length p + 1
 two_long o p = let a = length-append o (44 ∷ p) in omega (arith, a)
@@ -124,210 +74,6 @@ poke_fits (named name) (spelled bytes) ta tc h r =
     let e = two_long ta.text tc.text in let f = ta.size in let g = tc.size in omega (arith, e, f, g, r)
 poke_fits a (word v) ta tc h r =
     let e = two_long ta.text tc.text in let f = ta.neat.few in let g = tc.size in omega (arith, e, f, g)
-
-value_says : (t : List ℕ) (v : Written) → value_of t ≡ Some v → is_some (said_of kind.Value t) ≡ true
-value_says t v e = some_kept (value_said t) v (value_kept t ∙ e)
-
-abbrev form_of : Family → Bool → Form
-form_of f c = record { family = f; conditional = c }
-
--- a form's word with its operands
-form_operands : (asked : Asked) (o : Operation) (first : List ℕ) (f : StorageForm) (slots : Slots) → 1 ≤ length first → length first ≤ 8 → is_name first ≡ true
-    → 61 ≤ room o → behind_of (Some o) ≡ behind.Operands → (w : WrittenForm f slots) → asked_of o (first ∷ w.rest) ≡ form_with f w.rest → asked_by f slots ≡ Ok asked → Operands asked
-form_operands asked o first f slots some few name wide has w leads asks = record {
-  operation = o;
-  has = has;
-  first = first;
-  rest = w.rest;
-  some = some;
-  stands = name_stands first name;
-  stand = w.stand;
-  reads = leads ∙ w.reads ∙ asks;
-  fits = λ r. (let all = w.few first in omega (arith, all, few, wide));
-}
-
--- what is obtained
-obtain_is : (form : Form) (ls ss ps bs os cs : Option Said) (l : WrittenLength) (s : Written) (p : Option Target) (y : Boundary) (o : Location) (c : Bool)
-    → as_length ls ≡ Some l → as_value ss ≡ Some s → as_place ps ≡ p → boundary_by (as_boundary bs) ≡ y → location_by form.family (as_location os) ≡ o
-    → form_by form (as_condition cs) ≡ form_of form.family c → lacks_place form.family p ≡ false
-    → obtain_by form (six_said ls ss ps bs os cs) ≡ Ok (act (obtain l s p y o (form_of form.family c)))
-obtain_is form ls ss ps bs os cs l s p y o c a f b d e g h = rw (a, f, b, d, e, g, h) refl
-
-release_is : (form : Form) (ls ss ps bs os cs : Option Said) (l s a : Written) (c : Bool)
-    → as_value ls ≡ Some l → as_value ss ≡ Some s → as_value ps ≡ Some a → form_by form (as_condition cs) ≡ form_of form.family c
-    → release_by form (six_said ls ss ps bs os cs) ≡ Ok (act (release l a s (form_of form.family c)))
-release_is form ls ss ps bs os cs l s a c e f g h = rw (e, f, g, h) refl
-
-whole_is : (form : Form) (ss bs os cs : Option Said) (s : Written) (c : Bool) → as_value ss ≡ Some s → form_by form (as_condition cs) ≡ form_of form.family c
-    → has_whole form.family ≡ true → release_by form (six_said None ss None bs os cs) ≡ Ok (act (whole s (form_of form.family c)))
-whole_is form ss bs os cs s c e f g = rw (e, f, g) refl
-
-storage_obtain : (l : WrittenLength) (s : Written) (p : Option Target) (y : Boundary) (o : Location) (c : Bool) → IsLength l → IsValue s → IfSome p IsTarget
-    → Operands (act (obtain l s p y o (form_of family.S c)))
-storage_obtain l s p y o c hl hs hp =
-    let x = length_spelled l hl in
-    let u = value_spelled s hs in
-    let q = place_spelled p hp in
-    let form : Form = form_of family.S false in
-    form_operands _ operation.Storage (codes "OBTAIN") (obtaining (codes "OBTAIN") obtain_row family.S false)
-    (six_said x.said u.said q.said (Some (boundary y)) (Some (location o)) (Some (condition c)))
-    (omega arith) (omega arith) refl (omega arith) refl
-    (length_form (codes "OBTAIN") true form kind.Length kind.Place kind.Boundary kind.Location kind.Condition _ _ _ _ _ _
-    x.spelled u.spelled q.spelled (boundary_spelled y) (location_spelled o) (condition_spelled c))
-    refl (obtain_is form x.said u.said q.said (Some (boundary y)) (Some (location o)) (Some (condition c)) l s p y o c x.is u.is q.is refl refl refl refl)
-
-register_obtain : (l : WrittenLength) (s : Written) (p : Option Target) (y : Boundary) (o : Location) (c : Bool) → IsLength l → IsValue s
-    → IsRegisterObtain l p y o c → Operands (act (obtain l s p y o (form_of family.R c)))
-register_obtain (between a b) s p y o c hl hs r = let e : is_fixed (between a b) ≡ true = r.single in cc
-register_obtain (fixed v) s (Some p) y o c hl hs r = let e : Some p ≡ None = r.nowhere in cc
-register_obtain (fixed v) s None Page o c hl hs r = let e : Page ≡ Doubleword = r.bounded in cc
-register_obtain (fixed v) s None Doubleword Either c hl hs r = let e : Either ≡ Low = r.low in cc
-register_obtain (fixed v) s None Doubleword Caller c hl hs r = let e : Caller ≡ Low = r.low in cc
-register_obtain (fixed v) s None Doubleword Low true hl hs r = let e : true ≡ false = r.unconditional in cc
-register_obtain (fixed v) s None Doubleword Low false hl hs r =
-    let form : Form = form_of family.R false in
-    let x = besides_0_spelled v hl (r.besides v refl) in
-    let u = value_spelled s hs in
-    form_operands _ operation.Getmain (codes "R") (obtaining (codes "R") getmain.register_row family.R false)
-    (six_said x.said u.said None None None None)
-    (omega arith) (omega arith) refl (omega arith) refl
-    (lv_form (codes "R") true form kind.RegisterLength kind.OtherForm kind.OtherForm kind.OtherForm kind.OtherForm _ _ _ _ _ _
-    x.spelled u.spelled (unsaid 63 kind.OtherForm) (unsaid 63 kind.OtherForm) (unsaid 63 kind.OtherForm) (unsaid 63 kind.OtherForm))
-    refl (obtain_is form x.said u.said None None None None (fixed v) s None Doubleword Low false (one_length x.said v x.is) u.is refl refl refl refl refl)
-
--- the word of a form that is conditional or not
-abbrev named_word : Bool → List ℕ
-named_word true = codes "EC"
-named_word false = codes "EU"
-
-some_word : (c : Bool) → 1 ≤ length (named_word c)
-some_word true = omega arith
-some_word false = omega arith
-
-few_word : (c : Bool) → length (named_word c) ≤ 8
-few_word true = omega arith
-few_word false = omega arith
-
-name_word : (c : Bool) → is_name (named_word c) ≡ true
-name_word true = refl
-name_word false = refl
-
-leads_obtain : (c : Bool) (os : List (List ℕ)) → asked_of operation.Getmain (named_word c ∷ os) ≡ form_with (obtaining (named_word c) getmain.named_row family.E c) os
-leads_obtain true os = refl
-leads_obtain false os = refl
-
-leads_release : (c : Bool) (os : List (List ℕ)) → asked_of operation.Freemain (named_word c ∷ os) ≡ form_with (releasing (named_word c) freemain.named_row family.E c) os
-leads_release true os = refl
-leads_release false os = refl
-
-or_no : (c : Bool) → (c || false) ≡ c
-or_no true = refl
-or_no false = refl
-
-same_form : (f : Family) (c : Bool) → form_by (form_of f c) false ≡ form_of f c
-same_form f c = ap (λ x. form_of f x) (or_no c)
-
-named_obtain : (l : WrittenLength) (s : Written) (n : List ℕ) (y : Boundary) (o : Location) (c : Bool) → IsLength l → IsValue s → is_upper_name n ≡ true
-    → is_fixed l ≡ true → o ≡ Low → Operands (act (obtain l s (Some (in_name n)) y o (form_of family.E c)))
-named_obtain (between a b) s n y o c hl hs hn single low = cc
-named_obtain (fixed v) s n y Either c hl hs hn single low = cc
-named_obtain (fixed v) s n y Caller c hl hs hn single low = cc
-named_obtain (fixed v) s n y Low c hl hs hn single low =
-    let form : Form = form_of family.E c in
-    let x = fixed_spelled v hl in
-    let u = value_spelled s hs in
-    let q = named_place_spelled n hn in
-    let w = lv_form (named_word c) true form kind.Value kind.NamedPlace kind.Boundary kind.OtherForm kind.OtherForm _ _ _ _ _ _
-    x.spelled u.spelled q.spelled (boundary_spelled y) (unsaid 63 kind.OtherForm) (unsaid 63 kind.OtherForm) in
-    form_operands _ operation.Getmain (named_word c) (obtaining (named_word c) getmain.named_row family.E c)
-    (six_said x.said u.said q.said (Some (boundary y)) None None)
-    (some_word c) (few_word c) (name_word c) (omega arith) refl w (leads_obtain c w.rest)
-    (obtain_is form x.said u.said q.said (Some (boundary y)) None None (fixed v) s (Some (in_name n)) y Low c (one_length x.said v x.is) u.is q.is refl refl
-    (same_form family.E c) refl)
-
-named_of : (l : WrittenLength) (s : Written) (p : Option Target) (y : Boundary) (o : Location) (c : Bool) → IsLength l → IsValue s → IfSome p IsTarget
-    → IsNamedObtain l p o → Operands (act (obtain l s p y o (form_of family.E c)))
-named_of l s None y o c hl hs hp r = let e : None ≡ Some (in_name r.place.0) = r.place.1 in cc
-named_of l s (Some (in_register n)) y o c hl hs hp r = let e : Some (in_register n) ≡ Some (in_name r.place.0) = r.place.1 in cc
-named_of l s (Some (in_name n)) y o c hl hs hp r = named_obtain l s n y o c hl hs hp r.single r.low
-
-obtain_operands : (l : WrittenLength) (s : Written) (p : Option Target) (y : Boundary) (o : Location) (f : Family) (c : Bool) → IsLength l → IsValue s → IfSome p IsTarget
-    → IsObtainForm f l p y o c → Operands (act (obtain l s p y o (form_of f c)))
-obtain_operands l s p y o family.S c hl hs hp r = storage_obtain l s p y o c hl hs hp
-obtain_operands l s p y o family.R c hl hs hp r = register_obtain l s p y o c hl hs r
-obtain_operands l s p y o family.E c hl hs hp r = named_of l s p y o c hl hs hp r
-
--- what is released
-storage_release : (l a s : Written) (c : Bool) → IsValue l → IsValue a → IsValue s → Operands (act (release l a s (form_of family.S c)))
-storage_release l a s c hl ha hs =
-    let form : Form = form_of family.S false in
-    let x = fixed_spelled l hl in
-    let u = value_spelled s hs in
-    let q = value_spelled a ha in
-    form_operands _ operation.Storage (codes "RELEASE") (releasing (codes "RELEASE") release_row family.S false)
-    (six_said x.said u.said q.said None None (Some (condition c)))
-    (omega arith) (omega arith) refl (omega arith) refl
-    (length_form (codes "RELEASE") false form kind.Value kind.Value kind.OtherForm kind.OtherForm kind.Condition _ _ _ _ _ _
-    x.spelled u.spelled q.spelled (unsaid 63 kind.OtherForm) (unsaid 63 kind.OtherForm) (condition_spelled c))
-    refl (release_is form x.said u.said q.said None None (Some (condition c)) l s a c x.is u.is q.is refl)
-
-register_release : (l a s : Written) (c : Bool) → IsValue l → IsValue a → IsValue s → is_register_0 l ≡ false → c ≡ false
-    → Operands (act (release l a s (form_of family.R c)))
-register_release l a s true hl ha hs n e = cc
-register_release l a s false hl ha hs n e =
-    let form : Form = form_of family.R false in
-    let x = besides_0_spelled l hl n in
-    let u = value_spelled s hs in
-    let q = value_spelled a ha in
-    form_operands _ operation.Freemain (codes "R") (releasing (codes "R") freemain.register_row family.R false)
-    (six_said x.said u.said q.said None None None)
-    (omega arith) (omega arith) refl (omega arith) refl
-    (lv_form (codes "R") false form kind.RegisterLength kind.Value kind.OtherForm kind.OtherForm kind.OtherForm _ _ _ _ _ _
-    x.spelled u.spelled q.spelled (unsaid 63 kind.OtherForm) (unsaid 63 kind.OtherForm) (unsaid 63 kind.OtherForm))
-    refl (release_is form x.said u.said q.said None None None l s a false x.is u.is q.is refl)
-
-named_release : (l a s : Written) (c : Bool) → IsValue l → IsValue a → IsValue s → is_named a ≡ true → Operands (act (release l a s (form_of family.E c)))
-named_release l (number n) s c hl ha hs e = cc
-named_release l (register n) s c hl ha hs e = cc
-named_release l (named n) s c hl ha hs e =
-    let form : Form = form_of family.E c in
-    let x = fixed_spelled l hl in
-    let u = value_spelled s hs in
-    let q = named_value_spelled n ha in
-    let w = lv_form (named_word c) false form kind.Value kind.NamedValue kind.OtherForm kind.OtherForm kind.OtherForm _ _ _ _ _ _
-    x.spelled u.spelled q.spelled (unsaid 63 kind.OtherForm) (unsaid 63 kind.OtherForm) (unsaid 63 kind.OtherForm) in
-    form_operands _ operation.Freemain (named_word c) (releasing (named_word c) freemain.named_row family.E c)
-    (six_said x.said u.said q.said None None None)
-    (some_word c) (few_word c) (name_word c) (omega arith) refl w (leads_release c w.rest)
-    (release_is form x.said u.said q.said None None None l s (named n) c x.is u.is q.is (same_form family.E c))
-
-release_operands : (l a s : Written) (f : Family) (c : Bool) → IsValue l → IsValue a → IsValue s → IsReleaseForm f l a c → Operands (act (release l a s (form_of f c)))
-release_operands l a s family.S c hl ha hs r = storage_release l a s c hl ha hs
-release_operands l a s family.R c hl ha hs r = register_release l a s c hl ha hs r.0 r.1
-release_operands l a s family.E c hl ha hs r = named_release l a s c hl ha hs r
-
--- all of a subpool
-whole_operands : (s : Written) (f : Family) (c : Bool) → IsValue s → IsWholeForm f c → Operands (act (whole s (form_of f c)))
-whole_operands s family.S c hs r =
-    let form : Form = form_of family.S false in
-    let u = value_spelled s hs in
-    form_operands _ operation.Storage (codes "RELEASE") (releasing (codes "RELEASE") release_row family.S false)
-    (six_said None u.said None None None (Some (condition c)))
-    (omega arith) (omega arith) refl (omega arith) refl
-    (length_form (codes "RELEASE") false form kind.Value kind.Value kind.OtherForm kind.OtherForm kind.Condition _ _ _ _ _ _
-    (unsaid 129 kind.Value) u.spelled (unsaid 63 kind.Value) (unsaid 63 kind.OtherForm) (unsaid 63 kind.OtherForm) (condition_spelled c))
-    refl (whole_is form u.said None None (Some (condition c)) s c u.is refl refl)
-whole_operands s family.R true hs r = cc
-whole_operands s family.R false hs r =
-    let form : Form = form_of family.R false in
-    let u = value_spelled s hs in
-    form_operands _ operation.Freemain (codes "R") (releasing (codes "R") freemain.register_row family.R false)
-    (six_said None u.said None None None None)
-    (omega arith) (omega arith) refl (omega arith) refl
-    (lv_form (codes "R") false form kind.RegisterLength kind.Value kind.OtherForm kind.OtherForm kind.OtherForm _ _ _ _ _ _
-    (unsaid 129 kind.RegisterLength) u.spelled (unsaid 63 kind.Value) (unsaid 63 kind.OtherForm) (unsaid 63 kind.OtherForm) (unsaid 63 kind.OtherForm))
-    refl (whole_is form u.said None None None s false u.is refl refl)
-whole_operands s family.E c hs r = absurd r
 
 poke_operands : (a : Written) (c : Stored) → HasBytes c → IsValidAsked (act (poke a c)) → Operands (act (poke a c))
 poke_operands a c b h =
@@ -392,14 +138,16 @@ step_operands o n asked has h e =
     let neat = number_text n h in
     record { operation = o; has = has; first = decimal n; rest = []; some = neat.some; stands = neat.goes 0; stand = tt; reads = e; fits = λ r. (let few = neat.few in omega (arith, few)) }
 
--- a request is the map's, which has no operands, or some operands ask for it
-pub operands_of : (asked : Asked) → AskedHasBytes asked → IsValidAsked asked → (asked ≡ map_asked) ⊎ Operands asked
+-- an operation with remarks alone asks for a request, or some operands do
+pub operands_of : (asked : Asked) → AskedHasBytes asked → IsValidAsked asked → Remarks asked ⊎ Operands asked
 operands_of (act (obtain l s p y o form)) b h = inr (obtain_operands l s p y o form.family form.conditional h.0 h.1 h.2 h.3)
 operands_of (act (release l a s form)) b h = inr (release_operands l a s form.family form.conditional h.0 h.1 h.2 h.3)
 operands_of (act (whole s form)) b h = inr (whole_operands s form.family form.conditional h.0 h.1)
+operands_of (act (attach g s z)) b h = inr (attach_operands g s z h.0 h.1)
+operands_of (act (run t)) b h = inr (run_operands t h)
 operands_of (act (poke a c)) b h = inr (poke_operands a c b h)
 operands_of (peek a n) b h = inr (peek_operands a n h)
-operands_of map_asked b h = inl refl
+operands_of map_asked b h = inl (record { operation = operation.Map; has = refl; asks = refl })
 operands_of (back n) b h = inr (step_operands operation.Back n (back n) refl h (ap (λ r. step_with back r) (counted n h)))
 operands_of (forward n) b h = inr (step_operands operation.Forward n (forward n) refl h (ap (λ r. step_with forward r) (counted n h)))
 
@@ -464,6 +212,21 @@ forward_valid : (f : Option FaultKind) (n : Option ℕ) (asked : Asked) → IfSo
 forward_valid (Some f) n asked v h = cc
 forward_valid None None asked v h = cc
 forward_valid None (Some n) asked v h = let same : forward n ≡ asked = cc in subst IsValidAsked same v
+
+subpools_valid : (n l : Option Written) → IfSome n IsValue → IfSome l IsValue → IsSubpools (subpools_by n l)
+subpools_valid (Some n) l h k = h
+subpools_valid None (Some l) h k = k
+subpools_valid None None h k = tt
+
+attach_valid : (f : Option FaultKind) (g s : WrittenSubpools) (z : Bool) (asked : Asked) → IsSubpools g → IsSubpools s
+    → unless_fault f (Ok (act (attach g s z))) ≡ Ok asked → IsValidAsked asked
+attach_valid (Some f) g s z asked v w h = cc
+attach_valid None g s z asked v w h = let same : act (attach g s z) ≡ asked = cc in subst IsValidAsked same (v, w)
+
+run_valid : (f : Option FaultKind) (t : Option Written) (asked : Asked) → IfSome t IsValue → unless_fault f (run_with t) ≡ Ok asked → IsValidAsked asked
+run_valid (Some f) t asked v h = cc
+run_valid None None asked v h = cc
+run_valid None (Some t) asked v h = let same : act (run t) ≡ asked = cc in subst IsValidAsked same v
 
 map_valid : (asked : Asked) → asked_of operation.Map [] ≡ Ok asked → IsValidAsked asked
 map_valid asked h = let same : map_asked ≡ asked = cc in subst IsValidAsked same tt
@@ -530,6 +293,10 @@ asked_valid : (o : Operation) (os : List (List ℕ)) (asked : Asked) → asked_o
 asked_valid operation.Storage os asked h = macro_valid storage_macro storage_forms os asked h
 asked_valid operation.Getmain os asked h = macro_valid getmain_macro getmain_forms os asked h
 asked_valid operation.Freemain os asked h = macro_valid freemain_macro freemain_forms os asked h
+asked_valid operation.Attach os asked h =
+    attach_valid (first_fault attach_row os) _ _ _ asked (subpools_valid _ _ (value_valid (text_at (keyword (codes "GSPV")) os)) (value_valid (text_at (keyword (codes "GSPL")) os)))
+    (subpools_valid _ _ (value_valid (text_at (keyword (codes "SHSPV")) os)) (value_valid (text_at (keyword (codes "SHSPL")) os))) h
+asked_valid operation.Run os asked h = run_valid (first_fault run_row os) _ asked (value_valid (text_at (position 0) os)) h
 asked_valid operation.Poke os asked h =
     poke_valid (first_fault poke_row os) _ _ asked (value_valid (text_at (position 0) os)) (content_valid (text_at (position 1) os)) h
 asked_valid operation.Peek os asked h =
@@ -546,8 +313,8 @@ balanced_if false o os wrong asked h = cc
 pub spelled_request_is_valid : (o : Operation) (field : List ℕ) (asked : Asked) → SpellsRequest o field asked → IsValidAsked asked
 spelled_request_is_valid o field asked h = balanced_if (is_balanced outside field) o (operands field) fault.Operand asked h
 
-spelled_by : (asked : Asked) → (asked ≡ map_asked) ⊎ Operands asked → (operation : Operation) × (field : List ℕ) × SpellsRequest operation field asked
-spelled_by asked (inl e) = rw e (operation.Map, [], refl)
+spelled_by : (asked : Asked) → Remarks asked ⊎ Operands asked → (operation : Operation) × (field : List ℕ) × SpellsRequest operation field asked
+spelled_by asked (inl r) = (r.operation, [], r.asks)
 spelled_by asked (inr o) = (o.operation, joined o.first o.rest, field_reads asked o)
 
 pub valid_request_is_spelled : (asked : Asked) → AskedHasBytes asked

@@ -85,6 +85,10 @@ subpool_by subpool = unwrap_or subpool (number 0)
 abbrev pub boundary_by : Option Boundary → Boundary
 boundary_by boundary = unwrap_or boundary Doubleword
 
+-- COND is NO where it is left out.
+abbrev pub condition_by : Option Bool → Bool
+condition_by condition = unwrap_or condition false
+
 -- LOC is as the caller resides where it is left out. The families R and E, which have no LOC, obtain below the 16 MB
 -- line (Assembler Services Reference, "GETMAIN - Allocate virtual storage", LOC).
 abbrev pub usual_location : Family → Location
@@ -96,8 +100,8 @@ abbrev pub location_by : Family → Option Location → Location
 location_by f location = unwrap_or location (usual_location f)
 
 -- A form is conditional by its word, or where COND says YES.
-abbrev pub form_by : Form → Bool → Form
-form_by form condition = record { family = form.family; conditional = form.conditional || condition }
+abbrev pub form_by : Form → Option Bool → Form
+form_by form condition = record { family = form.family; conditional = form.conditional || condition_by condition }
 
 -- The forms of the family E require a place for the address.
 abbrev pub lacks_place : Family → Option Target → Bool

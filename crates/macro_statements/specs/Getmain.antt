@@ -23,7 +23,7 @@ abbrev pub variable_row : Row
 variable_row = getmain_row kind.Pair kind.OtherForm kind.Boundary kind.Location
 
 abbrev pub named_row : Row
-named_row = getmain_row kind.Value kind.NamedPlace kind.Boundary kind.OtherForm
+named_row = getmain_row kind.Value kind.Name kind.Boundary kind.OtherForm
 
 -- A form whose word ends in C is conditional. The forms that obtain several areas, or one between two lengths by a
 -- list, are left out.

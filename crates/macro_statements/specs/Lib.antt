@@ -14,6 +14,8 @@ pub mod Freemain
 pub mod Poke
 pub mod Peek
 pub mod Steps
+pub mod Attach
+pub mod Run
 pub mod Statements
 pub mod Slots
 pub mod Validity

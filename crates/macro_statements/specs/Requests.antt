@@ -16,6 +16,8 @@ use Rattle.vsm_model.specs.declared.services.Location.TheVariants.{Low}
 use Rattle.macro_statements.specs.declared.requests.Form.{Form}
 use Rattle.macro_statements.specs.declared.requests.Length.{Length}
 use Rattle.macro_statements.specs.declared.requests.Length.TheVariants as code_length
+use Rattle.macro_statements.specs.declared.requests.Subpools.{Subpools}
+use Rattle.macro_statements.specs.declared.requests.Subpools.TheVariants as code_subpools
 use Rattle.macro_statements.specs.declared.requests.Statement.{Statement}
 use Rattle.macro_statements.specs.declared.requests.Statement.TheVariants as code_statement
 use Rattle.macro_statements.specs.declared.requests.Request.{Request}
@@ -26,12 +28,22 @@ pub data WrittenLength : Type 0 where
   fixed : Written → WrittenLength
   between : Written → Written → WrittenLength
 
--- A statement that changes storage: `obtain length subpool target boundary location form`, `release length address
--- subpool form`, `whole subpool form`, `poke address content`.
+-- The subpools that a new task is given, or that it shares: none, one of this number, or those of a list at this
+-- address.
+pub data WrittenSubpools : Type 0 where
+  nothing : WrittenSubpools
+  one : Written → WrittenSubpools
+  listed : Written → WrittenSubpools
+
+-- A statement that changes storage, tasks or bytes: `obtain length subpool target boundary location form`, `release
+-- length address subpool form`, `whole subpool form`, `attach given shared shares_zero`, `run task`,
+-- `poke address content`.
 pub data Act : Type 0 where
   obtain : WrittenLength → Written → Option Target → Boundary → Location → Form → Act
   release : Written → Written → Written → Form → Act
   whole : Written → Form → Act
+  attach : WrittenSubpools → WrittenSubpools → Bool → Act
+  run : Written → Act
   poke : Written → Stored → Act
 
 -- What a statement asks for: `peek address length` besides, the map of the storage, and so many steps.
@@ -47,12 +59,20 @@ abbrev pub length_in : Length → WrittenLength
 length_in (code_length.Fixed length) = fixed (written_in length)
 length_in (code_length.Variable maximum minimum) = between (written_in maximum) (written_in minimum)
 
+abbrev pub subpools_in : Subpools → WrittenSubpools
+subpools_in code_subpools.Nothing = nothing
+subpools_in (code_subpools.Number n) = one (written_in n)
+subpools_in (code_subpools.Listed address) = listed (written_in address)
+
 abbrev pub act_in : Statement → Act
 act_in (code_statement.Obtain length subpool place boundary location form) =
     obtain (length_in length) (written_in subpool) (option_map target_in place) boundary location form
 act_in (code_statement.Release length address subpool form) =
     release (written_in length) (written_in address) (written_in subpool) form
 act_in (code_statement.Whole subpool form) = whole (written_in subpool) form
+act_in (code_statement.Attach given shared shares_zero) =
+    attach (subpools_in given) (subpools_in shared) shares_zero
+act_in (code_statement.Run task) = run (written_in task)
 act_in (code_statement.Poke address content) = poke (written_in address) (stored_in content)
 
 -- What the code's request says.
@@ -74,6 +94,8 @@ AskedHasBytes (act (poke address content)) = HasBytes content
 AskedHasBytes (act (obtain length subpool target boundary location form)) = ⊤
 AskedHasBytes (act (release length address subpool form)) = ⊤
 AskedHasBytes (act (whole subpool form)) = ⊤
+AskedHasBytes (act (attach given shared shares_zero)) = ⊤
+AskedHasBytes (act (run task)) = ⊤
 AskedHasBytes (peek address len) = ⊤
 AskedHasBytes map_asked = ⊤
 AskedHasBytes (back n) = ⊤
@@ -89,6 +111,8 @@ HasRoom (act (poke (register n) content)) = ⊤
 HasRoom (act (obtain length subpool target boundary location form)) = ⊤
 HasRoom (act (release length address subpool form)) = ⊤
 HasRoom (act (whole subpool form)) = ⊤
+HasRoom (act (attach given shared shares_zero)) = ⊤
+HasRoom (act (run task)) = ⊤
 HasRoom (peek address len) = ⊤
 HasRoom map_asked = ⊤
 HasRoom (back n) = ⊤
@@ -97,6 +121,11 @@ HasRoom (forward n) = ⊤
 abbrev pub IsLength : WrittenLength → Type 0
 IsLength (fixed length) = IsValue length
 IsLength (between maximum minimum) = IsValue maximum × IsValue minimum
+
+abbrev pub IsSubpools : WrittenSubpools → Type 0
+IsSubpools nothing = ⊤
+IsSubpools (one n) = IsValue n
+IsSubpools (listed address) = IsValue address
 
 abbrev pub is_fixed : WrittenLength → Bool
 is_fixed (fixed length) = true
@@ -145,6 +174,8 @@ IsValidAct (release length address subpool form) =
     IsValue length × IsValue address × IsValue subpool
     × IsReleaseForm form.family length address form.conditional
 IsValidAct (whole subpool form) = IsValue subpool × IsWholeForm form.family form.conditional
+IsValidAct (attach given shared shares_zero) = IsSubpools given × IsSubpools shared
+IsValidAct (run task) = IsValue task
 IsValidAct (poke address content) = IsValue address × IsStored content
 
 -- A request that can be written: one of 1 to 256 bytes, where it is for bytes.

@@ -1,11 +1,14 @@
--- Tables of forms as the code keeps them, and what POKE, PEEK and steps ask for by what was read.
+-- Tables of forms as the code keeps them, and what each statement that has no form asks for by what was read.
 use Rattle.std.specs.Prelude.{ℕ, map, Result}
-use Rattle.macro_operands.specs.Slots.{Slots, slot, row_in, as_value, as_content, as_size, as_count}
+use Rattle.macro_operands.specs.Slots.{Slots, slot, row_in, as_value, as_condition, as_content}
+use Rattle.macro_operands.specs.Slots.{as_size, as_count}
 use Rattle.macro_operands.specs.declared.faults.FaultKind.{FaultKind}
 use Rattle.macro_statements.specs.Forms as forms
 use Rattle.macro_statements.specs.Poke.{poke_with}
 use Rattle.macro_statements.specs.Peek.{peek_with}
 use Rattle.macro_statements.specs.Steps.{count_with}
+use Rattle.macro_statements.specs.Attach.{attach_with}
+use Rattle.macro_statements.specs.Run.{run_with}
 use Rattle.macro_statements.specs.Requests.{Asked}
 use Rattle.macro_statements.specs.declared.forms.StorageForm.{StorageForm}
 use Rattle.macro_statements.specs.declared.forms.StorageMacro.{StorageMacro}
@@ -24,3 +27,11 @@ peek_by slots = peek_with (as_value (slot slots 0)) (as_size (slot slots 1))
 
 abbrev pub count_by : Slots → Result ℕ FaultKind
 count_by slots = count_with (as_count (slot slots 0))
+
+abbrev pub attach_by : Slots → Asked
+attach_by slots =
+    attach_with (as_value (slot slots 1)) (as_value (slot slots 2)) (as_value (slot slots 3)) (as_value (slot slots 4))
+    (as_condition (slot slots 5))
+
+abbrev pub run_by : Slots → Result Asked FaultKind
+run_by slots = run_with (as_value (slot slots 0))

@@ -11,6 +11,8 @@ use Rattle.macro_statements.specs.Freemain.{freemain_macro}
 use Rattle.macro_statements.specs.Poke.{poke_of}
 use Rattle.macro_statements.specs.Peek.{peek_of}
 use Rattle.macro_statements.specs.Steps.{count_in, step_with}
+use Rattle.macro_statements.specs.Attach.{attach_of}
+use Rattle.macro_statements.specs.Run.{run_of}
 use Rattle.macro_operands.specs.declared.faults.FaultKind.{FaultKind}
 use Rattle.macro_operands.specs.declared.faults.FaultKind.TheVariants as fault
 use Rattle.macro_operands.specs.declared.rows.Behind.{Behind}
@@ -24,6 +26,8 @@ operation_of text =
     if is_word text (codes "STORAGE") then Some operation.Storage
     else if is_word text (codes "GETMAIN") then Some operation.Getmain
     else if is_word text (codes "FREEMAIN") then Some operation.Freemain
+    else if is_word text (codes "ATTACH") then Some operation.Attach
+    else if is_word text (codes "RUN") then Some operation.Run
     else if is_word text (codes "POKE") then Some operation.Poke
     else if is_word text (codes "PEEK") then Some operation.Peek
     else if is_word text (codes "MAP") then Some operation.Map
@@ -36,6 +40,8 @@ abbrev pub asked_of : Operation → List (List ℕ) → Result Asked FaultKind
 asked_of operation.Storage os = macro_of storage_macro os
 asked_of operation.Getmain os = macro_of getmain_macro os
 asked_of operation.Freemain os = macro_of freemain_macro os
+asked_of operation.Attach os = attach_of os
+asked_of operation.Run os = run_of os
 asked_of operation.Poke os = poke_of os
 asked_of operation.Peek os = peek_of os
 asked_of operation.Map os = Ok map_asked
@@ -61,6 +67,8 @@ behind_of None = behind.Operands
 behind_of (Some operation.Storage) = behind.Operands
 behind_of (Some operation.Getmain) = behind.Operands
 behind_of (Some operation.Freemain) = behind.Operands
+behind_of (Some operation.Attach) = behind.Operands
+behind_of (Some operation.Run) = behind.Operands
 behind_of (Some operation.Poke) = behind.Operands
 behind_of (Some operation.Peek) = behind.Operands
 behind_of (Some operation.Map) = behind.Remarks

@@ -152,7 +152,7 @@ fn form_by(form: Form, said: &[Option<Said>], i: usize) -> Form
 {
     Form {
         family: form.family,
-        conditional: form.conditional || condition_at(said, i),
+        conditional: form.conditional || condition_at(said, i).unwrap_or(false),
     }
 }
 

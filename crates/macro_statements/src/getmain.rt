@@ -23,7 +23,7 @@ const FIXED: Row = getmain_row!(Value, OtherForm, Boundary, Location);
 const VARIABLE: Row = getmain_row!(Pair, OtherForm, Boundary, Location);
 
 /// GETMAIN EC and EU.
-const NAMED: Row = getmain_row!(Value, NamedPlace, Boundary, OtherForm);
+const NAMED: Row = getmain_row!(Value, Name, Boundary, OtherForm);
 
 /// GETMAIN.
 pub const GETMAIN: StorageMacro = StorageMacro {

@@ -1,6 +1,7 @@
 //! Statements of storage macros: what the columns of a first line and an operand field ask for, or their first fault.
 #![tactic(auto)]
 
+mod attach;
 mod forms;
 mod freemain;
 mod getmain;
@@ -8,12 +9,13 @@ mod laws;
 mod peek;
 mod poke;
 mod requests;
+mod run;
 mod statements;
 mod steps;
 mod storage;
 
 pub use laws::valid_requests_are_spelled;
 pub use macro_operands::FaultKind;
-pub use requests::{Form, Length, Request, Statement};
+pub use requests::{Form, Length, Request, Statement, Subpools};
 pub use statements::{from_operands, is_misplaced, statement_with};
 pub use vsm_model::{Boundary, Family, Location};

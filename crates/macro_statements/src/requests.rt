@@ -3,7 +3,8 @@
 ghost use Rattle.std.specs.Prelude.{◌≡◌, ◌↔◌, IsTrue, IfSome};
 ghost use Rattle.std.specs.Option.{option_map};
 ghost use Rattle.operand_texts.specs.Written.{written_in, target_in, IsTarget};
-ghost use Rattle.macro_statements.specs.Requests.{length_in, act_in, is_register_0, IsLength, IsValidAct};
+ghost use Rattle.macro_statements.specs.Requests.{length_in, subpools_in, act_in, is_register_0};
+ghost use Rattle.macro_statements.specs.Requests.{IsLength, IsSubpools, IsValidAct};
 ghost use Rattle.macro_statements.specs.Validity.{is_register_length, is_named_target, is_obtain_form};
 ghost use Rattle.macro_statements.specs.Validity.{is_release_form, is_whole_form};
 
@@ -27,7 +28,16 @@ pub enum Length {
     Variable { maximum: Value, minimum: Value },
 }
 
-/// A statement that changes storage.
+/// The subpools that a new task is given, or that it shares (*Assembler Services Reference*, ATTACH, GSPV, GSPL, SHSPV
+/// and SHSPL): none, one by its number, or those of a list at an address.
+#[derive(Clone, Copy, Debug, PartialEq, Eq)]
+pub enum Subpools {
+    Nothing,
+    Number(Value),
+    Listed { address: Value },
+}
+
+/// A statement that changes storage, tasks or bytes.
 #[derive(Clone, Debug, PartialEq, Eq, Drop)]
 pub enum Statement {
     /// STORAGE OBTAIN and GETMAIN: so many bytes from a subpool, from such a boundary and on such a side of the 16 MB
@@ -52,6 +62,16 @@ pub enum Statement {
         subpool: Value,
         form: Form,
     },
+    /// ATTACH: a new task, which is given subpools, and shares others, and subpool 0 where `shares_zero` says so.
+    Attach {
+        given: Subpools,
+        shared: Subpools,
+        shares_zero: bool,
+    },
+    /// RUN: it's a task's turn.
+    Run {
+        task: Value,
+    },
     /// POKE: bytes are stored at an address.
     Poke {
         address: Value,
@@ -62,7 +82,7 @@ pub enum Statement {
 /// What a statement asks for.
 #[derive(Clone, Debug, PartialEq, Eq, Drop)]
 pub enum Request {
-    /// A change of storage.
+    /// A change of storage, tasks or bytes.
     Act(Statement),
     /// PEEK: so many bytes at an address are shown, 1 to 256.
     Peek { addr: Value, len: u16 },
@@ -91,6 +111,17 @@ fn is_valid_length(length: &Length) -> bool
     match length {
         Length::Fixed(value) => value.valid(),
         Length::Variable { maximum, minimum } => maximum.valid() && minimum.valid(),
+    }
+}
+
+/// Whether a statement can spell these subpools.
+fn is_valid_subpools(subpools: &Subpools) -> bool
+    ensures { IsTrue result ↔ IsSubpools (subpools_in subpools.now) }
+{
+    match subpools {
+        Subpools::Nothing => true,
+        Subpools::Number(number) => number.valid(),
+        Subpools::Listed { address } => address.valid(),
     }
 }
 
@@ -207,6 +238,10 @@ impl Statement {
                     && is_release_form(*form, length, address)
             }
             Statement::Whole { subpool, form } => subpool.valid() && is_whole_form(*form),
+            Statement::Attach { given, shared, .. } => {
+                is_valid_subpools(given) && is_valid_subpools(shared)
+            }
+            Statement::Run { task } => task.valid(),
             Statement::Poke { address, content } => address.valid() && content.valid(),
         }
     }

@@ -7,12 +7,14 @@ ghost use Rattle.macro_statements.specs.Statements.{operation_of, asked_of, from
 ghost use Rattle.macro_statements.specs.Statements.{behind_of, operands_in};
 ghost use Rattle.macro_statements.specs.Statements.{is_misplaced, statement_with};
 
+use crate::attach::attach;
 use crate::forms::request_of;
 use crate::freemain::FREEMAIN;
 use crate::getmain::GETMAIN;
 use crate::peek::peek;
 use crate::poke::poke;
 use crate::requests::Request;
+use crate::run::run;
 use crate::steps::count_in;
 use crate::storage::STORAGE;
 use macro_operands::FaultKind;
@@ -26,6 +28,8 @@ pub enum Operation {
     Storage,
     Getmain,
     Freemain,
+    Attach,
+    Run,
     Poke,
     Peek,
     Map,
@@ -43,6 +47,10 @@ fn operation_of(text: &[u8]) -> Option<Operation>
         Some(Operation::Getmain)
     } else if is_word(text, b"FREEMAIN") {
         Some(Operation::Freemain)
+    } else if is_word(text, b"ATTACH") {
+        Some(Operation::Attach)
+    } else if is_word(text, b"RUN") {
+        Some(Operation::Run)
     } else if is_word(text, b"POKE") {
         Some(Operation::Poke)
     } else if is_word(text, b"PEEK") {
@@ -66,6 +74,8 @@ fn asked_of(operation: Operation, field: &[u8]) -> Result<Request, FaultKind>
         Operation::Storage => request_of(&STORAGE, field),
         Operation::Getmain => request_of(&GETMAIN, field),
         Operation::Freemain => request_of(&FREEMAIN, field),
+        Operation::Attach => attach(field),
+        Operation::Run => run(field),
         Operation::Poke => poke(field),
         Operation::Peek => peek(field),
         Operation::Map => Ok(Request::Map),
@@ -90,6 +100,8 @@ fn behind_of(operation: Option<Operation>) -> Behind
             Operation::Storage
             | Operation::Getmain
             | Operation::Freemain
+            | Operation::Attach
+            | Operation::Run
             | Operation::Poke
             | Operation::Peek
             | Operation::Back
