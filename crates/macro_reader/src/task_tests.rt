@@ -1,4 +1,4 @@
-//! ATTACH and RUN.
+//! ATTACH, DETACH and RUN.
 
 use crate::form_tests::{feed, named};
 use crate::{FaultKind, Request, Statement, Subpools, Value};
@@ -161,6 +161,36 @@ fn reads_run(rt: HostRuntime) {
         (b" RUN MF=L", Err(FaultKind::Operand)),
         (b" RUN (2", Err(FaultKind::Operand)),
         (b" RUNS 2", Err(FaultKind::Operation)),
+    ] {
+        feed(&rt, line, want);
+    }
+}
+
+fn detach(task: Value) -> Result<Request, FaultKind> {
+    Ok(Request::Act(Statement::Detach { task }))
+}
+
+#[test]
+fn reads_detach(rt: HostRuntime) {
+    for (line, want) in [
+        (b" DETACH 2".as_slice(), detach(Value::Number(2))),
+        (b" detach (5),related=x", detach(Value::Register(5))),
+        (b" DETACH t,REGS=A,LINKAGE=B", detach(named("T"))),
+        (b" DETACH", Err(FaultKind::Missing)),
+        (b" DETACH RELATED=X", Err(FaultKind::Missing)),
+        (b" DETACH RELATED=X,2", Err(FaultKind::Operand)),
+        (b" DETACH 2,3", Err(FaultKind::Operand)),
+        (b" DETACH 2,", Err(FaultKind::Operand)),
+        (b" DETACH T=2", Err(FaultKind::Operand)),
+        (b" DETACH 2,ECB=E", Err(FaultKind::Operand)),
+        (b" DETACH 2,(MF=L", Err(FaultKind::Operand)),
+        (b" DETACH =5", Err(FaultKind::Value)),
+        (b" DETACH 5=3", Err(FaultKind::Value)),
+        (b" DETACH (2,3)", Err(FaultKind::Value)),
+        (b" DETACH 2,REGS=", Err(FaultKind::Value)),
+        (b" DETACH 2,REGS=A,REGS=", Err(FaultKind::Repeated)),
+        (b" DETACH 2,STAE=YES", Err(FaultKind::LeftOut)),
+        (b" DETACH mf=L", Err(FaultKind::LeftOut)),
     ] {
         feed(&rt, line, want);
     }

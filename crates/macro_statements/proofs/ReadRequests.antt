@@ -10,11 +10,12 @@ use Rattle.macro_statements.specs.Poke.{poke_row, poke_of, poke_with}
 use Rattle.macro_statements.specs.Peek.{peek_row, peek_of, peek_with}
 use Rattle.macro_statements.specs.Steps.{steps_row, count_in, count_with}
 use Rattle.macro_statements.specs.Attach.{attach_row, attach_of, attach_with}
+use Rattle.macro_statements.specs.Detach.{detach_row, detach_of, detach_with}
 use Rattle.macro_statements.specs.Run.{run_row, run_of, run_with}
 use Rattle.macro_statements.specs.Requests.{Asked}
 use Rattle.macro_operands.specs.Said.{condition, content, size, count, said_of, condition_of}
 use Rattle.macro_operands.specs.Slots.{as_value, as_condition, as_content, as_size, as_count, readings}
-use Rattle.macro_statements.specs.Slots.{poke_by, peek_by, count_by, attach_by, run_by}
+use Rattle.macro_statements.specs.Slots.{poke_by, peek_by, count_by, attach_by, detach_by, run_by}
 use Rattle.macro_operands.specs.declared.faults.FaultKind.{FaultKind}
 use Rattle.macro_operands.specs.declared.rows.Kind.TheVariants as kind
 
@@ -65,6 +66,9 @@ attach_read texts h =
     same_attach _ _ _ _ _ _ _ _ _ _ (value_read (text_at (keyword (codes "GSPV")) texts)) (value_read (text_at (keyword (codes "GSPL")) texts))
     (value_read (text_at (keyword (codes "SHSPV")) texts)) (value_read (text_at (keyword (codes "SHSPL")) texts)) (condition_said (text_at (keyword (codes "SZERO")) texts))
     ∙ no_fault (first_fault attach_row texts) _ h
+
+pub detach_read : (texts : List (List ℕ)) → first_fault detach_row texts ≡ None → detach_by (readings detach_row.entries texts) ≡ detach_of texts
+detach_read texts h = ap detach_with (value_read (text_at (position 0) texts)) ∙ no_fault (first_fault detach_row texts) _ h
 
 pub run_read : (texts : List (List ℕ)) → first_fault run_row texts ≡ None → run_by (readings run_row.entries texts) ≡ run_of texts
 run_read texts h = ap run_with (value_read (text_at (position 0) texts)) ∙ no_fault (first_fault run_row texts) _ h

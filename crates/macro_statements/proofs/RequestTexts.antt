@@ -14,7 +14,7 @@ use Rattle.macro_operands.specs.declared.faults.FaultKind.{FaultKind}
 use Rattle.macro_operands.specs.declared.faults.FaultKind.TheVariants as fault
 use Rattle.macro_operands.specs.declared.rows.Behind.TheVariants as behind
 use Rattle.macro_operands.specs.declared.rows.Kind.TheVariants as kind
-use Rattle.macro_statements.specs.Requests.{obtain, release, whole, WrittenSubpools, IsSubpools, attach, run, poke, Asked, act, peek, map_asked, back, forward, IsValidAsked, AskedHasBytes, HasRoom, seen, asked_in}
+use Rattle.macro_statements.specs.Requests.{obtain, release, whole, WrittenSubpools, IsSubpools, attach, detach, run, poke, Asked, act, peek, map_asked, back, forward, IsValidAsked, AskedHasBytes, HasRoom, seen, asked_in}
 use Rattle.macro_statements.specs.Forms.{obtaining, releasing}
 use Rattle.macro_statements.specs.Storage.{storage_macro}
 use Rattle.macro_statements.specs.Getmain as getmain
@@ -24,6 +24,7 @@ use Rattle.macro_statements.specs.Freemain.{freemain_macro}
 use Rattle.macro_statements.specs.Poke.{poke_row, poke_of, poke_with}
 use Rattle.macro_statements.specs.Peek.{peek_row, peek_of, peek_with}
 use Rattle.macro_statements.specs.Attach.{attach_row, subpools_by}
+use Rattle.macro_statements.specs.Detach.{detach_row, detach_with}
 use Rattle.macro_statements.specs.Run.{run_row, run_with}
 use Rattle.macro_statements.specs.Steps.{steps_row, count_with, step_with, count_in}
 use Rattle.macro_statements.specs.Statements.{asked_of, behind_of, SpellsRequest}
@@ -40,7 +41,7 @@ use Rattle.macro_operands.proofs.WrittenOperands as operands
 use Rattle.macro_statements.proofs.ReadForms.{some_value, ReadsValid, AllReadValid, macro_valid, obtains_s, releases_s, obtains_r, releases_r, obtains_e, releases_e, any_length, values_length, pairs_length, places, no_places}
 use Rattle.macro_statements.proofs.SpelledOperands.{Good, no_fault, text, in_position, Operands, Remarks, value_says}
 use Rattle.macro_statements.proofs.StorageTexts.{obtain_operands, release_operands, whole_operands}
-use Rattle.macro_statements.proofs.TaskTexts.{attach_operands, run_operands}
+use Rattle.macro_statements.proofs.TaskTexts.{attach_operands, detach_operands, run_operands}
 
 poke_is : (os : List (List ℕ)) (a : Written) (c : Stored) → first_fault poke_row os ≡ None
     → value_at (position 0) os ≡ Some a → option_and_then content_of (text_at (position 1) os) ≡ Some c → poke_of os ≡ Ok (act (poke a c))
@@ -144,6 +145,7 @@ operands_of (act (obtain l s p y o form)) b h = inr (obtain_operands l s p y o f
 operands_of (act (release l a s form)) b h = inr (release_operands l a s form.family form.conditional h.0 h.1 h.2 h.3)
 operands_of (act (whole s form)) b h = inr (whole_operands s form.family form.conditional h.0 h.1)
 operands_of (act (attach g s z)) b h = inr (attach_operands g s z h.0 h.1)
+operands_of (act (detach t)) b h = inr (detach_operands t h)
 operands_of (act (run t)) b h = inr (run_operands t h)
 operands_of (act (poke a c)) b h = inr (poke_operands a c b h)
 operands_of (peek a n) b h = inr (peek_operands a n h)
@@ -223,6 +225,11 @@ attach_valid : (f : Option FaultKind) (g s : WrittenSubpools) (z : Bool) (asked 
 attach_valid (Some f) g s z asked v w h = cc
 attach_valid None g s z asked v w h = let same : act (attach g s z) ≡ asked = cc in subst IsValidAsked same (v, w)
 
+detach_valid : (f : Option FaultKind) (t : Option Written) (asked : Asked) → IfSome t IsValue → unless_fault f (detach_with t) ≡ Ok asked → IsValidAsked asked
+detach_valid (Some f) t asked v h = cc
+detach_valid None None asked v h = cc
+detach_valid None (Some t) asked v h = let same : act (detach t) ≡ asked = cc in subst IsValidAsked same v
+
 run_valid : (f : Option FaultKind) (t : Option Written) (asked : Asked) → IfSome t IsValue → unless_fault f (run_with t) ≡ Ok asked → IsValidAsked asked
 run_valid (Some f) t asked v h = cc
 run_valid None None asked v h = cc
@@ -296,6 +303,7 @@ asked_valid operation.Freemain os asked h = macro_valid freemain_macro freemain_
 asked_valid operation.Attach os asked h =
     attach_valid (first_fault attach_row os) _ _ _ asked (subpools_valid _ _ (value_valid (text_at (keyword (codes "GSPV")) os)) (value_valid (text_at (keyword (codes "GSPL")) os)))
     (subpools_valid _ _ (value_valid (text_at (keyword (codes "SHSPV")) os)) (value_valid (text_at (keyword (codes "SHSPL")) os))) h
+asked_valid operation.Detach os asked h = detach_valid (first_fault detach_row os) _ asked (value_valid (text_at (position 0) os)) h
 asked_valid operation.Run os asked h = run_valid (first_fault run_row os) _ asked (value_valid (text_at (position 0) os)) h
 asked_valid operation.Poke os asked h =
     poke_valid (first_fault poke_row os) _ _ asked (value_valid (text_at (position 0) os)) (content_valid (text_at (position 1) os)) h

@@ -40,6 +40,7 @@ less operation.Storage = 61
 less operation.Getmain = 61
 less operation.Freemain = 60
 less operation.Attach = 62
+less operation.Detach = 62
 less operation.Run = 65
 less operation.Poke = 64
 less operation.Peek = 64

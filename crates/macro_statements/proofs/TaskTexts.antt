@@ -13,8 +13,9 @@ use Rattle.macro_operands.specs.declared.rows.Behind.TheVariants as behind
 use Rattle.macro_operands.specs.declared.rows.Kind.TheVariants as kind
 use Rattle.macro_operands.proofs.WrittenOperands.{Item, item, operand_text, Fits, lookup, stand, long}
 use Rattle.macro_operands.proofs.WrittenOperands as operands
-use Rattle.macro_statements.specs.Requests.{WrittenSubpools, nothing, one, listed, IsSubpools, attach, run, Asked, act}
+use Rattle.macro_statements.specs.Requests.{WrittenSubpools, nothing, one, listed, IsSubpools, attach, detach, run, Asked, act}
 use Rattle.macro_statements.specs.Attach.{attach_row, subpools_by, shares_zero_by, attach_of}
+use Rattle.macro_statements.specs.Detach.{detach_row, detach_of}
 use Rattle.macro_statements.specs.Run.{run_row, run_of}
 use Rattle.macro_statements.specs.Statements.{asked_of, behind_of}
 use Rattle.macro_statements.specs.declared.statements.Operation.{Operation}
@@ -46,8 +47,14 @@ task_operands o row t asked has there asks h =
       fits = λ r. (let few = x.neat.few in omega (arith, few));
     }
 
+detach_is : (t : Written) (os : List (List ℕ)) → first_fault detach_row os ≡ None → value_at (position 0) os ≡ Some t → detach_of os ≡ Ok (act (detach t))
+detach_is t os f e = rw (f, e) refl
+
 run_is : (t : Written) (os : List (List ℕ)) → first_fault run_row os ≡ None → value_at (position 0) os ≡ Some t → run_of os ≡ Ok (act (run t))
 run_is t os f e = rw (f, e) refl
+
+pub detach_operands : (t : Written) → IsValue t → Operands (act (detach t))
+detach_operands t h = task_operands operation.Detach detach_row t (act (detach t)) refl refl (detach_is t) h
 
 pub run_operands : (t : Written) → IsValue t → Operands (act (run t))
 run_operands t h = task_operands operation.Run run_row t (act (run t)) refl refl (run_is t) h

@@ -15,6 +15,7 @@ pub mod Poke
 pub mod Peek
 pub mod Steps
 pub mod Attach
+pub mod Detach
 pub mod Run
 pub mod Statements
 pub mod Slots

@@ -36,13 +36,14 @@ pub data WrittenSubpools : Type 0 where
   listed : Written → WrittenSubpools
 
 -- A statement that changes storage, tasks or bytes: `obtain length subpool target boundary location form`, `release
--- length address subpool form`, `whole subpool form`, `attach given shared shares_zero`, `run task`,
+-- length address subpool form`, `whole subpool form`, `attach given shared shares_zero`, `detach task`, `run task`,
 -- `poke address content`.
 pub data Act : Type 0 where
   obtain : WrittenLength → Written → Option Target → Boundary → Location → Form → Act
   release : Written → Written → Written → Form → Act
   whole : Written → Form → Act
   attach : WrittenSubpools → WrittenSubpools → Bool → Act
+  detach : Written → Act
   run : Written → Act
   poke : Written → Stored → Act
 
@@ -72,6 +73,7 @@ act_in (code_statement.Release length address subpool form) =
 act_in (code_statement.Whole subpool form) = whole (written_in subpool) form
 act_in (code_statement.Attach given shared shares_zero) =
     attach (subpools_in given) (subpools_in shared) shares_zero
+act_in (code_statement.Detach task) = detach (written_in task)
 act_in (code_statement.Run task) = run (written_in task)
 act_in (code_statement.Poke address content) = poke (written_in address) (stored_in content)
 
@@ -95,6 +97,7 @@ AskedHasBytes (act (obtain length subpool target boundary location form)) = ⊤
 AskedHasBytes (act (release length address subpool form)) = ⊤
 AskedHasBytes (act (whole subpool form)) = ⊤
 AskedHasBytes (act (attach given shared shares_zero)) = ⊤
+AskedHasBytes (act (detach task)) = ⊤
 AskedHasBytes (act (run task)) = ⊤
 AskedHasBytes (peek address len) = ⊤
 AskedHasBytes map_asked = ⊤
@@ -112,6 +115,7 @@ HasRoom (act (obtain length subpool target boundary location form)) = ⊤
 HasRoom (act (release length address subpool form)) = ⊤
 HasRoom (act (whole subpool form)) = ⊤
 HasRoom (act (attach given shared shares_zero)) = ⊤
+HasRoom (act (detach task)) = ⊤
 HasRoom (act (run task)) = ⊤
 HasRoom (peek address len) = ⊤
 HasRoom map_asked = ⊤
@@ -175,6 +179,7 @@ IsValidAct (release length address subpool form) =
     × IsReleaseForm form.family length address form.conditional
 IsValidAct (whole subpool form) = IsValue subpool × IsWholeForm form.family form.conditional
 IsValidAct (attach given shared shares_zero) = IsSubpools given × IsSubpools shared
+IsValidAct (detach task) = IsValue task
 IsValidAct (run task) = IsValue task
 IsValidAct (poke address content) = IsValue address × IsStored content
 

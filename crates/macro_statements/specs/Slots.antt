@@ -8,6 +8,7 @@ use Rattle.macro_statements.specs.Poke.{poke_with}
 use Rattle.macro_statements.specs.Peek.{peek_with}
 use Rattle.macro_statements.specs.Steps.{count_with}
 use Rattle.macro_statements.specs.Attach.{attach_with}
+use Rattle.macro_statements.specs.Detach.{detach_with}
 use Rattle.macro_statements.specs.Run.{run_with}
 use Rattle.macro_statements.specs.Requests.{Asked}
 use Rattle.macro_statements.specs.declared.forms.StorageForm.{StorageForm}
@@ -32,6 +33,9 @@ abbrev pub attach_by : Slots → Asked
 attach_by slots =
     attach_with (as_value (slot slots 1)) (as_value (slot slots 2)) (as_value (slot slots 3)) (as_value (slot slots 4))
     (as_condition (slot slots 5))
+
+abbrev pub detach_by : Slots → Result Asked FaultKind
+detach_by slots = detach_with (as_value (slot slots 0))
 
 abbrev pub run_by : Slots → Result Asked FaultKind
 run_by slots = run_with (as_value (slot slots 0))

@@ -12,6 +12,7 @@ use Rattle.macro_statements.specs.Poke.{poke_of}
 use Rattle.macro_statements.specs.Peek.{peek_of}
 use Rattle.macro_statements.specs.Steps.{count_in, step_with}
 use Rattle.macro_statements.specs.Attach.{attach_of}
+use Rattle.macro_statements.specs.Detach.{detach_of}
 use Rattle.macro_statements.specs.Run.{run_of}
 use Rattle.macro_operands.specs.declared.faults.FaultKind.{FaultKind}
 use Rattle.macro_operands.specs.declared.faults.FaultKind.TheVariants as fault
@@ -27,6 +28,7 @@ operation_of text =
     else if is_word text (codes "GETMAIN") then Some operation.Getmain
     else if is_word text (codes "FREEMAIN") then Some operation.Freemain
     else if is_word text (codes "ATTACH") then Some operation.Attach
+    else if is_word text (codes "DETACH") then Some operation.Detach
     else if is_word text (codes "RUN") then Some operation.Run
     else if is_word text (codes "POKE") then Some operation.Poke
     else if is_word text (codes "PEEK") then Some operation.Peek
@@ -41,6 +43,7 @@ asked_of operation.Storage os = macro_of storage_macro os
 asked_of operation.Getmain os = macro_of getmain_macro os
 asked_of operation.Freemain os = macro_of freemain_macro os
 asked_of operation.Attach os = attach_of os
+asked_of operation.Detach os = detach_of os
 asked_of operation.Run os = run_of os
 asked_of operation.Poke os = poke_of os
 asked_of operation.Peek os = peek_of os
@@ -68,6 +71,7 @@ behind_of (Some operation.Storage) = behind.Operands
 behind_of (Some operation.Getmain) = behind.Operands
 behind_of (Some operation.Freemain) = behind.Operands
 behind_of (Some operation.Attach) = behind.Operands
+behind_of (Some operation.Detach) = behind.Operands
 behind_of (Some operation.Run) = behind.Operands
 behind_of (Some operation.Poke) = behind.Operands
 behind_of (Some operation.Peek) = behind.Operands

@@ -2,6 +2,7 @@
 #![tactic(auto)]
 
 mod attach;
+mod detach;
 mod forms;
 mod freemain;
 mod getmain;

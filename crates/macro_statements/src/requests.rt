@@ -68,6 +68,10 @@ pub enum Statement {
         shared: Subpools,
         shares_zero: bool,
     },
+    /// DETACH: a task ends, and all below it.
+    Detach {
+        task: Value,
+    },
     /// RUN: it's a task's turn.
     Run {
         task: Value,
@@ -241,7 +245,7 @@ impl Statement {
             Statement::Attach { given, shared, .. } => {
                 is_valid_subpools(given) && is_valid_subpools(shared)
             }
-            Statement::Run { task } => task.valid(),
+            Statement::Detach { task } | Statement::Run { task } => task.valid(),
             Statement::Poke { address, content } => address.valid() && content.valid(),
         }
     }

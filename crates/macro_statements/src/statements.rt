@@ -8,6 +8,7 @@ ghost use Rattle.macro_statements.specs.Statements.{behind_of, operands_in};
 ghost use Rattle.macro_statements.specs.Statements.{is_misplaced, statement_with};
 
 use crate::attach::attach;
+use crate::detach::detach;
 use crate::forms::request_of;
 use crate::freemain::FREEMAIN;
 use crate::getmain::GETMAIN;
@@ -29,6 +30,7 @@ pub enum Operation {
     Getmain,
     Freemain,
     Attach,
+    Detach,
     Run,
     Poke,
     Peek,
@@ -49,6 +51,8 @@ fn operation_of(text: &[u8]) -> Option<Operation>
         Some(Operation::Freemain)
     } else if is_word(text, b"ATTACH") {
         Some(Operation::Attach)
+    } else if is_word(text, b"DETACH") {
+        Some(Operation::Detach)
     } else if is_word(text, b"RUN") {
         Some(Operation::Run)
     } else if is_word(text, b"POKE") {
@@ -75,6 +79,7 @@ fn asked_of(operation: Operation, field: &[u8]) -> Result<Request, FaultKind>
         Operation::Getmain => request_of(&GETMAIN, field),
         Operation::Freemain => request_of(&FREEMAIN, field),
         Operation::Attach => attach(field),
+        Operation::Detach => detach(field),
         Operation::Run => run(field),
         Operation::Poke => poke(field),
         Operation::Peek => peek(field),
@@ -101,6 +106,7 @@ fn behind_of(operation: Option<Operation>) -> Behind
             | Operation::Getmain
             | Operation::Freemain
             | Operation::Attach
+            | Operation::Detach
             | Operation::Run
             | Operation::Poke
             | Operation::Peek
