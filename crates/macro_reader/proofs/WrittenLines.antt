@@ -23,6 +23,7 @@ front_fits operation.Freemain = refl
 front_fits operation.Attach = refl
 front_fits operation.Detach = refl
 front_fits operation.Run = refl
+front_fits operation.EndTask = refl
 front_fits operation.Poke = refl
 front_fits operation.Peek = refl
 front_fits operation.Map = refl
@@ -36,6 +37,7 @@ in_place operation.Freemain t = refl
 in_place operation.Attach t = refl
 in_place operation.Detach t = refl
 in_place operation.Run t = refl
+in_place operation.EndTask t = refl
 in_place operation.Poke t = refl
 in_place operation.Peek t = refl
 in_place operation.Map t = refl
@@ -49,6 +51,7 @@ no_comment operation.Freemain t = refl
 no_comment operation.Attach t = refl
 no_comment operation.Detach t = refl
 no_comment operation.Run t = refl
+no_comment operation.EndTask t = refl
 no_comment operation.Poke t = refl
 no_comment operation.Peek t = refl
 no_comment operation.Map t = refl
@@ -62,6 +65,7 @@ says operation.Freemain t text = refl
 says operation.Attach t text = refl
 says operation.Detach t text = refl
 says operation.Run t text = refl
+says operation.EndTask t text = refl
 says operation.Poke t text = refl
 says operation.Peek t text = refl
 says operation.Map t text = refl
@@ -75,6 +79,7 @@ operands_behind_front operation.Freemain c cs has h = rw h refl
 operands_behind_front operation.Attach c cs has h = rw h refl
 operands_behind_front operation.Detach c cs has h = rw h refl
 operands_behind_front operation.Run c cs has h = rw h refl
+operands_behind_front operation.EndTask c cs has h = cc
 operands_behind_front operation.Poke c cs has h = rw h refl
 operands_behind_front operation.Peek c cs has h = rw h refl
 operands_behind_front operation.Map c cs has h = cc
@@ -193,6 +198,7 @@ bare_line o first begins says ends none = record {
 }
 
 bare : (o : Operation) → behind_of (Some o) ≡ behind.Remarks → On o []
+bare operation.EndTask has = bare_line operation.EndTask (32 ∷ codes "ENDTASK") refl (λ text. refl) refl refl
 bare operation.Map has = bare_line operation.Map (32 ∷ codes "MAP") refl (λ text. refl) refl refl
 bare _ has = cc
 

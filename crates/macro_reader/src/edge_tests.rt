@@ -318,4 +318,5 @@ fn tells_subpools_that_can_be_spelled(rt: HostRuntime) {
     }
     assert_eq!(rt; Statement::Run { task: lower() }.valid(), false);
     assert_eq!(rt; Statement::Detach { task: lower() }.valid(), false);
+    assert_eq!(rt; Statement::EndTask.valid(), true);
 }

@@ -1,4 +1,4 @@
-//! ATTACH, DETACH and RUN.
+//! ATTACH, DETACH, RUN and ENDTASK.
 
 use crate::form_tests::{feed, named};
 use crate::{FaultKind, Request, Statement, Subpools, Value};
@@ -194,4 +194,21 @@ fn reads_detach(rt: HostRuntime) {
     ] {
         feed(&rt, line, want);
     }
+}
+
+#[test]
+fn reads_end_task(rt: HostRuntime) {
+    for line in [
+        b" ENDTASK".as_slice(),
+        b"NAME endtask",
+        // Remarks alone, of which nothing is read.
+        b" ENDTASK 2,MF=L",
+        b" ENDTASK 'x",
+        b" ENDTASK ),(",
+        b" ENDTASK ,",
+    ] {
+        feed(&rt, line, Ok(Request::Act(Statement::EndTask)));
+    }
+    feed(&rt, b" ENDTASK,", Err(FaultKind::Operation));
+    feed(&rt, b" ENDTASKS", Err(FaultKind::Operation));
 }

@@ -14,7 +14,7 @@ use Rattle.macro_operands.specs.declared.faults.FaultKind.{FaultKind}
 use Rattle.macro_operands.specs.declared.faults.FaultKind.TheVariants as fault
 use Rattle.macro_operands.specs.declared.rows.Behind.TheVariants as behind
 use Rattle.macro_operands.specs.declared.rows.Kind.TheVariants as kind
-use Rattle.macro_statements.specs.Requests.{obtain, release, whole, WrittenSubpools, IsSubpools, attach, detach, run, poke, Asked, act, peek, map_asked, back, forward, IsValidAsked, AskedHasBytes, HasRoom, seen, asked_in}
+use Rattle.macro_statements.specs.Requests.{obtain, release, whole, WrittenSubpools, IsSubpools, attach, detach, run, end_task, poke, Asked, act, peek, map_asked, back, forward, IsValidAsked, AskedHasBytes, HasRoom, seen, asked_in}
 use Rattle.macro_statements.specs.Forms.{obtaining, releasing}
 use Rattle.macro_statements.specs.Storage.{storage_macro}
 use Rattle.macro_statements.specs.Getmain as getmain
@@ -147,6 +147,7 @@ operands_of (act (whole s form)) b h = inr (whole_operands s form.family form.co
 operands_of (act (attach g s z)) b h = inr (attach_operands g s z h.0 h.1)
 operands_of (act (detach t)) b h = inr (detach_operands t h)
 operands_of (act (run t)) b h = inr (run_operands t h)
+operands_of (act end_task) b h = inl (record { operation = operation.EndTask; has = refl; asks = refl })
 operands_of (act (poke a c)) b h = inr (poke_operands a c b h)
 operands_of (peek a n) b h = inr (peek_operands a n h)
 operands_of map_asked b h = inl (record { operation = operation.Map; has = refl; asks = refl })
@@ -235,6 +236,9 @@ run_valid (Some f) t asked v h = cc
 run_valid None None asked v h = cc
 run_valid None (Some t) asked v h = let same : act (run t) ≡ asked = cc in subst IsValidAsked same v
 
+end_task_valid : (asked : Asked) → asked_of operation.EndTask [] ≡ Ok asked → IsValidAsked asked
+end_task_valid asked h = let same : act end_task ≡ asked = cc in subst IsValidAsked same tt
+
 map_valid : (asked : Asked) → asked_of operation.Map [] ≡ Ok asked → IsValidAsked asked
 map_valid asked h = let same : map_asked ≡ asked = cc in subst IsValidAsked same tt
 
@@ -305,6 +309,7 @@ asked_valid operation.Attach os asked h =
     (subpools_valid _ _ (value_valid (text_at (keyword (codes "SHSPV")) os)) (value_valid (text_at (keyword (codes "SHSPL")) os))) h
 asked_valid operation.Detach os asked h = detach_valid (first_fault detach_row os) _ asked (value_valid (text_at (position 0) os)) h
 asked_valid operation.Run os asked h = run_valid (first_fault run_row os) _ asked (value_valid (text_at (position 0) os)) h
+asked_valid operation.EndTask os asked h = end_task_valid asked h
 asked_valid operation.Poke os asked h =
     poke_valid (first_fault poke_row os) _ _ asked (value_valid (text_at (position 0) os)) (content_valid (text_at (position 1) os)) h
 asked_valid operation.Peek os asked h =

@@ -42,6 +42,7 @@ less operation.Freemain = 60
 less operation.Attach = 62
 less operation.Detach = 62
 less operation.Run = 65
+less operation.EndTask = 61
 less operation.Poke = 64
 less operation.Peek = 64
 less operation.Map = 65

@@ -37,7 +37,7 @@ pub data WrittenSubpools : Type 0 where
 
 -- A statement that changes storage, tasks or bytes: `obtain length subpool target boundary location form`, `release
 -- length address subpool form`, `whole subpool form`, `attach given shared shares_zero`, `detach task`, `run task`,
--- `poke address content`.
+-- `end_task`, `poke address content`.
 pub data Act : Type 0 where
   obtain : WrittenLength → Written → Option Target → Boundary → Location → Form → Act
   release : Written → Written → Written → Form → Act
@@ -45,6 +45,7 @@ pub data Act : Type 0 where
   attach : WrittenSubpools → WrittenSubpools → Bool → Act
   detach : Written → Act
   run : Written → Act
+  end_task : Act
   poke : Written → Stored → Act
 
 -- What a statement asks for: `peek address length` besides, the map of the storage, and so many steps.
@@ -75,6 +76,7 @@ act_in (code_statement.Attach given shared shares_zero) =
     attach (subpools_in given) (subpools_in shared) shares_zero
 act_in (code_statement.Detach task) = detach (written_in task)
 act_in (code_statement.Run task) = run (written_in task)
+act_in code_statement.EndTask = end_task
 act_in (code_statement.Poke address content) = poke (written_in address) (stored_in content)
 
 -- What the code's request says.
@@ -99,6 +101,7 @@ AskedHasBytes (act (whole subpool form)) = ⊤
 AskedHasBytes (act (attach given shared shares_zero)) = ⊤
 AskedHasBytes (act (detach task)) = ⊤
 AskedHasBytes (act (run task)) = ⊤
+AskedHasBytes (act end_task) = ⊤
 AskedHasBytes (peek address len) = ⊤
 AskedHasBytes map_asked = ⊤
 AskedHasBytes (back n) = ⊤
@@ -117,6 +120,7 @@ HasRoom (act (whole subpool form)) = ⊤
 HasRoom (act (attach given shared shares_zero)) = ⊤
 HasRoom (act (detach task)) = ⊤
 HasRoom (act (run task)) = ⊤
+HasRoom (act end_task) = ⊤
 HasRoom (peek address len) = ⊤
 HasRoom map_asked = ⊤
 HasRoom (back n) = ⊤
@@ -181,6 +185,7 @@ IsValidAct (whole subpool form) = IsValue subpool × IsWholeForm form.family for
 IsValidAct (attach given shared shares_zero) = IsSubpools given × IsSubpools shared
 IsValidAct (detach task) = IsValue task
 IsValidAct (run task) = IsValue task
+IsValidAct end_task = ⊤
 IsValidAct (poke address content) = IsValue address × IsStored content
 
 -- A request that can be written: one of 1 to 256 bytes, where it is for bytes.

@@ -3,7 +3,7 @@ use Rattle.std.specs.Prelude.{◌≡◌, ℕ, Bool, not, ◌&&◌, if◌then◌e
 use Rattle.std.specs.Prelude.{[], Result, Ok, Err, codes}
 use Rattle.operand_texts.specs.Words.{is_word, is_name, word, word_len, after_word, after_blanks}
 use Rattle.operand_texts.specs.Field.{outside, operands, is_balanced}
-use Rattle.macro_statements.specs.Requests.{Asked, map_asked, back, forward}
+use Rattle.macro_statements.specs.Requests.{Asked, act, end_task, map_asked, back, forward}
 use Rattle.macro_statements.specs.Forms.{macro_of}
 use Rattle.macro_statements.specs.Storage.{storage_macro}
 use Rattle.macro_statements.specs.Getmain.{getmain_macro}
@@ -30,6 +30,7 @@ operation_of text =
     else if is_word text (codes "ATTACH") then Some operation.Attach
     else if is_word text (codes "DETACH") then Some operation.Detach
     else if is_word text (codes "RUN") then Some operation.Run
+    else if is_word text (codes "ENDTASK") then Some operation.EndTask
     else if is_word text (codes "POKE") then Some operation.Poke
     else if is_word text (codes "PEEK") then Some operation.Peek
     else if is_word text (codes "MAP") then Some operation.Map
@@ -45,6 +46,7 @@ asked_of operation.Freemain os = macro_of freemain_macro os
 asked_of operation.Attach os = attach_of os
 asked_of operation.Detach os = detach_of os
 asked_of operation.Run os = run_of os
+asked_of operation.EndTask os = Ok (act end_task)
 asked_of operation.Poke os = poke_of os
 asked_of operation.Peek os = peek_of os
 asked_of operation.Map os = Ok map_asked
@@ -73,6 +75,7 @@ behind_of (Some operation.Freemain) = behind.Operands
 behind_of (Some operation.Attach) = behind.Operands
 behind_of (Some operation.Detach) = behind.Operands
 behind_of (Some operation.Run) = behind.Operands
+behind_of (Some operation.EndTask) = behind.Remarks
 behind_of (Some operation.Poke) = behind.Operands
 behind_of (Some operation.Peek) = behind.Operands
 behind_of (Some operation.Map) = behind.Remarks

@@ -76,6 +76,8 @@ pub enum Statement {
     Run {
         task: Value,
     },
+    /// ENDTASK: the task whose turn it is ends.
+    EndTask,
     /// POKE: bytes are stored at an address.
     Poke {
         address: Value,
@@ -246,6 +248,7 @@ impl Statement {
                 is_valid_subpools(given) && is_valid_subpools(shared)
             }
             Statement::Detach { task } | Statement::Run { task } => task.valid(),
+            Statement::EndTask => true,
             Statement::Poke { address, content } => address.valid() && content.valid(),
         }
     }

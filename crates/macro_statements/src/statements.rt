@@ -14,7 +14,7 @@ use crate::freemain::FREEMAIN;
 use crate::getmain::GETMAIN;
 use crate::peek::peek;
 use crate::poke::poke;
-use crate::requests::Request;
+use crate::requests::{Request, Statement};
 use crate::run::run;
 use crate::steps::count_in;
 use crate::storage::STORAGE;
@@ -32,6 +32,7 @@ pub enum Operation {
     Attach,
     Detach,
     Run,
+    EndTask,
     Poke,
     Peek,
     Map,
@@ -55,6 +56,8 @@ fn operation_of(text: &[u8]) -> Option<Operation>
         Some(Operation::Detach)
     } else if is_word(text, b"RUN") {
         Some(Operation::Run)
+    } else if is_word(text, b"ENDTASK") {
+        Some(Operation::EndTask)
     } else if is_word(text, b"POKE") {
         Some(Operation::Poke)
     } else if is_word(text, b"PEEK") {
@@ -81,6 +84,7 @@ fn asked_of(operation: Operation, field: &[u8]) -> Result<Request, FaultKind>
         Operation::Attach => attach(field),
         Operation::Detach => detach(field),
         Operation::Run => run(field),
+        Operation::EndTask => Ok(Request::Act(Statement::EndTask)),
         Operation::Poke => poke(field),
         Operation::Peek => peek(field),
         Operation::Map => Ok(Request::Map),
@@ -114,7 +118,7 @@ fn behind_of(operation: Option<Operation>) -> Behind
             | Operation::Forward,
         )
         | None => Behind::Operands,
-        Some(Operation::Map) => Behind::Remarks,
+        Some(Operation::EndTask | Operation::Map) => Behind::Remarks,
     }
 }
 
