@@ -9,10 +9,10 @@ use Rattle.macro_operands.proofs.ReadValues.{value_kept}
 use Rattle.macro_statements.specs.Poke.{poke_row, poke_of, poke_with}
 use Rattle.macro_statements.specs.Peek.{peek_row, peek_of, peek_with}
 use Rattle.macro_statements.specs.Steps.{steps_row, count_in, count_with}
-use Rattle.macro_statements.specs.Attach.{attach_row, attach_of, subpools_by, shares_zero_by}
+use Rattle.macro_statements.specs.Attach.{attach_row, attach_of, attach_with}
 use Rattle.macro_statements.specs.Detach.{detach_row, detach_of, detach_with}
 use Rattle.macro_statements.specs.Run.{run_row, run_of, run_with}
-use Rattle.macro_statements.specs.Requests.{Asked, act, attach}
+use Rattle.macro_statements.specs.Requests.{Asked}
 use Rattle.macro_operands.specs.Said.{condition, content, size, count, said_of, condition_of}
 use Rattle.macro_operands.specs.Slots.{as_value, as_condition, as_content, as_size, as_count, readings}
 use Rattle.macro_statements.specs.Slots.{poke_by, peek_by, count_by, attach_by, detach_by, run_by}
@@ -58,10 +58,7 @@ condition_said : (t : Option (List ℕ)) → as_condition (option_and_then (said
 condition_said None = refl
 condition_said (Some t) = condition_back (condition_of t)
 
-abbrev attach_with : Option Written → Option Written → Option Written → Option Written → Option Bool → Result Asked FaultKind
-attach_with n l m k z = Ok (act (attach (subpools_by n l) (subpools_by m k) (shares_zero_by z)))
-
-same_attach : (n l m k n' l' m' k' : Option Written) (z z' : Option Bool) → n ≡ n' → l ≡ l' → m ≡ m' → k ≡ k' → z ≡ z' → attach_with n l m k z ≡ attach_with n' l' m' k' z'
+same_attach : (n l m k n' l' m' k' : Option Written) (z z' : Option Bool) → n ≡ n' → l ≡ l' → m ≡ m' → k ≡ k' → z ≡ z' → ◌≡◌ {A = Result Asked FaultKind} (Ok (attach_with n l m k z)) (Ok (attach_with n' l' m' k' z'))
 same_attach n l m k n' l' m' k' z z' a b c d e = rw (a, b, c, d, e) refl
 
 pub attach_read : (texts : List (List ℕ)) → first_fault attach_row texts ≡ None → ◌≡◌ {A = Result Asked FaultKind} (Ok (attach_by (readings attach_row.entries texts))) (attach_of texts)

@@ -42,13 +42,17 @@ subpools_by None None = nothing
 abbrev pub shares_zero_by : Option Bool → Bool
 shares_zero_by shares = unwrap_or shares true
 
--- Nothing is required.
+-- Subpools that are given and that are shared, each by one number or by a list, and whether subpool 0 is. None of them
+-- is required.
+abbrev pub attach_with : Option Written → Option Written → Option Written → Option Written → Option Bool → Asked
+attach_with given given_list shared shared_list shares_zero =
+    act (attach (subpools_by given given_list) (subpools_by shared shared_list) (shares_zero_by shares_zero))
+
 abbrev pub attach_of : List (List ℕ) → Result Asked FaultKind
 attach_of texts =
-    unless_fault (first_fault attach_row texts)
-    (Ok
-    (act
-    (attach
-    (subpools_by (value_at (keyword (codes "GSPV")) texts) (value_at (keyword (codes "GSPL")) texts))
-    (subpools_by (value_at (keyword (codes "SHSPV")) texts) (value_at (keyword (codes "SHSPL")) texts))
-    (shares_zero_by (option_and_then condition_of (text_at (keyword (codes "SZERO")) texts))))))
+    let given = value_at (keyword (codes "GSPV")) texts in
+    let given_list = value_at (keyword (codes "GSPL")) texts in
+    let shared = value_at (keyword (codes "SHSPV")) texts in
+    let shared_list = value_at (keyword (codes "SHSPL")) texts in
+    let shares_zero = option_and_then condition_of (text_at (keyword (codes "SZERO")) texts) in
+    unless_fault (first_fault attach_row texts) (Ok (attach_with given given_list shared shared_list shares_zero))

@@ -7,10 +7,10 @@ use Rattle.macro_statements.specs.Forms as forms
 use Rattle.macro_statements.specs.Poke.{poke_with}
 use Rattle.macro_statements.specs.Peek.{peek_with}
 use Rattle.macro_statements.specs.Steps.{count_with}
-use Rattle.macro_statements.specs.Attach.{subpools_by, shares_zero_by}
+use Rattle.macro_statements.specs.Attach.{attach_with}
 use Rattle.macro_statements.specs.Detach.{detach_with}
 use Rattle.macro_statements.specs.Run.{run_with}
-use Rattle.macro_statements.specs.Requests.{Asked, act, attach}
+use Rattle.macro_statements.specs.Requests.{Asked}
 use Rattle.macro_statements.specs.declared.forms.StorageForm.{StorageForm}
 use Rattle.macro_statements.specs.declared.forms.StorageMacro.{StorageMacro}
 
@@ -31,11 +31,8 @@ count_by slots = count_with (as_count (slot slots 0))
 
 abbrev pub attach_by : Slots → Asked
 attach_by slots =
-    act
-    (attach
-    (subpools_by (as_value (slot slots 1)) (as_value (slot slots 2)))
-    (subpools_by (as_value (slot slots 3)) (as_value (slot slots 4)))
-    (shares_zero_by (as_condition (slot slots 5))))
+    attach_with (as_value (slot slots 1)) (as_value (slot slots 2)) (as_value (slot slots 3)) (as_value (slot slots 4))
+    (as_condition (slot slots 5))
 
 abbrev pub detach_by : Slots → Result Asked FaultKind
 detach_by slots = detach_with (as_value (slot slots 0))

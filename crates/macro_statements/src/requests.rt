@@ -28,8 +28,8 @@ pub enum Length {
     Variable { maximum: Value, minimum: Value },
 }
 
-/// The subpools that a new task is given, or that it shares (*Assembler Services Reference*, ATTACH, GSPV, GSPL, SHSPV and
-/// SHSPL): none, one by its number, or those of a list at an address.
+/// The subpools that a new task is given, or that it shares (*Assembler Services Reference*, ATTACH, GSPV, GSPL, SHSPV
+/// and SHSPL): none, one by its number, or those of a list at an address.
 #[derive(Clone, Copy, Debug, PartialEq, Eq)]
 pub enum Subpools {
     Nothing,
