@@ -1,5 +1,5 @@
 -- The subpools and sharers of a storage that a walk by places goes over.
-use Rattle.std.proofs.Common.{◌≡◌, ℕ, List, ◌∷◌, sym, ap, ◌∙◌}
+use Rattle.std.proofs.Common.{◌≡◌, ◌∷◌, sym, ap, ◌∙◌}
 use Rattle.map_laws.specs.Lists.{SharersAreShown}
 use Rattle.subpool_set.specs.Pools as pools
 use Rattle.subpool_set.specs.declared.places.PoolPlace.{PoolPlace}

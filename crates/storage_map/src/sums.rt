@@ -39,10 +39,14 @@ fn with_run(pages: Pages, run: Run) -> Pages
 /// The pages of the subpool before the place.
 fn pages_of(storage: &Storage, subpool_place: PoolPlace) -> Pages
     requires behind { IsBehindSubpool storage.now subpool_place }
-    requires low { subpool_pages (state_in_place storage.now).subpools true (subpool_before storage.now subpool_place) < 2 ^ 32 }
-    requires high { subpool_pages (state_in_place storage.now).subpools false (subpool_before storage.now subpool_place) < 2 ^ 32 }
-    ensures low { result.low ≡ subpool_pages (state_in_place storage.now).subpools true (subpool_before storage.now subpool_place) }
-    ensures high { result.high ≡ subpool_pages (state_in_place storage.now).subpools false (subpool_before storage.now subpool_place) }
+    requires low { subpool_pages (state_in_place storage.now).subpools true
+        (subpool_before storage.now subpool_place) < 2 ^ 32 }
+    requires high { subpool_pages (state_in_place storage.now).subpools false
+        (subpool_before storage.now subpool_place) < 2 ^ 32 }
+    ensures low { result.low ≡ subpool_pages (state_in_place storage.now).subpools true
+        (subpool_before storage.now subpool_place) }
+    ensures high { result.high ≡ subpool_pages (state_in_place storage.now).subpools false
+        (subpool_before storage.now subpool_place) }
 {
     let mut pages = Pages { low: 0, high: 0 };
     let mut place = storage.first_extent_at(subpool_place);
@@ -56,8 +60,10 @@ fn pages_of(storage: &Storage, subpool_place: PoolPlace) -> Pages
 /// The free doublewords of the subpool before the place.
 fn free_of(storage: &Storage, subpool_place: PoolPlace) -> u32
     requires behind { IsBehindSubpool storage.now subpool_place }
-    requires few { subpool_free (state_in_place storage.now).subpools (subpool_before storage.now subpool_place) < 2 ^ 32 }
-    ensures { result ≡ subpool_free (state_in_place storage.now).subpools (subpool_before storage.now subpool_place) }
+    requires few { subpool_free (state_in_place storage.now).subpools
+        (subpool_before storage.now subpool_place) < 2 ^ 32 }
+    ensures { result ≡ subpool_free (state_in_place storage.now).subpools
+        (subpool_before storage.now subpool_place) }
 {
     let mut free = 0;
     let mut place = storage.first_free_area_at(subpool_place);

@@ -48,7 +48,9 @@ crate::specs::SubpoolSet::sight, crate::specs::SubpoolSet::pool,
 // what an id names
 crate::specs::SubpoolSet::number_of, crate::specs::SubpoolSet::owner_of,
 // where a walk over subpools stands, and what is left of it
-crate::specs::SubpoolSet::pools_left, crate::specs::SubpoolSet::number_at, crate::specs::SubpoolSet::pool_before, crate::specs::SubpoolSet::IsPoolPlace,
+crate::specs::SubpoolSet::pools_left, crate::specs::SubpoolSet::number_at, crate::specs::SubpoolSet::IsPoolPlace,
+// which subpool is before it
+crate::specs::SubpoolSet::pool_before,
 // where one over sharers does
 crate::specs::SubpoolSet::sharers_left, crate::specs::SubpoolSet::IsSharerPlace,
 // where the set stands

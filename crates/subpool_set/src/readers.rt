@@ -17,8 +17,8 @@ crate::specs::SubpoolSet::number_of, crate::specs::SubpoolSet::owner_of,
 // where the set stands
 crate::specs::SubpoolSet::IsSubpoolSet))]
 impl SubpoolSet {
-    /// The `i`-th subpool by number and then by owner, from 0 on; `None` past the last. Each row of sight is read once on
-    /// the way.
+    /// The `i`-th subpool by number and then by owner, from 0 on; `None` past the last. Each row of sight up to it is
+    /// read once.
     pub fn pool_at(&self, elements: &Elements, i: u32) -> Option<PoolId>
         requires { IsSubpoolSet elements.now self.now }
         ensures at { result ≡ option_map (λ p. p.id) (slice_get (in_order (pool elements.now self.now)) i) }
