@@ -1,6 +1,6 @@
 //! Records of tasks, and of subpools that are shared or pass to another task, change sides with the storage.
 
-ghost use Rattle.std.specs.Prelude.{◌≡◌, ℕ, ◌≤◌, not, List};
+ghost use Rattle.std.specs.Prelude.{◌≡◌, ℕ, not, List};
 ghost use Rattle.raw_region.specs.Frames.{PageFrame};
 ghost use Rattle.subpool_storage.specs.declared.storage.SubpoolStorage.{SubpoolStorage as TheParked};
 ghost use Rattle.subpool_storage.specs.Subpools.{owned_by};
@@ -17,7 +17,7 @@ impl Storage {
     // The task is there, or it is gone, and the record by which that is taken back is answered.
     pub(crate) fn exchange_task(&mut self, r: TaskRecord) -> TaskRecord
         requires stands { Stand self.old }
-        requires fits { (given : List PageFrame) × (parked : TheParked) × (kept : ℕ) × (kept ≤ self.old.elements.spare)
+        requires fits { (given : List PageFrame) × (parked : TheParked) × (kept : ℕ)
             × TaskFits (walk_of self.old given parked kept) r }
         ensures exchanges { (given : List PageFrame) (parked : TheParked) → StandsWith self.old parked
             → Exchanges self.old self.new given given parked parked (Task r) }
@@ -51,7 +51,7 @@ impl Storage {
     // The task sees the subpool, or doesn't any more, and the record by which that is taken back is answered.
     pub(crate) fn exchange_sharer(&mut self, r: SharerRecord) -> SharerRecord
         requires stands { Stand self.old }
-        requires fits { (given : List PageFrame) × (parked : TheParked) × (kept : ℕ) × (kept ≤ self.old.elements.spare)
+        requires fits { (given : List PageFrame) × (parked : TheParked) × (kept : ℕ)
             × SharerFits (walk_of self.old given parked kept) r }
         ensures exchanges { (given : List PageFrame) (parked : TheParked) → StandsWith self.old parked
             → Exchanges self.old self.new given given parked parked (Sharer r) }

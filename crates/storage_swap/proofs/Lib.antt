@@ -12,3 +12,4 @@ mod SettingsLemmas
 pub mod FreshLemmas
 pub mod BackLemmas
 mod ObtainLemmas
+mod TakenLemmas

@@ -124,10 +124,10 @@ reserved-fits {settings = settings} run rest some high some' high' pages p t c f
 
 -- the test's own
 
-abbrev test-run : Run
+abbrev pub test-run : Run
 test-run = record { start = 6; len = 3 }
 
-abbrev test-rest : Run
+abbrev pub test-rest : Run
 test-rest = record { start = 3172; len = 1436 }
 
 module _ (settings : Settings) (low : 3 ≤ settings.low_k / 4) where

@@ -1,5 +1,5 @@
 -- A change with subpools that are parked from the start.
-use Rattle.std.proofs.Common.{◌≡◌, ℕ, zero, suc, ◌+◌, ◌-◌, ◌<◌, ◌≤◌, Bool, true, false, ◌&&◌, ◌==◌, if◌then◌else◌, List, [], ◌∷◌, length, drop, get_or, Some, None, refl, ap, ◌∙◌, arith, subst}
+use Rattle.std.proofs.Common.{◌≡◌, ℕ, zero, suc, ◌+◌, ◌-◌, ◌<◌, ◌≤◌, Bool, true, false, ◌&&◌, ◌==◌, if◌then◌else◌, List, [], ◌∷◌, length, drop, get_or, Some, None, refl, ap, sym, ◌∙◌, arith, subst}
 use Rattle.std.specs.List.{All, AllPairs}
 use Rattle.vsm_elements.specs.Store.{Store, SameElements}
 use Rattle.vsm_elements.specs.Chain.{owned, IsChain}
@@ -51,12 +51,15 @@ name-unseen names k d h above l =
     let P : ℕ → Type 0 = λ z. (empties (drop z names)).sight (get_or names (k - 1) d).owner (get_or names (k - 1) d).number ≡ None in
     subst P e (unseen (drop (suc (k - 1)) names) (get_or names (k - 1) d) (later-others names (k - 1) d h l))
 
--- no page has a frame
-no-frames : (frames : List PageFrame) → frames ≡ [] → (page : ℕ) → held_at frames page ≡ (if inside page no_pages then Some zeros else None)
-no-frames frames e page = ap (λ (z : List PageFrame). held_at z page) e ∙ go (inside page no_pages) refl where
-  go : (b : Bool) → inside page no_pages ≡ b → None ≡ (if b then Some zeros else None)
+pub nowhere : (page : ℕ) → inside page no_pages ≡ false
+nowhere page = go (inside page no_pages) refl where
+  go : (b : Bool) → inside page no_pages ≡ b → b ≡ false
   go true i = (let h : (0 ≤ page) × (page < 0 + 0) = inside_true page no_pages i in absurd (omega (arith, h.1)))
   go false i = refl
+
+-- no page has a frame
+no-frames : (frames : List PageFrame) → frames ≡ [] → (page : ℕ) → held_at frames page ≡ (if inside page no_pages then Some zeros else None)
+no-frames frames e page = ap (λ (z : List PageFrame). held_at z page) e ∙ sym (cond-out (inside page no_pages) (Some zeros) None (nowhere page))
 
 -- The change is made of spare elements, of which there may be more than before.
 module _ (p : Storage) (k : Stand p) (one : (i : ℕ) → hold p i ≤ 1) (frameless : IsFrameless p) (begin : Store) (kept : SameElements p.elements begin)

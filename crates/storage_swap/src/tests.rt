@@ -1,9 +1,10 @@
-//! Three pages of the first subpool, obtained, undone and redone; and all elements and frames given back.
+//! Three pages of the first subpool, obtained, undone and redone; and its whole storage, which a change takes over and
+//! hands back. All elements and frames are given back.
 
 use super::*;
 use run_set::Run;
 use std::test::Fail;
-use storage_changes::{AreaRecord, ExtentRecord, PagesRecord, Record};
+use storage_changes::{AreaRecord, ExtentRecord, PagesRecord, QueuesRecord, Record};
 use vsm_model::{Residence, Settings, Subpool};
 
 const SETTINGS: Settings = Settings {
@@ -26,26 +27,28 @@ const REST: Run = Run {
     len: 1436,
 };
 
+// The pages become the first subpool's, with the rest behind the area as free storage.
+const OBTAIN: [Record; 3] = [
+    Record::Pages(PagesRecord {
+        run: RUN,
+        assigned: true,
+    }),
+    Record::Extent(ExtentRecord {
+        subpool: FIRST,
+        run: RUN,
+        present: true,
+    }),
+    Record::Area(AreaRecord {
+        subpool: FIRST,
+        area: REST,
+        free: true,
+    }),
+];
+
 #[test]
 fn obtained_pages_come_and_go(rt: HostRuntime) -> Result<(), Fail> {
-    let records = [
-        Record::Pages(PagesRecord {
-            run: RUN,
-            assigned: true,
-        }),
-        Record::Extent(ExtentRecord {
-            subpool: FIRST,
-            run: RUN,
-            present: true,
-        }),
-        Record::Area(AreaRecord {
-            subpool: FIRST,
-            area: REST,
-            free: true,
-        }),
-    ];
     let mut storage = fresh(rt.alloc(), SETTINGS)?;
-    let mut change = Change::reserve(&mut storage, None, &records, 4, RUN)?;
+    let mut change = Change::reserve(&mut storage, None, &OBTAIN, 4, RUN)?;
     assert!(rt; !storage.region.assigned(6));
     change.swap(&mut storage);
     assert!(rt;
@@ -59,6 +62,35 @@ fn obtained_pages_come_and_go(rt: HostRuntime) -> Result<(), Fail> {
     change.discard(&mut storage);
     assert_eq!(rt; storage.elements.spare(), 121);
     assert_eq!(rt; storage.region.spare_frames(), 3);
+    let released = release(storage);
+    assert_eq!(rt; released.blocks, 1);
+    assert_eq!(rt; released.frames, 3);
+    Ok(())
+}
+
+#[test]
+fn a_change_takes_a_subpools_storage_over(rt: HostRuntime) -> Result<(), Fail> {
+    let taken = [
+        Record::Queues(QueuesRecord { subpool: FIRST }),
+        Record::Pages(PagesRecord {
+            run: RUN,
+            assigned: false,
+        }),
+    ];
+    let mut storage = fresh(rt.alloc(), SETTINGS)?;
+    let mut obtained = Change::reserve(&mut storage, None, &OBTAIN, 4, RUN)?;
+    obtained.swap(&mut storage);
+    let mut change = Change::reserve_parking(&mut storage, &[FIRST], &taken, 2)?;
+    let extents = storage.subpools.extents(&storage.elements, FIRST);
+    assert!(rt; extents.count() == 1 && storage.region.assigned(6));
+    change.swap(&mut storage);
+    let extents = storage.subpools.extents(&storage.elements, FIRST);
+    assert!(rt; extents.count() == 0 && !storage.region.assigned(6));
+    change.swap(&mut storage);
+    let extents = storage.subpools.extents(&storage.elements, FIRST);
+    assert!(rt; extents.count() == 1 && storage.region.assigned(6));
+    change.discard(&mut storage);
+    assert_eq!(rt; storage.elements.spare(), 114);
     let released = release(storage);
     assert_eq!(rt; released.blocks, 1);
     assert_eq!(rt; released.frames, 3);

@@ -9,4 +9,4 @@ create-requires-clause-unseen c =
     let d : Subpool = record { number = 0; owner = 0 } in
     let p : Subpool = slice_index_or c.args.names.now (c.loop-k.k - 1) d in
     ap (λ (m : Subpools). m.sight p.owner p.number) c.loop-k.invariant.subpools
-    ∙ name-unseen c.args.names.now c.loop-k.k d c.requires.names.once c.loop-k-test.true (omega (arith, c.loop-k-test.true, c.loop-k.auto.k))
+    ∙ name-unseen c.args.names.now c.loop-k.k d c.requires.names.once (omega (arith, c.loop-k-test.true)) (omega (arith, c.loop-k-test.true, c.loop-k.auto.k))
