@@ -94,7 +94,7 @@ area_back conditional bytes first subpool =
 -- the subpools that a new task is given, or that it shares, with the word of their number or of their list's address
 abbrev pub passed_asked : NamedState → WrittenSubpools → Option Passed
 passed_asked m nothing = Some Nothing
-passed_asked m (one number) = option_map Number (looked_up m number)
+passed_asked m (one n) = option_map Number (looked_up m n)
 passed_asked m (listed address) = option_map Listed (looked_up m address)
 
 -- a new task
