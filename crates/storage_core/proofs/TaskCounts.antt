@@ -56,11 +56,16 @@ attach-short m task shares_zero gifts shares rows two =
     let begins = zero_records m task shares_zero in
     let given = flat_map (gift_records m task) gifts in
     let shared = flat_map (share_records m task) shares in
-    omega (arith, two, length-append (attach_records m task shares_zero gifts shares) (register_records m rows),
-      length-append begins given, length-append (begins ++ given) shared,
+    omega (
+      arith,
+      two,
+      length-append (attach_records m task shares_zero gifts shares) (register_records m rows),
+      length-append begins given,
+      length-append (begins ++ given) shared,
       zero-short m task shares_zero,
       flat-short (gift_records m task) (λ n. given-short task n (m.subpools.sight m.tasks.current n)) gifts,
-      flat-short (share_records m task) (λ n. sharing-short m.tasks.current task n (m.subpools.sight m.tasks.current n)) shares)
+      flat-short (share_records m task) (λ n. sharing-short m.tasks.current task n (m.subpools.sight m.tasks.current n)) shares,
+    )
 
 pub attach_few : {E : Type 0} (p t : Parts) (m : StorageState) (plan : AttachPlan) (r : Result Change E) → IfOk r (λ c. Reserves p (attach_change m plan) c t) →
     IfOk r (λ c. c.records.count + c.blanks.count < elements_below m (Attach plan))

@@ -13,9 +13,9 @@ mod storage;
 mod walks;
 
 pub use free_queue::Area;
+pub use plans::Plan;
 pub use run_set::Run;
 pub use storage::Storage;
-pub use plans::Plan;
 pub use storage_plans::STORE_MOST;
 pub use storage_swap::{Change, Released};
 pub use subpool_storage::{PoolPlace, SharerPlace};
