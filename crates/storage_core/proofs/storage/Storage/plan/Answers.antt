@@ -44,14 +44,14 @@ returns-in-Detach c =
     let s = c.args.self.now in
     subst (λ x. IsPlanned (settings_of s) c.args.names_full (state_in_place s) (service_in x) c.end_planned.result)
     (sym c.in-Detach.is)
-    (c.end_planned.ensures (settings_of s) c.args.names_full (state_in_place s) _ (c.plan_detach.ensures s.settings c.args.names_full (record { stands = s.held.stands; sound = s.held.sound })))
+    (c.end_planned.ensures (settings_of s) c.args.names_full (state_in_place s) _ (c.plan_detach.ensures s.settings c.args.names_full s.held.valid (record { stands = s.held.stands; sound = s.held.sound })))
 
 pub returns-in-EndTask : goal.returns-in-EndTask
 returns-in-EndTask c =
     let s = c.args.self.now in
     subst (λ x. IsPlanned (settings_of s) c.args.names_full (state_in_place s) (service_in x) c.end_planned-in-EndTask.result)
     (sym c.in-EndTask.is)
-    (c.end_planned-in-EndTask.ensures (settings_of s) c.args.names_full (state_in_place s) _ (c.plan_end_task.ensures s.settings c.args.names_full (record { stands = s.held.stands; sound = s.held.sound })))
+    (c.end_planned-in-EndTask.ensures (settings_of s) c.args.names_full (state_in_place s) _ (c.plan_end_task.ensures s.settings c.args.names_full s.held.valid (record { stands = s.held.stands; sound = s.held.sound })))
 
 pub returns-in-Run : goal.returns-in-Run
 returns-in-Run c =
