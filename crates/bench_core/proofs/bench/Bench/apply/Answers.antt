@@ -158,7 +158,7 @@ returns-clause-keeps c =
     kept_bench h.kept h.undone b.machine r t change d reserved c.swap.ensures limit n u kept.undone kept.fits states
     ∙ (λ i. record { past = take limit (plain_of b.machine ∷ (bench_at (e.kept i) b.machine (e.undone i)).past); present = led; later = [] }) in
     let accepted = accepted_as b.machine r x c.in-Ok.planned change c.in-Ok.ensures.0 made.is in (
-      accepted ∙ (λ i. Accepted (sym (ap (λ (y : Bench NamedState). y.present) new) i) (sym c.reply.ensures i)),
+      accepted ∙ (λ i. Accepted (sym (ap (λ (y : Bench NamedState). y.present) new) i) (sym c.reply-reply.ensures i)),
       ap (λ (y : Bench NamedState). y.past) new,
       ap (λ (y : Bench NamedState). y.later) new,
     )
