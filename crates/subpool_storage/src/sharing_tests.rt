@@ -99,18 +99,15 @@ fn is_at(
     assert_eq!(rt; storage.subpool_of_page(elements, PAGE.start), Some(here));
     assert_eq!(rt; storage.longest(elements, here, 1, region), AREA.len);
     assert_eq!(rt; storage.longest(elements, elsewhere, 1, region), 0);
-    assert_eq!(rt; storage.subpool_after(elements, 0, 0), Some(here));
-    assert_eq!(rt;
-        storage.subpool_after(elements, here.number, here.owner),
-        None
-    );
+    assert_eq!(rt; storage.subpool_at(elements, 0), Some(here));
+    assert_eq!(rt; storage.subpool_at(elements, 1), None);
     assert_eq!(rt;
         storage.owner_seen(elements, here.owner, 9),
         Some(here.owner)
     );
     assert_eq!(rt; storage.owner_seen(elements, elsewhere.owner, 9), None);
     assert_eq!(rt; storage.owner_seen(elements, SHARER, 9), Some(here.owner));
-    assert_eq!(rt; storage.sharer_after(elements, here, 0), Some(SHARER));
+    assert_eq!(rt; storage.sharer_at(elements, here, 0), Some(SHARER));
 }
 
 #[test]
@@ -130,7 +127,7 @@ fn a_shared_subpool_passes_and_comes_back(rt: HostRuntime) -> Result<(), Fail> {
     unshare(&rt, &mut elements, &mut storage, GIVERS);
     assert_eq!(rt; elements.spare(), 125);
     assert_eq!(rt; storage.owner_seen(&elements, SHARER, 9), None);
-    assert_eq!(rt; storage.sharer_after(&elements, GIVERS, 0), None);
+    assert_eq!(rt; storage.sharer_at(&elements, GIVERS, 0), None);
     storage.discard(&mut elements);
     assert_eq!(rt; elements.spare(), 128);
     assert_eq!(rt; elements.release(), 1);
