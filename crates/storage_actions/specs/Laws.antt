@@ -6,6 +6,7 @@ use Rattle.vsm_model.specs.Regions.{among, pages_for, settings_valid}
 use Rattle.vsm_model.specs.Obtaining.{with_taken, with_pages}
 use Rattle.vsm_model.specs.Releasing.{without_area, without_storage}
 use Rattle.vsm_model.specs.Subpools.{same_subpool}
+use Rattle.cell_tables.specs.Named.{AreNamed}
 use Rattle.subpool_storage.specs.Subpools.{is_there}
 use Rattle.vsm_model.specs.Bytes.{with_bytes, are_there}
 use Rattle.vsm_model.specs.Registers.{with_registers}
@@ -64,11 +65,12 @@ EmptiedPagesAreARun =
     AreIdle (model_of m) p d count (emptied_pages m.subpools p d count)
     × ((emptied_pages m.subpools p d count).start + (emptied_pages m.subpools p d count).len ≤ 2 ^ 20)
 
--- the pages and the free storage of a subpool go, with the doublewords that were taken there;
+-- the pages, the free storage and the cell pools of a subpool go, with the doublewords that were taken there;
 abbrev pub EmptyingLeads : Type 0
 EmptyingLeads =
     (settings : Settings) (m : StorageState) (p : Subpool) (rows : List (ℕ × ℕ)) →
-    settings_valid settings ≡ true → IsSound settings m → is_there m.subpools p ≡ true → AreRegisters rows →
+    settings_valid settings ≡ true → IsSound settings m → AreNamed m.subpools.cells →
+    is_there m.subpools p ≡ true → AreRegisters rows →
     IsWellFormed settings (with_registers (without_storage (model_of m) (same_subpool p)) rows) →
     Leads settings m (change_from m.subpools (Some p) (register_records m rows) 1 (run_of 0 0))
     (with_registers (without_storage (model_of m) (same_subpool p)) rows)

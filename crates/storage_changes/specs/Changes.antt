@@ -37,8 +37,8 @@ abbrev pub unassigned_records : List Run → List Record
 unassigned_records [] = []
 unassigned_records (r ∷ rs) = Pages (record { run = r; assigned = false }) ∷ unassigned_records rs
 
--- The pages and the free storage of a subpool go over into the change as they stand: they change places with those of
--- an empty one that the change has parked under its name. Its pages become unassigned.
+-- The pages, the free storage and the cell pools of a subpool go over into the change as they stand: they change places
+-- with those of an empty one that the change has parked under its name. Its pages become unassigned.
 abbrev pub emptied_records : Subpools → Subpool → List Record
 emptied_records m p = Queues (record { subpool = p }) ∷ unassigned_records (extents m p)
 

@@ -1,9 +1,11 @@
 -- When a record fits: its places have the other value, what it needs is there, and an element is left before and after
 -- each call on a queue.
-use Rattle.std.specs.Prelude.{◌≡◌, ◌≢◌, ℕ, ◌+◌, ◌/◌, ◌^◌, ◌<◌, ◌≤◌, Bool, true, false, not, List, [], ◌∷◌, length}
+use Rattle.std.specs.Prelude.{◌≡◌, ◌≢◌, ℕ, ◌+◌, ◌*◌, ◌/◌, ◌^◌, ◌<◌, ◌≤◌, Bool, true, false, not, List, [], ◌∷◌, length}
 use Rattle.std.specs.Prelude.{Option, Some, None, IsSome, if◌then◌else◌}
 use Rattle.run_set.specs.Runs.{inside}
-use Rattle.subpool_storage.specs.Subpools.{is_there, owned_by}
+use Rattle.subpool_storage.specs.Subpools.{is_there, owned_by, CanExchange, IsUnnamed}
+use Rattle.cell_pool.specs.Pools.{Pool, uses, meets, with_first, without_first, extended, retracted}
+use Rattle.vsm_model.specs.Subpools.{same_subpool}
 use Rattle.storage_changes.specs.declared.record.AreaRecord.{AreaRecord}
 use Rattle.storage_changes.specs.declared.record.ExtentRecord.{ExtentRecord}
 use Rattle.storage_changes.specs.declared.record.PagesRecord.{PagesRecord}
@@ -15,11 +17,15 @@ use Rattle.storage_changes.specs.declared.record.TaskRecord.{TaskRecord}
 use Rattle.storage_changes.specs.declared.record.TurnRecord.{TurnRecord}
 use Rattle.storage_changes.specs.declared.record.SharerRecord.{SharerRecord}
 use Rattle.storage_changes.specs.declared.record.PassRecord.{PassRecord}
+use Rattle.storage_changes.specs.declared.record.CellPoolRecord.{CellPoolRecord}
+use Rattle.storage_changes.specs.declared.record.CellExtentRecord.{CellExtentRecord}
+use Rattle.storage_changes.specs.declared.record.CellRecord.{CellRecord}
 use Rattle.storage_changes.specs.declared.record.Record.{Record}
 use Rattle.storage_changes.specs.declared.record.Record.TheVariants.{Area, Extent, Pages, Own, Queues, Register, Bytes}
 use Rattle.storage_changes.specs.declared.record.Record.TheVariants.{Task, Turn, Sharer, Pass}
+use Rattle.storage_changes.specs.declared.record.Record.TheVariants.{CellPool, CellExtent, Cell}
 use Rattle.storage_changes.specs.Walk.{Walk}
-use Rattle.storage_changes.specs.Steps.{area_spare, extent_spare, pages_spare, own_step, step}
+use Rattle.storage_changes.specs.Steps.{area_spare, extent_spare, pages_spare, own_step, extent_elements, step}
 
 pub record AreaFits (w : Walk) (r : AreaRecord) : Type 0 where
   pub there : is_there w.state.subpools r.subpool ≡ true
@@ -64,10 +70,13 @@ pub record OwnFits (w : Walk) (r : OwnRecord) : Type 0 where
   pub room : 0 < w.spare
   pub room_after : 0 < (own_step w r).spare
 
--- the subpool is there, and parked under the same name
+-- The subpool is there, and parked under the same name. No cell pool is both there and parked, and no name comes to be
+-- there twice.
 pub record QueuesFits (w : Walk) (r : QueuesRecord) : Type 0 where
   pub there : is_there w.state.subpools r.subpool ≡ true
   pub parked : is_there w.parked r.subpool ≡ true
+  pub apart : (id : ℕ) → IsSome (w.state.subpools.cells id) → w.parked.cells id ≡ None
+  pub names : CanExchange w.state.subpools w.parked r.subpool
 
 pub record RegisterFits (w : Walk) (r : RegisterRecord) : Type 0 where
   pub task : IsSome (w.state.tasks.parents r.task)
@@ -108,6 +117,42 @@ pub record PassFits (w : Walk) (r : PassRecord) : Type 0 where
   pub unowned : (task : ℕ) → w.state.subpools.sight task r.subpool.number ≢ Some r.to
   pub no_pages : (page : ℕ) → w.state.subpools.pages (owned_by r.subpool r.to) page ≡ false
   pub none_free : (d : ℕ) → w.state.subpools.free (owned_by r.subpool r.to) d ≡ false
+  pub no_cells :
+      (id : ℕ) (p : Pool) → w.state.subpools.cells id ≡ Some p
+      → same_subpool p.settings.subpool (owned_by r.subpool r.to) ≡ false
+
+-- The cell pool is there or parked, as it goes or comes, and not both; where it goes none has its name.
+pub record CellPoolFits (w : Walk) (r : CellPoolRecord) : Type 0 where
+  pub here : IsSome (if r.present then w.parked.cells r.pool else w.state.subpools.cells r.pool)
+  pub not_there : (if r.present then w.state.subpools.cells r.pool else w.parked.cells r.pool) ≡ None
+  pub unnamed :
+      (p : Pool) → (if r.present then w.parked.cells r.pool else w.state.subpools.cells r.pool) ≡ Some p
+      → IsUnnamed (if r.present then w.state.subpools else w.parked) p.name
+
+-- The extent lies within 32 bits and overlaps no other one of the cell pool; where it's the last one, its cells are the
+-- end of the free ones.
+pub record IsExtent (r : CellExtentRecord) (p rest : Pool) : Type 0 where
+  pub range : r.start + r.count * rest.settings.size ≤ 2 ^ 32
+  pub apart : meets r.start (r.count * rest.settings.size) rest ≡ false
+  pub last : r.present ≡ false → p ≡ extended r.start r.count rest
+
+pub record CellExtentFits (w : Walk) (r : CellExtentRecord) : Type 0 where
+  pub there : IsSome (w.state.subpools.cells r.pool)
+  pub extent :
+      (p : Pool) → w.state.subpools.cells r.pool ≡ Some p
+      → IsExtent r p (if r.present then p else retracted r.count p)
+  pub room : extent_elements r ≤ w.spare + (if r.present then 0 else extent_elements r)
+
+-- The cell is in use, or the first free one.
+pub record IsCell (r : CellRecord) (p rest : Pool) : Type 0 where
+  pub used : uses rest r.cell ≡ true
+  pub first : r.free ≡ false → p ≡ with_first r.cell rest
+
+pub record CellFits (w : Walk) (r : CellRecord) : Type 0 where
+  pub there : IsSome (w.state.subpools.cells r.pool)
+  pub cell :
+      (p : Pool) → w.state.subpools.cells r.pool ≡ Some p → IsCell r p (if r.free then p else without_first p)
+  pub room : 1 ≤ w.spare + (if r.free then 0 else 1)
 
 -- there are sixteen bytes, and each of their addresses has one
 pub record BytesFits (w : Walk) (r : BytesRecord) : Type 0 where
@@ -127,6 +172,9 @@ Fits w (Task r) = TaskFits w r
 Fits w (Turn r) = TurnFits w r
 Fits w (Sharer r) = SharerFits w r
 Fits w (Pass r) = PassFits w r
+Fits w (CellPool r) = CellPoolFits w r
+Fits w (CellExtent r) = CellExtentFits w r
+Fits w (Cell r) = CellFits w r
 Fits w (Bytes r) = BytesFits w r
 
 abbrev pub FitInTurn : Walk → List Record → Type 0

@@ -8,6 +8,7 @@ use Rattle.vsm_model.specs.Regions.{in_a_region}
 use Rattle.vsm_model.specs.State.{State}
 use Rattle.vsm_model.specs.WellFormed.{IsWellFormed}
 use Rattle.subpool_storage.specs.Subpools.{Subpools, is_there}
+use Rattle.cell_tables.specs.Table.{cell_pools_in}
 use Rattle.storage_changes.specs.State.{StorageState}
 
 -- the first of these that passes
@@ -42,7 +43,7 @@ model_of m =
       pages = subpool_of m.subpools;
       taken = λ d. is_taken m.subpools (subpool_of m.subpools (d / 512)) d;
       bytes = m.bytes;
-      cell_pools = [];
+      cell_pools = cell_pools_in m.subpools.cells;
     }
 
 -- No page is two subpools', the unassigned pages are the rest of the regions, free storage lies in its subpool's pages,

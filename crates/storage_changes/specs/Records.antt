@@ -6,8 +6,10 @@ use Rattle.vsm_model.specs.Bytes.{fullword}
 use Rattle.storage_changes.specs.declared.record.RegisterRecord.{RegisterRecord}
 use Rattle.storage_changes.specs.declared.record.Record.{Record}
 use Rattle.storage_changes.specs.declared.record.TaskRecord.{TaskRecord}
+use Rattle.storage_changes.specs.declared.record.CellExtentRecord.{CellExtentRecord}
 use Rattle.storage_changes.specs.declared.record.Record.TheVariants.{Area, Extent, Pages, Own, Queues, Register, Bytes}
 use Rattle.storage_changes.specs.declared.record.Record.TheVariants.{Task, Turn, Sharer, Pass}
+use Rattle.storage_changes.specs.declared.record.Record.TheVariants.{CellPool, CellExtent, Cell}
 
 -- the word at a place, or 0 past the last
 abbrev pub word : List ℕ → ℕ → ℕ
@@ -23,6 +25,15 @@ run_in words = record { start = word words 3; len = word words 4 }
 -- a record of a subpool and a run, with the value that their places get
 abbrev pub words_of : ℕ → Subpool → Run → Bool → List ℕ
 words_of kind p run value = kind ∷ p.number ∷ p.owner ∷ run.start ∷ run.len ∷ (if value then 1 else 0) ∷ 0 ∷ []
+
+-- a record of a cell pool, whose id is the second word, with cells from an address on and the value that its places get
+abbrev pub extent_words : ℕ → ℕ → Run → Bool → List ℕ
+extent_words kind pool cells value =
+    kind ∷ pool ∷ 0 ∷ cells.start ∷ cells.len ∷ (if value then 1 else 0) ∷ 0 ∷ []
+
+abbrev pub cell_extent_in : List ℕ → CellExtentRecord
+cell_extent_in words =
+    record { pool = word words 1; start = word words 3; count = word words 4; present = word words 5 == 1 }
 
 -- the register of a task that the second and the third word name, and the word in the fourth
 abbrev pub register_in : List ℕ → RegisterRecord
@@ -59,4 +70,8 @@ record_of words =
     else if word words 0 == 8 then
     Sharer (record { subpool = subpool_in words; task = word words 3 % 256; present = word words 5 == 1 })
     else if word words 0 == 9 then Pass (record { subpool = subpool_in words; to = word words 3 % 256 })
+    else if word words 0 == 10 then CellPool (record { pool = word words 1; present = word words 5 == 1 })
+    else if word words 0 == 11 then CellExtent (cell_extent_in words)
+    else if word words 0 == 12 then
+    Cell (record { pool = word words 1; cell = word words 3; free = word words 5 == 1 })
     else Bytes (record { block = word words 1; bytes = bytes_in words })

@@ -4,7 +4,8 @@ use Rattle.std.specs.Prelude.{slice_index_or, if◌then◌else◌}
 use Rattle.run_set.specs.Runs.{inside}
 use Rattle.run_set.specs.Counts.{joins}
 use Rattle.subpool_storage.specs.Subpools.{with_pages, with_free, with_own, with_storage_of}
-use Rattle.subpool_storage.specs.Subpools.{with_sharer, with_passed}
+use Rattle.subpool_storage.specs.Subpools.{with_sharer, with_passed, with_pool_of, with_changed}
+use Rattle.cell_pool.specs.Pools.{Pool, mark_items, without_first, with_first, extended, retracted}
 use Rattle.storage_changes.specs.declared.record.AreaRecord.{AreaRecord}
 use Rattle.storage_changes.specs.declared.record.ExtentRecord.{ExtentRecord}
 use Rattle.storage_changes.specs.declared.record.PagesRecord.{PagesRecord}
@@ -16,9 +17,13 @@ use Rattle.storage_changes.specs.declared.record.TaskRecord.{TaskRecord}
 use Rattle.storage_changes.specs.declared.record.TurnRecord.{TurnRecord}
 use Rattle.storage_changes.specs.declared.record.SharerRecord.{SharerRecord}
 use Rattle.storage_changes.specs.declared.record.PassRecord.{PassRecord}
+use Rattle.storage_changes.specs.declared.record.CellPoolRecord.{CellPoolRecord}
+use Rattle.storage_changes.specs.declared.record.CellExtentRecord.{CellExtentRecord}
+use Rattle.storage_changes.specs.declared.record.CellRecord.{CellRecord}
 use Rattle.storage_changes.specs.declared.record.Record.{Record}
 use Rattle.storage_changes.specs.declared.record.Record.TheVariants.{Area, Extent, Pages, Own, Queues, Register, Bytes}
 use Rattle.storage_changes.specs.declared.record.Record.TheVariants.{Task, Turn, Sharer, Pass}
+use Rattle.storage_changes.specs.declared.record.Record.TheVariants.{CellPool, CellExtent, Cell}
 use Rattle.storage_changes.specs.Walk.{Walk, spare_joined, spare_left}
 
 -- an area of a subpool's free storage
@@ -75,7 +80,7 @@ own_step w r =
       spare = if r.present then w.spare - 1 else w.spare + 1;
     }
 
--- the pages and the free storage of a subpool, which changes places with what is parked under its name
+-- the pages, the free storage and the cell pools of a subpool, which change places with what is parked under its name
 
 abbrev pub queues_step : Walk → QueuesRecord → Walk
 queues_step w r =
@@ -137,6 +142,42 @@ abbrev pub pass_step : Walk → PassRecord → Walk
 pass_step w r =
     record w { state = record w.state { subpools = with_passed w.state.subpools r.subpool r.to } }
 
+-- a cell pool, which changes places with what is parked under its id
+
+abbrev pub cell_pool_step : Walk → CellPoolRecord → Walk
+cell_pool_step w r =
+    record w {
+      state = record w.state { subpools = with_pool_of w.state.subpools w.parked r.pool };
+      parked = with_pool_of w.parked w.state.subpools r.pool;
+    }
+
+-- The last extent of a cell pool: it has an element, and one for each of its cells and each item of their marks.
+
+abbrev pub extent_elements : CellExtentRecord → ℕ
+extent_elements r = r.count + mark_items r.count + 1
+
+abbrev pub cell_extent_change : CellExtentRecord → Pool → Pool
+cell_extent_change r = if r.present then extended r.start r.count else retracted r.count
+
+abbrev pub cell_extent_step : Walk → CellExtentRecord → Walk
+cell_extent_step w r =
+    record w {
+      state = record w.state { subpools = with_changed w.state.subpools r.pool (cell_extent_change r) };
+      spare = if r.present then w.spare - extent_elements r else w.spare + extent_elements r;
+    }
+
+-- the first free cell of a cell pool
+
+abbrev pub cell_change : CellRecord → Pool → Pool
+cell_change r = if r.free then with_first r.cell else without_first
+
+abbrev pub cell_step : Walk → CellRecord → Walk
+cell_step w r =
+    record w {
+      state = record w.state { subpools = with_changed w.state.subpools r.pool (cell_change r) };
+      spare = if r.free then w.spare - 1 else w.spare + 1;
+    }
+
 -- sixteen bytes from an address that sixteen divides
 
 abbrev pub bytes_step : Walk → BytesRecord → Walk
@@ -160,6 +201,9 @@ step w (Task r) = task_step w r
 step w (Turn r) = turn_step w r
 step w (Sharer r) = sharer_step w r
 step w (Pass r) = pass_step w r
+step w (CellPool r) = cell_pool_step w r
+step w (CellExtent r) = cell_extent_step w r
+step w (Cell r) = cell_step w r
 step w (Bytes r) = bytes_step w r
 
 abbrev pub walk : Walk → List Record → Walk

@@ -5,6 +5,7 @@ use Rattle.subpool_storage.specs.Subpools.{owned_by}
 use Rattle.storage_changes.specs.declared.record.Record.{Record}
 use Rattle.storage_changes.specs.declared.record.Record.TheVariants.{Area, Extent, Pages, Own, Queues, Register, Bytes}
 use Rattle.storage_changes.specs.declared.record.Record.TheVariants.{Task, Turn, Sharer, Pass}
+use Rattle.storage_changes.specs.declared.record.Record.TheVariants.{CellPool, CellExtent, Cell}
 use Rattle.storage_changes.specs.Walk.{Walk}
 use Rattle.storage_changes.specs.State.{StorageState}
 use Rattle.storage_changes.specs.Steps.{step}
@@ -25,6 +26,9 @@ turned m (Task r) = Task (record r { present = not r.present })
 turned m (Turn r) = Turn (record { task = m.tasks.current })
 turned m (Sharer r) = Sharer (record r { present = not r.present })
 turned m (Pass r) = Pass (record { subpool = owned_by r.subpool r.to; to = r.subpool.owner })
+turned m (CellPool r) = CellPool (record r { present = not r.present })
+turned m (CellExtent r) = CellExtent (record r { present = not r.present })
+turned m (Cell r) = Cell (record r { free = not r.free })
 turned m (Bytes r) = Bytes (record r { bytes = read m.bytes (16 * r.block) 16 })
 
 -- the records that lead back, the last one first, before `done`

@@ -6,6 +6,7 @@ pub mod laws;
 mod record;
 
 pub use record::{
-    AreaRecord, BytesRecord, ExtentRecord, OwnRecord, PagesRecord, PassRecord, QueuesRecord,
-    Record, RegisterRecord, SharerRecord, TaskRecord, TurnRecord,
+    AreaRecord, BytesRecord, CellExtentRecord, CellPoolRecord, CellRecord, ExtentRecord, OwnRecord,
+    PagesRecord, PassRecord, QueuesRecord, Record, RegisterRecord, SharerRecord, TaskRecord,
+    TurnRecord,
 };

@@ -1,9 +1,10 @@
 ghost use Rattle.std.specs.Prelude.{◌≡◌, ◌+◌, ◌%◌, ◌≤◌, ◌==◌};
 ghost use Rattle.vsm_model.specs.Bytes.{fullword};
 ghost use Rattle.storage_changes.specs.Records.{record_of, words_of, word, subpool_in, run_in, register_in, bytes_in};
-ghost use Rattle.storage_changes.specs.Records.{four_at, task_in};
+ghost use Rattle.storage_changes.specs.Records.{four_at, task_in, extent_words, cell_extent_in};
 
 use run_set::Run;
+use subpool_storage::CellId;
 use vsm_model::Subpool;
 
 /// The doublewords of an area become free storage of a subpool, or taken.
@@ -39,7 +40,8 @@ pub struct OwnRecord {
     pub present: bool,
 }
 
-/// The pages and the free storage of a subpool change places with what the change has parked under its name.
+/// The pages, the free storage and the cell pools of a subpool change places with what the change has parked under its
+/// name.
 #[derive(Clone, Copy, Debug, PartialEq, Eq)]
 pub struct QueuesRecord {
     pub subpool: Subpool,
@@ -82,11 +84,39 @@ pub struct SharerRecord {
     pub present: bool,
 }
 
-/// A subpool passes to another task, with its pages and its free storage, wherever it is named.
+/// A subpool passes to another task, with its pages, its free storage and its cell pools, wherever it is named.
 #[derive(Clone, Copy, Debug, PartialEq, Eq)]
 pub struct PassRecord {
     pub subpool: Subpool,
     pub to: u8,
+}
+
+/// A cell pool is there, with its extents and its cells, or it is gone: it changes places with what the change has parked
+/// under its id.
+#[derive(Clone, Copy, Debug, PartialEq, Eq)]
+pub struct CellPoolRecord {
+    pub pool: CellId,
+    pub present: bool,
+}
+
+/// A cell pool has an extent more, or its last one is gone.
+#[derive(Clone, Copy, Debug, PartialEq, Eq)]
+pub struct CellExtentRecord {
+    pub pool: CellId,
+    /// The address of its first cell.
+    pub start: u32,
+    /// How many cells it has.
+    pub count: u32,
+    pub present: bool,
+}
+
+/// A cell of a cell pool is its first free one, or it isn't free any more.
+#[derive(Clone, Copy, Debug, PartialEq, Eq)]
+pub struct CellRecord {
+    pub pool: CellId,
+    /// Its address.
+    pub cell: u32,
+    pub free: bool,
 }
 
 /// Places of the storage that change together, with their other value.
@@ -102,6 +132,9 @@ pub enum Record {
     Turn(TurnRecord),
     Sharer(SharerRecord),
     Pass(PassRecord),
+    CellPool(CellPoolRecord),
+    CellExtent(CellExtentRecord),
+    Cell(CellRecord),
     Bytes(BytesRecord),
 }
 
@@ -134,7 +167,13 @@ const SHARER: u32 = 8;
 
 const PASS: u32 = 9;
 
-const BYTES: u32 = 10;
+const CELL_POOL: u32 = 10;
+
+const CELL_EXTENT: u32 = 11;
+
+const CELL: u32 = 12;
+
+const BYTES: u32 = 13;
 
 /// What stands in the words of a record that names no subpool,
 const NO_SUBPOOL: Subpool = Subpool {
@@ -170,6 +209,9 @@ impl Record {
             Record::Turn(r) => [TURN, u32::from(r.task), 0, 0, 0, 0, 0],
             Record::Sharer(r) => place_words(SHARER, r.subpool, one_task(r.task), r.present),
             Record::Pass(r) => place_words(PASS, r.subpool, one_task(r.to), false),
+            Record::CellPool(r) => cell_words(CELL_POOL, r.pool, NO_RUN, r.present),
+            Record::CellExtent(r) => cell_words(CELL_EXTENT, r.pool, cells_from(r), r.present),
+            Record::Cell(r) => cell_words(CELL, r.pool, one_cell(r.cell), r.free),
             Record::Bytes(r) => byte_words(r),
         }
     }
@@ -211,6 +253,16 @@ impl Record {
                 subpool,
                 to: low_byte(words[3]),
             }),
+            CELL_POOL => Record::CellPool(CellPoolRecord {
+                pool: words[1],
+                present: value,
+            }),
+            CELL_EXTENT => Record::CellExtent(cell_extent_of(words)),
+            CELL => Record::Cell(CellRecord {
+                pool: words[1],
+                cell: words[3],
+                free: value,
+            }),
             _ => Record::Bytes(BytesRecord {
                 block: words[1],
                 bytes: bytes_of(words),
@@ -237,7 +289,7 @@ fn place_words(kind: u32, subpool: Subpool, run: Run, value: bool) -> [u32; 7]
 
 /// The words of a record of bytes: four bytes in a word, the first of them the highest.
 fn byte_words(r: BytesRecord) -> [u32; 7]
-    ensures kind { word result 0 ≡ 10 }
+    ensures kind { word result 0 ≡ 13 }
     ensures block { word result 1 ≡ r.block }
     ensures bytes { bytes_in result ≡ r.bytes }
 {
@@ -288,6 +340,45 @@ fn one_task(task: u8) -> Run
     Run {
         start: u32::from(task),
         len: 0,
+    }
+}
+
+/// The words of a record of a cell pool, with a run of cells and the value that its places get.
+fn cell_words(kind: u32, pool: CellId, cells: Run, value: bool) -> [u32; 7]
+    ensures { result ≡ extent_words kind pool cells value }
+{
+    let value = u32::from(value);
+    [kind, pool, 0, cells.start, cells.len, value, 0]
+}
+
+/// The cells of an extent, where the words of a record have a run.
+fn cells_from(r: CellExtentRecord) -> Run
+    ensures { result ≡ record { start = r.start; len = r.count } }
+{
+    Run {
+        start: r.start,
+        len: r.count,
+    }
+}
+
+/// A cell, where the words of a record have a run.
+fn one_cell(cell: u32) -> Run
+    ensures { result ≡ record { start = cell; len = 0 } }
+{
+    Run {
+        start: cell,
+        len: 0,
+    }
+}
+
+fn cell_extent_of(words: [u32; 7]) -> CellExtentRecord
+    ensures { result ≡ cell_extent_in words }
+{
+    CellExtentRecord {
+        pool: words[1],
+        start: words[3],
+        count: words[4],
+        present: words[5] == 1,
     }
 }
 

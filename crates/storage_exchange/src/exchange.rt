@@ -1,5 +1,5 @@
 //! One record of a change changes sides with the storage: a function for each kind. Those of tasks and of who sees a
-//! subpool are in `sharing.rt`.
+//! subpool are in `sharing.rt`, those of cell pools in `cells.rt`.
 
 ghost use Rattle.std.specs.Prelude.{◌≡◌, ℕ, ◌*◌, ◌≤◌, List, true, false};
 ghost use Rattle.raw_region.specs.Frames.{PageFrame};
@@ -76,6 +76,9 @@ impl Storage {
             Record::Turn(r) => Record::Turn(self.exchange_turn(r)),
             Record::Sharer(r) => Record::Sharer(self.exchange_sharer(r)),
             Record::Pass(r) => Record::Pass(self.exchange_pass(r)),
+            Record::CellPool(r) => Record::CellPool(self.exchange_cell_pool(parked, r)),
+            Record::CellExtent(r) => Record::CellExtent(self.exchange_cell_extent(r)),
+            Record::Cell(r) => Record::Cell(self.exchange_cell(r)),
             Record::Bytes(r) => Record::Bytes(self.exchange_bytes(r)),
         }
     }
@@ -171,11 +174,11 @@ impl Storage {
         *given = parked.join(before);
     }
 
-    // The pages and the free storage of a subpool change places with what is parked under its name.
-    fn exchange_queues(&mut self, parked: &SubpoolStorage, r: QueuesRecord)
-        requires stands { StandsWith self.old parked.now }
-        requires fits { (given : List PageFrame) × (kept : ℕ) × QueuesFits (walk_of self.old given parked.now kept) r }
-        ensures { (given : List PageFrame) → Exchanges self.old self.new given given parked.now parked.now (Queues r) }
+    // The pages, the free storage and the cell pools of a subpool change places with what is parked under its name.
+    fn exchange_queues(&mut self, parked: &mut SubpoolStorage, r: QueuesRecord)
+        requires stands { StandsWith self.old parked.old }
+        requires fits { (given : List PageFrame) × (kept : ℕ) × QueuesFits (walk_of self.old given parked.old kept) r }
+        ensures { (given : List PageFrame) → Exchanges self.old self.new given given parked.old parked.new (Queues r) }
     {
         self.subpools
             .exchange_storage(&mut self.elements, parked, r.subpool);

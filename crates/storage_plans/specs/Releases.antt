@@ -1,12 +1,12 @@
 -- What of a release depends on where its area lies. Assembler Services Guide, "Virtual storage management", "Subpool
 -- handling"; Assembler Services Reference, STORAGE, RELEASE, and FREEMAIN.
-use Rattle.std.specs.Prelude.{◌≡◌, ℕ, false, None, List, [], ◌∷◌, ◌++◌}
+use Rattle.std.specs.Prelude.{◌≡◌, ℕ, ◌*◌, None, List, [], ◌∷◌, ◌++◌}
 use Rattle.vsm_model.specs.declared.Subpool.{Subpool}
 use Rattle.vsm_model.specs.declared.causes.Cause.TheVariants.{NotInSubpool, OverlapsFree, OverlapsCells}
 use Rattle.vsm_model.specs.declared.limits.Settings.{Settings}
 use Rattle.vsm_model.specs.declared.replies.Reply.TheVariants.{Returned}
 use Rattle.vsm_model.specs.Causes.{Causes}
-use Rattle.vsm_model.specs.Releasing.{is_foreign, is_not_taken}
+use Rattle.vsm_model.specs.Releasing.{is_foreign, is_not_taken, overlaps_cells}
 use Rattle.vsm_model.specs.Search.{some_pass}
 use Rattle.vsm_model.specs.State.{State}
 use Rattle.storage_changes.specs.declared.record.Record.{Record}
@@ -15,13 +15,12 @@ use Rattle.storage_actions.specs.Actions.{emptied_pages, give_back_records, regi
 use Rattle.storage_plans.specs.declared.plan.Plan.{Plan}
 use Rattle.storage_plans.specs.declared.release.GivenBack.{GivenBack}
 
--- the last of a release's causes, those of an area of so many doublewords from this one on: the storage has no cell
--- pools
+-- the last of a release's causes, those of an area of so many doublewords from this one on
 abbrev pub area_causes : Settings → State → Subpool → ℕ → ℕ → Causes
 area_causes settings s p d count =
     (some_pass (is_foreign settings s p) d count, NotInSubpool)
     ∷ (some_pass (is_not_taken s p) d count, OverlapsFree)
-    ∷ (false, OverlapsCells)
+    ∷ (overlaps_cells s (8 * d) (8 * count), OverlapsCells)
     ∷ []
 
 -- the records that give an area back with the pages that it empties, and set the return code

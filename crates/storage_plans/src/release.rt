@@ -4,7 +4,8 @@ ghost use Rattle.std.specs.Prelude.{None, Some, IfOk, IfErr, OnOk, IsTrue, [], �
 ghost use Rattle.arrayvec.specs.ArrayVec.{array_vec_len};
 ghost use Rattle.vsm_model.specs.Causes.{first_cause};
 ghost use Rattle.vsm_model.specs.Regions.{doublewords, in_a_region, pages_for, settings_valid};
-ghost use Rattle.vsm_model.specs.Releasing.{release_causes};
+ghost use Rattle.vsm_model.specs.declared.causes.Cause.TheVariants.{OverlapsCells};
+ghost use Rattle.vsm_model.specs.Releasing.{overlaps_cells, release_causes};
 ghost use Rattle.vsm_model.specs.Search.{all_pass, some_pass, holds};
 ghost use Rattle.vsm_model.specs.Services.{release};
 ghost use Rattle.vsm_model.specs.Subpools.{same_subpool, seen_or_own};
@@ -20,10 +21,12 @@ use crate::areas::check_number;
 use crate::plan::{NO_PAGES, PLAN_RECORDS, Plan, answer_cause, push_area, push_register};
 use crate::searches::{PAGE_DOUBLEWORDS, pages_on};
 use arrayvec::ArrayVec;
+use cell_tables::laws::overlaps_are_met;
 use descriptor_queue::Page;
 use run_set::{Cover, Run};
 use storage_changes::{ExtentRecord, PagesRecord, Record};
 use storage_exchange::Storage;
+use subpool_storage::laws::cell_pools_are_named;
 use vsm_model::{Cause, Release, Reply, Residence, Settings, Subpool};
 
 /// What a release gives back.
@@ -147,9 +150,28 @@ fn check_area(
         return Err(Cause::OverlapsFree);
     }
     match storage.subpools.covers(&storage.elements, subpool, area) {
-        Cover::None => Ok(()),
+        Cover::None => check_cells(storage, area),
         _ => Err(Cause::OverlapsFree),
     }
+}
+
+// Whether no extent of a cell pool has a byte in common with the area.
+fn check_cells(storage: &Storage, area: Run) -> Result<(), Cause>
+    requires stands { Stand storage.now }
+    requires range { area.start + area.len ≤ 2 ^ 29 }
+    requires short { area.len < 2 ^ 29 }
+    ensures ok { OnOk result (overlaps_cells (model_of (state_of storage.now)) (8 * area.start) (8 * area.len)
+        ≡ false) }
+    ensures err { IfErr result (λ cause. (cause ≡ OverlapsCells)
+        × (overlaps_cells (model_of (state_of storage.now)) (8 * area.start) (8 * area.len) ≡ true)) }
+{
+    overlaps_are_met();
+    cell_pools_are_named();
+    let pools = storage.subpools.cell_pools(&storage.elements);
+    if pools.holds(&storage.elements, 8 * area.start, 8 * area.len) {
+        return Err(Cause::OverlapsCells);
+    }
+    Ok(())
 }
 
 // What the release gives back, or the first cause that refuses it in any form.
@@ -319,9 +341,9 @@ fn give_back(storage: &Storage, found: GivenBack) -> Plan
 ///
 /// The causes that refuse it, in order: a number above 127 (`UnsupportedSubpool` for 131 and 132, else
 /// `SubpoolNotAllowed`), `BadLength` for zero bytes, `Misaligned`, `NotInSubpool` where the task doesn't see the
-/// subpool or a doubleword of the area lies outside both regions or in a page of another subpool, and `OverlapsFree`
-/// where one is free in the subpool or lies in a page that isn't assigned. A conditional form has in place of the last
-/// two a plan that sets register 15 to 4, and nothing else.
+/// subpool or a doubleword of the area lies outside both regions or in a page of another subpool, `OverlapsFree` where
+/// one is free in the subpool or lies in a page that isn't assigned, and `OverlapsCells` where the area has a byte in
+/// common with an extent of a cell pool. A conditional form has in place of the last three a plan that sets register 15 to 4, and nothing else.
 pub fn plan_release(storage: &Storage, settings: Settings, r: Release) -> Result<Plan, Cause>
     requires sound { StandsSound settings storage.now }
     requires frameless { IsFrameless storage.now }

@@ -2,15 +2,16 @@
 use Rattle.std.proofs.Props.{props}
 use Rattle.vsm_elements.specs.Store.{Store}
 use Rattle.subpool_set.specs.Props.{IsSubpoolSet-prop, AreApart-prop}
+use Rattle.cell_pool.specs.Props.{IsCellPools-prop, Pool-set}
 use Rattle.subpool_storage.specs.declared.storage.SubpoolStorage.{SubpoolStorage}
 use Rattle.subpool_storage.specs.Subpools.{Subpools}
 use Rattle.subpool_storage.specs.SubpoolStorage.{StandsIn, Stands}
 
 pub Subpools-set : IsSet Subpools
-Subpools-set = hlevel props
+Subpools-set = hlevel (Pool-set, props)
 
 StandsIn-prop : (s : Store) (q : SubpoolStorage) → IsProp (StandsIn s q)
-StandsIn-prop s q = hlevel (IsSubpoolSet-prop, AreApart-prop, props)
+StandsIn-prop s q = hlevel (IsSubpoolSet-prop, AreApart-prop, IsCellPools-prop, props)
 
 pub Stands-prop : (s : Store) (q : SubpoolStorage) → IsProp (Stands s q)
 unfolding Stands

@@ -1,11 +1,13 @@
 -- What a contract sees of a `SubpoolStorage`: its subpools as functions, and how often it holds an element.
 --
 -- The words are closed, so that nothing above depends on how the subpools stand in the elements.
-use Rattle.std.specs.Prelude.{◌≡◌, ℕ, ◌+◌, Bool, false, List, map, Option, Some, None}
+use Rattle.std.specs.Prelude.{◌≡◌, ℕ, ◌+◌, ◌≤◌, Bool, false, List, map, Option, Some, None}
 use Rattle.vsm_elements.specs.Store.{Store}
 use Rattle.vsm_elements.specs.Owners.{times, Moves}
 use Rattle.descriptor_queue.specs.Extents.{has_page}
 use Rattle.free_queue.specs.FreeQueue.{is_free}
+use Rattle.cell_pool.specs.CellPools.{by_id, IsCellPools}
+use Rattle.cell_pool.specs.CellPools
 use Rattle.subpool_set.specs.Pools.{Pool}
 use Rattle.subpool_set.specs.SubpoolSet.{sight, pool, owned, queue_ids, number_of, owner_of, IsSubpoolSet, QueuesStand}
 use Rattle.subpool_set.specs.SubpoolSet.{number_at, pool_before}
@@ -24,23 +26,30 @@ abbrev pub free_in : Store → Option Pool → ℕ → Bool
 free_in s None d = false
 free_in s (Some p) d = is_free s p.queues.free d
 
--- the subpools, with their pages and their free storage
+-- the subpools, with their pages, their free storage and their cell pools
 unfoldable pub subpools_of : Store → SubpoolStorage → Subpools
 subpools_of s q =
     record {
       sight = λ task number. sight s q.set task number;
       pages = λ p page. page_in s (pool s q.set p.number p.owner) page;
       free = λ p d. free_in s (pool s q.set p.number p.owner) d;
+      cells = λ id. by_id s q.cells id;
     }
 
 -- how often it holds an element, in its rows or in a queue
-unfoldable pub hold : Store → SubpoolStorage → ℕ → ℕ
-hold s q i = times i (owned s q.set) + times i (queue_ids s q.set)
+abbrev pub hold_queues : Store → SubpoolStorage → ℕ → ℕ
+hold_queues s q i = times i (owned s q.set) + times i (queue_ids s q.set)
 
--- the subpools and their queues stand in these elements
+-- and in those or in a cell pool
+unfoldable pub hold : Store → SubpoolStorage → ℕ → ℕ
+hold s q i = hold_queues s q i + times i (CellPools.owned s q.cells)
+
+-- the subpools, their queues and their cell pools stand in these elements, and no element is of both
 pub record StandsIn (s : Store) (q : SubpoolStorage) : Type 0 where
   pub set : IsSubpoolSet s q.set
   pub queues : QueuesStand s q.set
+  pub cells : IsCellPools s q.cells
+  pub apart : (i : ℕ) → hold_queues s q i + times i (CellPools.owned s q.cells) ≤ 1
 
 unfoldable pub Stands : Store → SubpoolStorage → Type 0
 Stands s q = StandsIn s q

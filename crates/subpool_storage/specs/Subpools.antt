@@ -1,12 +1,14 @@
--- Subpools with their pages and their free storage, as functions, and what one call does to them.
--- Assembler Services Guide, "Virtual storage management", "Subpool handling".
-use Rattle.std.specs.Prelude.{ℕ, Bool, false, ◌&&◌, ◌==◌, if◌then◌else◌, Option, Some, None}
+-- Subpools with their pages, their free storage and their cell pools, as functions, and what one call does to them.
+-- Assembler Services Guide, "Virtual storage management", "Subpool handling"; Assembler Services Reference, CPOOL.
+use Rattle.std.specs.Prelude.{◌≡◌, ◌≢◌, ℕ, Bool, false, ◌&&◌, ◌==◌, if◌then◌else◌, Option, Some, None}
+use Rattle.std.specs.Prelude.{option_map, List}
 use Rattle.run_set.specs.declared.run.Run.{Run}
 use Rattle.run_set.specs.Runs.{inside}
 use Rattle.vsm_model.specs.declared.Subpool.{Subpool}
 use Rattle.vsm_model.specs.Passing.{sight_after_gift}
 use Rattle.vsm_model.specs.Search.{holds}
 use Rattle.vsm_model.specs.Subpools.{same_subpool}
+use Rattle.cell_pool.specs.Pools.{Pool, at_id, handed_on, exchanged, lies_in}
 
 -- A set is its test: equal subpools are equal at every place.
 pub record Subpools : Type 0 where
@@ -16,10 +18,13 @@ pub record Subpools : Type 0 where
   pub pages : Subpool → ℕ → Bool
   -- whether a doubleword is in the subpool's free storage
   pub free : Subpool → ℕ → Bool
+  -- the cell pool of an id, which names the subpool that it lies in
+  pub cells : ℕ → Option Pool
 
--- no subpool, and nothing seen
+-- no subpool, nothing seen, and no cell pool
 abbrev pub no_subpools : Subpools
-no_subpools = record { sight = λ task number. None; pages = λ p page. false; free = λ p d. false }
+no_subpools =
+    record { sight = λ task number. None; pages = λ p page. false; free = λ p d. false; cells = λ id. None }
 
 -- there is the subpool: its owner sees it
 abbrev pub is_there : Subpools → Subpool → Bool
@@ -42,13 +47,32 @@ with_own m p present = record m {
       else m.sight task number;
 }
 
--- The subpool has the pages and the free storage that it has among others.
+-- The subpool has the pages, the free storage and the cell pools that it has among others.
 abbrev pub with_storage_of : Subpools → Subpools → Subpool → Subpools
 with_storage_of m others p =
     record m {
       pages = λ q page. if same_subpool q p then others.pages q page else m.pages q page;
       free = λ q d. if same_subpool q p then others.free q d else m.free q d;
+      cells = λ id. exchanged p (m.cells id) (others.cells id);
     }
+
+-- No name comes to be there twice where a subpool's storage is exchanged: where both have a cell pool of one name, both
+-- lie in the subpool, or neither does.
+abbrev pub CanExchange : Subpools → Subpools → Subpool → Type 0
+CanExchange m others p = (i j : ℕ) (x y : Pool) → m.cells i ≡ Some x → others.cells j ≡ Some y → x.name ≡ y.name
+    → lies_in p x ≡ lies_in p y
+
+-- A cell pool can join these: none has its name.
+abbrev pub IsUnnamed : Subpools → List ℕ → Type 0
+IsUnnamed m name = (id : ℕ) (q : Pool) → m.cells id ≡ Some q → q.name ≢ name
+
+-- The cell pool of the id is what others have under it.
+abbrev pub with_pool_of : Subpools → Subpools → ℕ → Subpools
+with_pool_of m others id = record m { cells = λ i. if i == id then others.cells i else m.cells i }
+
+-- The change is made to the cell pool of the id.
+abbrev pub with_changed : Subpools → ℕ → (Pool → Pool) → Subpools
+with_changed m id change = record m { cells = λ i. option_map (at_id id change) (m.cells i) }
 
 -- A task sees the subpool from now on, or it sees none of that number.
 abbrev pub with_sharer : Subpools → Subpool → ℕ → Bool → Subpools
@@ -61,8 +85,8 @@ with_sharer m p sharer present = record m {
 abbrev pub owned_by : Subpool → ℕ → Subpool
 owned_by p owner = record { number = p.number; owner = owner }
 
--- The subpool is another task's from now on, with its pages and its free storage: who saw it sees it as that task's,
--- and its owner until now sees none of that number.
+-- The subpool is another task's from now on, with its pages, its free storage and its cell pools: who saw it sees it as
+-- that task's, and its owner until now sees none of that number.
 abbrev pub with_passed : Subpools → Subpool → ℕ → Subpools
 with_passed m p to =
     record {
@@ -71,4 +95,5 @@ with_passed m p to =
           else if same_subpool q p then false else m.pages q page;
       free = λ q d. if same_subpool q (owned_by p to) then m.free p d
           else if same_subpool q p then false else m.free q d;
+      cells = λ id. option_map (handed_on p to) (m.cells id);
     }

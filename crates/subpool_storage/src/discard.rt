@@ -8,12 +8,14 @@ use vsm_elements::Elements;
 
 #[tactic(auto, unfolding(crate::specs::SubpoolStorage::Stands))]
 impl SubpoolStorage {
-    /// Gives back every element: those of the subpools, and those of their pages and free storage.
+    /// Gives back every element: those of the subpools, those of their pages and free storage, and those of cell
+    /// pools.
     pub fn discard(self, elements: &mut Elements)
         requires { Stands elements.old self }
         ensures moves { Moves elements.old elements.new (hold elements.old self) (λ i. 0) }
         ensures spares { GivenBack (hold elements.old self) elements.old elements.new }
     {
         self.set.discard(elements);
+        self.cells.discard(elements);
     }
 }

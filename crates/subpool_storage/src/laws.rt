@@ -1,7 +1,7 @@
 //! What follows from the definitions. Each law is the contract of a function that does nothing.
 
 ghost use Rattle.subpool_storage.specs.Extents.{ExtentsAreRuns, ExtentsAreFew, FreeAreasAreRuns};
-ghost use Rattle.subpool_storage.specs.Laws.{StorageOwns, SubpoolsAreThere, StorageStays};
+ghost use Rattle.subpool_storage.specs.Laws.{StorageOwns, SubpoolsAreThere, StorageStays, CellPoolsAreNamed};
 
 /// No element has two owners among the subpools and their queues, and each is live.
 pub fn storage_owns()
@@ -31,4 +31,9 @@ pub fn extents_are_few()
 /// The free areas of a subpool are the maximal runs of its free doublewords, in ascending order.
 pub fn free_areas_are_runs()
     ensures { FreeAreasAreRuns }
+{}
+
+/// A cell pool is found under its own id, and no two have one name.
+pub fn cell_pools_are_named()
+    ensures { CellPoolsAreNamed }
 {}

@@ -1,6 +1,8 @@
-//! Subpools with their pages and their free storage: the set of subpools and the queues of each, as one.
+//! Subpools with their pages, their free storage and their cell pools: the set of subpools, the queues of each and the
+//! cell pools of all, as one.
 #![tactic(auto)]
 
+mod cells;
 mod discard;
 pub mod laws;
 mod places;
@@ -8,6 +10,7 @@ mod readers;
 mod sharing;
 mod storage;
 
+pub use cell_pool::{CellId, CellPools, Header, Settings as CellSettings};
 pub use storage::SubpoolStorage;
 pub use subpool_set::{PoolPlace, SharerPlace};
 

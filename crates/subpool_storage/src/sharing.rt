@@ -46,9 +46,9 @@ impl SubpoolStorage {
         self.set.unshare(elements, task, subpool.number);
     }
 
-    /// The subpool passes to another task that sees none of its number, with its pages and its free storage. Who shares
-    /// it sees it as before, and the old owner doesn't see it any more. (z/OS MVS Programming: Assembler Services
-    /// Reference, ATTACH, GSPV.)
+    /// The subpool passes to another task that sees none of its number, with its pages, its free storage and its cell
+    /// pools. Who shares it sees it as before, and the old owner doesn't see it any more. (z/OS MVS Programming:
+    /// Assembler Services Reference, ATTACH, GSPV.)
     ///
     /// It takes no element.
     pub fn pass(&mut self, elements: &mut Elements, subpool: Subpool, to: u8)
@@ -62,5 +62,6 @@ impl SubpoolStorage {
     {
         let id = self.id(elements, subpool);
         self.set.pass(elements, id, to);
+        self.cells.hand_on(elements, subpool, to);
     }
 }

@@ -4,8 +4,9 @@ ghost use Rattle.run_set.specs.Runs.{AllIn, NoneIn};
 ghost use Rattle.run_set.specs.Counts.{joins};
 ghost use Rattle.subpool_set.specs.SubpoolSet.{IsPool, number_of, owner_of};
 ghost use Rattle.subpool_storage.specs.Subpools.{no_subpools, is_there, with_pages, with_free, with_own};
-ghost use Rattle.subpool_storage.specs.Subpools.{with_storage_of};
+ghost use Rattle.subpool_storage.specs.Subpools.{with_storage_of, CanExchange};
 
+use cell_pool::CellPools;
 use descriptor_queue::Run;
 use free_queue::Area;
 use subpool_set::laws::new_queues_are_empty;
@@ -13,7 +14,7 @@ use subpool_set::{PoolId, SubpoolSet};
 use vsm_elements::Elements;
 use vsm_model::Subpool;
 
-/// The head of all subpools with their pages and their free storage.
+/// The head of all subpools with their pages, their free storage and their cell pools.
 ///
 /// A subpool is named by its number and its owner. The head is kept by value; every changing call takes the elements
 /// first, and takes no memory: what it needs has to be spare. Runs are in pages of 4,096 bytes and areas in doublewords
@@ -21,6 +22,7 @@ use vsm_model::Subpool;
 #[derive(Clone, Copy, Debug, PartialEq, Eq)]
 pub struct SubpoolStorage {
     pub(crate) set: SubpoolSet,
+    pub(crate) cells: CellPools,
 }
 
 #[tactic(auto, unfolding(
@@ -39,6 +41,7 @@ impl SubpoolStorage {
     {
         SubpoolStorage {
             set: SubpoolSet::new(),
+            cells: CellPools::new(),
         }
     }
 
@@ -178,28 +181,29 @@ impl SubpoolStorage {
         self.set.remove(elements, subpool.owner, subpool.number);
     }
 
-    /// Exchanges the pages and the free storage of a subpool with those that it has among `others`, by their heads: no
-    /// element of a queue is touched.
+    /// Exchanges the pages, the free storage and the cell pools of a subpool with those that it has among `others`, by
+    /// their heads: no element of a queue and no cell is touched.
     pub fn exchange_storage(
-        &self,
+        &mut self,
         elements: &mut Elements,
-        others: &SubpoolStorage,
+        others: &mut SubpoolStorage,
         subpool: Subpool,
     )
-        requires stands { Stands elements.old self.now }
-        requires others { Stands elements.old others.now }
-        requires there { is_there (subpools_of elements.old self.now) subpool ≡ true }
-        requires there_too { is_there (subpools_of elements.old others.now) subpool ≡ true }
-        requires apart { (i : ℕ) → hold elements.old self.now i + hold elements.old others.now i ≤ 1 }
-        ensures stands { Stands elements.new self.now }
-        ensures others { Stands elements.new others.now }
-        ensures subpools { subpools_of elements.new self.now
-            ≡ with_storage_of (subpools_of elements.old self.now) (subpools_of elements.old others.now) subpool }
-        ensures other_subpools { subpools_of elements.new others.now
-            ≡ with_storage_of (subpools_of elements.old others.now) (subpools_of elements.old self.now) subpool }
-        ensures held { (i : ℕ) → hold elements.new self.now i + hold elements.new others.now i
-            ≡ hold elements.old self.now i + hold elements.old others.now i }
-        ensures kept { (i : ℕ) → hold elements.old self.now i + hold elements.old others.now i ≡ 0
+        requires stands { Stands elements.old self.old }
+        requires others { Stands elements.old others.old }
+        requires there { is_there (subpools_of elements.old self.old) subpool ≡ true }
+        requires there_too { is_there (subpools_of elements.old others.old) subpool ≡ true }
+        requires apart { (i : ℕ) → hold elements.old self.old i + hold elements.old others.old i ≤ 1 }
+        requires names { CanExchange (subpools_of elements.old self.old) (subpools_of elements.old others.old) subpool }
+        ensures stands { Stands elements.new self.new }
+        ensures others { Stands elements.new others.new }
+        ensures subpools { subpools_of elements.new self.new
+            ≡ with_storage_of (subpools_of elements.old self.old) (subpools_of elements.old others.old) subpool }
+        ensures other_subpools { subpools_of elements.new others.new
+            ≡ with_storage_of (subpools_of elements.old others.old) (subpools_of elements.old self.old) subpool }
+        ensures held { (i : ℕ) → hold elements.new self.new i + hold elements.new others.new i
+            ≡ hold elements.old self.old i + hold elements.old others.old i }
+        ensures kept { (i : ℕ) → hold elements.old self.old i + hold elements.old others.old i ≡ 0
             → at elements.new i ≡ at elements.old i }
         ensures spares { elements.new.spare ≡ elements.old.spare }
     {
@@ -209,5 +213,7 @@ impl SubpoolStorage {
         let there = others.set.queues(elements, other);
         self.set.set_queues(elements, id, there);
         others.set.set_queues(elements, other, here);
+        self.cells
+            .exchange_pools(elements, subpool, &mut others.cells);
     }
 }

@@ -7,6 +7,7 @@ use Rattle.vsm_model.specs.Registers.{with_registers}
 use Rattle.vsm_model.specs.Search.{is_in}
 use Rattle.vsm_model.specs.State.{State, is_task}
 use Rattle.vsm_model.specs.WellFormed.{IsWellFormed, TasksAreSound}
+use Rattle.cell_tables.specs.Named.{AreNamed}
 use Rattle.storage_changes.specs.Changes.{change_parking}
 use Rattle.storage_changes.specs.Meaning.{model_of, IsSound}
 use Rattle.storage_changes.specs.State.{StorageState}
@@ -21,7 +22,7 @@ abbrev pub AttachingLeads : Type 0
 AttachingLeads =
     (settings : Settings) (m : StorageState) (task : ℕ) (shares_zero : Bool) (gifts shares : List ℕ)
     (rows : List (ℕ × ℕ)) →
-    IsSound settings m → CanAttach (model_of m) task gifts shares → AreRegisters rows →
+    IsSound settings m → AreNamed m.subpools.cells → CanAttach (model_of m) task gifts shares → AreRegisters rows →
     IsWellFormed settings (with_registers (with_attached (model_of m) task shares_zero gifts shares) rows) →
     Leads settings m
     (change_parking [] (attach_records m task shares_zero gifts shares ++ register_records m rows)
@@ -40,7 +41,8 @@ TurningLeads =
 abbrev pub EndingLeads : Type 0
 EndingLeads =
     (settings : Settings) (m : StorageState) (ended : List ℕ) (next : ℕ) (rows : List (ℕ × ℕ)) →
-    settings_valid settings ≡ true → IsSound settings m → CanEnd (model_of m) ended next → AreRegisters rows →
+    settings_valid settings ≡ true → IsSound settings m → AreNamed m.subpools.cells → CanEnd (model_of m) ended next →
+    AreRegisters rows →
     IsWellFormed settings (with_registers (without_tasks (record (model_of m) { current = next }) (is_in ended)) rows) →
     Leads settings m
     (change_parking (owned_by_these m.subpools ended)

@@ -1,0 +1,140 @@
+//! Cell pools of subpools: their cells and their extents.
+
+ghost use Rattle.std.specs.Prelude.{◌≡◌, ℕ, ◌+◌, ◌*◌, ◌≤◌, ◌<◌, ◌^◌, ◌∷◌, true, false, None, Some, IsSome, IfSome};
+ghost use Rattle.std.specs.Prelude.{slice_get, if◌then◌else◌};
+ghost use Rattle.vsm_elements.specs.Owners.{times};
+ghost use Rattle.cell_pool.specs.CellPools.{by_id, owned as cells_own, IsCellPools};
+ghost use Rattle.cell_pool.specs.Pools.{Pool, uses, meets, mark_items, without_first, with_first, extended, retracted};
+ghost use Rattle.subpool_storage.specs.Subpools.{with_changed, with_pool_of, IsUnnamed};
+ghost use Rattle.subpool_storage.specs.SubpoolStorage.{subpools_of, hold, Stands, Becomes};
+
+use crate::storage::SubpoolStorage;
+use cell_pool::{CellId, CellPools};
+use vsm_elements::Elements;
+
+#[tactic(auto, unfolding(
+// the subpools, and which elements are theirs
+crate::specs::SubpoolStorage::subpools_of, crate::specs::SubpoolStorage::hold,
+// where they stand
+crate::specs::SubpoolStorage::Stands))]
+impl SubpoolStorage {
+    /// The cell pools of all subpools, to be read.
+    ///
+    /// Nothing is copied: it is the head of what the storage itself holds, to be read as long as the storage's elements
+    /// stay as they are, and not to be changed or discarded.
+    pub fn cell_pools(&self, elements: &Elements) -> CellPools
+        requires { Stands elements.now self.now }
+        ensures stands { IsCellPools elements.now result }
+        ensures pools { (id : ℕ) → by_id elements.now result id ≡ (subpools_of elements.now self.now).cells id }
+        ensures held { (i : ℕ) → times i (cells_own elements.now result) ≤ hold elements.now self.now i }
+    {
+        self.cells
+    }
+
+    /// The first free cell of a cell pool is in use from now on. (z/OS MVS Programming: Assembler Services Reference,
+    /// CPOOL GET.)
+    ///
+    /// It gives back one element.
+    pub fn take_cell(&mut self, elements: &mut Elements, id: CellId, cell: u32)
+        requires stands { Stands elements.old self.old }
+        requires there { IsSome ((subpools_of elements.old self.old).cells id) }
+        requires first { IfSome ((subpools_of elements.old self.old).cells id) (λ p. slice_get p.cells 0 ≡ Some cell) }
+        ensures becomes { Becomes elements.old elements.new self.old self.new
+            (with_changed (subpools_of elements.old self.old) id without_first) }
+        ensures spares { elements.new.spare ≡ elements.old.spare + 1 }
+    {
+        self.cells.take_cell(elements, id);
+    }
+
+    /// A cell in use is the first free one of its cell pool from now on. (z/OS MVS Programming: Assembler Services
+    /// Reference, CPOOL FREE.)
+    ///
+    /// It takes one element.
+    pub fn put_cell(&mut self, elements: &mut Elements, id: CellId, cell: u32)
+        requires stands { Stands elements.old self.old }
+        requires there { IsSome ((subpools_of elements.old self.old).cells id) }
+        requires used { IfSome ((subpools_of elements.old self.old).cells id) (λ p. uses p cell ≡ true) }
+        requires room { 0 < elements.old.spare }
+        ensures becomes { Becomes elements.old elements.new self.old self.new
+            (with_changed (subpools_of elements.old self.old) id (with_first cell)) }
+        ensures spares { elements.new.spare + 1 ≡ elements.old.spare }
+    {
+        self.cells.put_cell(elements, id, cell);
+    }
+
+    /// A cell pool has an extent more, which overlaps none of its others: `count` cells from an address on, ascending
+    /// behind the free ones.
+    ///
+    /// It takes an element for each cell, one for the extent, and `count / 224 + 1` for the marks of its cells.
+    pub fn extend(&mut self, elements: &mut Elements, id: CellId, start: u32, count: u32)
+        requires stands { Stands elements.old self.old }
+        requires there { IsSome ((subpools_of elements.old self.old).cells id) }
+        requires range { IfSome ((subpools_of elements.old self.old).cells id)
+            (λ p. start + count * p.settings.size ≤ 2 ^ 32) }
+        requires apart { IfSome ((subpools_of elements.old self.old).cells id)
+            (λ p. meets start (count * p.settings.size) p ≡ false) }
+        requires room { count + mark_items count + 1 ≤ elements.old.spare }
+        ensures becomes { Becomes elements.old elements.new self.old self.new
+            (with_changed (subpools_of elements.old self.old) id (extended start count)) }
+        ensures spares { elements.new.spare + (count + mark_items count + 1) ≡ elements.old.spare }
+    {
+        self.cells.extend(elements, id, start, count);
+    }
+
+    /// The last extent of a cell pool is gone, whose cells are the end of the free ones.
+    ///
+    /// It gives back the elements that it took to add it.
+    pub fn retract(&mut self, elements: &mut Elements, id: CellId, start: u32, count: u32)
+        requires stands { Stands elements.old self.old }
+        requires there { IsSome ((subpools_of elements.old self.old).cells id) }
+        requires last { IfSome ((subpools_of elements.old self.old).cells id)
+            (λ p. p ≡ extended start count (retracted count p)) }
+        ensures becomes { Becomes elements.old elements.new self.old self.new
+            (with_changed (subpools_of elements.old self.old) id (retracted count)) }
+        ensures spares { elements.new.spare ≡ elements.old.spare + (count + mark_items count + 1) }
+    {
+        self.cells.retract(elements, id);
+    }
+
+    /// A cell pool goes over to the others, or comes from them, with its extents and its cells as they stand. Where it
+    /// goes no cell pool has its name.
+    ///
+    /// It takes no element.
+    pub fn exchange_pool(
+        &mut self,
+        elements: &mut Elements,
+        others: &mut SubpoolStorage,
+        id: CellId,
+        comes: bool,
+    )
+        requires stands { Stands elements.old self.old }
+        requires others { Stands elements.old others.old }
+        requires apart { (i : ℕ) → hold elements.old self.old i + hold elements.old others.old i ≤ 1 }
+        requires here { comes ≡ false → IsSome ((subpools_of elements.old self.old).cells id) }
+        requires there { comes ≡ true → IsSome ((subpools_of elements.old others.old).cells id) }
+        requires unnamed { comes ≡ true → IfSome ((subpools_of elements.old others.old).cells id)
+            (λ p. IsUnnamed (subpools_of elements.old self.old) p.name) }
+        requires unnamed_there { comes ≡ false → IfSome ((subpools_of elements.old self.old).cells id)
+            (λ p. IsUnnamed (subpools_of elements.old others.old) p.name) }
+        ensures stands { Stands elements.new self.new }
+        ensures others { Stands elements.new others.new }
+        ensures subpools { subpools_of elements.new self.new
+            ≡ with_pool_of (subpools_of elements.old self.old) (subpools_of elements.old others.old) id }
+        ensures other_subpools { subpools_of elements.new others.new
+            ≡ with_pool_of (subpools_of elements.old others.old) (subpools_of elements.old self.old) id }
+        ensures held { (i : ℕ) → hold elements.new self.new i + hold elements.new others.new i
+            ≡ hold elements.old self.old i + hold elements.old others.old i }
+        ensures kept { (i : ℕ) → hold elements.old self.old i + hold elements.old others.old i ≡ 0
+            → at elements.new i ≡ at elements.old i }
+        ensures spares { elements.new.spare ≡ elements.old.spare }
+    {
+        if comes {
+            others
+                .cells
+                .exchange_pool(elements, id, &mut self.cells);
+        } else {
+            self.cells
+                .exchange_pool(elements, id, &mut others.cells);
+        }
+    }
+}
