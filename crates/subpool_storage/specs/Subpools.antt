@@ -8,7 +8,7 @@ use Rattle.vsm_model.specs.declared.Subpool.{Subpool}
 use Rattle.vsm_model.specs.Passing.{sight_after_gift}
 use Rattle.vsm_model.specs.Search.{holds}
 use Rattle.vsm_model.specs.Subpools.{same_subpool}
-use Rattle.cell_pool.specs.Pools.{Pool, at_id, handed_on, exchanged, lies_in}
+use Rattle.cell_pool.specs.Pools.{Pool, at_id, handed_on, exchanged, GoTogether}
 
 -- A set is its test: equal subpools are equal at every place.
 pub record Subpools : Type 0 where
@@ -59,8 +59,7 @@ with_storage_of m others p =
 -- No name comes to be there twice where a subpool's storage is exchanged: where both have a cell pool of one name, both
 -- lie in the subpool, or neither does.
 abbrev pub CanExchange : Subpools → Subpools → Subpool → Type 0
-CanExchange m others p = (i j : ℕ) (x y : Pool) → m.cells i ≡ Some x → others.cells j ≡ Some y → x.name ≡ y.name
-    → lies_in p x ≡ lies_in p y
+CanExchange m others p = GoTogether p m.cells others.cells
 
 -- A cell pool can join these: none has its name.
 abbrev pub IsUnnamed : Subpools → List ℕ → Type 0
