@@ -3,16 +3,16 @@ ghost use Rattle.std.specs.Prelude.{◌≡◌, IfSome};
 ghost use Rattle.std.specs.Option.{option_map};
 ghost use Rattle.vsm_model.specs.Meaning.{service_in};
 ghost use Rattle.storage_core.specs.Planned.{CanBePlanned};
-ghost use Rattle.macro_statements.specs.Requests.{act_in, length_in, subpools_in, target_in};
-ghost use Rattle.macro_statements.specs.Requests.{IsLength, IsSubpools, IsValidAct};
+ghost use Rattle.macro_statements.specs.Requests.{act_in, length_in, subpools_in, target_in, written_in};
+ghost use Rattle.macro_statements.specs.Requests.{IsLength, IsSubpools, IsValidAct, IsValue};
 ghost use Rattle.vsm_machine.specs.Changes.{plain_of};
 ghost use Rattle.vsm_machine.specs.Machine.{service_asked, lengths_asked, passed_asked, name_asked};
-ghost use Rattle.vsm_machine.specs.Machine.{family_asked, register_in};
+ghost use Rattle.vsm_machine.specs.Machine.{area_back, family_asked, looked_up, register_in, with_passed, with_three};
 
 use crate::machine::Machine;
 use crate::values::{bytes_of, look_up};
 use macro_statements::{Family, Length, Statement, Subpools};
-use operand_texts::{Name, Place};
+use operand_texts::{Name, Place, Value};
 use storage_core::{Attach, Lengths, Obtain, Passed, Release, Service};
 
 /// The register that is set besides register 1, if the place is one.
@@ -53,6 +53,52 @@ fn passed_of(machine: &Machine, subpools: &Subpools) -> Option<Passed>
     }
 }
 
+/// The new task that a statement asks for; `None` where a name in one of its values isn't defined.
+fn attach_of<'a>(
+    machine: &Machine,
+    given: &Subpools,
+    shared: &Subpools,
+    shares_zero: bool,
+) -> Option<Service<'a>>
+    requires given { IsSubpools (subpools_in given.now) }
+    requires shared { IsSubpools (subpools_in shared.now) }
+    ensures is { option_map service_in result ≡ with_passed shares_zero
+        (passed_asked (plain_of machine.now) (subpools_in given.now))
+        (passed_asked (plain_of machine.now) (subpools_in shared.now)) }
+    ensures bounds { IfSome result (λ service. CanBePlanned (service_in service)) }
+{
+    Some(Service::Attach(Attach {
+        given: passed_of(machine, given)?,
+        shared: passed_of(machine, shared)?,
+        shares_zero,
+    }))
+}
+
+/// The release of an area that a statement asks for; `None` where a name in one of its values isn't defined.
+fn release_of<'a>(
+    machine: &Machine,
+    length: &Value,
+    address: &Value,
+    subpool: &Value,
+    conditional: bool,
+) -> Option<Service<'a>>
+    requires length { IsValue (written_in length.now) }
+    requires address { IsValue (written_in address.now) }
+    requires subpool { IsValue (written_in subpool.now) }
+    ensures is { option_map service_in result ≡ with_three (area_back conditional)
+        (looked_up (plain_of machine.now) (written_in length.now))
+        (looked_up (plain_of machine.now) (written_in address.now))
+        (looked_up (plain_of machine.now) (written_in subpool.now)) }
+    ensures bounds { IfSome result (λ service. CanBePlanned (service_in service)) }
+{
+    Some(Service::Release(Release {
+        length: look_up(machine, length)?,
+        address: look_up(machine, address)?,
+        number: look_up(machine, subpool)?,
+        conditional,
+    }))
+}
+
 /// The service that a statement asks for, with the words of its values; `None` where a name in one of them isn't
 /// defined. A value that is stored is written into `room`.
 pub(crate) fn service_of<'a>(
@@ -85,12 +131,7 @@ pub(crate) fn service_of<'a>(
             address,
             subpool,
             form,
-        } => Some(Service::Release(Release {
-            length: look_up(machine, length)?,
-            address: look_up(machine, address)?,
-            number: look_up(machine, subpool)?,
-            conditional: form.conditional,
-        })),
+        } => release_of(machine, length, address, subpool, form.conditional),
         Statement::Whole { subpool, .. } => Some(Service::Whole {
             number: look_up(machine, subpool)?,
         }),
@@ -98,11 +139,7 @@ pub(crate) fn service_of<'a>(
             given,
             shared,
             shares_zero,
-        } => Some(Service::Attach(Attach {
-            given: passed_of(machine, given)?,
-            shared: passed_of(machine, shared)?,
-            shares_zero: *shares_zero,
-        })),
+        } => attach_of(machine, given, shared, *shares_zero),
         Statement::Detach { task } => Some(Service::Detach {
             task: look_up(machine, task)?,
         }),
