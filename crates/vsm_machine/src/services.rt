@@ -4,16 +4,17 @@ ghost use Rattle.std.specs.Option.{option_map};
 ghost use Rattle.vsm_model.specs.Meaning.{service_in};
 ghost use Rattle.storage_core.specs.Planned.{CanBePlanned};
 ghost use Rattle.macro_statements.specs.Requests.{act_in, length_in, subpools_in, target_in, written_in};
-ghost use Rattle.macro_statements.specs.Requests.{IsLength, IsSubpools, IsValidAct, IsValue};
+ghost use Rattle.macro_statements.specs.Requests.{IsLength, IsSubpools, IsTarget, IsValidAct, IsValue};
 ghost use Rattle.vsm_machine.specs.Changes.{plain_of};
 ghost use Rattle.vsm_machine.specs.Machine.{service_asked, lengths_asked, passed_asked, name_asked};
-ghost use Rattle.vsm_machine.specs.Machine.{area_back, family_asked, looked_up, register_in, with_passed, with_three};
+ghost use Rattle.vsm_machine.specs.Machine.{area_asked, area_back, family_asked, looked_up, register_in};
+ghost use Rattle.vsm_machine.specs.Machine.{with_lengths, with_passed, with_three};
 
 use crate::machine::Machine;
 use crate::values::{bytes_of, look_up};
 use macro_statements::{Family, Length, Statement, Subpools};
 use operand_texts::{Name, Place, Value};
-use storage_core::{Attach, Lengths, Obtain, Passed, Release, Service};
+use storage_core::{Attach, Boundary, Lengths, Location, Obtain, Passed, Release, Service};
 
 /// The register that is set besides register 1, if the place is one.
 fn register_of(place: &Option<Place>) -> Option<u8>
@@ -74,6 +75,35 @@ fn attach_of<'a>(
     }))
 }
 
+/// The area that a statement asks for; `None` where a name in one of its values isn't defined.
+fn obtain_of<'a>(
+    machine: &Machine,
+    length: &Length,
+    subpool: &Value,
+    place: &Option<Place>,
+    boundary: Boundary,
+    location: Location,
+    conditional: bool,
+) -> Option<Service<'a>>
+    requires length { IsLength (length_in length.now) }
+    requires subpool { IsValue (written_in subpool.now) }
+    requires place { IfSome (option_map target_in place.now) IsTarget }
+    ensures is { option_map service_in result ≡ with_lengths
+        (area_asked (register_in (option_map target_in place.now)) boundary location conditional)
+        (lengths_asked (plain_of machine.now) (length_in length.now))
+        (looked_up (plain_of machine.now) (written_in subpool.now)) }
+    ensures bounds { IfSome result (λ service. CanBePlanned (service_in service)) }
+{
+    Some(Service::Obtain(Obtain {
+        lengths: lengths_of(machine, length)?,
+        number: look_up(machine, subpool)?,
+        boundary,
+        location,
+        register: register_of(place),
+        conditional,
+    }))
+}
+
 /// The release of an area that a statement asks for; `None` where a name in one of its values isn't defined.
 fn release_of<'a>(
     machine: &Machine,
@@ -118,14 +148,15 @@ pub(crate) fn service_of<'a>(
             boundary,
             location,
             form,
-        } => Some(Service::Obtain(Obtain {
-            lengths: lengths_of(machine, length)?,
-            number: look_up(machine, subpool)?,
-            boundary: *boundary,
-            location: *location,
-            register: register_of(place),
-            conditional: form.conditional,
-        })),
+        } => obtain_of(
+            machine,
+            length,
+            subpool,
+            place,
+            *boundary,
+            *location,
+            form.conditional,
+        ),
         Statement::Release {
             length,
             address,
