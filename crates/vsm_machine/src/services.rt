@@ -3,17 +3,17 @@ ghost use Rattle.std.specs.Prelude.{◌≡◌, IfSome};
 ghost use Rattle.std.specs.Option.{option_map};
 ghost use Rattle.vsm_model.specs.Meaning.{service_in};
 ghost use Rattle.storage_core.specs.Planned.{CanBePlanned};
-ghost use Rattle.macro_statements.specs.Requests.{act_in, length_in, subpools_in, target_in, written_in};
-ghost use Rattle.macro_statements.specs.Requests.{IsLength, IsSubpools, IsTarget, IsValidAct, IsValue};
+ghost use Rattle.macro_statements.specs.Requests.{act_in, length_in, subpools_in, target_in, written_in, stored_in};
+ghost use Rattle.macro_statements.specs.Requests.{IsLength, IsStored, IsSubpools, IsTarget, IsValidAct, IsValue};
 ghost use Rattle.vsm_machine.specs.Changes.{plain_of};
 ghost use Rattle.vsm_machine.specs.Machine.{service_asked, lengths_asked, passed_asked, name_asked};
 ghost use Rattle.vsm_machine.specs.Machine.{area_asked, area_back, family_asked, looked_up, register_in};
-ghost use Rattle.vsm_machine.specs.Machine.{with_lengths, with_passed, with_three};
+ghost use Rattle.vsm_machine.specs.Machine.{bytes_in, with_bytes, with_lengths, with_passed, with_three};
 
 use crate::machine::Machine;
 use crate::values::{bytes_of, look_up};
 use macro_statements::{Family, Length, Statement, Subpools};
-use operand_texts::{Name, Place, Value};
+use operand_texts::{Content, Name, Place, Value};
 use storage_core::{Attach, Boundary, Lengths, Location, Obtain, Passed, Release, Service};
 
 /// The register that is set besides register 1, if the place is one.
@@ -129,6 +129,26 @@ fn release_of<'a>(
     }))
 }
 
+/// The store that a statement asks for; `None` where a name in one of its values isn't defined. A value that is stored
+/// is written into `room`.
+fn store_of<'a>(
+    machine: &Machine,
+    address: &Value,
+    content: &'a Content,
+    room: &'a mut [u8; 4],
+) -> Option<Service<'a>>
+    requires address { IsValue (written_in address.now) }
+    requires content { IsStored (stored_in content.now) }
+    ensures is { option_map service_in result ≡ with_bytes (looked_up (plain_of machine.now) (written_in address.now))
+        (bytes_in (plain_of machine.now) (stored_in content.now)) }
+    ensures bounds { IfSome result (λ service. CanBePlanned (service_in service)) }
+{
+    Some(Service::Store {
+        address: look_up(machine, address)?,
+        bytes: bytes_of(machine, content, room)?,
+    })
+}
+
 /// The service that a statement asks for, with the words of its values; `None` where a name in one of them isn't
 /// defined. A value that is stored is written into `room`.
 pub(crate) fn service_of<'a>(
@@ -178,10 +198,7 @@ pub(crate) fn service_of<'a>(
             task: look_up(machine, task)?,
         }),
         Statement::EndTask => Some(Service::EndTask),
-        Statement::Poke { address, content } => Some(Service::Store {
-            address: look_up(machine, address)?,
-            bytes: bytes_of(machine, content, room)?,
-        }),
+        Statement::Poke { address, content } => store_of(machine, address, content, room),
     }
 }
 
