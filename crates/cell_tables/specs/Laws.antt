@@ -22,7 +22,7 @@ PoolsAreFound = (pools : ℕ → Option Pool) → AreNamed pools
     → ((id : ℕ) (p : Pool) → pools id ≡ Some p
     → cell_pool_in (cell_pools_in pools) p.name ≡ Some (cell_pool_of p))
     × ((name : List ℕ) → IfSome (cell_pool_in (cell_pools_in pools) name) (λ found.
-    ∥ (id : ℕ) × (p : Pool) × (pools id ≡ Some p) × (p.name ≡ name) × (found ≡ cell_pool_of p) ∥₁))
+    ∥ ((id : ℕ) × (p : Pool) × (pools id ≡ Some p) × (p.name ≡ name) × (found ≡ cell_pool_of p)) ∥₁))
 
 -- none is found where no cell pool has the name
 abbrev pub OthersAreNotFound : Type 0
@@ -71,4 +71,4 @@ RowsAreCounted = (pools : ℕ → Option Pool) (list : List Pool) → AreNamed p
 abbrev pub OverlapsAreMet : Type 0
 OverlapsAreMet = (pools : ℕ → Option Pool) (address length : ℕ) → AreNamed pools
     → (overlaps_table (cell_pools_in pools) address length ≡ true)
-    ↔ (∥ (id : ℕ) × (p : Pool) × (pools id ≡ Some p) × (meets address length p ≡ true) ∥₁)
+    ↔ (∥ ((id : ℕ) × (p : Pool) × (pools id ≡ Some p) × (meets address length p ≡ true)) ∥₁)
