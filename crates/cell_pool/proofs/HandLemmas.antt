@@ -1,5 +1,5 @@
 -- Pools that are handed on to another owner.
-use Rattle.std.proofs.Common.{◌≡◌, ℕ, suc, ◌+◌, ◌%◌, ◌<◌, ◌≤◌, ◌==◌, take, drop, Bool, true, false, List, [], ◌∷◌, ◌++◌, length, Option, Some, refl, sym, ap, ◌∙◌, subst, arith, append_assoc, length-append, length-drop}
+use Rattle.std.proofs.Common.{◌≡◌, ℕ, ◌+◌, ◌%◌, ◌<◌, ◌≤◌, ◌==◌, take, drop, Bool, true, false, List, [], ◌∷◌, ◌++◌, length, Some, refl, sym, ap, ◌∙◌, subst, arith, append_assoc, length-append, length-drop}
 use Rattle.std.specs.Prelude.{map, option_map, slice_get, if◌then◌else◌}
 use Rattle.std.specs.Str.{bytes_eq}
 use Rattle.std.proofs.lemmas.List.{map-append, take-map, take_all, drop_all, length-take-le, take-append-drop}
@@ -11,7 +11,7 @@ use Rattle.vsm_model.specs.declared.Subpool.{Subpool}
 use Rattle.vsm_model.specs.Subpools.{same_subpool}
 use Rattle.list_table.specs.Entries.{Entry, word}
 use Rattle.list_table.specs.Kept.{entry_in}
-use Rattle.list_table.specs.ListTable.{entries, earlier, later, entry_of, IsTable, IsPlace}
+use Rattle.list_table.specs.ListTable.{entries, earlier, later, IsTable, IsPlace}
 use Rattle.list_table.specs.declared.table.ListTable.{ListTable}
 use Rattle.cell_extents.specs.Items.{pool_of, subpool_in, IsSound}
 use Rattle.cell_extents.proofs.EntryLemmas.{if_true, if_false}
@@ -36,6 +36,10 @@ last_ids a (n ∷ ns) = last_ids n.id ns
 ids_are : (s : Store) (ns : List Link) → entry_ids (map (entry_in s) ns) ≡ ids ns
 ids_are s [] = refl
 ids_are s (n ∷ ns) = ap (λ (z : List ℕ). n.id ∷ z) (ids_are s ns)
+
+pub row_ids : (s : Store) (q : ListTable) → entry_ids (entries s q) ≡ ids (links s q.chain)
+unfolding entries
+row_ids s q = ids_are s (links s q.chain)
 
 last_at : (k : ℕ) (ns : List Link) → last_or 0 (take k ns) ≡ last_id 0 (take k (ids ns))
 last_at k ns = last_ids 0 (take k ns) ∙ ap (last_id 0) (sym (take-map (λ (n : Link). n.id) k ns))

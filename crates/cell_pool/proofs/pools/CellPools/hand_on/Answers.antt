@@ -1,8 +1,7 @@
-use Rattle.std.proofs.Common.{rules, ◌≡◌, ◌+◌, ◌≤◌, ◌<◌, take, drop, ◌++◌, ◌∷◌, ◌∙◌, ℕ, List, true, false, ap, sym, subst, arith, length, refl}
-use Rattle.std.specs.Prelude.{map}
+use Rattle.std.proofs.Common.{rules, ◌≡◌, ◌+◌, ◌≤◌, take, drop, ◌++◌, ◌∷◌, ◌∙◌, ℕ, List, ap, sym, subst, arith, length, refl}
 use Rattle.vsm_elements.specs.Ownership.{Leaves}
 use Rattle.vsm_elements.proofs.ChainFrame.{Leaves-trans}
-use Rattle.list_table.specs.Entries.{Entry, word}
+use Rattle.list_table.specs.Entries.{Entry}
 use Rattle.list_table.specs.ListTable.{entries, entry_of, owned_but, list_ids}
 use Rattle.list_table.specs.ListTable
 use Rattle.cell_pool.specs.CellPools.{owned, IsCellPools}

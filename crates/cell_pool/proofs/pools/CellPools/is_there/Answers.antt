@@ -1,7 +1,7 @@
-use Rattle.std.proofs.Common.{◌≡◌, ◌∙◌, ap}
-use Rattle.std.specs.Prelude.{nat_lt, is_some}
+use Rattle.std.proofs.Common.{◌∙◌, ap}
+use Rattle.std.specs.Prelude.{nat_lt}
 use Rattle.list_table.specs.ListTable.{entries}
-use Rattle.cell_pool.specs.CellPools.{by_id, IsCellPools}
+use Rattle.cell_pool.specs.CellPools.{by_id}
 use Rattle.cell_pool.proofs.RowLemmas.{stands}
 use Rattle.cell_pool.proofs.PoolLemmas.{there_or_not}
 use Rattle.cell_pool.proofs.pools.CellPools.is_there.Goals as goal

@@ -1,9 +1,9 @@
-use Rattle.std.proofs.Common.{◌≡◌, ◌≤◌, ◌==◌, ◌∷◌, ◌++◌, ◌∙◌, ℕ, List, Option, true, false, ap, sym, subst, arith, length, refl, eq-eqb}
+use Rattle.std.proofs.Common.{◌≡◌, ◌≤◌, ◌∷◌, ◌++◌, ◌∙◌, ℕ, List, Option, true, false, ap, sym, subst, arith, length, refl}
 use Rattle.std.specs.Prelude.{IfSome}
 use Rattle.vsm_elements.specs.Store.{among}
 use Rattle.vsm_elements.specs.Ownership.{Leaves}
 use Rattle.vsm_elements.proofs.ChainFrame.{Leaves-trans}
-use Rattle.list_table.specs.Entries.{Entry, word}
+use Rattle.list_table.specs.Entries.{Entry}
 use Rattle.list_table.specs.ListTable.{entries, entry_of}
 use Rattle.list_table.specs.ListTable
 use Rattle.cell_pool.specs.Pools.{lies_in}
