@@ -6,4 +6,4 @@ use Rattle.subpool_storage.proofs.storage.SubpoolStorage.new.Goals as goal
 
 pub returns-clause-owned : goal.returns-clause-owned
 unfolding hold
-returns-clause-owned c s i = omega (arith, ap (times i) (c.new.ensures.owned s), none_held s c.new.result (c.new.ensures.set s) (c.new.ensures.empty s) i)
+returns-clause-owned c s i = omega (arith, ap (times i) (c.new.ensures.owned s), ap (times i) (c.new-2.ensures.owned s), none_held s c.new.result (c.new.ensures.set s) (c.new.ensures.empty s) i)
