@@ -5,7 +5,7 @@ use Rattle.std.proofs.lemmas.Bool.Decides.{eqb_tells}
 use Rattle.vsm_elements.proofs.ChainLemmas.{not_both}
 use Rattle.list_table.specs.Entries.{Entry, word}
 use Rattle.cell_extents.specs.Names.{spelled}
-use Rattle.cell_extents.specs.Items.{item, settings_in, pool_of, label_of}
+use Rattle.cell_extents.specs.Items.{item, settings_in, subpool_in, pool_of, label_of}
 
 pub if_true : {A : Type 0} → (b : Bool) (x y : A) → b ≡ true → (if b then x else y) ≡ x
 if_true true x y h = refl
@@ -43,7 +43,7 @@ pub pool_name : (e : Entry) → (pool_of e).name ≡ spelled (label_of e.items)
 unfolding pool_of
 pool_name e = refl
 
-pub pool_subpool : (e : Entry) → (pool_of e).settings.subpool ≡ word e.words 0
+pub pool_subpool : (e : Entry) → (pool_of e).settings.subpool ≡ subpool_in e.words
 unfolding pool_of
 pool_subpool e = refl
 

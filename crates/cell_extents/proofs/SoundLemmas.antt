@@ -58,6 +58,7 @@ module _ (x : Entry) (sound : IsSound x) where
     taken_sound h first none = record {
       room = omega (arith, ap length h, length-append (take (5 + front_of x) mid) (drop ((5 + front_of x) + 1) mid), length-take-le (5 + front_of x) mid room.room);
       long = ap (λ (p : Pool). word x.words 4 + all_marks p.extents) (taken_all h) ∙ sound.long;
+      small = sound.small;
       size = sound.size;
       named = ap label_of (taken_shape m room items h) ∙ sym (ap label_of (sh m room).are) ∙ noted_label x has mid cell free noted ∙ sound.named ∙ ap (λ (p : Pool). packed p.name) (sym (taken_all h));
       texts = (let T : Pool → Type 0 = λ p. AreTexts p.name p.header in subst T (sym (taken_all h)) sound.texts);
@@ -74,6 +75,7 @@ module _ (x : Entry) (sound : IsSound x) where
     put_sound h used all = record {
       room = omega (arith, ap length h, length-append (take (5 + front_of x) mid) (cell_item cell ∷ drop (5 + front_of x) mid), length-take-le (5 + front_of x) mid room.room);
       long = ap (λ (p : Pool). word x.words 4 + all_marks p.extents) (put_all h) ∙ sound.long;
+      small = sound.small;
       size = sound.size;
       named = ap label_of (put_shape m room items (cell_item cell) h) ∙ sym (ap label_of (sh m room).are) ∙ noted_label x has mid cell free noted ∙ sound.named ∙ ap (λ (p : Pool). packed p.name) (sym (put_all h));
       texts = (let T : Pool → Type 0 = λ p. AreTexts p.name p.header in subst T (sym (put_all h)) sound.texts);
@@ -96,6 +98,7 @@ module _ (x : Entry) (sound : IsSound x) where
     grown_sound clear = record {
       room = (grown_room x has first middle items start count item is words same marks more one two three).room;
       long = ap (λ (p : Pool). word words 4 + all_marks p.extents) grown_all ∙ omega (arith, all_more (pool_of x).extents (record { start = start; count = count }), sound.long, marks, more);
+      small = sound.small;
       size = (let P : List ℕ → Type 0 = λ z. 0 < word z 1 in subst P (sym same) sound.size);
       named = grown_label x has first middle items start count item is words same marks more one two three ∙ sound.named ∙ ap (λ (p : Pool). packed p.name) (sym grown_all);
       texts = (let T : Pool → Type 0 = λ p. AreTexts p.name p.header in subst T (sym grown_all) sound.texts);
@@ -119,6 +122,7 @@ module _ (x : Entry) (sound : IsSound x) where
     cut_sound rest start are back = record {
       room = (cut_room x has middle items end n w j words less w1 same marks some behind parts first second).room;
       long = ap (λ (p : Pool). word words 4 + all_marks p.extents) is_rest ∙ omega (arith, long_rest, sound.long, marks, less, w1);
+      small = sound.small;
       size = (let P : List ℕ → Type 0 = λ z. 0 < word z 1 in subst P (sym same) sound.size);
       named = cut_label x has middle items end n w j words less w1 same marks some behind parts first second ∙ sound.named ∙ ap (λ (p : Pool). packed p.name) (sym cut_all);
       texts = (let T : Pool → Type 0 = λ p. AreTexts p.name p.header in subst T (sym cut_all) sound.texts);

@@ -1,14 +1,15 @@
 -- How a cell pool stands in a row and its list.
 --
--- A row's words are the subpool, the cell size, the primary count, how many items the extents and the marks take, and
--- how many extents there are. Its list has three items of the name, one of the header and one of its end with the side
--- and the secondary count, then the extents, then the marks, then the free cells.
-use Rattle.std.specs.Prelude.{◌≡◌, ℕ, zero, suc, ◌+◌, ◌≤◌, ◌<◌, List, [], ◌∷◌, length, take, drop, map, slice_index_or}
+-- A row's words are the subpool's number, the cell size, the subpool's owner, how many items the extents and the marks
+-- take, and how many extents there are. Its list has three items of the name, one of the header and one of its end with
+-- the side and both counts, then the extents, then the marks, then the free cells.
+use Rattle.std.specs.Prelude.{◌≡◌, ℕ, zero, suc, ◌+◌, ◌%◌, ◌^◌, ◌≤◌, ◌<◌, List, [], ◌∷◌, length, take, drop, map, slice_index_or}
 use Rattle.list_table.specs.Entries.{Entry, word}
+use Rattle.vsm_model.specs.declared.Subpool.{Subpool}
 use Rattle.cell_extents.specs.declared.label.Label.{Label}
 use Rattle.cell_extents.specs.declared.settings.Settings.{Settings}
 use Rattle.cell_extents.specs.declared.settings.Extent.{Extent}
-use Rattle.cell_extents.specs.Names.{packed, spelled, side_in, header_in, AreTexts}
+use Rattle.cell_extents.specs.Names.{packed, spelled, location_in, header_in, AreTexts}
 use Rattle.cell_extents.specs.Pool.{Pool, cells_from}
 use Rattle.cell_extents.specs.Marks.{all_marks, IsMarked}
 
@@ -24,14 +25,18 @@ cell_of ws = word ws 0
 abbrev pub label_of : List (List ℕ) → Label
 label_of items = record { first = item items 0; second = item items 1; third = item items 2 }
 
+-- the subpool that a row's words say, its number and its owner each a byte
+abbrev pub subpool_in : List ℕ → Subpool
+subpool_in ws = record { number = word ws 0 % 256; owner = word ws 2 % 256 }
+
 -- what a row's words and the form say
 abbrev pub settings_in : List ℕ → List ℕ → Settings
 settings_in ws form = record {
-  subpool = word ws 0;
+  subpool = subpool_in ws;
   size = word ws 1;
-  primary = word ws 2;
+  primary = word form 4;
   secondary = word form 3;
-  side = side_in form;
+  location = location_in form;
 }
 
 -- the pool of an id, a row's words, a name's words, a header and a form, extents and cells
@@ -51,8 +56,10 @@ pool_of e =
     made_of e.id e.words (label_of e.items) (item e.items 3) (item e.items 4)
     (map extent_of (take (word e.words 4) (drop 5 e.items))) (map cell_of (drop (word e.words 3) (drop 5 e.items)))
 
--- the row has its texts, its extents and their marks, cells of some size, and just the words of its name, which is text
+-- the row has an id of one word, its texts, its extents and their marks, cells of some size, and just the words of its
+-- name, which is text
 pub record IsSound (e : Entry) : Type 0 where
+  pub small : e.id < 2 ^ 32
   pub room : 5 + word e.words 3 ≤ length e.items
   pub long : word e.words 4 + all_marks (pool_of e).extents ≡ word e.words 3
   pub size : 0 < word e.words 1

@@ -4,8 +4,8 @@ use Rattle.std.specs.Prelude.{ℕ, zero, suc, ◌+◌, ◌*◌, ◌/◌, ◌%◌
 use Rattle.std.specs.Prelude.{List, [], ◌∷◌, ◌++◌, Option, Some, None, IfSome, IsUtf8, slice_get}
 use Rattle.list_table.specs.Entries.{word}
 use Rattle.cell_extents.specs.declared.label.Label.{Label}
-use Rattle.cell_extents.specs.declared.settings.Side.{Side}
-use Rattle.cell_extents.specs.declared.settings.Side.TheVariants.{Below, Above}
+use Rattle.vsm_model.specs.declared.limits.Residence.{Residence}
+use Rattle.vsm_model.specs.declared.limits.Residence.TheVariants.{Below, Above}
 
 abbrev pub digit : Option ℕ → ℕ
 digit None = 0
@@ -58,8 +58,8 @@ unfoldable pub same_label : Label → Label → Bool
 same_label a b = same_words a.first b.first && same_words a.second b.second && same_words a.third b.third
 
 -- the side in the first word of a form
-abbrev pub side_in : List ℕ → Side
-side_in form = if word form 0 == 0 then Below else Above
+abbrev pub location_in : List ℕ → Residence
+location_in form = if word form 0 == 0 then Below else Above
 
 -- The header in seven words and the third one of a form, where the second one says that there is one.
 abbrev pub header_in : List ℕ → List ℕ → Option (List ℕ)

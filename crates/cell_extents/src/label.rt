@@ -3,9 +3,10 @@
 ghost use Rattle.std.specs.Prelude.{◌≡◌, ◌+◌, ◌≤◌, ◌∷◌, ◌++◌, [], IsUtf8, IfSome, length, slice_get, option_map};
 ghost use Rattle.cell_extents.specs.Names.{digit, word_at, packed, unpacked, spelled, same_words, same_label};
 ghost use Rattle.list_table.specs.Entries.{word};
-ghost use Rattle.cell_extents.specs.Names.{side_in, header_in, AreBytes};
+ghost use Rattle.cell_extents.specs.Names.{location_in, header_in, AreBytes};
 
-use crate::settings::{Header, Name, Side};
+use crate::settings::{Header, Name};
+use vsm_model::Residence;
 
 /// The words of a name: 63 bytes, three to a word.
 #[derive(Clone, Copy, Debug)]
@@ -18,13 +19,13 @@ pub struct Label {
     pub third: [u32; 7],
 }
 
-/// The words of a header, the last of them in the form, of a side, and the secondary count.
+/// The words of a header, the last of them in the form, of a side, and both counts.
 #[derive(Clone, Copy, Debug)]
 pub struct Form {
     /// The words of the header's bytes 0 to 20, zeros where there is none.
     pub header: [u32; 7],
     /// The side (0 is below the 16 MB line), 1 where there is a header, the word of its bytes 21 to 23, the secondary
-    /// count, and three zeros.
+    /// count, the primary count, and two zeros.
     pub form: [u32; 7],
 }
 
@@ -99,28 +100,29 @@ pub fn label_of_name(name: &Name) -> Label
     label_of_text(name.as_str().as_bytes())
 }
 
-/// The words of a side, of a secondary count, and of a header; without one they say so.
-pub fn form_of(side: Side, secondary: u32, header: &Option<Header>) -> Form
-    ensures side { side_in result.form ≡ side }
+/// The words of a side, of the counts, and of a header; without one they say so.
+pub fn form_of(location: Residence, primary: u32, secondary: u32, header: &Option<Header>) -> Form
+    ensures location { location_in result.form ≡ location }
+    ensures primary { word result.form 4 ≡ primary }
     ensures secondary { word result.form 3 ≡ secondary }
     ensures header { header_in result.header result.form ≡ option_map (λ h. h.items) header.now }
     ensures bytes { IfSome (option_map (λ h. h.items) header.now) AreBytes }
 {
-    let side = match side {
-        Side::Below => 0,
-        Side::Above => 1,
+    let side = match location {
+        Residence::Below => 0,
+        Residence::Above => 1,
     };
     match header {
         Some(text) => {
             let (front, last) = header_words(text.as_slice());
             Form {
                 header: front,
-                form: [side, 1, last, secondary, 0, 0, 0],
+                form: [side, 1, last, secondary, primary, 0, 0],
             }
         }
         None => Form {
             header: [0; 7],
-            form: [side, 0, 0, secondary, 0, 0, 0],
+            form: [side, 0, 0, secondary, primary, 0, 0],
         },
     }
 }

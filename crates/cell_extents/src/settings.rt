@@ -1,5 +1,6 @@
 use arrayvec::{ArrayString, ArrayVec};
 use vsm_elements::Id;
+use vsm_model::{Residence, Subpool};
 
 /// The name of a cell pool: a text of at most 63 bytes.
 pub type Name = ArrayString<63>;
@@ -10,26 +11,19 @@ pub type Header = ArrayVec<u8, 24>;
 /// What names a cell pool to the calls: the id of its row, which it keeps while it is parked.
 pub type CellId = Id;
 
-/// The side of the 16 MB line that a cell pool's extents may lie on: below it alone, or on either side.
-#[derive(Clone, Copy, Debug, PartialEq, Eq)]
-pub enum Side {
-    Below,
-    Above,
-}
-
 /// What a cell pool is built with beside its name and its header.
 #[derive(Clone, Copy, Debug, PartialEq, Eq)]
 pub struct Settings {
     /// The subpool that it lies in.
-    pub subpool: u32,
+    pub subpool: Subpool,
     /// The size of a cell in bytes.
     pub size: u32,
     /// How many cells the first extent has.
     pub primary: u32,
     /// How many cells each further extent has.
     pub secondary: u32,
-    /// Where the extents may lie.
-    pub side: Side,
+    /// On which side of the 16 MB line the extents may lie: below it alone, or on either side.
+    pub location: Residence,
 }
 
 /// An extent of a cell pool.

@@ -1,13 +1,16 @@
-//! Names, headers and sides back from their words.
+//! Names, headers, sides and subpools back from their words.
 
-ghost use Rattle.std.specs.Prelude.{◌≡◌, ◌+◌, ◌/◌, ◌≤◌, ◌<◌, ◌++◌, ◌∷◌, [], IsUtf8, IfSome, option_map};
+ghost use Rattle.std.specs.Prelude.{◌≡◌, ◌+◌, ◌/◌, ◌%◌, ◌≤◌, ◌<◌, ◌++◌, ◌∷◌, [], IsUtf8, IfSome, option_map};
 ghost use Rattle.arrayvec.specs.ArrayVec.{array_vec_len};
-ghost use Rattle.cell_extents.specs.Names.{byte_of, bytes_in, unpacked, spelled, side_in, header_in, AreBytes};
+ghost use Rattle.cell_extents.specs.Names.{byte_of, bytes_in, unpacked, spelled, location_in, header_in, AreBytes};
+ghost use Rattle.cell_extents.specs.Items.{subpool_in};
+ghost use Rattle.vsm_model.specs.Subpools.{same_subpool};
 
 use crate::label::Label;
-use crate::settings::{Header, Name, Side};
+use crate::settings::{Header, Name};
 use arrayvec::ArrayVec;
 use std::str;
+use vsm_model::{Residence, Subpool};
 
 // Appends the byte of a digit, if it has one.
 fn push_digit<const N: usize>(text: &mut ArrayVec<u8, N>, digit: u32)
@@ -77,8 +80,36 @@ pub fn header_of(front: [u32; 7], form: [u32; 7]) -> Option<Header>
 }
 
 /// The side that the first word of a form says.
-pub fn side_of(word: u32) -> Side
-    ensures { result ≡ side_in (word ∷ []) }
+pub fn location_of(word: u32) -> Residence
+    ensures { result ≡ location_in (word ∷ []) }
 {
-    if word == 0 { Side::Below } else { Side::Above }
+    if word == 0 {
+        Residence::Below
+    } else {
+        Residence::Above
+    }
+}
+
+fn low_byte(word: u32) -> u8
+    ensures { result ≡ word % 256 }
+{
+    (word % 256) as u8
+}
+
+/// The subpool that a row's words say: the first is its number, the third its owner.
+pub fn subpool_of(words: [u32; 5]) -> Subpool
+    ensures { result ≡ subpool_in words }
+{
+    Subpool {
+        number: low_byte(words[0]),
+        owner: low_byte(words[2]),
+    }
+}
+
+/// Whether a row's words say this subpool.
+pub fn says_subpool(words: [u32; 5], subpool: Subpool) -> bool
+    ensures { result ≡ same_subpool (subpool_in words) subpool }
+{
+    let said = subpool_of(words);
+    said.number == subpool.number && said.owner == subpool.owner
 }

@@ -1,10 +1,10 @@
 -- Laws of cell pools.
-use Rattle.std.specs.Prelude.{◌≡◌, ℕ, Bool, List, Option, Some}
-use Rattle.vsm_elements.specs.Store.{Store, SameElements}
+use Rattle.std.specs.Prelude.{◌≡◌, ℕ, ◌<◌, ◌^◌, Bool, true, List, ◌∷◌, map, Option, Some}
+use Rattle.vsm_elements.specs.Store.{Store, SameElements, Distinct}
 use Rattle.vsm_elements.specs.Ownership.{Owns, Leaves, Apart}
 use Rattle.cell_pool.specs.declared.pools.CellPools.{CellPools}
-use Rattle.cell_pool.specs.Pools.{Pool, HasCells, extended, retracted, only, all_but, either_of}
-use Rattle.cell_pool.specs.CellPools.{pool, by_id, owned, IsCellPools}
+use Rattle.cell_pool.specs.Pools.{Pool, HasCells, without_first, uses, id_in, pool_in, extended, retracted, only, all_but, either_of}
+use Rattle.cell_pool.specs.CellPools.{pools, pool, by_id, owned, IsCellPools}
 
 -- the pool of a name is the pool of its id, and the other way round
 pub record AreOne (s : Store) (q : CellPools) : Type 0 where
@@ -46,3 +46,26 @@ ParkedPoolsComeBack = (test : Pool → Bool) (found : Option Pool)
 -- each pool's free cells are cells of its extents
 abbrev pub PoolsHaveCells : Type 0
 PoolsHaveCells = (s : Store) (q : CellPools) (i : ℕ) (p : Pool) → IsCellPools s q → by_id s q i ≡ Some p → HasCells p
+
+-- the first free cell, once it's handed out, is in use
+abbrev pub FirstCellIsUsed : Type 0
+FirstCellIsUsed = (p : Pool) (cell : ℕ) (rest : List ℕ) → HasCells p → p.cells ≡ cell ∷ rest
+    → uses (without_first p) cell ≡ true
+
+-- an id is one word
+abbrev pub IdsAreSmall : Type 0
+IdsAreSmall = (s : Store) (q : CellPools) (i : ℕ) (p : Pool) → IsCellPools s q → by_id s q i ≡ Some p → i < 2 ^ 32
+
+-- pools of one name have one id
+abbrev pub NamesAreSingle : Type 0
+NamesAreSingle = (s : Store) (q : CellPools) (i j : ℕ) (x y : Pool) → IsCellPools s q → by_id s q i ≡ Some x
+    → by_id s q j ≡ Some y → x.name ≡ y.name → i ≡ j
+
+-- the pools are those in a list, each once, and found there by their ids and their names
+pub record AreListed (s : Store) (q : CellPools) : Type 0 where
+  pub distinct : Distinct (map (λ p. p.id) (pools s q))
+  pub ids : (i : ℕ) → by_id s q i ≡ id_in i (pools s q)
+  pub names : (n : List ℕ) → pool s q n ≡ pool_in n (pools s q)
+
+abbrev pub PoolsAreListed : Type 0
+PoolsAreListed = (s : Store) (q : CellPools) → IsCellPools s q → AreListed s q

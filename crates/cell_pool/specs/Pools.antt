@@ -1,6 +1,8 @@
 -- Cell pools as plain values: which of them is found, and what the calls do to them.
-use Rattle.std.specs.Prelude.{◌≡◌, ℕ, Bool, true, ◌==◌, if◌then◌else◌, List, [], ◌∷◌, Option, Some, None}
+use Rattle.std.specs.Prelude.{◌≡◌, ℕ, Bool, true, false, ◌==◌, if◌then◌else◌, List, [], ◌∷◌, Option, Some, None}
 use Rattle.std.specs.Str.{bytes_eq}
+use Rattle.vsm_model.specs.declared.Subpool.{Subpool}
+use Rattle.vsm_model.specs.Subpools.{same_subpool}
 -- A pool by itself, and its cells and extents.
 pub use Rattle.cell_extents.specs.Pool.{Pool, cells_of, AreApart, HasCells, uses, rounded, overlaps, meets, mark_items}
 pub use Rattle.cell_extents.specs.Pool.{without_first, with_first, extended, retracted, IsExtended}
@@ -48,10 +50,33 @@ abbrev pub all_but : (Pool → Bool) → Option Pool → Option Pool
 all_but test None = None
 all_but test (Some p) = if test p then None else Some p
 
-abbrev pub lies_in : ℕ → Pool → Bool
-lies_in subpool p = p.settings.subpool == subpool
+-- the pool is of this very subpool
+abbrev pub lies_in : Subpool → Pool → Bool
+lies_in subpool p = same_subpool p.settings.subpool subpool
+
+-- where the pool lies in the subpool, it lies in that of the same number of another owner
+abbrev pub handed_on : Subpool → ℕ → Pool → Pool
+handed_on subpool to p =
+    if lies_in subpool p
+    then record p { settings = record p.settings { subpool = record p.settings.subpool { owner = to } } }
+    else p
 
 -- the first of the two that is there
 abbrev pub either_of : Option Pool → Option Pool → Option Pool
 either_of None y = y
 either_of (Some x) y = Some x
+
+-- the test holds of a pool that is there
+abbrev pub holds_of : (Pool → Bool) → Option Pool → Bool
+holds_of test None = false
+holds_of test (Some p) = test p
+
+-- What is found of `x`, where all pools of a subpool change places with those of it among others, where `y` is found:
+-- the other one, where one of the two lies in the subpool.
+abbrev pub exchanged : Subpool → Option Pool → Option Pool → Option Pool
+exchanged subpool x y = if holds_of (lies_in subpool) (either_of x y) then y else x
+
+-- Pools of both that have one name lie both in the subpool, or both outside it. So no name comes to be there twice.
+abbrev pub GoTogether : Subpool → (ℕ → Option Pool) → (ℕ → Option Pool) → Type 0
+GoTogether subpool pools others = (i j : ℕ) (x y : Pool) → pools i ≡ Some x → others j ≡ Some y → x.name ≡ y.name
+    → lies_in subpool x ≡ lies_in subpool y

@@ -1,7 +1,8 @@
 //! Laws of cell pools. Each is the contract of a function that does nothing.
 
 ghost use Rattle.cell_pool.specs.Laws.{PoolsAreOne, PoolsOwn, PoolsStay, GrowthKeepsPools, RetractsBack};
-ghost use Rattle.cell_pool.specs.Laws.{ParkedPoolsComeBack, PoolsHaveCells};
+ghost use Rattle.cell_pool.specs.Laws.{ParkedPoolsComeBack, PoolsHaveCells, FirstCellIsUsed, IdsAreSmall};
+ghost use Rattle.cell_pool.specs.Laws.{NamesAreSingle, PoolsAreListed};
 
 /// The pool of a name is the pool of its id, and the other way round.
 pub fn pools_are_one()
@@ -36,4 +37,24 @@ pub fn parked_pools_come_back()
 /// The free cells of a pool are cells of its extents, each once, and no two extents have a cell in common.
 pub fn pools_have_cells()
     ensures { PoolsHaveCells }
+{}
+
+/// The first free cell, once it's handed out, is in use.
+pub fn first_cell_is_used()
+    ensures { FirstCellIsUsed }
+{}
+
+/// The id of a pool is one word.
+pub fn ids_are_small()
+    ensures { IdsAreSmall }
+{}
+
+/// Two ids whose pools have one name are one id.
+pub fn names_are_single()
+    ensures { NamesAreSingle }
+{}
+
+/// The pools are those of a list, each once, and are found in it by their ids and their names.
+pub fn pools_are_listed()
+    ensures { PoolsAreListed }
 {}

@@ -15,14 +15,16 @@ ghost use Rattle.cell_extents.specs.Marks.{all_marks};
 use crate::parked::ParkedCells;
 use cell_extents::label::{form_of, label_of_name};
 use cell_extents::lists::{label, put_texts};
+use cell_extents::texts::says_subpool;
 use cell_extents::{CellId, Header, Name, Settings};
 use list_table::{ListTable, Row};
 use vsm_elements::{Elements, Id};
+use vsm_model::Subpool;
 
 /// The head of all cell pools, each under its name.
 ///
 /// It is kept by value. Every call is handed the elements that it stands in, and changes those of its own alone.
-#[derive(Clone, Copy, Debug)]
+#[derive(Clone, Copy, Debug, PartialEq, Eq)]
 pub struct CellPools {
     pub(crate) table: ListTable,
 }
@@ -35,7 +37,7 @@ pub(crate) struct Place {
 }
 
 impl CellPools {
-    ghost use Rattle.cell_pool.specs.CellPools.{pool, pools, by_id, owned, cell_pools_of, IsCellPools, IsParked};
+    ghost use Rattle.cell_pool.specs.CellPools.{pool, pools, by_id, owned, IsCellPools, IsParked};
     ghost use Rattle.cell_pool.specs.CellPools.{parked_pool, parked_by_id, parked_owned};
 
     /// No cell pool. It has no element.
@@ -43,15 +45,12 @@ impl CellPools {
     // what a name and an id show
     crate::specs::CellPools::pool, crate::specs::CellPools::by_id,
     // whose the elements are
-    crate::specs::CellPools::owned, crate::specs::CellPools::IsCellPools,
-    // what a head is
-    crate::specs::CellPools::cell_pools_of))]
+    crate::specs::CellPools::owned, crate::specs::CellPools::IsCellPools))]
     pub fn new() -> CellPools
         ensures pools { (s : Store) → IsCellPools s result }
         ensures empty { (s : Store) (n : List ℕ) → pool s result n ≡ None }
         ensures ids { (s : Store) (i : ℕ) → by_id s result i ≡ None }
         ensures owned { (s : Store) → owned s result ≡ [] }
-        ensures head { result ≡ cell_pools_of 0 0 }
     {
         CellPools {
             table: ListTable::new(),
@@ -138,11 +137,13 @@ impl CellPools {
             size,
             primary,
             secondary,
-            side,
+            location,
         } = settings;
         let named = label_of_name(name);
-        let form = form_of(side, secondary, &header);
-        self.table.push(elements, [subpool, size, primary, 0, 0]);
+        let form = form_of(location, primary, secondary, &header);
+        let number = u32::from(subpool.number);
+        let owner = u32::from(subpool.owner);
+        self.table.push(elements, [number, size, owner, 0, 0]);
         let mut row = self.table.row(elements, 0, 0);
         let mut list = row.list;
         put_texts(&mut list, elements, named, form);
@@ -180,7 +181,7 @@ impl CellPools {
     }
 
     /// Takes all pools out that lie in a subpool, as [`CellPools::park_one`] takes one.
-    pub fn park_pools(&mut self, elements: &mut Elements, subpool: u32) -> ParkedCells
+    pub fn park_pools(&mut self, elements: &mut Elements, subpool: Subpool) -> ParkedCells
         requires { IsCellPools elements.old self.old }
         ensures pools { IsCellPools elements.new self.new }
         ensures parked { IsParked elements.new result }
@@ -207,7 +208,7 @@ impl CellPools {
         while left > 0 {
             left -= 1;
             let row = self.table.row(elements, place.index, place.before);
-            if row.words[0] == subpool {
+            if says_subpool(row.words, subpool) {
                 self.table
                     .move_row(elements, place.index, place.before, &mut out);
             } else {
@@ -247,6 +248,18 @@ impl CellPools {
         self.table = table;
     }
 
+    /// Gives back every element: those of the pools, of their names and headers, extents and free cells.
+    #[tactic(auto, unfolding(crate::specs::CellPools::owned, crate::specs::CellPools::IsCellPools))]
+    pub fn discard(self, elements: &mut Elements)
+        requires { IsCellPools elements.old self }
+        ensures { Leaves elements.old elements.new (owned elements.old self) [] }
+    {
+        let mut table = self.table;
+        while table.count(elements) > 0 {
+            table.drop_first(elements);
+        }
+    }
+
     // The place of the row of this id.
     fn place(&self, elements: &Elements, id: CellId) -> Place
         requires pools { IsCellPools elements.now self.now }
@@ -282,7 +295,7 @@ impl CellPools {
     }
 
     // The place of the row of this id, or that behind the last.
-    fn seek(&self, elements: &Elements, id: CellId) -> Place
+    pub(crate) fn seek(&self, elements: &Elements, id: CellId) -> Place
         requires { IsCellPools elements.now self.now }
         ensures place { IsPlace elements.now self.now.table result.index result.before }
         ensures earlier { id_in id (pools_of (take result.index (entries elements.now self.now.table))) ≡ None }

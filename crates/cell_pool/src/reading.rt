@@ -6,7 +6,7 @@ ghost use Rattle.cell_pool.specs.Pools.{uses, Meets};
 use crate::pools::{CellPools, Place};
 use cell_extents::lists::{TEXTS, item, label};
 use cell_extents::marks::{is_marked, mark_of};
-use cell_extents::texts::{header_of, name_of, side_of};
+use cell_extents::texts::{header_of, location_of, name_of, subpool_of};
 use cell_extents::walks::meets;
 use cell_extents::{CellId, Extent, Header, Name, Settings};
 use vsm_elements::Elements;
@@ -80,13 +80,14 @@ impl CellPools {
     {
         let row = self.row(elements, id);
         let form = item(row.list, elements, 4);
-        let side = side_of(form[0]);
+        let subpool = subpool_of(row.words);
+        let location = location_of(form[0]);
         Settings {
-            subpool: row.words[0],
+            subpool,
             size: row.words[1],
-            primary: row.words[2],
+            primary: form[4],
             secondary: form[3],
-            side,
+            location,
         }
     }
 

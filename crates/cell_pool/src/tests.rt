@@ -1,12 +1,20 @@
 //! Cells handed out and freed in mixed orders, and the cell pools of a subpool parked and restored.
 
-ghost use Rattle.std.specs.Prelude.{IsSome};
+ghost use Rattle.std.specs.Prelude.{◌≡◌, IsSome};
 ghost use Rattle.cell_pool.specs.CellPools.{by_id, IsCellPools};
 
 use super::*;
 use std::process::Abort;
 use std::test::Fail;
 use vsm_elements::Elements;
+use vsm_model::{Residence, Subpool};
+
+// The subpool of a number that task 1 owns.
+fn subpool(number: u8) -> Subpool
+    ensures { result ≡ record { number = number; owner = 1 } }
+{
+    Subpool { number, owner: 1 }
+}
 
 // Cell pools of a name in subpools 1 and 2, each of two cells of 16 bytes.
 fn build(rt: &impl Abort, elements: &mut Elements, pools: &mut CellPools, text: &str, start: u32)
@@ -19,11 +27,11 @@ fn build(rt: &impl Abort, elements: &mut Elements, pools: &mut CellPools, text: 
     assert!(rt; elements.spare() >= 10);
     assert!(rt; start <= 8192);
     let settings = Settings {
-        subpool: start / 4096,
+        subpool: subpool((start / 4096) as u8),
         size: 16,
         primary: 2,
         secondary: 1,
-        side: Side::Below,
+        location: Residence::Below,
     };
     let mut header = Header::new();
     header.push(b'H');
@@ -79,10 +87,10 @@ fn park_and_restore(rt: &impl Abort, elements: &mut Elements, pools: &mut CellPo
     requires { IsCellPools elements.old pools.old }
     ensures { IsCellPools elements.new pools.new }
 {
-    let parked = pools.park_pools(elements, 1);
+    let parked = pools.park_pools(elements, subpool(1));
     assert_eq!(rt; pools.count(elements), 1);
     let id = find(rt, elements, pools, "B");
-    assert_eq!(rt; pools.settings(elements, id).subpool, 2);
+    assert_eq!(rt; pools.settings(elements, id).subpool, subpool(2));
     assert_eq!(rt; pools.first_free(elements, id), Some(8208));
     assert_eq!(rt; pools.cell_at(elements, id, 1), None);
     assert!(rt; pools.in_use(elements, id, 8192));
@@ -130,9 +138,9 @@ fn the_pools_of_a_subpool_are_parked_and_restored(rt: HostRuntime) -> Result<(),
     assert_eq!(rt; get(&rt, &mut elements, &mut pools, "C"), 4096);
     assert_eq!(rt; get(&rt, &mut elements, &mut pools, "B"), 8208);
     free(&rt, &mut elements, &mut pools, "C", 4096);
-    let parked = pools.park_pools(&mut elements, 1);
+    let parked = pools.park_pools(&mut elements, subpool(1));
     parked.discard(&mut elements);
-    let rest = pools.park_pools(&mut elements, 2);
+    let rest = pools.park_pools(&mut elements, subpool(2));
     rest.discard(&mut elements);
     assert_eq!(rt; elements.spare(), 128);
     assert_eq!(rt; elements.release(), 1);
@@ -154,7 +162,7 @@ fn pools_come_in_the_order_of_their_names(rt: HostRuntime) -> Result<(), Fail> {
     let third = name_after(&rt, &elements, &pools, &second);
     assert_eq!(rt; third.as_str(), "B");
     assert_eq!(rt; pools.pool_after(&elements, &third), None);
-    let rest = pools.park_pools(&mut elements, 1);
+    let rest = pools.park_pools(&mut elements, subpool(1));
     rest.discard(&mut elements);
     assert_eq!(rt; elements.spare(), 128);
     assert_eq!(rt; elements.release(), 1);
