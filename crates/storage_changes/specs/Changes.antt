@@ -1,13 +1,14 @@
 -- A change of the storage, and what it leads to.
-use Rattle.std.specs.Prelude.{◌≡◌, ℕ, ◌+◌, ◌/◌, true, false, List, [], ◌∷◌, ◌++◌, length, Option, Some, None, IsSome}
+use Rattle.std.specs.Prelude.{◌≡◌, ℕ, ◌+◌, ◌/◌, ◌==◌, true, false, List, [], ◌∷◌, ◌++◌, length, Option, Some, None, IsSome}
 use Rattle.std.specs.Prelude.{if◌then◌else◌}
 use Rattle.run_set.specs.declared.run.Run.{Run}
 use Rattle.run_set.specs.Runs.{inside}
 use Rattle.vsm_model.specs.declared.Subpool.{Subpool}
+use Rattle.cell_pool.specs.Pools.{Pool}
 use Rattle.subpool_storage.specs.Extents.{extents}
 use Rattle.subpool_storage.specs.Subpools.{Subpools, no_subpools, with_own}
 use Rattle.storage_changes.specs.declared.record.Record.{Record}
-use Rattle.storage_changes.specs.declared.record.Record.TheVariants.{Pages, Queues}
+use Rattle.storage_changes.specs.declared.record.Record.TheVariants.{Pages, Queues, CellPool}
 use Rattle.storage_changes.specs.State.{StorageState}
 use Rattle.storage_changes.specs.Walk.{Walk}
 use Rattle.storage_changes.specs.Steps.{walk}
@@ -63,6 +64,14 @@ empties (p ∷ ps) = with_own (empties ps) p true
 -- what records mean that may take the storage of these subpools, with empty ones parked under their names
 abbrev pub change_parking : List Subpool → List Record → ℕ → Change
 change_parking ps records blanks = record (change_of records blanks no_pages) { parked = empties ps }
+
+-- a change by which a cell pool comes first, which it has parked until then
+abbrev pub change_building : Pool → Change → Change
+change_building p d =
+    record d {
+      records = CellPool (record { pool = p.id; present = true }) ∷ d.records;
+      parked = record d.parked { cells = λ id. if id == p.id then Some p else d.parked.cells id };
+    }
 
 -- before the first record
 abbrev pub outset : StorageState → Change → Walk

@@ -3,7 +3,7 @@
 use Rattle.std.specs.Prelude.{◌≡◌, ◌≢◌, ℕ, ◌+◌, ◌*◌, ◌/◌, ◌^◌, ◌<◌, ◌≤◌, Bool, true, false, not, List, [], ◌∷◌, length}
 use Rattle.std.specs.Prelude.{Option, Some, None, IsSome, if◌then◌else◌}
 use Rattle.run_set.specs.Runs.{inside}
-use Rattle.subpool_storage.specs.Subpools.{is_there, owned_by, CanExchange, IsUnnamed}
+use Rattle.subpool_storage.specs.Subpools.{is_there, owned_by, CanExchange, IsSingle}
 use Rattle.cell_pool.specs.Pools.{Pool, uses, meets, with_first, without_first, extended, retracted}
 use Rattle.vsm_model.specs.Subpools.{same_subpool}
 use Rattle.storage_changes.specs.declared.record.AreaRecord.{AreaRecord}
@@ -121,13 +121,13 @@ pub record PassFits (w : Walk) (r : PassRecord) : Type 0 where
       (id : ℕ) (p : Pool) → w.state.subpools.cells id ≡ Some p
       → same_subpool p.settings.subpool (owned_by r.subpool r.to) ≡ false
 
--- The cell pool is there or parked, as it goes or comes, and not both; where it goes none has its name.
+-- The cell pool is there or parked, as it goes or comes, and not both; no other one there or parked has its name.
 pub record CellPoolFits (w : Walk) (r : CellPoolRecord) : Type 0 where
   pub here : IsSome (if r.present then w.parked.cells r.pool else w.state.subpools.cells r.pool)
   pub not_there : (if r.present then w.state.subpools.cells r.pool else w.parked.cells r.pool) ≡ None
-  pub unnamed :
+  pub single :
       (p : Pool) → (if r.present then w.parked.cells r.pool else w.state.subpools.cells r.pool) ≡ Some p
-      → IsUnnamed (if r.present then w.state.subpools else w.parked) p.name
+      → IsSingle w.state.subpools w.parked r.pool p.name
 
 -- The extent lies within 32 bits and overlaps no other one of the cell pool; where it's the last one, its cells are the
 -- end of the free ones.

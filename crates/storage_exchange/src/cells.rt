@@ -27,7 +27,7 @@ impl Storage {
         ensures turned { result ≡ record r { present = not r.present } }
     {
         self.subpools
-            .exchange_pool(&mut self.elements, parked, r.pool, r.present);
+            .exchange_pool(&mut self.elements, parked, r.pool);
         CellPoolRecord {
             present: !r.present,
             ..r

@@ -1,6 +1,6 @@
 -- Subpools with their pages, their free storage and their cell pools, as functions, and what one call does to them.
 -- Assembler Services Guide, "Virtual storage management", "Subpool handling"; Assembler Services Reference, CPOOL.
-use Rattle.std.specs.Prelude.{◌≡◌, ◌≢◌, ℕ, Bool, false, ◌&&◌, ◌==◌, if◌then◌else◌, Option, Some, None}
+use Rattle.std.specs.Prelude.{◌≡◌, ◌≢◌, ◌⊎◌, ℕ, Bool, false, ◌&&◌, ◌==◌, if◌then◌else◌, Option, Some, None}
 use Rattle.std.specs.Prelude.{option_map, List}
 use Rattle.run_set.specs.declared.run.Run.{Run}
 use Rattle.run_set.specs.Runs.{inside}
@@ -56,13 +56,23 @@ with_storage_of m others p =
       cells = λ id. exchanged p (m.cells id) (others.cells id);
     }
 
--- No name comes to be there twice where a subpool's storage is exchanged: where both have a cell pool of one name, both
--- lie in the subpool, or neither does.
+-- a cell pool is there under the id, among these subpools or the others
+abbrev pub HasPool : Subpools → Subpools → ℕ → Pool → Type 0
+HasPool m others id x = (m.cells id ≡ Some x) ⊎ (others.cells id ≡ Some x)
+
+-- Cell pools of both that have one name lie all in the subpool, or all outside it: no name comes to be there twice where
+-- the subpool's storage is exchanged.
 abbrev pub CanExchange : Subpools → Subpools → Subpool → Type 0
-CanExchange m others p = (i j : ℕ) (x y : Pool) → m.cells i ≡ Some x → others.cells j ≡ Some y → x.name ≡ y.name
+CanExchange m others p =
+    (i j : ℕ) (x y : Pool) → HasPool m others i x → HasPool m others j y → x.name ≡ y.name
     → lies_in p x ≡ lies_in p y
 
--- A cell pool can join these: none has its name.
+-- No other cell pool of either has the name.
+abbrev pub IsSingle : Subpools → Subpools → ℕ → List ℕ → Type 0
+IsSingle m others id name =
+    (i : ℕ) (q : Pool) → HasPool m others i q → q.name ≡ name → i ≡ id
+
+-- none of these has the name
 abbrev pub IsUnnamed : Subpools → List ℕ → Type 0
 IsUnnamed m name = (id : ℕ) (q : Pool) → m.cells id ≡ Some q → q.name ≢ name
 

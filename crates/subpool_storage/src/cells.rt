@@ -5,7 +5,7 @@ ghost use Rattle.std.specs.Prelude.{slice_get, if◌then◌else◌};
 ghost use Rattle.vsm_elements.specs.Owners.{times};
 ghost use Rattle.cell_pool.specs.CellPools.{by_id, owned as cells_own, IsCellPools};
 ghost use Rattle.cell_pool.specs.Pools.{Pool, uses, meets, mark_items, without_first, with_first, extended, retracted};
-ghost use Rattle.subpool_storage.specs.Subpools.{with_changed, with_pool_of, IsUnnamed};
+ghost use Rattle.subpool_storage.specs.Subpools.{with_changed, with_pool_of, HasPool, IsSingle};
 ghost use Rattle.subpool_storage.specs.SubpoolStorage.{subpools_of, hold, Stands, Becomes};
 
 use crate::storage::SubpoolStorage;
@@ -96,8 +96,8 @@ impl SubpoolStorage {
         self.cells.retract(elements, id);
     }
 
-    /// A cell pool goes over to the others, or comes from them, with its extents and its cells as they stand. Where it
-    /// goes no cell pool has its name.
+    /// A cell pool goes over to the others, or comes from them, with its extents and its cells as they stand. No other
+    /// one has its name.
     ///
     /// It takes no element.
     pub fn exchange_pool(
@@ -105,17 +105,12 @@ impl SubpoolStorage {
         elements: &mut Elements,
         others: &mut SubpoolStorage,
         id: CellId,
-        comes: bool,
     )
         requires stands { Stands elements.old self.old }
         requires others { Stands elements.old others.old }
         requires apart { (i : ℕ) → hold elements.old self.old i + hold elements.old others.old i ≤ 1 }
-        requires here { comes ≡ false → IsSome ((subpools_of elements.old self.old).cells id) }
-        requires there { comes ≡ true → IsSome ((subpools_of elements.old others.old).cells id) }
-        requires unnamed { comes ≡ true → IfSome ((subpools_of elements.old others.old).cells id)
-            (λ p. IsUnnamed (subpools_of elements.old self.old) p.name) }
-        requires unnamed_there { comes ≡ false → IfSome ((subpools_of elements.old self.old).cells id)
-            (λ p. IsUnnamed (subpools_of elements.old others.old) p.name) }
+        requires single { (p : Pool) → HasPool (subpools_of elements.old self.old) (subpools_of elements.old others.old) id p
+            → IsSingle (subpools_of elements.old self.old) (subpools_of elements.old others.old) id p.name }
         ensures stands { Stands elements.new self.new }
         ensures others { Stands elements.new others.new }
         ensures subpools { subpools_of elements.new self.new
@@ -128,13 +123,7 @@ impl SubpoolStorage {
             → at elements.new i ≡ at elements.old i }
         ensures spares { elements.new.spare ≡ elements.old.spare }
     {
-        if comes {
-            others
-                .cells
-                .exchange_pool(elements, id, &mut self.cells);
-        } else {
-            self.cells
-                .exchange_pool(elements, id, &mut others.cells);
-        }
+        self.cells
+            .exchange_pool(elements, id, &mut others.cells);
     }
 }
