@@ -1,12 +1,12 @@
 -- A record of what one subpool has, of a cell pool, of an extent of its or of a cell, changed sides with the storage.
-use Rattle.std.proofs.Common.{◌≡◌, ℕ, ◌+◌, ◌-◌, ◌*◌, ◌/◌, ◌^◌, ◌≤◌, Bool, true, false, Some, None, Option, IsSome, IfSome, if◌then◌else◌, List, refl, ap, sym, subst, ◌∙◌, arith}
+use Rattle.std.proofs.Common.{◌≡◌, ℕ, ◌+◌, ◌-◌, ◌*◌, ◌/◌, ◌^◌, ◌≤◌, ◌⊎◌, inl, inr, Bool, true, false, Some, None, Option, IsSome, IfSome, if◌then◌else◌, List, refl, ap, sym, subst, ◌∙◌, arith}
 use Rattle.std.specs.Prelude.{nat_lt, slice_get}
 use Rattle.vsm_elements.specs.Store.{Store, at}
 use Rattle.raw_region.specs.Frames.{PageFrame}
 use Rattle.raw_region.specs.Pages.{byte_at}
 use Rattle.cell_pool.specs.Pools.{Pool, uses, meets, without_first, with_first, extended, retracted}
 use Rattle.subpool_storage.specs.declared.storage.SubpoolStorage.{SubpoolStorage as Head}
-use Rattle.subpool_storage.specs.Subpools.{Subpools, with_storage_of, with_pool_of, with_changed, IsUnnamed}
+use Rattle.subpool_storage.specs.Subpools.{Subpools, with_storage_of, with_pool_of, with_changed, HasPool, IsSingle}
 use Rattle.subpool_storage.specs.SubpoolStorage.{subpools_of, Becomes}
 use Rattle.subpool_storage.specs.SubpoolStorage
 use Rattle.storage_changes.specs.declared.record.QueuesRecord.{QueuesRecord}
@@ -135,10 +135,6 @@ cell-as r v e = λ i. Cell (record { pool = r.pool; cell = r.cell; free = sym e 
 
 -- What the calls ask.
 
-one-there : (b : Bool) (x y : Option Pool) → IsSome (if b then x else y) → (b ≡ true → IsSome x) × (b ≡ false → IsSome y)
-one-there true x y h = ((λ e. h), λ e. cc)
-one-there false x y h = ((λ e. cc), λ e. h)
-
 if-found : (o : Option Pool) (P : Pool → Type 0) → ((p : Pool) → o ≡ Some p → P p) → IfSome o P
 if-found None P h = tt
 if-found (Some p) P h = h p refl
@@ -147,20 +143,15 @@ room-for : (b : Bool) (n m : ℕ) → n ≤ m + (if b then 0 else n) → b ≡ t
 room-for true n m h e = omega (arith, h)
 room-for false n m h e = cc
 
--- where a cell pool goes, none has its name
-one-unnamed : (b : Bool) (m others : Subpools) (id : ℕ)
-    → ((p : Pool) → (if b then others.cells id else m.cells id) ≡ Some p → IsUnnamed (if b then m else others) p.name)
-    → (b ≡ true → IfSome (others.cells id) (λ p. IsUnnamed m p.name)) × (b ≡ false → IfSome (m.cells id) (λ p. IsUnnamed others p.name))
-one-unnamed true m others id h = ((λ e. if-found (others.cells id) (λ p. IsUnnamed m p.name) h), λ e. cc)
-one-unnamed false m others id h = ((λ e. cc), λ e. if-found (m.cells id) (λ p. IsUnnamed others p.name) h)
+-- one of two is there, and not the other one: what holds of it holds of what either is
+of-either : (b : Bool) (x y : Option Pool) (P : Pool → Type 0) → (if b then y else x) ≡ None → ((p : Pool) → (if b then x else y) ≡ Some p → P p) → (p : Pool) → (y ≡ Some p) ⊎ (x ≡ Some p) → P p
+of-either true x y P none h p (inl e) = cc
+of-either true x y P none h p (inr e) = h p e
+of-either false x y P none h p (inl e) = h p e
+of-either false x y P none h p (inr e) = cc
 
-module _ (w : Walk) (r : CellPoolRecord) (h : CellPoolFits w r) where
-  pub pool-there : (r.present ≡ true → IsSome (w.parked.cells r.pool)) × (r.present ≡ false → IsSome (w.state.subpools.cells r.pool))
-  pool-there = one-there r.present (w.parked.cells r.pool) (w.state.subpools.cells r.pool) h.here
-
-  pub pool-unnamed : (r.present ≡ true → IfSome (w.parked.cells r.pool) (λ p. IsUnnamed w.state.subpools p.name))
-      × (r.present ≡ false → IfSome (w.state.subpools.cells r.pool) (λ p. IsUnnamed w.parked p.name))
-  pool-unnamed = one-unnamed r.present w.state.subpools w.parked r.pool h.unnamed
+pub pool-single : (w : Walk) (r : CellPoolRecord) → CellPoolFits w r → (p : Pool) → HasPool w.state.subpools w.parked r.pool p → IsSingle w.state.subpools w.parked r.pool p.name
+pool-single w r h = of-either r.present (w.parked.cells r.pool) (w.state.subpools.cells r.pool) (λ p. IsSingle w.state.subpools w.parked r.pool p.name) h.not_there h.single
 
 module _ (w : Walk) (r : CellExtentRecord) (h : CellExtentFits w r) where
   -- an extent that comes
