@@ -2,7 +2,7 @@
 
 ghost use Rattle.std.specs.Prelude.{◌≡◌, ℕ, ◌+◌, ◌*◌, ◌≤◌, ◌<◌, ◌^◌, ◌∷◌, true, false, None, Some, IsSome, IfSome};
 ghost use Rattle.std.specs.Prelude.{slice_get, if◌then◌else◌};
-ghost use Rattle.vsm_elements.specs.Owners.{times};
+ghost use Rattle.vsm_elements.specs.Owners.{times, Moves};
 ghost use Rattle.cell_pool.specs.CellPools.{by_id, owned as cells_own, IsCellPools};
 ghost use Rattle.cell_pool.specs.Pools.{Pool, uses, meets, mark_items, without_first, with_first, extended, retracted};
 ghost use Rattle.subpool_storage.specs.Subpools.{with_changed, with_pool_of, HasPool, IsSingle};
@@ -117,10 +117,10 @@ impl SubpoolStorage {
             ≡ with_pool_of (subpools_of elements.old self.old) (subpools_of elements.old others.old) id }
         ensures other_subpools { subpools_of elements.new others.new
             ≡ with_pool_of (subpools_of elements.old others.old) (subpools_of elements.old self.old) id }
-        ensures held { (i : ℕ) → hold elements.new self.new i + hold elements.new others.new i
-            ≡ hold elements.old self.old i + hold elements.old others.old i }
-        ensures kept { (i : ℕ) → hold elements.old self.old i + hold elements.old others.old i ≡ 0
-            → at elements.new i ≡ at elements.old i }
+        ensures apart { (i : ℕ) → hold elements.new self.new i + hold elements.new others.new i ≤ 1 }
+        ensures moves { Moves elements.old elements.new
+            (λ i. hold elements.old self.old i + hold elements.old others.old i)
+            (λ i. hold elements.new self.new i + hold elements.new others.new i) }
         ensures spares { elements.new.spare ≡ elements.old.spare }
     {
         self.cells
