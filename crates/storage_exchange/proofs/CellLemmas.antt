@@ -1,7 +1,8 @@
 -- A record of what one subpool has, of a cell pool, of an extent of its or of a cell, changed sides with the storage.
 use Rattle.std.proofs.Common.{◌≡◌, ℕ, ◌+◌, ◌-◌, ◌*◌, ◌/◌, ◌^◌, ◌≤◌, ◌⊎◌, inl, inr, Bool, true, false, Some, None, Option, IsSome, IfSome, if◌then◌else◌, List, refl, ap, sym, subst, ◌∙◌, arith}
 use Rattle.std.specs.Prelude.{nat_lt, slice_get}
-use Rattle.vsm_elements.specs.Store.{Store, at}
+use Rattle.vsm_elements.specs.Store.{Store}
+use Rattle.vsm_elements.specs.Owners.{Moves}
 use Rattle.raw_region.specs.Frames.{PageFrame}
 use Rattle.raw_region.specs.Pages.{byte_at}
 use Rattle.cell_pool.specs.Pools.{Pool, uses, meets, without_first, with_first, extended, retracted}
@@ -33,16 +34,16 @@ walk_between w subpools parked = record w { state = record w.state { subpools = 
 -- what changes places with what is parked
 module _ (p : Storage) (parked : Head) (k : StandsWith p parked) (e : Store) (q others : Head) (now parked-now : Subpools)
     (new : SubpoolStorage.Stands e q) (new-parked : SubpoolStorage.Stands e others) (is : subpools_of e q ≡ now) (parked-is : subpools_of e others ≡ parked-now)
-    (held : (i : ℕ) → SubpoolStorage.hold e q i + SubpoolStorage.hold e others i ≡ SubpoolStorage.hold p.elements p.subpools i + SubpoolStorage.hold p.elements parked i)
-    (same : (i : ℕ) → SubpoolStorage.hold p.elements p.subpools i + SubpoolStorage.hold p.elements parked i ≡ 0 → at e i ≡ at p.elements i)
+    (moved : Moves p.elements e (λ i. SubpoolStorage.hold p.elements p.subpools i + SubpoolStorage.hold p.elements parked i) (λ i. SubpoolStorage.hold e q i + SubpoolStorage.hold e others i))
+    (apart : (i : ℕ) → SubpoolStorage.hold e q i + SubpoolStorage.hold e others i ≤ 1)
     (spares : e.spare ≡ p.elements.spare) where
   abbrev t : Storage
-  t = with-exchanged p parked k e q others same new new-parked held
+  t = with-exchanged p parked k e q others moved new new-parked apart
 
   between : (given : List PageFrame) (kept : ℕ) → walk_of t given others kept ≡ walk_between (walk_of p given parked kept) now parked-now
   between given kept =
-      let u = exchanged-pages p parked k e q others same new new-parked held in
-      let w = exchanged-tasks p parked k e q others same new new-parked held in
+      let u = exchanged-pages p parked k e q others moved new new-parked apart in
+      let w = exchanged-tasks p parked k e q others moved new new-parked apart in
       walk-by-places (walk_of t given others kept) (walk_between (walk_of p given parked kept) now parked-now)
       refl w.parents (λ task n. ap (λ (z : ℕ). if nat_lt n 16 then z else 0) (w.words task n)) is u.unassigned
       (λ a. ap (λ (z : Bool). if z then None else byte_at p.region a) (u.unassigned (a / 4096)))
@@ -51,8 +52,8 @@ module _ (p : Storage) (parked : Head) (k : StandsWith p parked) (e : Store) (q 
 
   changed-places : (given : List PageFrame) (r : Record) → ((kept : ℕ) → walk_between (walk_of p given parked kept) now parked-now ≡ step (walk_of p given parked kept) r) → Exchanges p t given given parked others r
   changed-places given r h = record {
-    stands = exchanged-stand p parked k e q others same new new-parked held;
-    moves = exchanged-move p parked k e q others same new new-parked held;
+    stands = exchanged-stand p parked k e q others moved new new-parked apart;
+    moves = exchanged-move p parked k e q others moved new new-parked apart;
     steps = λ kept le fits. (omega (arith, le, spares), between given kept ∙ h kept);
     out = refl;
     tables = tables-same p.region;
@@ -63,8 +64,8 @@ module _ (p : Storage) (parked : Head) (k : StandsWith p parked) (e : Store) (q 
 -- the pages, the free storage and the cell pools of a subpool, and a cell pool
 module _ (p : Storage) (parked : Head) (k : StandsWith p parked) (e : Store) (q others : Head)
     (new : SubpoolStorage.Stands e q) (new-parked : SubpoolStorage.Stands e others)
-    (held : (i : ℕ) → SubpoolStorage.hold e q i + SubpoolStorage.hold e others i ≡ SubpoolStorage.hold p.elements p.subpools i + SubpoolStorage.hold p.elements parked i)
-    (same : (i : ℕ) → SubpoolStorage.hold p.elements p.subpools i + SubpoolStorage.hold p.elements parked i ≡ 0 → at e i ≡ at p.elements i)
+    (moved : Moves p.elements e (λ i. SubpoolStorage.hold p.elements p.subpools i + SubpoolStorage.hold p.elements parked i) (λ i. SubpoolStorage.hold e q i + SubpoolStorage.hold e others i))
+    (apart : (i : ℕ) → SubpoolStorage.hold e q i + SubpoolStorage.hold e others i ≤ 1)
     (spares : e.spare ≡ p.elements.spare) where
   abbrev had : Subpools
   had = subpools_of p.elements p.subpools
@@ -74,11 +75,11 @@ module _ (p : Storage) (parked : Head) (k : StandsWith p parked) (e : Store) (q 
 
   pub queues-exchanged : (r : QueuesRecord) → subpools_of e q ≡ with_storage_of had had-parked r.subpool → subpools_of e others ≡ with_storage_of had-parked had r.subpool
       → (given : List PageFrame) → Exchanges p (record p { elements = e; subpools = q }) given given parked others (Queues r)
-  queues-exchanged r is parked-is given = changed-places p parked k e q others (with_storage_of had had-parked r.subpool) (with_storage_of had-parked had r.subpool) new new-parked is parked-is held same spares given (Queues r) (λ kept. refl)
+  queues-exchanged r is parked-is given = changed-places p parked k e q others (with_storage_of had had-parked r.subpool) (with_storage_of had-parked had r.subpool) new new-parked is parked-is moved apart spares given (Queues r) (λ kept. refl)
 
   pub pool-exchanged : (r : CellPoolRecord) → subpools_of e q ≡ with_pool_of had had-parked r.pool → subpools_of e others ≡ with_pool_of had-parked had r.pool
       → (given : List PageFrame) → Exchanges p (record p { elements = e; subpools = q }) given given parked others (CellPool r)
-  pool-exchanged r is parked-is given = changed-places p parked k e q others (with_pool_of had had-parked r.pool) (with_pool_of had-parked had r.pool) new new-parked is parked-is held same spares given (CellPool r) (λ kept. refl)
+  pool-exchanged r is parked-is given = changed-places p parked k e q others (with_pool_of had had-parked r.pool) (with_pool_of had-parked had r.pool) new new-parked is parked-is moved apart spares given (CellPool r) (λ kept. refl)
 
 -- the last extent of a cell pool
 module _ (p : Storage) (e : Store) (q : Head) (pool start count : ℕ) where
