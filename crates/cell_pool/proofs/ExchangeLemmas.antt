@@ -55,9 +55,9 @@ module _ (goes : Pool → Bool) where
   is_exchanged (Some p) None h = refl
   is_exchanged (Some p) (Some r) h =
       ap (λ (z : Bool). either_of (if z then Some r else None) (if goes p then None else Some p)) (sym (h p r refl refl)) ∙ go (goes p) where
-    go : (b : Bool) → either_of (if b then Some r else None) (if b then None else Some p) ≡ (if b then Some r else Some p)
-    go true = refl
-    go false = refl
+        go : (b : Bool) → either_of (if b then Some r else None) (if b then None else Some p) ≡ (if b then Some r else Some p)
+        go true = refl
+        go false = refl
 
   only_all : (o : Option Pool) → ((p : Pool) → o ≡ Some p → goes p ≡ true) → (only goes o ≡ o) × (all_but goes o ≡ None)
   only_all None h = (refl, refl)
@@ -254,14 +254,14 @@ module _ (goes : Pool → Bool) (s r t : Store) (a b c d g k : CellPools) (first
       Leaves-members s t (owned s a ++ owned s b) ((owned t c ++ owned t g) ++ (owned t d ++ owned t k)) (owned s a ++ owned s b) ((owned t k ++ owned t c) ++ (owned t g ++ owned t d))
       (subst Q (sym g_stays.0.elements) (subst P (sym c_stays.0.elements) both_leave)) (λ i. refl) around refl
       (omega (arith, length-append (owned t k ++ owned t c) (owned t g ++ owned t d), length-append (owned t k) (owned t c), length-append (owned t g) (owned t d), length-append (owned t c ++ owned t g) (owned t d ++ owned t k), length-append (owned t c) (owned t g), length-append (owned t d) (owned t k))) where
-    four : (i : ℕ) (w x y z : List ℕ) → among i ((w ++ x) ++ (y ++ z)) ≡ ((among i w || among i x) || (among i y || among i z))
-    four i w x y z =
-        among-append i (w ++ x) (y ++ z) ∙ ap (λ (e : Bool). e || among i (y ++ z)) (among-append i w x) ∙ ap (λ (e : Bool). (among i w || among i x) || e) (among-append i y z)
+        four : (i : ℕ) (w x y z : List ℕ) → among i ((w ++ x) ++ (y ++ z)) ≡ ((among i w || among i x) || (among i y || among i z))
+        four i w x y z =
+            among-append i (w ++ x) (y ++ z) ∙ ap (λ (e : Bool). e || among i (y ++ z)) (among-append i w x) ∙ ap (λ (e : Bool). (among i w || among i x) || e) (among-append i y z)
 
-    around : (i : ℕ) → among i ((owned t k ++ owned t c) ++ (owned t g ++ owned t d)) ≡ among i ((owned t c ++ owned t g) ++ (owned t d ++ owned t k))
-    around i =
-        four i (owned t k) (owned t c) (owned t g) (owned t d) ∙ or_around (among i (owned t c)) (among i (owned t g)) (among i (owned t d)) (among i (owned t k))
-        ∙ sym (four i (owned t c) (owned t g) (owned t d) (owned t k))
+        around : (i : ℕ) → among i ((owned t k ++ owned t c) ++ (owned t g ++ owned t d)) ≡ among i ((owned t c ++ owned t g) ++ (owned t d ++ owned t k))
+        around i =
+            four i (owned t k) (owned t c) (owned t g) (owned t d) ∙ or_around (among i (owned t c)) (among i (owned t g)) (among i (owned t d)) (among i (owned t k))
+            ∙ sym (four i (owned t c) (owned t g) (owned t d) (owned t k))
 
 -- Parked pools are put back into the one, and then others into the other.
 module _ (s r t : Store) (a b c d g k : CellPools) (stand : IsCellPools s b) (parked : IsCellPools s g) (sides : Apart (owned s k ++ owned s a) (owned s g ++ owned s b)) (first : Leaves s r (owned s k ++ owned s a) (owned r c)) where

@@ -1,9 +1,8 @@
 -- That cell pools stand has one proof at most, and what they are is a set.
-use Rattle.std.specs.Prelude.{ℕ, Bool, List, [], ◌∷◌, Option, Some, None, IfSome}
+use Rattle.std.specs.Prelude.{ℕ, List, [], ◌∷◌, Option, Some, None, IfSome}
 use Rattle.std.proofs.Props.{props}
 use mathlib.Core.HLevel.{Unit-prop, ×_prop}
 use Rattle.vsm_model.specs.declared.Subpool.{Subpool}
-use Rattle.vsm_model.specs.declared.limits.Residence.{Residence}
 use Rattle.vsm_elements.specs.Store.{Store}
 use Rattle.vsm_elements.specs.Chain.{Link}
 use Rattle.vsm_elements.specs.Props.{Apart-prop, Distinct-prop, IsChain-prop}

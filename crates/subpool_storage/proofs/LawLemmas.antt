@@ -22,8 +22,8 @@ use Rattle.subpool_storage.specs.Subpools.{Subpools, is_there}
 use Rattle.cell_pool.specs.CellPools
 use Rattle.cell_pool.specs.Laws.{AreSame}
 use Rattle.cell_pool.proofs.LawLemmas.{pools_are_one, pools_have_cells, ids_are_small, names_are_single}
-use Rattle.subpool_storage.specs.Laws.{StorageOwns, SubpoolsAreThere, StorageStays, CellPoolsAreNamed}
-use Rattle.subpool_storage.proofs.KeptLemmas.{pools_kept}
+use Rattle.subpool_storage.specs.Laws.{StorageOwns, SubpoolsAreThere, StorageStays, CellPoolsAreNamed, PoolsAreHeld}
+use Rattle.subpool_storage.proofs.KeptLemmas.{pools_kept, ids_are_owned}
 use Rattle.subpool_storage.proofs.LiftLemmas.{SetSame, hold_cells, set_live, cells_live, set_same}
 
 pub hold_once : (s : Store) (q : SubpoolStorage) → Stands s q → (i : ℕ) → hold s q i ≤ 1
@@ -81,6 +81,11 @@ cell_pools_are_named s q h = record {
   once = λ i j p r e w. names_are_single s q.cells i j p r h.cells e w;
   cells = λ i p e. pools_have_cells s q.cells i p h.cells e;
 }
+
+-- a cell pool's id is that of an element of its own
+pub pools_are_held : PoolsAreHeld
+unfolding subpools_of hold
+pools_are_held s q id p h e = omega (arith, ids_are_owned s q.cells id p e)
 
 -- a set without subpools has no queues
 pub none_held : (s : Store) (q : SubpoolSet) → IsSubpoolSet s q → ((n o : ℕ) → pool s q n o ≡ None) → (i : ℕ) → times i (queue_ids s q) ≡ 0

@@ -9,6 +9,7 @@ pub mod SharingLemmas
 pub mod LawLemmas
 pub mod ExchangeLemmas
 pub mod CellLemmas
+pub mod BuildLemmas
 pub mod ExtentLemmas
 pub mod OrderLemmas
 pub mod PlaceLemmas
