@@ -3,3 +3,4 @@ mod Remaining
 mod Shown
 mod Bounds
 mod Walked
+mod CellLines

@@ -1,7 +1,6 @@
 -- What the lines of a map are in parts.
 use Rattle.std.proofs.Common.{◌≡◌, ℕ, suc, ◌+◌, ◌-◌, ◌*◌, ◌<◌, ◌≤◌, Bool, true, if◌then◌else◌, Option, Some, None, is_some, unwrap_or, List, [], ◌∷◌, ◌++◌, flat_map, codes, ap, ◌∙◌, arith}
 use Rattle.std.proofs.Props.{props}
-use Rattle.std.proofs.lemmas.List.{append-nil}
 use Rattle.std.proofs.lemmas.List.Folds.{flat_map-map}
 use mathlib.Core.Logic.{∥∥₁_elim}
 use Rattle.map_laws.specs.Lists.{pair_of, ExtentsAreShown, FreeAreasAreShown, SubpoolsAreShown}
@@ -11,12 +10,12 @@ use Rattle.subpool_storage.specs.Extents as in_place
 use Rattle.subpool_storage.specs.Order.{subpools_in_order}
 use Rattle.subpool_storage.specs.Subpools.{is_there}
 use Rattle.vsm_model.specs.Areas as plain
-use Rattle.vsm_model.specs.CellPools.{cells_from}
+use Rattle.vsm_model.specs.CellPools.{CellPool, cells_from}
 use Rattle.vsm_model.specs.declared.Subpool.{Subpool}
 use Rattle.vsm_model.specs.declared.limits.Settings.{Settings}
 use Rattle.vsm_model.specs.Regions.{settings_valid}
 use Rattle.vsm_model.specs.State.{State}
-use Rattle.vsm_model.specs.Map.{area_line, ascending_regions, bytes_line, field, line, numbers, pages_line, register_line, storage_map, subpool_lines, task_lines}
+use Rattle.vsm_model.specs.Map.{area_line, ascending_regions, bytes_line, cell_pool_lines, field, line, numbers, pages_line, register_line, storage_map, subpool_lines, task_lines}
 use Rattle.storage_map.specs.Lines.{current_text, extent_line, free_line, subpool_line, task_line}
 
 -- the numbers from one on begin with that one
@@ -66,14 +65,14 @@ module _ (settings : Settings) (m : StorageState) (p : Subpool) (valid : setting
       ∙ ap (λ (x : List ℕ). subpool_line (model_of m) p ++ x ++ shown_areas) (extents_are extents)
       ∙ ap (λ (x : List ℕ). subpool_line (model_of m) p ++ flat_map extent_line (in_place.extents m.subpools p) ++ x) (areas_are areas)
 
--- the map in parts: the storage in place has no cell pools
+-- the map in parts
 pub map_is : (settings : Settings) (m : StorageState) → SubpoolsAreShown →
     storage_map settings (model_of m)
     ≡ flat_map (task_lines (model_of m)) (numbers 1 65)
     ++ flat_map (λ (p : Subpool). subpool_lines settings (model_of m) p.number p.owner) (subpools_in_order m.subpools)
+    ++ flat_map (λ (row : List ℕ × CellPool). cell_pool_lines row.0 row.1) (model_of m).cell_pools
     ++ pages_line settings (model_of m) ++ bytes_line settings (model_of m)
 map_is settings m shown =
     let tasks = flat_map (task_lines (model_of m)) (numbers 1 65) in
-    let subpools = flat_map (λ (p : Subpool). subpool_lines settings (model_of m) p.number p.owner) (subpools_in_order m.subpools) in
-    ap (λ (x : List ℕ). tasks ++ x ++ [] ++ pages_line settings (model_of m) ++ bytes_line settings (model_of m)) (shown settings m)
-    ∙ ap (λ (x : List ℕ). x ++ pages_line settings (model_of m) ++ bytes_line settings (model_of m)) (append-nil (tasks ++ subpools))
+    let pools = flat_map (λ (row : List ℕ × CellPool). cell_pool_lines row.0 row.1) (model_of m).cell_pools in
+    ap (λ (x : List ℕ). tasks ++ x ++ pools ++ pages_line settings (model_of m) ++ bytes_line settings (model_of m)) (shown settings m)

@@ -1,12 +1,15 @@
--- The lines of runs, as the storage in place has them, and parts of the lines of tasks and subpools.
+-- The lines of runs, as the storage in place has them, and parts of the lines of tasks, subpools and cell pools.
 -- Assembler Services Guide, "Virtual storage management", "Subpool handling".
-use Rattle.std.specs.Prelude.{ℕ, ◌*◌, ◌==◌, if◌then◌else◌, List, [], ◌++◌, codes, flat_map}
+use Rattle.std.specs.Prelude.{ℕ, ◌*◌, ◌==◌, if◌then◌else◌, Option, List, [], ◌++◌, codes, flat_map}
 use Rattle.std.specs.Fmt.{decimal}
 use Rattle.run_set.specs.declared.run.Run.{Run}
+use Rattle.cell_extents.specs.declared.settings.Extent.{Extent}
+use Rattle.cell_extents.specs.declared.settings.Settings.{Settings}
+use Rattle.cell_pool.specs.Pools.{rounded}
 use Rattle.storage_map.specs.declared.counts.Totals.{Totals}
 use Rattle.vsm_model.specs.declared.Subpool.{Subpool}
 use Rattle.vsm_model.specs.State.{State}
-use Rattle.vsm_model.specs.Map.{area_line, field, hex_field, line, listed, numbers, sharers}
+use Rattle.vsm_model.specs.Map.{area_line, field, header_text, hex_field, line, listed, location_text, numbers, sharers}
 
 -- the line of an extent, whose run is of pages, and that of a free area, whose run is of doublewords
 abbrev pub extent_line : Run → List ℕ
@@ -24,6 +27,27 @@ abbrev pub subpool_line : State → Subpool → List ℕ
 subpool_line s p =
     line (field (codes " SUBPOOL") p.number ++ field (codes " OWNER") p.owner ++ codes " SHARERS "
     ++ listed (sharers s p.number p.owner))
+
+-- the first line of a cell pool, with its name, what it was built with, and its header
+abbrev pub cell_pool_line : List ℕ → Settings → Option (List ℕ) → List ℕ
+cell_pool_line name settings header =
+    line
+    (codes " CELLPOOL "
+    ++ name
+    ++ field (codes " SUBPOOL") settings.subpool.number
+    ++ field (codes " OWNER") settings.subpool.owner
+    ++ field (codes " SIZE") settings.size
+    ++ field (codes " PRIMARY") settings.primary
+    ++ field (codes " SECONDARY") settings.secondary
+    ++ location_text settings.location
+    ++ header_text header)
+
+-- the line of an extent of cells of a size, up to the end of its last doubleword, and that of a free cell
+abbrev pub cell_extent_line : ℕ → Extent → List ℕ
+cell_extent_line size x = area_line (codes "  EXTENT") x.start (rounded (x.count * size))
+
+abbrev pub free_cell_line : ℕ → List ℕ
+free_cell_line cell = line (codes "  FREECELL" ++ hex_field cell)
 
 -- whether it is the current task
 abbrev pub current_text : State → ℕ → List ℕ

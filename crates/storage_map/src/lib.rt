@@ -2,6 +2,7 @@
 #![tactic(auto)]
 
 mod areas;
+mod cells;
 mod counts;
 mod fields;
 mod maps;

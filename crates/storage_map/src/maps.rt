@@ -4,6 +4,7 @@ ghost use Rattle.vsm_model.specs.Map.{history_line, storage_map};
 ghost use Rattle.storage_core.specs.Meaning.{state_of, settings_of};
 ghost use Rattle.text_output.specs.Writing.{Puts, Writes};
 
+use crate::cells::put_cell_pools;
 use crate::counts::Totals;
 use crate::fields::put_field;
 use crate::subpools::put_subpools;
@@ -38,8 +39,8 @@ fn put_bytes<W: Write>(gathered: &mut Gathered, writer: &mut W, totals: Totals)
 }
 
 /// Puts the map of a storage: tasks ascending with their registers, subpools by number and owner with their sharers,
-/// extents and free areas (z/OS MVS Programming: Assembler Services Guide, "Subpool handling"), and the totals of pages
-/// and bytes. Takes no memory.
+/// extents and free areas (z/OS MVS Programming: Assembler Services Guide, "Subpool handling"), cell pools by name with
+/// their extents and free cells (Assembler Services Reference, CPOOL), and the totals of pages and bytes. Takes no memory.
 pub fn put_map<W: Write>(gathered: &mut Gathered, writer: &mut W, storage: &Storage)
     ensures { Puts (W.contents writer.old) (W.contents writer.new) gathered.old gathered.new
         (storage_map (settings_of storage.now) (state_of storage.now)) }
@@ -47,6 +48,7 @@ pub fn put_map<W: Write>(gathered: &mut Gathered, writer: &mut W, storage: &Stor
     subpools_are_shown();
     put_tasks(gathered, writer, storage);
     put_subpools(gathered, writer, storage);
+    put_cell_pools(gathered, writer, storage);
     let totals = totals(storage);
     put_pages(gathered, writer, totals);
     put_bytes(gathered, writer, totals);

@@ -1,11 +1,14 @@
-//! The map of a new storage, byte by byte, and writers that take nothing or fail.
+//! The map of a new storage and the lines of a cell pool, byte by byte, and writers that take nothing or fail.
 
 use super::*;
+use crate::cells::{put_cell_extent, put_cell_pool_line, put_free_cell};
+use cell_readings::{Extent, Header, Name, Settings as CellSettings};
 use std::alloc::Global;
 use std::io;
 use std::io::{ErrorKind, Write};
 use std::test::Fail;
-use storage_core::{Residence, Settings, Storage};
+use storage_core::{Residence, Settings, Storage, Subpool};
+use text_output::Gathered;
 
 const SETTINGS: Settings = Settings {
     low_k: 64,
@@ -20,6 +23,12 @@ const MAP: &[u8] = b" TASK 1 PARENT 0 CURRENT
  SUBPOOL 0 OWNER 1 SHARERS NONE
  PAGES LOW 0 OF 16 HIGH 0 OF 32
  BYTES TAKEN 0 FREE 0
+";
+
+const CELL_LINES: &[u8] =
+    b" CELLPOOL CP SUBPOOL 1 OWNER 2 SIZE 12 PRIMARY 3 SECONDARY 4 LOC 24 HDR 'AB'
+  EXTENT 00006000 00000028
+  FREECELL 0000600C
 ";
 
 /// A writer that takes so many bytes, one a call, and then nothing.
@@ -75,6 +84,37 @@ fn a_new_storage_has_these_totals(rt: HostRuntime) -> Result<(), Fail> {
                 free: 0
             }
     );
+    Ok(())
+}
+
+#[test]
+fn a_cell_pool_has_these_lines(rt: HostRuntime) -> Result<(), Fail> {
+    let mut name = Name::new();
+    assert!(rt; name.try_push_str("CP").is_ok());
+    let mut header = Header::new();
+    header.push(b'A');
+    header.push(b'B');
+    let settings = CellSettings {
+        subpool: Subpool {
+            number: 1,
+            owner: 2,
+        },
+        size: 12,
+        primary: 3,
+        secondary: 4,
+        location: Residence::Below,
+    };
+    let extent = Extent {
+        start: 0x6000,
+        count: 3,
+    };
+    let mut output = Vec::new(rt.alloc());
+    let mut gathered = Gathered::new();
+    put_cell_pool_line(&mut gathered, &mut output, &name, settings, &Some(header));
+    put_cell_extent(&mut gathered, &mut output, extent, 12);
+    put_free_cell(&mut gathered, &mut output, 0x600C);
+    gathered.finish(&mut output)?;
+    assert_eq!(rt; output.as_slice(), CELL_LINES);
     Ok(())
 }
 

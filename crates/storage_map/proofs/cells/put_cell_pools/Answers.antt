@@ -1,0 +1,48 @@
+use Rattle.std.proofs.Common.{◌≡◌, ◌∷◌, ◌<◌, ℕ, List, [], Option, Some, None, length, flat_map, sym, ap, ◌∙◌, subst}
+use Rattle.std.specs.Prelude.{IfSome, option_map}
+use Rattle.cell_pool.specs.Pools.{Pool}
+use Rattle.cell_readings.specs.Cells.{cell_pool}
+use Rattle.cell_tables.specs.Order.{rows_behind}
+use Rattle.cell_tables.specs.Table.{cell_pool_of}
+use Rattle.storage_core.specs.Meaning.{state_of}
+use Rattle.storage_map.proofs.CellLines.{row_lines, all_rows, low_is, fewer_rows, rows_remain}
+use Rattle.storage_map.proofs.Remaining.{remains_all, all_put}
+use Rattle.storage_map.proofs.cells.put_cell_pools.Goals as goal
+
+pub loop-id-init : goal.loop-id-init
+loop-id-init g c =
+    let table = (state_of c.args.storage.now).cell_pools in
+    remains_all (g.W.Write.contents c.args.writer.now) c.args.gathered.now (flat_map row_lines table) (flat_map row_lines (rows_behind table None))
+    (ap (flat_map row_lines) (all_rows table))
+
+pub loop-id-smaller : goal.loop-id-smaller
+loop-id-smaller g c =
+    let s = c.args.storage.now in
+    let table = (state_of s).cell_pools in
+    let name = c.cell_pool_name-name.result.bytes in
+    let F : Option (List ℕ) → Type 0 = λ low. length (rows_behind table (Some name)) < length (rows_behind table low) in
+    subst F (low_is c.as_ref.result c.loop-id.behind c.as_ref.ensures.value)
+    (fewer_rows table (option_map (λ n. n.now.bytes) c.as_ref.result) name (cell_pool s c.in-Some.id) c.in-Some.ensures.there c.in-Some.ensures.next c.cell_pool_name-name.ensures)
+
+pub loop-id-preserved : goal.loop-id-preserved
+loop-id-preserved g c =
+    let s = c.args.storage.now in
+    let table = (state_of s).cell_pools in
+    let low = option_map (λ n. n.now.bytes) c.as_ref.result in
+    let is = low_is c.as_ref.result c.loop-id.behind c.as_ref.ensures.value in
+    let name = c.cell_pool_name-name.result.bytes in
+    rows_remain table (option_map (λ n. n.bytes) c.loop-id.behind) name
+    (g.W.Write.contents c.args.writer.now) (g.W.Write.contents c.loop-id.writer) (g.W.Write.contents c.put_cell_pool.new.writer)
+    c.args.gathered.now c.loop-id.gathered c.put_cell_pool.new.gathered (flat_map row_lines table)
+    (cell_pool s c.in-Some.id) c.in-Some.ensures.there c.loop-id.invariant
+    (let F : Option (List ℕ) → Type 0 = λ z. IfSome (cell_pool s c.in-Some.id) (λ p. rows_behind table z ≡ (p.name, cell_pool_of p) ∷ rows_behind table (Some p.name)) in
+    subst F is c.in-Some.ensures.next)
+    c.cell_pool_name-name.ensures c.put_cell_pool.ensures
+
+pub returns : goal.returns
+returns g c =
+    let table = (state_of c.args.storage.now).cell_pools in
+    let F : Option (List ℕ) → Type 0 = λ z. rows_behind table z ≡ [] in
+    all_put (g.W.Write.contents c.args.writer.now) (g.W.Write.contents c.loop-id.writer) c.args.gathered.now c.loop-id.gathered
+    (flat_map row_lines table) (flat_map row_lines (rows_behind table (option_map (λ n. n.bytes) c.loop-id.behind))) c.loop-id.invariant
+    (ap (flat_map row_lines) (subst F (low_is c.as_ref.result c.loop-id.behind c.as_ref.ensures.value) c.in_default.ensures.none))
