@@ -36,8 +36,8 @@ impl Change {
     /// state of the storage stays as it is.
     ///
     /// Where a subpool is to be emptied, an empty one is parked under its name, and records stand before these: one by
-    /// which its pages and its free storage go over into the change, and one for each of its extents, in ascending
-    /// order, by which the pages become unassigned.
+    /// which its pages, its free storage and its cell pools go over into the change, and one for each of its extents,
+    /// in ascending order, by which the pages become unassigned.
     ///
     /// Each call on a queue takes one blank element at most, and one has to be left: so one more than the calls is
     /// enough; those for the extents of the subpool are added. The run is in pages of 4,096 bytes, and each of them has
