@@ -1,5 +1,5 @@
 -- Laws of cell pools.
-use Rattle.std.proofs.Common.{◌≡◌, ℕ, ◌-◌, ◌+◌, ◌*◌, ◌<◌, ◌≤◌, List, [], ◌∷◌, ◌++◌, length, take, Some, None, Bool, true, false, refl, sym, ap, ◌∙◌, arith, length-append}
+use Rattle.std.proofs.Common.{◌≡◌, ℕ, ◌-◌, ◌+◌, ◌*◌, ◌^◌, ◌<◌, ◌≤◌, List, [], ◌∷◌, ◌++◌, length, take, Some, None, Bool, true, false, refl, sym, ap, ◌∙◌, arith, length-append}
 use Rattle.std.proofs.lemmas.Slice.Eq.{bytes_eq-Decides}
 use Rattle.std.proofs.Math.Seq.{take-append_seam}
 use Rattle.std.proofs.lemmas.List.FromFn.{length-range_with_len}
@@ -15,11 +15,11 @@ use Rattle.cell_extents.specs.declared.settings.Extent.{Extent}
 use Rattle.cell_pool.specs.Pools.{Pool, Single, is_named, is_of, pool_in, id_in, cells_from, IsExtended, HasCells, first_with, either_of}
 use Rattle.cell_extents.specs.Items.{pool_of, IsSound}
 use Rattle.cell_pool.specs.Kept.{pools_of, AllSound, IsKept}
-use Rattle.cell_pool.specs.CellPools.{pool, by_id, owned, IsCellPools}
-use Rattle.cell_pool.specs.Laws.{PoolsAreOne, PoolsOwn, AreSame, PoolsStay, GrowthKeepsPools, RetractsBack, ParkedPoolsComeBack, PoolsHaveCells}
+use Rattle.cell_pool.specs.CellPools.{pools, pool, by_id, owned, IsCellPools}
+use Rattle.cell_pool.specs.Laws.{AreOne, PoolsAreOne, PoolsOwn, AreSame, PoolsStay, GrowthKeepsPools, RetractsBack, ParkedPoolsComeBack, PoolsHaveCells, IdsAreSmall, NamesAreSingle, PoolsAreListed}
 use Rattle.std.proofs.Common.{subst}
 use Rattle.cell_pool.proofs.PoolLemmas.{found_passes, found_other, one_named, one_of, name_refl}
-use Rattle.cell_extents.proofs.EntryLemmas.{eqb_refl, eqb_same}
+use Rattle.cell_extents.proofs.EntryLemmas.{pool_id, eqb_refl, eqb_same}
 use Rattle.cell_pool.proofs.ParkLemmas.{pools_distinct}
 
 pub pools_are_one : PoolsAreOne
@@ -134,3 +134,24 @@ pools_have_cells s q i p kept h =
     let f : (e : Entry) × IsSound e × (pool_of e ≡ p) = found_sound (is_of i) (entries s q.table) p kept.sound h in
     let P : Pool → Type 0 = HasCells in
     subst P f.2 (record { once = f.1.marked.distinct; inside = f.1.marked.within; apart = f.1.marked.apart })
+
+pub ids_are_small : IdsAreSmall
+unfolding by_id IsCellPools
+ids_are_small s q i p kept h =
+    let f : (e : Entry) × IsSound e × (pool_of e ≡ p) = found_sound (is_of i) (entries s q.table) p kept.sound h in
+    let e : i ≡ f.0.id = eqb_same i p.id (found_passes (is_of i) (pools_of (entries s q.table)) p h) ∙ ap (λ (z : Pool). z.id) (sym f.2) ∙ pool_id f.0 in
+    let P : ℕ → Type 0 = λ z. z < 2 ^ 32 in
+    subst P (sym e) f.1.small
+
+pub names_are_single : NamesAreSingle
+names_are_single s q i j x y kept h k same =
+    let one : AreOne s q = pools_are_one s q kept in
+    let a : (x.id ≡ i) × (pool s q x.name ≡ Some x) = one.ids i x h in
+    let b : (y.id ≡ j) × (pool s q y.name ≡ Some y) = one.ids j y k in
+    sym a.0 ∙ ap (λ (z : Pool). z.id) (some_is (sym a.1 ∙ ap (pool s q) same ∙ b.1)) ∙ b.0 where
+      some_is : Some x ≡ Some y → x ≡ y
+      some_is e = cc
+
+pub pools_are_listed : PoolsAreListed
+unfolding pools pool by_id IsCellPools
+pools_are_listed s q kept = record { distinct = pools_distinct s q kept; ids = λ i. refl; names = λ n. refl }

@@ -34,21 +34,22 @@ impl CellPools {
             before: 0,
         };
         while place.index < count {
-            let mut row = self.table.row(elements, place.index, place.before);
+            let row = self.table.row(elements, place.index, place.before);
+            place = Place {
+                index: place.index + 1,
+                before: row.id,
+            };
             if says_subpool(row.words, subpool) {
-                row.words = [
+                let mut given = row;
+                given.words = [
                     row.words[0],
                     row.words[1],
                     u32::from(to),
                     row.words[3],
                     row.words[4],
                 ];
-                self.table.write(elements, row);
+                self.table.write(elements, given);
             }
-            place = Place {
-                index: place.index + 1,
-                before: row.id,
-            };
         }
     }
 

@@ -168,3 +168,63 @@ fn pools_come_in_the_order_of_their_names(rt: HostRuntime) -> Result<(), Fail> {
     assert_eq!(rt; elements.release(), 1);
     Ok(())
 }
+
+#[test]
+fn the_pools_of_a_subpool_are_handed_on(rt: HostRuntime) -> Result<(), Fail> {
+    let mut elements = Elements::new(rt.alloc());
+    elements.reserve(40)?;
+    let mut pools = CellPools::new();
+    build(&rt, &mut elements, &mut pools, "A", 4096);
+    build(&rt, &mut elements, &mut pools, "B", 8192);
+    pools.hand_on(&mut elements, subpool(1), 7);
+    let a = find(&rt, &elements, &pools, "A");
+    let given = pools.settings(&elements, a).subpool;
+    assert_eq!(rt;
+        given,
+        Subpool {
+            number: 1,
+            owner: 7
+        }
+    );
+    assert_eq!(rt; pools.first_free(&elements, a), Some(4096));
+    let b = find(&rt, &elements, &pools, "B");
+    assert_eq!(rt; pools.settings(&elements, b).subpool, subpool(2));
+    pools.discard(&mut elements);
+    assert_eq!(rt; elements.spare(), 128);
+    Ok(())
+}
+
+#[test]
+fn a_pool_goes_over_to_others(rt: HostRuntime) -> Result<(), Fail> {
+    let mut elements = Elements::new(rt.alloc());
+    elements.reserve(40)?;
+    let mut pools = CellPools::new();
+    build(&rt, &mut elements, &mut pools, "A", 4096);
+    build(&rt, &mut elements, &mut pools, "B", 4096);
+    let id = find(&rt, &elements, &pools, "A");
+    let mut others = CellPools::new();
+    pools.exchange_pool(&mut elements, id, &mut others);
+    assert_eq!(rt; pools.count(&elements), 1);
+    assert_eq!(rt; others.count(&elements), 1);
+    let gone = find(&rt, &elements, &others, "A");
+    assert_eq!(rt; gone, id);
+    assert_eq!(rt; others.first_free(&elements, id), Some(4096));
+    Ok(())
+}
+
+#[test]
+fn the_pools_of_a_subpool_go_over_to_others(rt: HostRuntime) -> Result<(), Fail> {
+    let mut elements = Elements::new(rt.alloc());
+    elements.reserve(60)?;
+    let mut pools = CellPools::new();
+    build(&rt, &mut elements, &mut pools, "A", 4096);
+    build(&rt, &mut elements, &mut pools, "B", 8192);
+    build(&rt, &mut elements, &mut pools, "C", 4096);
+    let mut others = CellPools::new();
+    pools.exchange_pools(&mut elements, subpool(1), &mut others);
+    assert_eq!(rt; pools.count(&elements), 1);
+    assert_eq!(rt; others.count(&elements), 2);
+    let gone = find(&rt, &elements, &others, "C");
+    assert_eq!(rt; others.settings(&elements, gone).subpool, subpool(1));
+    Ok(())
+}

@@ -1,0 +1,4 @@
+mod Rows
+mod Tabled
+mod Changes
+mod Found

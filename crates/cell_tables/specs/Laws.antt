@@ -1,8 +1,9 @@
 -- Laws of the table of cell pools: what is found in it, and what it becomes where cell pools come, change and go.
-use Rattle.std.specs.Prelude.{◌≡◌, ◌≢◌, ℕ, ◌^◌, ◌<◌, Bool, true, not, ◌==◌, ◌↔◌, if◌then◌else◌, Option, Some, None, IfSome}
-use Rattle.std.specs.Prelude.{option_map, List, map, filter, length, AllPairs}
+use Rattle.std.specs.Prelude.{◌≡◌, ◌≢◌, ℕ, ◌^◌, ◌<◌, Bool, true, not, ◌==◌, ◌↔◌, if◌then◌else◌, Option, Some, None}
+use Rattle.std.specs.Prelude.{IfSome, option_map, List, map, filter, length, AllPairs}
 use Rattle.std.specs.List.{list_any}
-use Rattle.vsm_model.specs.CellPools.{CellPool, CellPools, are_ascending, cell_pool_in, with_cell_pool, without_cell_pool}
+use Rattle.vsm_model.specs.CellPools.{CellPool, CellPools, are_ascending, cell_pool_in, with_cell_pool}
+use Rattle.vsm_model.specs.CellPools.{without_cell_pool}
 use Rattle.vsm_model.specs.Releasing.{overlaps_extent}
 use Rattle.cell_pool.specs.Pools.{Pool, at_id, all_but, id_in, meets}
 use Rattle.cell_tables.specs.Named.{AreNamed}
@@ -10,7 +11,8 @@ use Rattle.cell_tables.specs.Table.{cell_pool_of, cell_pools_in}
 
 -- the area has a byte in common with an extent of the table
 abbrev pub overlaps_table : CellPools → ℕ → ℕ → Bool
-overlaps_table table address length = list_any (λ row. list_any (overlaps_extent address length row.1) row.1.extents) table
+overlaps_table table address length =
+    list_any (λ row. list_any (overlaps_extent address length row.1) row.1.extents) table
 
 -- its names ascend
 abbrev pub TablesAscend : Type 0
@@ -22,7 +24,7 @@ PoolsAreFound = (pools : ℕ → Option Pool) → AreNamed pools
     → ((id : ℕ) (p : Pool) → pools id ≡ Some p
     → cell_pool_in (cell_pools_in pools) p.name ≡ Some (cell_pool_of p))
     × ((name : List ℕ) → IfSome (cell_pool_in (cell_pools_in pools) name) (λ found.
-    ∥ (id : ℕ) × (p : Pool) × (pools id ≡ Some p) × (p.name ≡ name) × (found ≡ cell_pool_of p) ∥₁))
+    ∥ ((id : ℕ) × (p : Pool) × (pools id ≡ Some p) × (p.name ≡ name) × (found ≡ cell_pool_of p)) ∥₁))
 
 -- none is found where no cell pool has the name
 abbrev pub OthersAreNotFound : Type 0
@@ -71,4 +73,4 @@ RowsAreCounted = (pools : ℕ → Option Pool) (list : List Pool) → AreNamed p
 abbrev pub OverlapsAreMet : Type 0
 OverlapsAreMet = (pools : ℕ → Option Pool) (address length : ℕ) → AreNamed pools
     → (overlaps_table (cell_pools_in pools) address length ≡ true)
-    ↔ (∥ (id : ℕ) × (p : Pool) × (pools id ≡ Some p) × (meets address length p ≡ true) ∥₁)
+    ↔ (∥ ((id : ℕ) × (p : Pool) × (pools id ≡ Some p) × (meets address length p ≡ true)) ∥₁)

@@ -1,6 +1,6 @@
 //! The rows in the order of their keys: by the second number, and then by the first.
 
-ghost use Rattle.std.specs.Prelude.{◌≡◌, ◌+◌, ℕ, true, Some, None, IfSome, IfNone, option_map, slice_get};
+ghost use Rattle.std.specs.Prelude.{◌≡◌, ◌+◌, ℕ, IfSome, option_map, slice_get};
 ghost use Rattle.vsm_elements.specs.Store.{Store};
 ghost use Rattle.row_table.specs.Rows.{word, comes_before};
 ghost use Rattle.row_table.specs.RowTable.{row, rows, place_index, id_before, IsTable, IsPlace};
@@ -16,29 +16,6 @@ crate::specs::RowTable::row, crate::specs::RowTable::rows, crate::specs::RowTabl
 // where a walk stands
 crate::specs::RowTable::place_index, crate::specs::RowTable::id_before, crate::specs::RowTable::IsPlace))]
 impl RowTable {
-    /// The row that comes next behind these two numbers, by its second number and then by its first; `None` past
-    /// the last.
-    ///
-    /// It walks the rows up to there.
-    pub fn next_after(&self, elements: &Elements, first: u32, second: u32) -> Option<Row>
-        requires { IsTable elements.now self.now }
-        ensures none { IfNone result ((a b : ℕ) → comes_before first second a b ≡ true
-            → row elements.now self.now a b ≡ None) }
-        ensures there { IfSome result (λ r.
-            row elements.now self.now (word r.words 0) (word r.words 1) ≡ Some r) }
-        ensures behind { IfSome result (λ r.
-            comes_before first second (word r.words 0) (word r.words 1) ≡ true) }
-        ensures next { IfSome result (λ r. (a b : ℕ) → comes_before first second a b ≡ true
-            → comes_before a b (word r.words 0) (word r.words 1) ≡ true
-            → row elements.now self.now a b ≡ None) }
-    {
-        let place = self.place_behind(elements, first, second);
-        if place.index == self.chain.count {
-            return None;
-        }
-        Some(self.visit(elements, place))
-    }
-
     /// The place before the first row of any table.
     pub fn first_place() -> RowPlace
         ensures place { (s : Store) (q : RowTable) → IsPlace s q result }

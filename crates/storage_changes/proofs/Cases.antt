@@ -57,8 +57,9 @@ same-is q p h =
 
 -- records of functions are equal where their functions are, at every place
 pub subpools-same : (m n : Subpools) → ((task number : ℕ) → m.sight task number ≡ n.sight task number)
-    → ((p : Subpool) (page : ℕ) → m.pages p page ≡ n.pages p page) → ((p : Subpool) (d : ℕ) → m.free p d ≡ n.free p d) → m ≡ n
-subpools-same m n a b c = λ i. record { sight = λ task number. a task number i; pages = λ p page. b p page i; free = λ p d. c p d i }
+    → ((p : Subpool) (page : ℕ) → m.pages p page ≡ n.pages p page) → ((p : Subpool) (d : ℕ) → m.free p d ≡ n.free p d)
+    → ((id : ℕ) → m.cells id ≡ n.cells id) → m ≡ n
+subpools-same m n a b c e = λ i. record { sight = λ task number. a task number i; pages = λ p page. b p page i; free = λ p d. c p d i; cells = λ id. e id i }
 
 pub state-same : (m n : StorageState) → m.tasks ≡ n.tasks → m.subpools ≡ n.subpools → ((page : ℕ) → m.unassigned page ≡ n.unassigned page)
     → ((a : ℕ) → m.bytes a ≡ n.bytes a) → m ≡ n

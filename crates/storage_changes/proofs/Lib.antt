@@ -5,6 +5,7 @@ pub mod PagesSteps
 pub mod OwnSteps
 pub mod TaskSteps
 pub mod SharingSteps
+pub mod CellSteps
 pub mod ByteSteps
 pub mod WalkLemmas
 pub mod FirstLemmas

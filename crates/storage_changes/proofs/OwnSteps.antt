@@ -1,15 +1,12 @@
--- An empty subpool that comes or goes, and back; and the storage of a subpool that changes places with what is parked.
+-- An empty subpool that comes or goes, and back.
 use Rattle.std.proofs.Common.{◌≡◌, ℕ, ◌<◌, Bool, true, false, not, ◌&&◌, ◌==◌, if◌then◌else◌, Option, Some, None, refl, sym, ◌∙◌, arith, subst}
 use Rattle.std.proofs.lemmas.Bool.{eqb-true, eq-eqb, and_left}
 use Rattle.vsm_model.specs.declared.Subpool.{Subpool}
-use Rattle.vsm_model.specs.Subpools.{same_subpool}
-use Rattle.subpool_storage.specs.Subpools.{Subpools, with_storage_of}
 use Rattle.storage_changes.specs.declared.record.OwnRecord.{OwnRecord}
-use Rattle.storage_changes.specs.declared.record.QueuesRecord.{QueuesRecord}
 use Rattle.storage_changes.specs.Walk.{Walk, flip}
-use Rattle.storage_changes.specs.Steps.{own_step, queues_step}
+use Rattle.storage_changes.specs.Steps.{own_step}
 use Rattle.storage_changes.specs.Fits.{OwnFits}
-use Rattle.storage_changes.proofs.Cases.{cond-back, cond-kept, cond-in, cond-out, and-left, and-right, and-both, subpools-same, state-same, walk-same}
+use Rattle.storage_changes.proofs.Cases.{cond-back, cond-in, cond-out, and-left, and-right, and-both, subpools-same, state-same, walk-same}
 
 module _ (w : Walk) (p : Subpool) where
   abbrev own : Bool → OwnRecord
@@ -60,7 +57,7 @@ module _ (w : Walk) (p : Subpool) where
   run-back : (b : Bool) → OwnFits w (own b) → back b ≡ flip w
   run-back b h = walk-same (back b) (flip w)
       (state-same (back b).state w.state refl
-      (subpools-same (back b).state.subpools w.state.subpools (sight-back b h) (λ q page. refl) (λ q d. refl))
+      (subpools-same (back b).state.subpools w.state.subpools (sight-back b h) (λ q page. refl) (λ q d. refl) (λ id. refl))
       (λ page. refl) (λ a. refl))
       (λ a. refl) (λ a. refl) refl (spare-back b h)
 
@@ -81,16 +78,3 @@ own-back w r h = run-back w r.subpool r.present h
 
 pub own-fits : (w : Walk) (r : OwnRecord) → OwnFits w r → OwnFits (flip (own_step w r)) (record r { present = not r.present })
 own-fits w r h = run-fits w r.subpool r.present h
-
--- what changed places changes places again
-exchanged-back : (m n : Subpools) (p : Subpool) → with_storage_of (with_storage_of m n p) (with_storage_of n m p) p ≡ m
-exchanged-back m n p = subpools-same (with_storage_of (with_storage_of m n p) (with_storage_of n m p) p) m (λ task number. refl)
-    (λ q page. cond-kept (same_subpool q p) (m.pages q page) (n.pages q page) (n.pages q page))
-    (λ q d. cond-kept (same_subpool q p) (m.free q d) (n.free q d) (n.free q d))
-
-pub queues-back : (w : Walk) (r : QueuesRecord) → queues_step (flip (queues_step w r)) r ≡ flip w
-queues-back w r =
-    let v = queues_step (flip (queues_step w r)) r in
-    walk-same v (flip w)
-    (state-same v.state w.state refl (exchanged-back w.state.subpools w.parked r.subpool) (λ page. refl) (λ a. refl))
-    (λ a. refl) (λ a. refl) (exchanged-back w.parked w.state.subpools r.subpool) refl

@@ -59,7 +59,7 @@ module _ (w : Walk) (r : AreaRecord) (h : AreaFits w r) where
       let v = area_step area-behind area-other in
       walk-same v (flip w)
       (state-same v.state w.state refl
-      (subpools-same v.state.subpools w.state.subpools (λ task number. refl) (λ p page. refl) (put-back free-sets r.subpool r.area r.free h.other))
+      (subpools-same v.state.subpools w.state.subpools (λ task number. refl) (λ p page. refl) (put-back free-sets r.subpool r.area r.free h.other) (λ id. refl))
       (λ page. refl) (λ a. refl))
       (λ a. refl) (λ a. refl) refl area-spare
 
@@ -93,7 +93,7 @@ module _ (w : Walk) (r : ExtentRecord) (h : ExtentFits w r) where
       let v = extent_step extent-behind extent-other in
       walk-same v (flip w)
       (state-same v.state w.state refl
-      (subpools-same v.state.subpools w.state.subpools (λ task number. refl) (put-back page-sets r.subpool r.run r.present h.other) (λ p d. refl))
+      (subpools-same v.state.subpools w.state.subpools (λ task number. refl) (put-back page-sets r.subpool r.run r.present h.other) (λ p d. refl) (λ id. refl))
       (λ page. refl) (λ a. refl))
       (λ a. refl) (λ a. refl) refl extent-spare
 

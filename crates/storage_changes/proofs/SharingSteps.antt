@@ -6,6 +6,7 @@ use Rattle.vsm_model.specs.declared.Subpool.{Subpool}
 use Rattle.vsm_model.specs.Passing.{sight_after_gift}
 use Rattle.vsm_model.specs.Search.{holds}
 use Rattle.vsm_model.specs.Subpools.{same_subpool}
+use Rattle.cell_pool.specs.Pools.{Pool, lies_in, handed_on}
 use Rattle.subpool_storage.specs.Subpools.{Subpools, is_there, owned_by, with_passed}
 use Rattle.storage_changes.specs.declared.record.SharerRecord.{SharerRecord}
 use Rattle.storage_changes.specs.declared.record.PassRecord.{PassRecord}
@@ -66,7 +67,7 @@ module _ (w : Walk) (p : Subpool) (sharer : ℕ) where
   run-back : (b : Bool) → SharerFits w (shared b) → back b ≡ flip w
   run-back b h = walk-same (back b) (flip w)
       (state-same (back b).state w.state refl
-      (subpools-same (back b).state.subpools w.state.subpools (sight-back b h) (λ q page. refl) (λ q d. refl))
+      (subpools-same (back b).state.subpools w.state.subpools (sight-back b h) (λ q page. refl) (λ q d. refl) (λ id. refl))
       (λ page. refl) (λ a. refl))
       (λ a. refl) (λ a. refl) refl (spare-back b h)
 
@@ -167,12 +168,50 @@ module _ (w : Walk) (p : Subpool) (to : ℕ) (h : PassFits w (record { subpool =
       go false true e f = sym (ap (λ (z : Subpool). sets z n) (same-is q (owned_by p to) f) ∙ empty n)
       go false false e f = refl
 
+  -- its cell pools
+
+  abbrev PoolsOf : Option Pool → Type 0
+  PoolsOf x = (q : Pool) → x ≡ Some q → same_subpool q.settings.subpool (owned_by p to) ≡ false
+
+  lies-there : (q : Pool) → lies_in p q ≡ true → (q.settings.subpool.number == p.number) && (to == to) ≡ true
+  lies-there q e = and-both (q.settings.subpool.number == p.number) (to == to) (and-left (q.settings.subpool.number == p.number) (q.settings.subpool.owner == p.owner) e) (eq-eqb to to refl)
+
+  abbrev lying-in : Pool → ℕ → Pool
+  lying-in q owner = record q { settings = record q.settings { subpool = record q.settings.subpool { owner = owner } } }
+
+  handed-back : (q : Pool) → same_subpool q.settings.subpool (owned_by p to) ≡ false → handed_on (owned_by p to) p.owner (handed_on p to q) ≡ q
+  handed-back q other = go (lies_in p q) refl where
+    go : (b : Bool) → lies_in p q ≡ b → handed_on (owned_by p to) p.owner (if b then lying-in q to else q) ≡ q
+    go true e = cond-in ((q.settings.subpool.number == p.number) && (to == to)) (lying-in q p.owner) (lying-in q to) (lies-there q e)
+        ∙ ap (lying-in q) (ap (λ (z : Subpool). z.owner) (sym (same-is q.settings.subpool p e)))
+    go false e = cond-out (same_subpool q.settings.subpool (owned_by p to)) (lying-in q p.owner) q other
+
+  pool-back : (x : Option Pool) → PoolsOf x → option_map (handed_on (owned_by p to) p.owner) (option_map (handed_on p to) x) ≡ x
+  pool-back None none = refl
+  pool-back (Some q) none = ap (λ (z : Pool). Some z) (handed-back q (none q refl))
+
+  cells-back : (id : ℕ) → option_map (handed_on (owned_by p to) p.owner) (option_map (handed_on p to) (m.cells id)) ≡ m.cells id
+  cells-back id = pool-back (m.cells id) (h.no_cells id)
+
+  handed-away : (q : Pool) → lies_in p (handed_on p to q) ≡ false
+  handed-away q = go (lies_in p q) refl where
+    go : (b : Bool) → lies_in p q ≡ b → lies_in p (if b then lying-in q to else q) ≡ false
+    go true e = and-false (q.settings.subpool.number == p.number) (to == p.owner) (ne_eqb to p.owner (λ s. apart (sym s)))
+    go false e = e
+
+  pool-gone : (x : Option Pool) (q : Pool) → option_map (handed_on p to) x ≡ Some q → lies_in p q ≡ false
+  pool-gone None q e = cc
+  pool-gone (Some y) q e = let same : handed_on p to y ≡ q = cc in ap (lies_in p) (sym same) ∙ handed-away y
+
+  cells-gone : (id : ℕ) (q : Pool) → option_map (handed_on p to) (m.cells id) ≡ Some q → lies_in p q ≡ false
+  cells-gone id q e = pool-gone (m.cells id) q e
+
   run-back-again : pass_step (flip (pass_step w passed)) returned ≡ flip w
   run-back-again =
       let v = pass_step (flip (pass_step w passed)) returned in
       walk-same v (flip w)
       (state-same v.state w.state refl
-      (subpools-same v.state.subpools m sight-back-again (moved-back m.pages h.no_pages) (moved-back m.free h.none_free))
+      (subpools-same v.state.subpools m sight-back-again (moved-back m.pages h.no_pages) (moved-back m.free h.none_free) cells-back)
       (λ page. refl) (λ a. refl))
       (λ a. refl) (λ a. refl) refl refl
 
@@ -216,6 +255,7 @@ module _ (w : Walk) (p : Subpool) (to : ℕ) (h : PassFits w (record { subpool =
     unowned = λ task e. given-unowned (task == to) (task == p.owner) (m.sight task p.number) (sym (seen-after task) ∙ e);
     no_pages = moved-from m.pages h.no_pages;
     none_free = moved-from m.free h.none_free;
+    no_cells = cells-gone;
   }
 
 pub pass-back : (w : Walk) (r : PassRecord) → PassFits w r → pass_step (flip (pass_step w r)) (record { subpool = owned_by r.subpool r.to; to = r.subpool.owner }) ≡ flip w

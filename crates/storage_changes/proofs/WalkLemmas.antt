@@ -6,6 +6,7 @@ use Rattle.storage_changes.specs.declared.record.PagesRecord.{PagesRecord}
 use Rattle.storage_changes.specs.declared.record.Record.{Record}
 use Rattle.storage_changes.specs.declared.record.Record.TheVariants.{Area, Extent, Pages, Own, Queues, Register, Bytes}
 use Rattle.storage_changes.specs.declared.record.Record.TheVariants.{Task, Turn, Sharer, Pass}
+use Rattle.storage_changes.specs.declared.record.Record.TheVariants.{CellPool, CellExtent, Cell}
 use Rattle.storage_changes.specs.State.{StorageState}
 use Rattle.storage_changes.specs.Walk.{Walk, flip}
 use Rattle.storage_changes.specs.Steps.{pages_step, step, walk}
@@ -16,9 +17,11 @@ use Rattle.storage_changes.specs.Laws.{ChangesLeadBack}
 use Rattle.storage_changes.proofs.Cases.{not-not, walk-same}
 use Rattle.storage_changes.proofs.SetSteps.{area-back, area-fits, extent-back, extent-fits}
 use Rattle.storage_changes.proofs.PagesSteps.{pages-back, pages-fits}
-use Rattle.storage_changes.proofs.OwnSteps.{own-back, own-fits, queues-back}
+use Rattle.storage_changes.proofs.OwnSteps.{own-back, own-fits}
 use Rattle.storage_changes.proofs.TaskSteps.{task-back, task-fits, turn-back, turn-fits}
 use Rattle.storage_changes.proofs.SharingSteps.{sharer-back, sharer-fits, pass-back, pass-fits}
+use Rattle.storage_changes.proofs.CellSteps.{queues-back, queues-fits, cell_pool-back, cell_pool-fits}
+use Rattle.storage_changes.proofs.CellSteps.{cell_extent-back, cell_extent-fits, cell-back, cell-fits}
 use Rattle.storage_changes.proofs.ByteSteps.{bytes-back, bytes-fits, bytes-again, register-back, register-again}
 
 -- one record of each kind
@@ -28,12 +31,15 @@ step-back w (Area r) h = area-back w r h
 step-back w (Extent r) h = extent-back w r h
 step-back w (Pages r) h = pages-back w r h
 step-back w (Own r) h = own-back w r h
-step-back w (Queues r) h = queues-back w r
+step-back w (Queues r) h = queues-back w r h
 step-back w (Register r) h = register-back w r
 step-back w (Task r) h = task-back w r h
 step-back w (Turn r) h = turn-back w r
 step-back w (Sharer r) h = sharer-back w r h
 step-back w (Pass r) h = pass-back w r h
+step-back w (CellPool r) h = cell_pool-back w r
+step-back w (CellExtent r) h = cell_extent-back w r h
+step-back w (Cell r) h = cell-back w r h
 step-back w (Bytes r) h = bytes-back w r h
 
 step-fits : (w : Walk) (r : Record) → Fits w r → Fits (flip (step w r)) (turned w.state r)
@@ -41,12 +47,15 @@ step-fits w (Area r) h = area-fits w r h
 step-fits w (Extent r) h = extent-fits w r h
 step-fits w (Pages r) h = pages-fits w r h
 step-fits w (Own r) h = own-fits w r h
-step-fits w (Queues r) h = record { there = h.there; parked = h.parked }
+step-fits w (Queues r) h = queues-fits w r h
 step-fits w (Register r) h = record { task = h.task; register = h.register }
 step-fits w (Task r) h = task-fits w r h
 step-fits w (Turn r) h = turn-fits w r h
 step-fits w (Sharer r) h = sharer-fits w r h
 step-fits w (Pass r) h = pass-fits w r h
+step-fits w (CellPool r) h = cell_pool-fits w r h
+step-fits w (CellExtent r) h = cell_extent-fits w r h
+step-fits w (Cell r) h = cell-fits w r h
 step-fits w (Bytes r) h = bytes-fits w r h
 
 step-turned : (w : Walk) (r : Record) → Fits w r → turned (step w r).state (turned w.state r) ≡ r
@@ -60,6 +69,9 @@ step-turned w (Task r) h = λ i. Task (record r { present = not-not r.present i 
 step-turned w (Turn r) h = refl
 step-turned w (Sharer r) h = λ i. Sharer (record r { present = not-not r.present i })
 step-turned w (Pass r) h = refl
+step-turned w (CellPool r) h = λ i. CellPool (record r { present = not-not r.present i })
+step-turned w (CellExtent r) h = λ i. CellExtent (record r { present = not-not r.present i })
+step-turned w (Cell r) h = λ i. Cell (record r { free = not-not r.free i })
 step-turned w (Bytes r) h = λ i. Bytes (record r { bytes = bytes-again w r h i })
 
 -- and in turn, before those that already led here
@@ -106,6 +118,9 @@ step-out w (Task r) h = h
 step-out w (Turn r) h = h
 step-out w (Sharer r) h = h
 step-out w (Pass r) h = h
+step-out w (CellPool r) h = h
+step-out w (CellExtent r) h = h
+step-out w (Cell r) h = h
 step-out w (Bytes r) h = h
 
 walk-out : (w : Walk) (rs : List Record) → GivenOut w → GivenOut (walk w rs)

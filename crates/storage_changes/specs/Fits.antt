@@ -129,6 +129,10 @@ pub record CellPoolFits (w : Walk) (r : CellPoolRecord) : Type 0 where
       (p : Pool) → (if r.present then w.parked.cells r.pool else w.state.subpools.cells r.pool) ≡ Some p
       → IsSingle w.state.subpools w.parked r.pool p.name
 
+-- each cell pool that is there has its own id
+abbrev pub AreUnderTheirIds : (ℕ → Option Pool) → Type 0
+AreUnderTheirIds pools = (id : ℕ) (p : Pool) → pools id ≡ Some p → p.id ≡ id
+
 -- The extent lies within 32 bits and overlaps no other one of the cell pool; where it's the last one, its cells are the
 -- end of the free ones.
 pub record IsExtent (r : CellExtentRecord) (p rest : Pool) : Type 0 where
@@ -137,6 +141,7 @@ pub record IsExtent (r : CellExtentRecord) (p rest : Pool) : Type 0 where
   pub last : r.present ≡ false → p ≡ extended r.start r.count rest
 
 pub record CellExtentFits (w : Walk) (r : CellExtentRecord) : Type 0 where
+  pub ids : AreUnderTheirIds w.state.subpools.cells
   pub there : IsSome (w.state.subpools.cells r.pool)
   pub extent :
       (p : Pool) → w.state.subpools.cells r.pool ≡ Some p
@@ -149,6 +154,7 @@ pub record IsCell (r : CellRecord) (p rest : Pool) : Type 0 where
   pub first : r.free ≡ false → p ≡ with_first r.cell rest
 
 pub record CellFits (w : Walk) (r : CellRecord) : Type 0 where
+  pub ids : AreUnderTheirIds w.state.subpools.cells
   pub there : IsSome (w.state.subpools.cells r.pool)
   pub cell :
       (p : Pool) → w.state.subpools.cells r.pool ≡ Some p → IsCell r p (if r.free then p else without_first p)

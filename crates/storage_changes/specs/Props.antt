@@ -2,6 +2,8 @@
 use Rattle.std.specs.Prelude.{List, [], ◌∷◌}
 use Rattle.std.proofs.Props.{props}
 use mathlib.Core.HLevel.{Unit-prop, ×_prop}
+use Rattle.cell_pool.specs.Props.{Pool-set}
+use Rattle.subpool_storage.specs.Props.{Subpools-set}
 use Rattle.vsm_model.specs.declared.causes.Cause.{Cause}
 use Rattle.vsm_model.specs.declared.replies.Reply.{Reply}
 use Rattle.vsm_model.specs.Names.{NamedState}
@@ -10,6 +12,7 @@ use Rattle.vsm_model.specs.State.{State}
 use Rattle.storage_changes.specs.declared.record.Record.{Record}
 use Rattle.storage_changes.specs.declared.record.Record.TheVariants.{Area, Extent, Pages, Own, Queues, Register, Bytes}
 use Rattle.storage_changes.specs.declared.record.Record.TheVariants.{Task, Turn, Sharer, Pass}
+use Rattle.storage_changes.specs.declared.record.Record.TheVariants.{CellPool, CellExtent, Cell}
 use Rattle.storage_changes.specs.State.{StorageState}
 use Rattle.storage_changes.specs.Walk.{Walk}
 use Rattle.storage_changes.specs.Steps.{step}
@@ -29,6 +32,9 @@ Fits-prop w (Task r) = hlevel props
 Fits-prop w (Turn r) = hlevel props
 Fits-prop w (Sharer r) = hlevel props
 Fits-prop w (Pass r) = hlevel props
+Fits-prop w (CellPool r) = hlevel props
+Fits-prop w (CellExtent r) = hlevel (Pool-set, props)
+Fits-prop w (Cell r) = hlevel (Pool-set, props)
 Fits-prop w (Bytes r) = hlevel props
 
 pub FitInTurn-prop : (w : Walk) (rs : List Record) → IsProp (FitInTurn w rs)
@@ -41,13 +47,13 @@ Fit-prop m d = hlevel (FitInTurn-prop (outset m d) d.records, props)
 -- states and changes
 
 pub StorageState-set : IsSet StorageState
-StorageState-set = hlevel props
+StorageState-set = hlevel (Subpools-set, props)
 
 pub Record-set : IsSet Record
 Record-set = hlevel props
 
 pub Change-set : IsSet Change
-Change-set = hlevel (Record-set, props)
+Change-set = hlevel (Record-set, Subpools-set, props)
 
 -- the plain machine's states, replies and causes, and the outcomes of its steps
 

@@ -91,8 +91,8 @@ pub struct PassRecord {
     pub to: u8,
 }
 
-/// A cell pool is there, with its extents and its cells, or it is gone: it changes places with what the change has parked
-/// under its id.
+/// A cell pool is there, with its extents and its cells, or it is gone: it changes places with what the change has
+/// parked under its id.
 #[derive(Clone, Copy, Debug, PartialEq, Eq)]
 pub struct CellPoolRecord {
     pub pool: CellId,

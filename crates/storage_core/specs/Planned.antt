@@ -87,9 +87,9 @@ pages_assigned (Storage plan) = plan.fresh.len
 pages_assigned (Attach plan) = 0
 pages_assigned (End plan) = 0
 
--- The change has fewer elements than this: 32, 8 more for each extent that leaves with a whole subpool, and 4 for each
--- number that is given or shared. That of tasks that end has one for each of their records, one for the return code,
--- and its blank ones.
+-- The change has fewer records and blank elements than this: 32, 8 more for each extent that leaves with a whole
+-- subpool, and 4 for each number that is given or shared. That of tasks that end has one for each of their records, one
+-- for the return code, and its blank ones. What is parked isn't counted.
 abbrev pub elements_below : StorageState → Plan → ℕ
 elements_below m (Storage plan) = 32 + 8 * extents_leaving m.subpools plan.emptied
 elements_below m (Attach plan) =

@@ -22,9 +22,10 @@ impl Storage {
     /// The change that carries out the plan, with all the memory that it needs: elements, and a frame and a place in a
     /// table for each page that comes to be assigned. The storage stays as it is, whatever the answer.
     ///
-    /// The change has fewer than 32 elements, and 8 more for each extent that leaves with a whole subpool that is
-    /// emptied, or 4 for each number that a new task is given or shares; that of tasks that end has one for each of its
-    /// records, and its blank ones. It has just as many frames as pages come to be assigned.
+    /// The change has fewer than 32 records and blank elements, and 8 more for each extent that leaves with a whole
+    /// subpool that is emptied, or 4 for each number that a new task is given or shares; that of tasks that end has one
+    /// for each of its records, and its blank ones. Besides it has one element for each subpool that it has parked, and
+    /// those of what these hold, which were the storage's. It has just as many frames as pages come to be assigned.
     ///
     /// `AllocError` where memory is refused. Of requests for storage that can be only where fewer elements or frames
     /// are spare, or a table isn't there. What was made before that stays, as spare elements and frames.

@@ -15,7 +15,7 @@ use Rattle.subpool_storage.specs.SubpoolStorage
 use Rattle.subpool_storage.proofs.LawLemmas.{storage_owns}
 use Rattle.storage_exchange.specs.declared.storage.Storage.{Storage}
 use Rattle.storage_exchange.specs.Storage.{hold_with, StandsWith}
-use Rattle.storage_exchange.proofs.StructureLemmas.{PagesStay, SubpoolsStay, TasksStay, pages-stay, subpools-stay, tasks-stay, pages-live, pages-once, tasks-live, tasks-once, three-live}
+use Rattle.storage_exchange.proofs.StructureLemmas.{PagesStay, SubpoolsStay, TasksStay, pages-stay, subpools-stay, tasks-stay, pages-live, pages-once, tasks-live, tasks-once, two-live, three-live}
 
 module _ (p : Storage) (parked : Subpools) (k : StandsWith p parked) (e : Store) where
   -- whose an element was
@@ -131,31 +131,29 @@ module _ (p : Storage) (parked : Subpools) (k : StandsWith p parked) (e : Store)
     tasks-move = moves-by p.elements e in_tasks (λ i. times i (TaskTree.owned e q)) (hold_with p parked) (hold_with with-tasks parked) m (λ i. omega arith)
         (λ i. omega (arith, tasks-pages.held i, tasks-subpools.held i, tasks-parked.held i))
 
-  -- the pages and the free storage of a subpool change places with parked ones
-  module _ (same : (i : ℕ) → in_subpools i + in_parked i ≡ 0 → at e i ≡ at p.elements i) (new : SubpoolStorage.Stands e p.subpools) (new-parked : SubpoolStorage.Stands e parked)
-      (held : (i : ℕ) → SubpoolStorage.hold e p.subpools i + SubpoolStorage.hold e parked i ≡ in_subpools i + in_parked i) where
-    abbrev pub with-queues : Storage
-    with-queues = record { elements = e; region = p.region; unassigned = p.unassigned; subpools = p.subpools; tasks = p.tasks }
+  -- what one subpool has, or one cell pool, changes places with what is parked
+  module _ (q others : Subpools) (m : Moves p.elements e (λ i. in_subpools i + in_parked i) (λ i. SubpoolStorage.hold e q i + SubpoolStorage.hold e others i)) (new : SubpoolStorage.Stands e q) (new-parked : SubpoolStorage.Stands e others)
+      (apart : (i : ℕ) → SubpoolStorage.hold e q i + SubpoolStorage.hold e others i ≤ 1) where
+    abbrev pub with-exchanged : Storage
+    with-exchanged = record { elements = e; region = p.region; unassigned = p.unassigned; subpools = q; tasks = p.tasks }
 
-    pub queues-pages : PagesStay p.elements e p.unassigned
-    queues-pages = pages-stay p.elements e p.unassigned k.storage.unassigned (λ i n. same i (omega (arith, n, k.once i)))
+    beside-exchanged : ((i : ℕ) → 0 < in_pages i + in_tasks i → at e i ≡ at p.elements i) × ((i : ℕ) → (SubpoolStorage.hold e q i + SubpoolStorage.hold e others i) + (in_pages i + in_tasks i) ≤ 1)
+    beside-exchanged = others-kept p.elements e (λ i. in_subpools i + in_parked i) (λ i. SubpoolStorage.hold e q i + SubpoolStorage.hold e others i) (λ i. in_pages i + in_tasks i) m (λ i. omega (arith, k.once i))
+        (two-live p.elements in_pages in_tasks live-in-pages live-in-tasks) apart
 
-    pub queues-tasks : TasksStay p.elements e p.tasks
-    queues-tasks = tasks-stay p.elements e p.tasks k.storage.tasks (λ i n. same i (omega (arith, n, k.once i)))
+    pub exchanged-pages : PagesStay p.elements e p.unassigned
+    exchanged-pages = pages-stay p.elements e p.unassigned k.storage.unassigned (λ i n. beside-exchanged.0 i (omega (arith, n)))
 
-    held-with : (i : ℕ) → hold_with with-queues parked i ≡ hold_with p parked i
-    held-with i = omega (arith, held i, queues-pages.held i, queues-tasks.held i)
+    pub exchanged-tasks : TasksStay p.elements e p.tasks
+    exchanged-tasks = tasks-stay p.elements e p.tasks k.storage.tasks (λ i n. beside-exchanged.0 i (omega (arith, n)))
 
-    pub queues-stand : StandsWith with-queues parked
-    queues-stand = record {
-      storage = record { unassigned = queues-pages.stand; subpools = new; tasks = queues-tasks.stand };
+    pub exchanged-stand : StandsWith with-exchanged others
+    exchanged-stand = record {
+      storage = record { unassigned = exchanged-pages.stand; subpools = new; tasks = exchanged-tasks.stand };
       parked = new-parked;
-      once = λ i. omega (arith, held-with i, k.once i);
+      once = λ i. omega (arith, beside-exchanged.1 i, exchanged-pages.held i, exchanged-tasks.held i);
     }
 
-    pub queues-move : Moves p.elements e (hold_with p parked) (hold_with with-queues parked)
-    queues-move = record {
-      others = λ i h n. same i (omega (arith, h));
-      gained = λ i h n. absurd (omega (arith, held-with i, h, n));
-      lost = λ i h n. absurd (omega (arith, held-with i, h, n));
-    }
+    pub exchanged-move : Moves p.elements e (hold_with p parked) (hold_with with-exchanged others)
+    exchanged-move = moves-by p.elements e (λ i. in_subpools i + in_parked i) (λ i. SubpoolStorage.hold e q i + SubpoolStorage.hold e others i) (hold_with p parked) (hold_with with-exchanged others) m (λ i. omega arith)
+        (λ i. omega (arith, exchanged-pages.held i, exchanged-tasks.held i))

@@ -3,5 +3,6 @@ pub mod WalkLemmas
 pub mod CallLemmas
 pub mod SubpoolLemmas
 pub mod TaskLemmas
+pub mod CellLemmas
 pub mod PageLemmas
 pub mod ByteLemmas

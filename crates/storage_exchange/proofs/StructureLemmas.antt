@@ -62,6 +62,9 @@ tasks-live s q h i n = (trees_stand s q h).0.live i (some-from i (TaskTree.owned
 pub tasks-once : (s : Store) (q : Tree) → IsTaskTree s q → (i : ℕ) → times i (TaskTree.owned s q) ≤ 1
 tasks-once s q h i = times-once i (TaskTree.owned s q) (trees_stand s q h).0.distinct
 
+pub two-live : (s : Store) (f g : ℕ → ℕ) → ((i : ℕ) → 0 < f i → IsSome (at s i)) → ((i : ℕ) → 0 < g i → IsSome (at s i)) → (i : ℕ) → 0 < f i + g i → IsSome (at s i)
+two-live s f g a b i n = elim (none-or-some (f i)) [ inr x ↦ a i x | inl x ↦ b i (omega (arith, n, x)) ]
+
 pub three-live : (s : Store) (f g h : ℕ → ℕ) → ((i : ℕ) → 0 < f i → IsSome (at s i)) → ((i : ℕ) → 0 < g i → IsSome (at s i)) → ((i : ℕ) → 0 < h i → IsSome (at s i))
     → (i : ℕ) → 0 < f i + g i + h i → IsSome (at s i)
 three-live s f g h a b c i n = elim (none-or-some (f i)) [

@@ -47,7 +47,7 @@ module _ (p : Storage) (e : Store) (q parked : Head) (k : StandsWith p parked) (
       (λ a. ap (λ (z : Bool). if z then byte_at p.region a else None) (u.unassigned (a / 4096)))
       (λ a. refl) (subpools-parked p parked k e q b.moves b.stands).same refl
 
-  exchanges : (given : List PageFrame) (r : Record)
+  pub exchanges : (given : List PageFrame) (r : Record)
       → ((kept : ℕ) → kept ≤ p.elements.spare → Fits (walk_of p given parked kept) r
       → (kept ≤ e.spare) × (walk_with (walk_of p given parked kept) now (e.spare - kept) ≡ step (walk_of p given parked kept) r))
       → Exchanges p t given given parked parked r

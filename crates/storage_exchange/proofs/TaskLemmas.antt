@@ -2,7 +2,7 @@
 use Rattle.std.proofs.Common.{◌≡◌, ℕ, ◌+◌, ◌-◌, ◌/◌, ◌<◌, ◌≤◌, inl, inr, Bool, true, false, ◌&&◌, ◌==◌, Some, None, if◌then◌else◌, List, refl, ap, sym, ◌∙◌, arith}
 use Rattle.std.specs.Prelude.{nat_lt}
 use Rattle.std.proofs.lemmas.Bool.{eqb-true, cases_lt, lt-ltb, ltb-true, le-ltb}
-use Rattle.vsm_elements.specs.Store.{Store, at}
+use Rattle.vsm_elements.specs.Store.{Store}
 use Rattle.vsm_elements.specs.Owners.{times, Moves}
 use Rattle.vsm_elements.specs.Ownership.{Leaves}
 use Rattle.vsm_elements.proofs.MoveLemmas.{moves-of}
@@ -13,24 +13,20 @@ use Rattle.task_tree.specs.Tasks.{parents_with}
 use Rattle.task_tree.specs.TaskTree.{current, parent, word, IsTaskTree}
 use Rattle.task_tree.specs.TaskTree
 use Rattle.subpool_storage.specs.declared.storage.SubpoolStorage.{SubpoolStorage as Head}
-use Rattle.subpool_storage.specs.Subpools.{with_storage_of}
-use Rattle.subpool_storage.specs.SubpoolStorage.{subpools_of}
-use Rattle.subpool_storage.specs.SubpoolStorage
 use Rattle.storage_changes.specs.declared.record.RegisterRecord.{RegisterRecord}
-use Rattle.storage_changes.specs.declared.record.QueuesRecord.{QueuesRecord}
 use Rattle.storage_changes.specs.declared.record.TaskRecord.{TaskRecord}
 use Rattle.storage_changes.specs.declared.record.Record.{Record}
-use Rattle.storage_changes.specs.declared.record.Record.TheVariants.{Queues, Register, Task}
+use Rattle.storage_changes.specs.declared.record.Record.TheVariants.{Register, Task}
 use Rattle.storage_changes.specs.State.{Tasks}
 use Rattle.storage_changes.specs.Walk.{Walk}
-use Rattle.storage_changes.specs.Steps.{step, queues_step}
+use Rattle.storage_changes.specs.Steps.{step}
 use Rattle.storage_changes.specs.Fits.{Fits}
 use Rattle.storage_exchange.specs.declared.storage.Storage.{Storage}
 use Rattle.storage_exchange.specs.Storage.{tasks_of, walk_of, StandsWith}
 use Rattle.storage_exchange.specs.Exchange.{Exchanges}
 use Rattle.storage_changes.proofs.Cases.{cond-in, cond-out, and-false}
 use Rattle.storage_exchange.proofs.WalkLemmas.{walk-by-places}
-use Rattle.storage_exchange.proofs.CallLemmas.{tasks-pages, tasks-subpools, tasks-parked, tasks-stand, tasks-move, queues-pages, queues-tasks, queues-stand, queues-move}
+use Rattle.storage_exchange.proofs.CallLemmas.{tasks-pages, tasks-subpools, tasks-parked, tasks-stand, tasks-move}
 use Rattle.storage_exchange.proofs.SubpoolLemmas.{tables-same}
 
 -- one of sixteen registers, and no other, has the word
@@ -150,35 +146,3 @@ module _ (p : Storage) (e : Store) (q : Tree) (task under : ℕ) (zeros : (k : �
 
 pub task-as : (r : TaskRecord) (v : Bool) → r.present ≡ v → Task (record { task = r.task; parent = r.parent; present = v }) ≡ Task r
 task-as r v e = λ i. Task (record { task = r.task; parent = r.parent; present = sym e i })
-
--- the queues of a subpool
-module _ (p : Storage) (parked : Head) (k : StandsWith p parked) (e : Store) (r : QueuesRecord)
-    (new : SubpoolStorage.Stands e p.subpools) (new-parked : SubpoolStorage.Stands e parked)
-    (subpools : subpools_of e p.subpools ≡ with_storage_of (subpools_of p.elements p.subpools) (subpools_of p.elements parked) r.subpool)
-    (others : subpools_of e parked ≡ with_storage_of (subpools_of p.elements parked) (subpools_of p.elements p.subpools) r.subpool)
-    (held : (i : ℕ) → SubpoolStorage.hold e p.subpools i + SubpoolStorage.hold e parked i ≡ SubpoolStorage.hold p.elements p.subpools i + SubpoolStorage.hold p.elements parked i)
-    (same : (i : ℕ) → SubpoolStorage.hold p.elements p.subpools i + SubpoolStorage.hold p.elements parked i ≡ 0 → at e i ≡ at p.elements i)
-    (spares : e.spare ≡ p.elements.spare) where
-  abbrev q : Storage
-  q = record p { elements = e }
-
-  queues-steps : (given : List PageFrame) (kept : ℕ) → walk_of q given parked kept ≡ queues_step (walk_of p given parked kept) r
-  queues-steps given kept =
-      let u = queues-pages p parked k e same new new-parked held in
-      let w = queues-tasks p parked k e same new new-parked held in
-      walk-by-places (walk_of q given parked kept) (queues_step (walk_of p given parked kept) r)
-      refl w.parents (λ task n. ap (λ (z : ℕ). if nat_lt n 16 then z else 0) (w.words task n)) subpools u.unassigned
-      (λ a. ap (λ (z : Bool). if z then None else byte_at p.region a) (u.unassigned (a / 4096)))
-      (λ a. ap (λ (z : Bool). if z then byte_at p.region a else None) (u.unassigned (a / 4096)))
-      (λ a. refl) others (ap (λ (z : ℕ). z - kept) spares)
-
-  pub queues-exchanged : (given : List PageFrame) → Exchanges p q given given parked parked (Queues r)
-  queues-exchanged given = record {
-    stands = queues-stand p parked k e same new new-parked held;
-    moves = queues-move p parked k e same new new-parked held;
-    steps = λ kept le fits. (omega (arith, le, spares), queues-steps given kept);
-    out = refl;
-    tables = tables-same p.region;
-    frames = record { spare = refl; made = refl };
-    places = λ places. places;
-  }

@@ -66,11 +66,9 @@ impl Storage {
         ensures turned { result ≡ record r { free = not r.free } }
     {
         if r.free {
-            self.subpools
-                .put_cell(&mut self.elements, r.pool, r.cell);
+            self.subpools.put_cell(&mut self.elements, r.pool, r.cell);
         } else {
-            self.subpools
-                .take_cell(&mut self.elements, r.pool, r.cell);
+            self.subpools.take_cell(&mut self.elements, r.pool, r.cell);
         }
         CellRecord { free: !r.free, ..r }
     }

@@ -27,8 +27,8 @@ impl Storage {
     /// answered.
     ///
     /// Pages that become unassigned leave their frames in `given`; pages that are assigned have theirs in the tables
-    /// already. The storage of a subpool changes places with the one that `parked` has under its name. It takes no
-    /// memory: the elements that it takes have to be spare.
+    /// already. The storage of a subpool changes places with the one that `parked` has under its name, and a cell
+    /// pool with the one under its id. It takes no memory: the elements that it takes have to be spare.
     pub fn exchange_record(
         &mut self,
         given: &mut Parked,

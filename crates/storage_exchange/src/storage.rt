@@ -4,8 +4,8 @@ use subpool_storage::SubpoolStorage;
 use task_tree::TaskTree;
 use vsm_elements::Elements;
 
-/// The storage in elements and frames: the unassigned pages of both regions, the subpools with their pages and their
-/// free storage, the tasks with their registers, and the frames of assigned pages.
+/// The storage in elements and frames: the unassigned pages of both regions, the subpools with their pages, their
+/// free storage and their cell pools, the tasks with their registers, and the frames of assigned pages.
 ///
 /// It owns every element that is not a change's.
 #[derive(Drop)]

@@ -5,6 +5,7 @@ use Rattle.std.specs.Prelude.{◌≡◌, ℕ, ◌+◌, ◌^◌, ◌≤◌, Bool,
 use Rattle.run_set.specs.Runs.{inside}
 use Rattle.vsm_model.specs.declared.causes.Cause.{Cause}
 use Rattle.vsm_model.specs.declared.limits.Settings.{Settings}
+use Rattle.vsm_model.specs.declared.replies.Reply.{Reply}
 use Rattle.vsm_model.specs.Services.{Service}
 use Rattle.vsm_model.specs.Standing.{Accepted, Refused}
 use Rattle.vsm_model.specs.Step.{step}
@@ -18,6 +19,14 @@ use Rattle.storage_plans.specs.declared.plan.Plan.{Plan}
 -- zeros for the pages that come to be assigned
 abbrev pub change_in : StorageState → Plan → Change
 change_in m plan = change_from m.subpools plan.emptied plan.records.items plan.blanks plan.fresh
+
+-- The service is accepted with this reply, in the state that the change leads to. The change fits, and leads to a sound
+-- storage.
+pub record IsAccepted (settings : Settings) (names_full : Bool) (m : StorageState) (x : Service) (d : Change)
+    (reply : Reply) : Type 0 where
+  pub accepted : step settings names_full (model_of m) x ≡ Accepted (model_of (overlay m d)) reply
+  pub fits : Fit m d
+  pub sound : IsSound settings (overlay m d)
 
 -- The service is accepted with the plan's reply, in the state that the plan's change leads to. The change fits, and
 -- leads to a sound storage.

@@ -27,7 +27,7 @@ pub(crate) struct FoundArea {
 }
 
 /// The subpool number, or the cause that refuses it.
-pub(crate) fn check_number(number: u32) -> Result<u8, Cause>
+pub fn check_number(number: u32) -> Result<u8, Cause>
     ensures ok { IfOk result (λ n. n ≡ number) }
     ensures allowed { OnOk result (number ≤ 127) }
     ensures err { IfErr result (λ cause. first_cause (number_causes number) ≡ Some cause) }
@@ -40,8 +40,8 @@ pub(crate) fn check_number(number: u32) -> Result<u8, Cause>
     }
 }
 
-// The side of the line that is asked for.
-fn side_of(settings: Settings, location: Location) -> Residence
+/// The side of the line that is asked for.
+pub fn side_of(settings: Settings, location: Location) -> Residence
     ensures { result ≡ side settings location }
 {
     match location {
@@ -62,9 +62,9 @@ fn spacing_of(boundary: Boundary) -> u32
     }
 }
 
-// The subpool that the current task sees at the number, or the one of its own that it is to have; and whether that one
-// is new.
-fn subpool_for(storage: &Storage, settings: Settings, number: u8) -> (Subpool, bool)
+/// The subpool that the current task sees at the number, or the one of its own that it is to have; and whether that one
+/// is new.
+pub fn subpool_for(storage: &Storage, settings: Settings, number: u8) -> (Subpool, bool)
     requires { StandsSound settings storage.now }
     ensures subpool { result.0 ≡ seen_or_own (model_of (state_of storage.now)) number }
     ensures is_new { result.1 ≡ not (sees_one (model_of (state_of storage.now)) number) }

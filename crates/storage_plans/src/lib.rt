@@ -2,11 +2,11 @@
 //! and registers.
 #![tactic(auto)]
 
-mod areas;
+pub mod areas;
 mod blocks;
-mod obtain;
-mod places;
-mod plan;
+pub mod obtain;
+pub mod places;
+pub mod plan;
 mod reading;
 mod release;
 mod searches;

@@ -25,8 +25,8 @@ use vsm_model::{Cause, Lengths, Obtain, Reply, Settings, Subpool};
 /// The bytes of a page.
 const PAGE_BYTES: u32 = 4096;
 
-// One more record where the subpool is new: it's made.
-fn push_own(records: &mut ArrayVec<Record, PLAN_RECORDS>, subpool: Subpool, is_new: bool)
+/// One more record where the subpool is new: it's made.
+pub fn push_own(records: &mut ArrayVec<Record, PLAN_RECORDS>, subpool: Subpool, is_new: bool)
     requires { array_vec_len records.old < 17 }
     ensures records { records.new.items ≡ records.old.items ++ own_records subpool is_new }
     ensures few { array_vec_len records.new ≤ array_vec_len records.old + 1 }
@@ -78,8 +78,8 @@ fn push_fresh(
     push_area(records, subpool, rest, true);
 }
 
-// Up to three more records: an area is taken at its place.
-fn push_place(
+/// Up to three more records: an area of `count` doublewords is taken at its place.
+pub fn push_place(
     records: &mut ArrayVec<Record, PLAN_RECORDS>,
     subpool: Subpool,
     place: AreaPlace,
@@ -127,8 +127,8 @@ fn push_reply(
     }
 }
 
-// The address of the first byte of a place.
-fn address_of(place: AreaPlace) -> u32
+/// The address of the first byte of a place.
+pub fn address_of(place: AreaPlace) -> u32
     requires { place_address place < 2 ^ 32 }
     ensures { result ≡ place_address place }
 {
@@ -138,8 +138,9 @@ fn address_of(place: AreaPlace) -> u32
     }
 }
 
-// The blank elements that it takes to take an area at its place, and the pages that come to be assigned.
-fn needs_of(place: AreaPlace, count: u32) -> (u32, Run)
+/// The blank elements that it takes to take an area of `count` doublewords at its place, and the pages of 4,096 bytes
+/// that come to be assigned.
+pub fn needs_of(place: AreaPlace, count: u32) -> (u32, Run)
     ensures blanks { result.0 ≡ place_blanks place }
     ensures fresh { result.1 ≡ place_pages count place }
 {

@@ -12,7 +12,7 @@ use vsm_model::{Residence, Settings, Subpool};
 
 /// A place for an area.
 #[derive(Clone, Copy)]
-pub(crate) enum AreaPlace {
+pub enum AreaPlace {
     /// In free storage of the subpool, from this doubleword on: an address divided by 8.
     Inside(u32),
     /// At the first byte of unassigned pages, from this one on: an address divided by 4,096.
@@ -47,7 +47,7 @@ fn place_on(
 ///
 /// On the side above the line the high region comes before the low one; below it the low one is the only one. In a
 /// region the subpool's own free storage comes before unassigned pages, each time at the lowest address.
-pub(crate) fn area_place(
+pub fn area_place(
     storage: &Storage,
     settings: Settings,
     side: Residence,

@@ -37,7 +37,7 @@ pub struct Plan {
 }
 
 /// The empty run.
-pub(crate) const NO_PAGES: Run = Run { start: 0, len: 0 };
+pub const NO_PAGES: Run = Run { start: 0, len: 0 };
 
 /// One more record: the doublewords of an area become free storage of the subpool, or taken. An area without a
 /// doubleword needs none.
@@ -61,7 +61,7 @@ pub(crate) fn push_area(
 }
 
 /// One more record: a register of the task gets the word.
-pub(crate) fn push_register(
+pub fn push_register(
     records: &mut ArrayVec<Record, PLAN_RECORDS>,
     task: u8,
     register: u8,
@@ -100,7 +100,7 @@ pub(crate) fn answer_four(storage: &Storage) -> Plan
 
 /// What a request is answered of which this is the first cause: a plan that sets register 15 to 4, where it is
 /// conditional and the cause is one of those that such a form answers so; else the cause refuses it.
-pub(crate) fn answer_cause(
+pub fn answer_cause(
     storage: &Storage,
     cause: Cause,
     conditional: bool,

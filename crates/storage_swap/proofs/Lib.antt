@@ -6,6 +6,7 @@ pub mod FrameLemmas
 pub mod SwapLemmas
 mod DiscardLemmas
 mod AppendLemmas
+mod ThreeLemmas
 pub mod ReserveLemmas
 mod ParkingLemmas
 mod SettingsLemmas

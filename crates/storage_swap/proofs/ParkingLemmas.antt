@@ -77,5 +77,5 @@ module _ (p : Storage) (k : Stand p) (one : (i : ℕ) → hold p i ≤ 1) (frame
       grown-reserves p (over p begin) k one grown (change_parking names records blanks) (record { records = chain; blanks = spares; frames = frames; parked = parked }) (record p { elements = end })
       (reserves (over p begin) (change_parking names records blanks) no_pages (grown-stands p (over p begin) k one grown) (grown-once p (over p begin) k one grown) (grown-frameless p (over p begin) k one grown frameless)
       (λ page low high. absurd (omega (arith, high))) (λ a. refl)
-      e chain stand is f e' spares stand' count g end parked parked-stands parked-is h
-      p.region frames (no-frames frames none) (λ page. refl) (record { tables = λ page. refl; segments = λ page. refl }) none-long (omega arith))
+      p.region frames (no-frames frames none) (λ page. refl) (record { tables = λ page. refl; segments = λ page. refl }) none-long (omega arith)
+      e chain stand is f e' spares stand' count g end parked parked-stands parked-is h)

@@ -1,12 +1,11 @@
 -- A change is made of what is spare.
 use Rattle.std.proofs.Common.{◌≡◌, ℕ, zero, suc, ◌+◌, ◌/◌, ◌%◌, ◌<◌, ◌≤◌, Bool, true, false, if◌then◌else◌, List, [], ◌++◌, length, map, get_or, replicate, Option, Some, None, IsSome, IfSome, IsTrue, ◌==◌, inl, inr, refl, sym, ap, ◌∙◌, arith, subst}
 use Rattle.vsm_elements.specs.Store.{Store, at}
-use Rattle.vsm_elements.specs.declared.element.Element.{Element}
 use Rattle.vsm_elements.specs.Chain.{Link, links, owned, ids, IsChain}
 use Rattle.vsm_elements.specs.Ownership.{Leaves}
 use Rattle.vsm_elements.specs.declared.chain.Chain.{Chain}
 use Rattle.vsm_elements.specs.Owners.{times, Moves}
-use Rattle.vsm_elements.proofs.MoveLemmas.{none-or-some, moves-of, moves-follow, moves-by, moves-none, rest-same, once-after, chain-live, chain-once, chain-kept}
+use Rattle.vsm_elements.proofs.MoveLemmas.{moves-of, moves-follow, moves-like, moves-none, rest-same, chain-live, chain-once, chain-kept}
 use Rattle.run_set.specs.declared.run.Run.{Run}
 use Rattle.run_set.specs.Runs.{inside}
 use Rattle.run_set.proofs.RunLemmas.{inside_true}
@@ -34,11 +33,9 @@ use Rattle.storage_swap.specs.Swap.{change_holds}
 use Rattle.storage_swap.specs.Reserve.{Grown, Reserves, elements_for, emptying, emptied_extents, parked_under}
 use Rattle.storage_swap.proofs.AppendLemmas.{unassigned-length}
 use Rattle.storage_swap.proofs.FrameLemmas.{none-some}
-use Rattle.storage_swap.proofs.Below.{storage-owns}
+use Rattle.storage_swap.proofs.Below.{storage-owns, storage-stays}
+use Rattle.storage_swap.proofs.ThreeLemmas.{no_ids, three}
 use Rattle.storage_swap.proofs.KeptLemmas.{over, holds-live, same-hold, same-stands, same-state, region-stands}
-
-abbrev no_ids : ℕ → ℕ
-no_ids i = 0
 
 get_or-zeros : (n k : ℕ) → get_or {A = ℕ} (replicate n 0) k 0 ≡ 0
 get_or-zeros zero k = refl
@@ -81,119 +78,112 @@ module _ (p : Storage) (e : Store) (region : Tables) (k : Stand p) (one : (i : �
   pub moved-frameless : IsFrameless p → IsFrameless u
   moved-frameless b page h = pages page ∙ b page (sym (ap (λ (z : StorageState). z.unassigned page) moved-state) ∙ h)
 
+-- The change is put together of what it has taken, in elements where all of it stands.
 module _ (p : Storage) (m : Change) (fresh : Run) (k : Stand p) (one : (i : ℕ) → hold p i ≤ 1) (frameless : IsFrameless p) (tables : HaveTables p.region fresh.start fresh.len)
     (bring : (a : ℕ) → m.frames a ≡ (if inside (a / 4096) fresh then Some 0 else None))
-    (e : Store) (chain : Chain) (stand : IsChain e chain) (is : records_of e chain ≡ m.records) (f : Leaves p.elements e [] (owned e chain))
-    (e' : Store) (spares : Chain) (stand' : IsChain e' spares) (count : spares.count ≡ m.blanks) (g : Leaves e e' [] (owned e' spares))
-    (end : Store) (parked : TheParked) (parked-stands : Stands end parked) (parked-is : subpools_of end parked ≡ m.parked) (h : Moves e' end no_ids (SubpoolStorage.hold end parked))
-    (region : Tables) (frames : List PageFrame) (held : (page : ℕ) → held_at frames page ≡ (if inside page fresh then Some zeros else None)) (pages : SamePages p.region region) (same : SameTables p.region region)
-    (long : length frames ≡ fresh.len) (out : region.out ≡ p.region.out + fresh.len) where
-  abbrev c : TheChange
-  c = record { records = chain; blanks = spares; frames = frames; parked = parked }
-
+    (end : Store) (region : Tables) (c : TheChange) (moved : Moves p.elements end no_ids (change_holds end c)) (apart : (i : ℕ) → change_holds end c i + hold p i ≤ 1)
+    (records : IsChain end c.records) (is : records_of end c.records ≡ m.records) (blanks : IsChain end c.blanks) (count : c.blanks.count ≡ m.blanks)
+    (parked-stands : Stands end c.parked) (parked-is : subpools_of end c.parked ≡ m.parked)
+    (held : (page : ℕ) → held_at c.frames page ≡ (if inside page fresh then Some zeros else None)) (pages : SamePages p.region region) (same : SameTables p.region region)
+    (long : length c.frames ≡ fresh.len) (out : region.out ≡ p.region.out + fresh.len) where
   abbrev t : Storage
   t = record p { elements = end; region = region }
-
-  abbrev chain-ids : ℕ → ℕ
-  chain-ids i = times i (owned e chain)
-
-  abbrev spare-ids : ℕ → ℕ
-  spare-ids i = times i (owned e' spares)
-
-  abbrev parked-ids : ℕ → ℕ
-  parked-ids i = SubpoolStorage.hold end parked i
-
-  -- the records
-  first : Moves p.elements e no_ids chain-ids
-  first = moves-of p.elements e [] (owned e chain) f
-
-  same-first : (i : ℕ) → 0 < hold p i → at e i ≡ at p.elements i
-  same-first = rest-same p.elements e no_ids chain-ids first (hold p) (λ i. omega (arith, one i)) (holds-live p k)
-
-  once-first : (i : ℕ) → chain-ids i + hold p i ≤ 1
-  once-first = once-after p.elements e no_ids chain-ids first (hold p) (λ i. omega (arith, one i)) (holds-live p k) (chain-once e chain stand)
-
-  hold-first : (i : ℕ) → hold (over p e) i ≡ hold p i
-  hold-first = same-hold p e k same-first
-
-  live-first : (i : ℕ) → 0 < chain-ids i + hold p i → IsSome (at e i)
-  live-first i n = elim (none-or-some (chain-ids i)) [
-    | inl z ↦ holds-live (over p e) (same-stands p e k same-first) i (omega (arith, n, z, hold-first i))
-    | inr z ↦ chain-live e chain stand i z
-  ]
-
-  -- the blank elements
-  second : Moves e e' no_ids spare-ids
-  second = moves-of e e' [] (owned e' spares) g
-
-  once-second : (i : ℕ) → spare-ids i + (chain-ids i + hold p i) ≤ 1
-  once-second = once-after e e' no_ids spare-ids second (λ i. chain-ids i + hold p i) (λ i. omega (arith, once-first i)) live-first (chain-once e' spares stand')
-
-  same-second : (i : ℕ) → 0 < chain-ids i + hold p i → at e' i ≡ at e i
-  same-second = rest-same e e' no_ids spare-ids second (λ i. chain-ids i + hold p i) (λ i. omega (arith, once-first i)) live-first
-
-  live-second : (i : ℕ) → 0 < spare-ids i + (chain-ids i + hold p i) → IsSome (at e' i)
-  live-second i n = elim (none-or-some (spare-ids i)) [
-    | inl z ↦ (let w : 0 < chain-ids i + hold p i = omega (arith, n, z) in let P : Option Element → Type 0 = λ o. IsSome o in subst P (sym (same-second i w)) (live-first i w))
-    | inr z ↦ chain-live e' spares stand' i z
-  ]
-
-  -- the subpools that are parked
-  once-third : (i : ℕ) → parked-ids i + (spare-ids i + (chain-ids i + hold p i)) ≤ 1
-  once-third = once-after e' end no_ids parked-ids h (λ i. spare-ids i + (chain-ids i + hold p i)) (λ i. omega (arith, once-second i)) live-second (storage-owns end parked parked-stands).0
-
-  same-third : (i : ℕ) → 0 < spare-ids i + (chain-ids i + hold p i) → at end i ≡ at e' i
-  same-third = rest-same e' end no_ids parked-ids h (λ i. spare-ids i + (chain-ids i + hold p i)) (λ i. omega (arith, once-second i)) live-second
-
-  chain-stays : IsChain end chain × (links end chain ≡ links e chain)
-  chain-stays = chain-kept e end chain stand (λ i n. same-third i (omega (arith, n)) ∙ same-second i (omega (arith, n)))
-
-  spares-stay : IsChain end spares × (links end spares ≡ links e' spares)
-  spares-stay = chain-kept e' end spares stand' (λ i n. same-third i (omega (arith, n)))
-
-  chain-ids-stay : (i : ℕ) → times i (owned end chain) ≡ chain-ids i
-  chain-ids-stay i = ap (λ (ns : List Link). times i (ids ns)) chain-stays.1
-
-  spare-ids-stay : (i : ℕ) → times i (owned end spares) ≡ spare-ids i
-  spare-ids-stay i = ap (λ (ns : List Link). times i (ids ns)) spares-stay.1
-
-  moved : Moves p.elements end no_ids (change_holds end c)
-  moved = moves-follow p.elements e end no_ids chain-ids (change_holds end c) first
-      (moves-follow e e' end chain-ids (λ i. chain-ids i + spare-ids i) (change_holds end c)
-      (moves-by e e' no_ids spare-ids chain-ids (λ i. chain-ids i + spare-ids i) second (λ i. omega arith) (λ i. omega arith))
-      (moves-by e' end no_ids parked-ids (λ i. chain-ids i + spare-ids i) (change_holds end c) h (λ i. omega arith) (λ i. omega (arith, chain-ids-stay i, spare-ids-stay i))))
 
   hold-end : (i : ℕ) → hold t i ≡ hold p i
   hold-end = moved-hold p end region k one (change_holds end c) moved pages
 
-  have-places : (page : ℕ) → IsSome (held_at frames page) → IsTrue (has_table region page)
+  have-places : (page : ℕ) → IsSome (held_at c.frames page) → IsTrue (has_table region page)
   have-places page n = go (inside page fresh) refl where
     go : (b : Bool) → inside page fresh ≡ b → IsTrue (has_table region page)
     go true i = let b : (fresh.start ≤ page) × (page < fresh.start + fresh.len) = inside_true page fresh i in let P : Bool → Type 0 = λ z. IsTrue z in subst P (sym (same.tables page)) (tables page b.0 b.1)
-    go false o = absurd (none-some (held_at frames page) (held page ∙ ap (λ (b : Bool). if b then Some zeros else None) o) n)
+    go false o = absurd (none-some (held_at c.frames page) (held page ∙ ap (λ (b : Bool). if b then Some zeros else None) o) n)
 
-  pub reserves : Reserves p m c t
-  reserves = record {
+  assembled : Reserves p m c t
+  assembled = record {
     ready = record {
       stands = record {
         storage = moved-stands p end region k one (change_holds end c) moved pages;
         parked = parked-stands;
-        once = λ i. omega (arith, hold-end i, once-third i);
+        once = λ i. omega (arith, hold-end i, apart i);
       };
-      records = chain-stays.0;
-      blanks = spares-stay.0;
-      once = λ i. omega (arith, hold-end i, once-third i, chain-ids-stay i, spare-ids-stay i);
+      records = records;
+      blanks = blanks;
+      once = λ i. omega (arith, hold-end i, apart i);
       frameless = moved-frameless p end region k one (change_holds end c) moved pages frameless;
       out = omega (arith, out, long);
       places = have-places;
     };
     shows = moved-state p end region k one (change_holds end c) moved pages;
-    meaning = λ i. record { records = (ap (map record_at) chain-stays.1 ∙ is) i; blanks = count i; frames = λ a. (byte-fresh frames fresh held a ∙ sym (bring a)) i; parked = parked-is i };
+    meaning = λ i. record { records = is i; blanks = count i; frames = λ a. (byte-fresh c.frames fresh held a ∙ sym (bring a)) i; parked = parked-is i };
     held = hold-end;
     moves = moved;
     tables = record { tables = λ page n. (let P : Bool → Type 0 = λ z. IsTrue z in subst P (sym (same.tables page)) n); segments = same.segments };
     out = omega (arith, out, long);
   }
+
+module _ (p : Storage) (m : Change) (fresh : Run) (k : Stand p) (one : (i : ℕ) → hold p i ≤ 1) (frameless : IsFrameless p) (tables : HaveTables p.region fresh.start fresh.len)
+    (bring : (a : ℕ) → m.frames a ≡ (if inside (a / 4096) fresh then Some 0 else None))
+    (region : Tables) (frames : List PageFrame) (held : (page : ℕ) → held_at frames page ≡ (if inside page fresh then Some zeros else None)) (pages : SamePages p.region region) (same : SameTables p.region region)
+    (long : length frames ≡ fresh.len) (out : region.out ≡ p.region.out + fresh.len) where
+  abbrev with-chains : Chain → Chain → TheParked → TheChange
+  with-chains chain spares parked = record { records = chain; blanks = spares; frames = frames; parked = parked }
+
+  -- the records first, then the blank elements, and what is parked at last,
+  module _ (e : Store) (chain : Chain) (stand : IsChain e chain) (is : records_of e chain ≡ m.records) (f : Leaves p.elements e [] (owned e chain))
+      (e' : Store) (spares : Chain) (stand' : IsChain e' spares) (count : spares.count ≡ m.blanks) (g : Leaves e e' [] (owned e' spares))
+      (end : Store) (parked : TheParked) (parked-stands : Stands end parked) (parked-is : subpools_of end parked ≡ m.parked) (h : Moves e' end no_ids (SubpoolStorage.hold end parked)) where
+    abbrev three-last : ((i : ℕ) → 0 < times i (owned e chain) + hold p i → at e' i ≡ at e i) × ((i : ℕ) → 0 < times i (owned e' spares) + (times i (owned e chain) + hold p i) → at end i ≡ at e' i)
+        × ((i : ℕ) → SubpoolStorage.hold end parked i + (times i (owned e' spares) + (times i (owned e chain) + hold p i)) ≤ 1)
+        × Moves p.elements end no_ids (λ i. times i (owned e chain) + times i (owned e' spares) + SubpoolStorage.hold end parked i)
+    three-last = three p k one e e' end (λ i. times i (owned e chain)) (λ i. times i (owned e' spares)) (SubpoolStorage.hold end parked)
+        (moves-of p.elements e [] (owned e chain) f) (chain-once e chain stand) (chain-live e chain stand)
+        (moves-of e e' [] (owned e' spares) g) (chain-once e' spares stand') (chain-live e' spares stand')
+        h (storage-owns end parked parked-stands).0
+
+    chain-stays : IsChain end chain × (links end chain ≡ links e chain)
+    chain-stays = chain-kept e end chain stand (λ i n. three-last.1 i (omega (arith, n)) ∙ three-last.0 i (omega (arith, n)))
+
+    spares-stay : IsChain end spares × (links end spares ≡ links e' spares)
+    spares-stay = chain-kept e' end spares stand' (λ i n. three-last.1 i (omega (arith, n)))
+
+    chain-ids-stay : (i : ℕ) → times i (owned end chain) ≡ times i (owned e chain)
+    chain-ids-stay i = ap (λ (ns : List Link). times i (ids ns)) chain-stays.1
+
+    spare-ids-stay : (i : ℕ) → times i (owned end spares) ≡ times i (owned e' spares)
+    spare-ids-stay i = ap (λ (ns : List Link). times i (ids ns)) spares-stay.1
+
+    pub reserves : Reserves p m (with-chains chain spares parked) (record p { elements = end; region = region })
+    reserves = assembled p m fresh k one frameless tables bring end region (with-chains chain spares parked)
+        (moves-like p.elements end no_ids (λ i. times i (owned e chain) + times i (owned e' spares) + SubpoolStorage.hold end parked i) no_ids (change_holds end (with-chains chain spares parked)) three-last.3 (λ i. refl) (λ i. omega (arith, chain-ids-stay i, spare-ids-stay i)))
+        (λ i. omega (arith, three-last.2 i, chain-ids-stay i, spare-ids-stay i))
+        chain-stays.0 (ap (map record_at) chain-stays.1 ∙ is) spares-stay.0 count parked-stands parked-is held pages same long out
+
+  -- or what is parked first, then the records, and the blank elements at last
+  module _ (e : Store) (parked : TheParked) (parked-stands : Stands e parked) (parked-is : subpools_of e parked ≡ m.parked) (f : Moves p.elements e no_ids (SubpoolStorage.hold e parked))
+      (e' : Store) (chain : Chain) (stand : IsChain e' chain) (is : records_of e' chain ≡ m.records) (g : Leaves e e' [] (owned e' chain))
+      (end : Store) (spares : Chain) (stand' : IsChain end spares) (count : spares.count ≡ m.blanks) (h : Leaves e' end [] (owned end spares)) where
+    abbrev parked-first : ((i : ℕ) → 0 < SubpoolStorage.hold e parked i + hold p i → at e' i ≡ at e i) × ((i : ℕ) → 0 < times i (owned e' chain) + (SubpoolStorage.hold e parked i + hold p i) → at end i ≡ at e' i)
+        × ((i : ℕ) → times i (owned end spares) + (times i (owned e' chain) + (SubpoolStorage.hold e parked i + hold p i)) ≤ 1)
+        × Moves p.elements end no_ids (λ i. SubpoolStorage.hold e parked i + times i (owned e' chain) + times i (owned end spares))
+    parked-first = three p k one e e' end (SubpoolStorage.hold e parked) (λ i. times i (owned e' chain)) (λ i. times i (owned end spares))
+        f (storage-owns e parked parked-stands).0 (storage-owns e parked parked-stands).1
+        (moves-of e e' [] (owned e' chain) g) (chain-once e' chain stand) (chain-live e' chain stand)
+        (moves-of e' end [] (owned end spares) h) (chain-once end spares stand')
+
+    parked-stays : Stands end parked × (subpools_of end parked ≡ subpools_of e parked) × ((i : ℕ) → SubpoolStorage.hold end parked i ≡ SubpoolStorage.hold e parked i)
+    parked-stays = storage-stays e end parked parked-stands (λ i n. parked-first.1 i (omega (arith, n)) ∙ parked-first.0 i (omega (arith, n)))
+
+    behind-stays : IsChain end chain × (links end chain ≡ links e' chain)
+    behind-stays = chain-kept e' end chain stand (λ i n. parked-first.1 i (omega (arith, n)))
+
+    behind-ids-stay : (i : ℕ) → times i (owned end chain) ≡ times i (owned e' chain)
+    behind-ids-stay i = ap (λ (ns : List Link). times i (ids ns)) behind-stays.1
+
+    pub reserves-behind : Reserves p m (with-chains chain spares parked) (record p { elements = end; region = region })
+    reserves-behind = assembled p m fresh k one frameless tables bring end region (with-chains chain spares parked)
+        (moves-like p.elements end no_ids (λ i. SubpoolStorage.hold e parked i + times i (owned e' chain) + times i (owned end spares)) no_ids (change_holds end (with-chains chain spares parked)) parked-first.3 (λ i. refl) (λ i. omega (arith, behind-ids-stay i, parked-stays.2 i)))
+        (λ i. omega (arith, parked-first.2 i, behind-ids-stay i, parked-stays.2 i))
+        behind-stays.0 (ap (map record_at) behind-stays.1 ∙ is) stand' count parked-stays.0 (parked-stays.1 ∙ parked-is) held pages same long out
 
 -- what the change means, by its parts
 module _ (m : Subpools) (records : List Record) (blanks : ℕ) (fresh : Run) where

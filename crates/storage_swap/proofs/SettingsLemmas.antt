@@ -1,11 +1,15 @@
 -- The pages of the two regions, and what the first storage is on the plain machine.
-use Rattle.std.proofs.Common.{◌≡◌, ℕ, ◌/◌, ◌%◌, ◌<◌, ◌≤◌, Bool, true, false, ◌&&◌, ◌==◌, if◌then◌else◌, List, [], ◌∷◌, Option, None, Some, refl, ap, arith}
+use Rattle.std.proofs.Common.{◌≡◌, ℕ, ◌/◌, ◌%◌, ◌<◌, ◌≤◌, Bool, true, false, ◌&&◌, ◌==◌, if◌then◌else◌, List, [], ◌∷◌, length, Option, None, Some, refl, ap, arith}
 use Rattle.std.specs.Prelude.{nat_le}
 use Rattle.std.proofs.lemmas.Bool.{leb-true, eqb-true}
 use Rattle.vsm_model.specs.declared.Subpool.{Subpool}
 use Rattle.vsm_model.specs.declared.limits.Settings.{Settings}
 use Rattle.vsm_model.specs.Regions.{settings_valid, size_valid}
 use Rattle.vsm_model.specs.Search.{holds}
+use Rattle.vsm_model.specs.CellPools.{CellPools}
+use Rattle.cell_tables.specs.Named.{AreNamed}
+use Rattle.cell_tables.specs.Table.{cell_pools_in}
+use Rattle.cell_tables.specs.Laws.{RowsAreCounted}
 use Rattle.subpool_storage.specs.Subpools.{no_subpools, with_own, is_there}
 use Rattle.storage_changes.specs.Meaning.{first_of, all_subpools, subpool_of, is_taken}
 use Rattle.storage_changes.proofs.Cases.{and-left, and-right}
@@ -44,8 +48,18 @@ own-there number owner = go (owner == 1) (number == 0) refl where
   go false true e = refl
   go false false e = refl
 
-pub first-is-first : FirstIsFirst
-first-is-first settings = λ i. record {
+-- where there is no cell pool, their table has no row
+no-rows : RowsAreCounted → cell_pools_in (λ id. None) ≡ []
+no-rows counted = go (cell_pools_in (λ id. None)) (counted (λ id. None) [] none-named (λ id. refl) (λ i j d before within. absurd (omega (arith, within)))) where
+  none-named : AreNamed (λ id. None)
+  none-named = record { ids = λ id p e. cc; high = λ id p e. cc; once = λ i j p q e f same. cc; cells = λ id p e. cc }
+
+  go : (rows : CellPools) → length rows ≡ 0 → rows ≡ []
+  go [] e = refl
+  go (row ∷ rows) e = absurd (omega (arith, e))
+
+pub first-is-first : RowsAreCounted → FirstIsFirst
+first-is-first counted settings = λ i. record {
   current = 1;
   parents = λ task. if task == 1 then Some 0 else None;
   words = λ task register. 0;
@@ -54,7 +68,7 @@ first-is-first settings = λ i. record {
   pages = λ page. no-page settings page i;
   taken = λ d. taken-none d i;
   bytes = λ address. None;
-  cell_pools = [];
+  cell_pools = no-rows counted i;
 } where
   taken-none : (d : ℕ) → is_taken (first_storage settings).subpools (subpool_of (first_storage settings).subpools (d / 512)) d ≡ false
   taken-none d = ap (λ (p : Option Subpool). is_taken (first_storage settings).subpools p d) (no-page settings (d / 512))

@@ -1,9 +1,10 @@
 -- For the test: a change takes over the storage of the first subpool, which has three pages.
-use Rattle.std.proofs.Common.{◌≡◌, ℕ, ◌+◌, ◌/◌, ◌<◌, ◌≤◌, ◌^◌, Bool, true, false, if◌then◌else◌, List, [], ◌∷◌, Option, Some, None, IsSome, refl, sym, ap, ◌∙◌, arith, subst}
+use Rattle.std.proofs.Common.{◌≡◌, ℕ, ◌+◌, ◌/◌, ◌<◌, ◌≤◌, ◌^◌, Bool, true, false, if◌then◌else◌, List, [], ◌∷◌, Option, Some, None, IsSome, inl, inr, refl, sym, ap, ◌∙◌, arith, subst}
 use Rattle.run_set.specs.declared.run.Run.{Run}
 use Rattle.run_set.specs.Runs.{inside}
 use Rattle.vsm_model.specs.declared.limits.Settings.{Settings}
-use Rattle.subpool_storage.specs.Subpools.{is_there}
+use Rattle.cell_pool.specs.Pools.{Pool}
+use Rattle.subpool_storage.specs.Subpools.{is_there, HasPool}
 use Rattle.storage_changes.specs.declared.record.Record.{Record}
 use Rattle.storage_changes.specs.declared.record.Record.TheVariants.{Pages, Queues}
 use Rattle.storage_changes.specs.Changes.{Change, change_of, no_pages, change_parking, Fit, overlay}
@@ -32,10 +33,14 @@ some-none : (o : Option ℕ) → o ≡ None → IsSome o → ⊥
 some-none None e h = cc
 some-none (Some x) e h = cc
 
-module _ (m : StorageState) (run : Run) (there : is_there m.subpools first ≡ true) (some : 0 < run.len) (high : run.start + run.len ≤ 2 ^ 20)
+module _ (m : StorageState) (run : Run) (there : is_there m.subpools first ≡ true) (empty : (id : ℕ) → m.subpools.cells id ≡ None) (some : 0 < run.len) (high : run.start + run.len ≤ 2 ^ 20)
     (assigned : (page : ℕ) → inside page run ≡ true → m.unassigned page ≡ false) (bytes : (a : ℕ) → inside (a / 4096) run ≡ true → IsSome (m.bytes a)) where
   abbrev no-byte : Option ℕ
   no-byte = None
+
+  no-pools : (id : ℕ) (x : Pool) → HasPool m.subpools (taking run).parked id x → ⊥
+  no-pools id x (inl e) = cc (empty id)
+  no-pools id x (inr e) = cc
 
   brought-none : (b : Bool) (o : Option ℕ) → o ≡ None → (if b then no-byte else o) ≡ None
   brought-none true o e = refl
@@ -44,7 +49,7 @@ module _ (m : StorageState) (run : Run) (there : is_there m.subpools first ≡ t
   taken-fits : Fit m (taking run)
   taken-fits = record {
     in_turn = (
-      record { there = there; parked = refl },
+      record { there = there; parked = refl; apart = λ id some. refl; names = λ i j x y here. absurd (no-pools i x here) },
       (
         record {
           some = some;
@@ -82,7 +87,7 @@ module _ (settings : Settings) (run rest : Run) (some : 0 < run.len) (high : run
     go false h = cc
 
   obtained-taken : Fit (obtained settings run rest) (taking run)
-  obtained-taken = taken-fits (obtained settings run rest) run refl some high assigned-now bytes-now
+  obtained-taken = taken-fits (obtained settings run rest) run refl (λ id. refl) some high assigned-now bytes-now
 
 -- reserved behind the obtain, it fits
 module _ (settings : Settings) (p t u v : Storage) (c d e : TheChange) (f : IsFresh settings p)

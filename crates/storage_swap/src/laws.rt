@@ -3,6 +3,8 @@
 ghost use Rattle.storage_swap.specs.Fresh.{FirstIsFirst};
 ghost use Rattle.storage_swap.specs.Laws.{SwapsLeadBack};
 
+use cell_tables::laws::rows_are_counted;
+
 /// A change that was exchanged can be exchanged back. The state is then as it was, and the change means what it meant.
 pub fn swaps_lead_back()
     ensures { SwapsLeadBack }
@@ -11,4 +13,6 @@ pub fn swaps_lead_back()
 /// On the plain machine, a storage before the first request is the first state.
 pub fn first_is_first()
     ensures { FirstIsFirst }
-{}
+{
+    rows_are_counted();
+}

@@ -3,7 +3,7 @@ use Rattle.std.proofs.Common.{◌≡◌, ℕ, ◌+◌, ◌<◌, ◌≤◌, true,
 use Rattle.vsm_elements.specs.Store.{Store, at, among}
 use Rattle.vsm_elements.specs.Owners.{times}
 use Rattle.vsm_elements.proofs.ChainFrame.{false_if}
-use Rattle.vsm_elements.proofs.TimesLemmas.{times-none, times-some}
+use Rattle.vsm_elements.proofs.TimesLemmas.{times-none}
 use Rattle.subpool_set.proofs.KeyLemmas.{not_both}
 use Rattle.subpool_set.specs.declared.set.SubpoolSet.{SubpoolSet}
 use Rattle.subpool_set.specs.Pools.{Pool}
@@ -11,28 +11,30 @@ use Rattle.subpool_set.specs.QueueElements.{ids_of}
 use Rattle.subpool_set.specs.SubpoolSet.{sight, pool, owned, queue_ids, IsSubpoolSet}
 use Rattle.subpool_set.proofs.LawLemmas.{pools_are_named, queue_ids_are}
 use Rattle.subpool_storage.specs.declared.storage.SubpoolStorage.{SubpoolStorage}
-use Rattle.subpool_storage.specs.SubpoolStorage.{page_in, free_in, subpools_of, hold, Stands, Becomes}
+use Rattle.subpool_storage.specs.SubpoolStorage.{page_in, free_in, subpools_of, hold_queues, hold, Stands, Becomes}
 use Rattle.subpool_storage.proofs.SubpoolLemmas.{same_subpools}
-use Rattle.vsm_elements.proofs.TimesLemmas.{some-from}
 use Rattle.vsm_elements.proofs.MoveLemmas.{none-or-some, others-kept}
 use Rattle.vsm_model.specs.declared.Subpool.{Subpool}
 use Rattle.vsm_model.specs.Search.{holds}
 use Rattle.subpool_set.proofs.KeyLemmas.{eqb_refl, none_some}
-use Rattle.subpool_set.proofs.LawLemmas.{sets_stand, sets_kept, queues_kept as kept_queues, sights_are_in_range}
-use Rattle.subpool_set.proofs.CountLemmas.{ids_once}
+use Rattle.subpool_set.proofs.LawLemmas.{sets_stand, sights_are_in_range}
 use Rattle.subpool_storage.specs.Subpools.{Subpools, is_there}
-use Rattle.subpool_storage.specs.Laws.{StorageOwns, SubpoolsAreThere, StorageStays}
-use Rattle.subpool_storage.proofs.ViewLemmas.{page_kept, free_kept}
+use Rattle.cell_pool.specs.CellPools
+use Rattle.cell_pool.specs.Laws.{AreSame}
+use Rattle.cell_pool.proofs.LawLemmas.{pools_are_one, pools_have_cells, ids_are_small, names_are_single}
+use Rattle.subpool_storage.specs.Laws.{StorageOwns, SubpoolsAreThere, StorageStays, CellPoolsAreNamed, PoolsAreHeld}
+use Rattle.subpool_storage.proofs.KeptLemmas.{pools_kept, ids_are_owned}
+use Rattle.subpool_storage.proofs.LiftLemmas.{SetSame, hold_cells, set_live, cells_live, set_same}
 
 pub hold_once : (s : Store) (q : SubpoolStorage) → Stands s q → (i : ℕ) → hold s q i ≤ 1
 unfolding Stands hold
-hold_once s q h i = (ids_once s q.set h.set h.queues).0 i
+hold_once s q h i = h.apart i
 
 pub hold_live : (s : Store) (q : SubpoolStorage) → Stands s q → (i : ℕ) → 0 < hold s q i → IsSome (at s i)
 unfolding Stands hold
-hold_live s q h i p = elim (none-or-some (times i (owned s q.set))) [
-  | inl z ↦ (ids_once s q.set h.set h.queues).1 i (some-from i (queue_ids s q.set) (omega (arith, p, z)))
-  | inr z ↦ (sets_stand s q.set h.set).0.live i (some-from i (owned s q.set) z)
+hold_live s q h i p = elim (none-or-some (hold_queues s q i)) [
+  | inl z ↦ cells_live s q.cells h.cells i (omega (arith, p, z))
+  | inr z ↦ set_live s q (record { set = h.set; queues = h.queues }) i z
 ]
 
 pub storage_owns : StorageOwns
@@ -62,17 +64,28 @@ subpools_are_there s q h = (
 pub storage_stays : StorageStays
 unfolding Stands hold subpools_of
 storage_stays s t q h same =
-    let own : (i : ℕ) → among i (owned s q.set) ≡ true → at t i ≡ at s i = λ i m. same i (omega (arith, times-some i (owned s q.set) m)) in
-    let ids : (i : ℕ) → among i (queue_ids s q.set) ≡ true → at t i ≡ at s i = λ i m. same i (omega (arith, times-some i (queue_ids s q.set) m)) in
-    let r = sets_kept s t q.set h.set own in
-    let k = kept_queues s t q.set h.set h.queues own ids in
-    let still : (m l : ℕ) (p : Pool) → pool s q.set m l ≡ Some p → (i : ℕ) → among i (ids_of s p.queues) ≡ true → at t i ≡ at s i = λ m l p e i z. ids i ((queue_ids_are s q.set i h.set).1 m l p e z) in (
-      record { set = r.0; queues = k.0 },
-      same_subpools (subpools_of t q) (subpools_of s q) r.1
-          (λ p x. ap (λ (z : Option Pool). page_in t z x) (r.2 p.number p.owner) ∙ page_kept s t (pool s q.set p.number p.owner) (h.queues.stand p.number p.owner) (still p.number p.owner) x)
-          (λ p d. ap (λ (z : Option Pool). free_in t z d) (r.2 p.number p.owner) ∙ free_kept s t (pool s q.set p.number p.owner) (h.queues.stand p.number p.owner) (still p.number p.owner) d),
-      λ i. omega (arith, ap (times i) r.3, ap (times i) k.1),
+    let r : SetSame s t q = set_same s t q (record { set = h.set; queues = h.queues }) (λ i p. same i (omega (arith, p))) in
+    let k : AreSame s t q.cells = pools_kept s t q.cells h.cells (λ i p. same i (omega (arith, p))) in
+    let own : (i : ℕ) → hold_cells t q i ≡ hold_cells s q i = λ i. ap (times i) k.elements in (
+      record { set = r.stands.set; queues = r.stands.queues; cells = k.stand; apart = λ i. omega (arith, h.apart i, r.count i, own i) },
+      same_subpools (subpools_of t q) (subpools_of s q) r.sights r.pages r.free k.ids,
+      λ i. omega (arith, r.count i, own i),
     )
+
+-- a cell pool is found under its id, a number of 32 bits, and by its name alone
+pub cell_pools_are_named : CellPoolsAreNamed
+unfolding Stands subpools_of
+cell_pools_are_named s q h = record {
+  ids = λ i p e. ((pools_are_one s q.cells h.cells).ids i p e).0;
+  high = λ i p e. ids_are_small s q.cells i p h.cells e;
+  once = λ i j p r e w. names_are_single s q.cells i j p r h.cells e w;
+  cells = λ i p e. pools_have_cells s q.cells i p h.cells e;
+}
+
+-- a cell pool's id is that of an element of its own
+pub pools_are_held : PoolsAreHeld
+unfolding subpools_of hold
+pools_are_held s q id p h e = omega (arith, ids_are_owned s q.cells id p e)
 
 -- a set without subpools has no queues
 pub none_held : (s : Store) (q : SubpoolSet) → IsSubpoolSet s q → ((n o : ℕ) → pool s q n o ≡ None) → (i : ℕ) → times i (queue_ids s q) ≡ 0

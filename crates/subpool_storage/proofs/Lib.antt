@@ -1,11 +1,15 @@
 pub mod SubpoolLemmas
 pub mod QueueLemmas
 pub mod ViewLemmas
+pub mod KeptLemmas
+pub mod LiftLemmas
 pub mod PutLemmas
 pub mod SetLemmas
 pub mod SharingLemmas
 pub mod LawLemmas
 pub mod ExchangeLemmas
+pub mod CellLemmas
+pub mod BuildLemmas
 pub mod ExtentLemmas
 pub mod OrderLemmas
 pub mod PlaceLemmas

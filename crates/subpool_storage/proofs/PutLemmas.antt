@@ -1,5 +1,5 @@
 -- The queues of one subpool are turned, and their heads are written.
-use Rattle.std.proofs.Common.{◌≡◌, ℕ, ◌+◌, ◌<◌, ◌≤◌, Bool, true, false, ◌&&◌, ◌==◌, inl, inr, Option, Some, IsSome, sym, ap, ◌∙◌, arith, subst}
+use Rattle.std.proofs.Common.{◌≡◌, ℕ, ◌+◌, ◌<◌, ◌≤◌, Bool, true, false, ◌&&◌, ◌==◌, inl, inr, Option, Some, IsSome, refl, sym, ap, ◌∙◌, arith, subst}
 use Rattle.std.specs.Prelude.{if◌then◌else◌}
 use Rattle.vsm_elements.specs.declared.element.Element.{Element}
 use Rattle.vsm_elements.specs.Store.{Store, at, among}
@@ -30,8 +30,9 @@ use Rattle.subpool_set.proofs.LawLemmas.{sets_stay, queue_calls_keep, pools_are_
 use Rattle.subpool_set.proofs.CountLemmas.{both_once}
 use Rattle.subpool_storage.specs.declared.storage.SubpoolStorage.{SubpoolStorage}
 use Rattle.subpool_storage.specs.Subpools.{Subpools}
-use Rattle.subpool_storage.specs.SubpoolStorage.{page_in, free_in, subpools_of, hold, Stands, Becomes}
-use Rattle.subpool_storage.proofs.SubpoolLemmas.{with_queues, same_subpools}
+use Rattle.subpool_storage.specs.SubpoolStorage.{page_in, free_in, subpools_of, Stands, Becomes}
+use Rattle.subpool_storage.proofs.SubpoolLemmas.{with_queues}
+use Rattle.subpool_storage.proofs.LiftLemmas.{SetBecomes, lifted}
 use Rattle.subpool_storage.proofs.ViewLemmas.{counts, pages_at, free_at}
 use Rattle.subpool_storage.proofs.QueueLemmas.{Turned, free_turned, extents_turned}
 
@@ -119,20 +120,18 @@ module _ (s r : Store) (q : SubpoolStorage) (p : Subpool) (id : ℕ) (old new : 
 
   module _ (t : Store) (k : IsSubpoolSet t q.set) (sights : (a b : ℕ) → sight t q.set a b ≡ sight r q.set a b) (pools : (m l : ℕ) → pool t q.set m l ≡ pools_with (pool r q.set) (number_of r id) (owner_of r id) (Some (record { id = id; queues = new })) m l)
       (own : Leaves r t (owned r q.set) (owned t q.set)) (put : AreApart r (pools_with (pool r q.set) (number_of r id) (owner_of r id) (Some (record { id = id; queues = new }))) (owned r q.set) → QueuesStand t q.set) where
-    subpools_are : subpools_of t q ≡ with_queues (subpools_of s q) p pages free
+    set_becomes : SetBecomes s t q q (with_queues (subpools_of s q) p pages free)
     unfolding Stands subpools_of
-    subpools_are = same_subpools (subpools_of t q) (with_queues (subpools_of s q) p pages free)
-        (seen s r q.set p.number p.owner id old new h.set h.queues there call.leaves call.stand t k sights pools own put)
-        (λ m x. pages_now s r q.set p.number p.owner id old new h.set h.queues there call.leaves call.stand t k sights pools own put m.number m.owner x ∙ ap (λ (z : Bool). if same_subpool m p then z else page_in s (pool s q.set m.number m.owner) x) (call.pages_are x))
-        (λ m d. free_now s r q.set p.number p.owner id old new h.set h.queues there call.leaves call.stand t k sights pools own put m.number m.owner d ∙ ap (λ (z : Bool). if same_subpool m p then z else free_in s (pool s q.set m.number m.owner) d) (call.free_is d))
-
-    pub becomes : (subpools : Subpools) → with_queues (subpools_of s q) p pages free ≡ subpools → Becomes s t q q subpools
-    unfolding Stands hold
-    becomes subpools e = record {
+    set_becomes = record {
       stands = record { set = k; queues = now s r q.set p.number p.owner id old new h.set h.queues there call.leaves call.stand t k sights pools own put };
       moves = moves s r q.set p.number p.owner id old new h.set h.queues there call.leaves call.stand t k sights pools own put;
-      subpools = subpools_are ∙ e;
+      sights = seen s r q.set p.number p.owner id old new h.set h.queues there call.leaves call.stand t k sights pools own put;
+      pages = λ m x. pages_now s r q.set p.number p.owner id old new h.set h.queues there call.leaves call.stand t k sights pools own put m.number m.owner x ∙ ap (λ (z : Bool). if same_subpool m p then z else page_in s (pool s q.set m.number m.owner) x) (call.pages_are x);
+      free = λ m d. free_now s r q.set p.number p.owner id old new h.set h.queues there call.leaves call.stand t k sights pools own put m.number m.owner d ∙ ap (λ (z : Bool). if same_subpool m p then z else free_in s (pool s q.set m.number m.owner) d) (call.free_is d);
     }
+
+    pub becomes : (subpools : Subpools) → with_queues (subpools_of s q) p pages free ≡ subpools → Becomes s t q q subpools
+    becomes subpools e = let P : Subpools → Type 0 = λ z. Becomes s t q q z in subst P e (lifted s t q q (with_queues (subpools_of s q) p pages free) h refl (λ id. refl) set_becomes)
 
 -- the subpool that is there, by its name
 pub pool_there : (s : Store) (q : SubpoolSet) (n o id : ℕ) (queues : Queues) → number_of s id ≡ n → owner_of s id ≡ o → pool s q (number_of s id) (owner_of s id) ≡ Some (record { id = id; queues = queues }) → pool s q n o ≡ Some (record { id = id; queues = queues })

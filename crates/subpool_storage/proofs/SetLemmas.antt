@@ -24,8 +24,8 @@ use Rattle.subpool_set.proofs.HeadLemmas.{both_live, both_kept}
 use Rattle.subpool_set.proofs.LawLemmas.{pools_are_named}
 use Rattle.subpool_set.proofs.FollowLemmas.{ids_follow}
 use Rattle.subpool_storage.specs.declared.storage.SubpoolStorage.{SubpoolStorage}
-use Rattle.subpool_storage.specs.SubpoolStorage.{page_in, free_in, subpools_of, hold, Stands, Becomes}
-use Rattle.subpool_storage.proofs.SubpoolLemmas.{same_subpools}
+use Rattle.subpool_storage.specs.SubpoolStorage.{page_in, free_in, subpools_of, Stands, Becomes}
+use Rattle.subpool_storage.proofs.LiftLemmas.{SetBecomes, lifted}
 use Rattle.std.proofs.Common.{◌∷◌, length}
 use Rattle.run_set.specs.declared.run.Run.{Run}
 use Rattle.run_set.specs.Runs.{contains, AreRunsOf}
@@ -76,16 +76,18 @@ module _ (s t : Store) (q r : SubpoolStorage) (p : Subpool) (present : Bool) (x 
     (bare : ids_at s (pool s q.set p.number p.owner) ≡ []) (bare_now : ids_at t x ≡ [])
     (no_page : (y : ℕ) → page_in s (pool s q.set p.number p.owner) y ≡ false) (no_page_now : (y : ℕ) → page_in t x y ≡ false)
     (none_free : (y : ℕ) → free_in s (pool s q.set p.number p.owner) y ≡ false) (none_free_now : (y : ℕ) → free_in t x y ≡ false) where
-  pub becomes_own : Becomes s t q r (with_own (subpools_of s q) p present)
-  unfolding Stands hold subpools_of
-  becomes_own = record {
+  set_becomes : SetBecomes s t q r (with_own (subpools_of s q) p present)
+  unfolding Stands subpools_of
+  set_becomes = record {
     stands = record { set = k; queues = now h.queues };
     moves = set_moves s t q.set r.set p.number p.owner x h.set h.queues k (now h.queues) own with bare bare_now;
-    subpools = same_subpools (subpools_of t r) (with_own (subpools_of s q) p present)
-        (λ a b. sights a b ∙ ap (λ (z : Bool). if z then (if present then Some p.owner else None) else sight s q.set a b) (same_sym p.owner p.number a b))
-        (λ m y. set_pages s t q.set r.set p.number p.owner x h.set h.queues k (now h.queues) own with no_page no_page_now m.number m.owner y)
-        (λ m y. set_free s t q.set r.set p.number p.owner x h.set h.queues k (now h.queues) own with none_free none_free_now m.number m.owner y);
+    sights = λ a b. sights a b ∙ ap (λ (z : Bool). if z then (if present then Some p.owner else None) else sight s q.set a b) (same_sym p.owner p.number a b);
+    pages = λ m y. set_pages s t q.set r.set p.number p.owner x h.set h.queues k (now h.queues) own with no_page no_page_now m.number m.owner y;
+    free = λ m y. set_free s t q.set r.set p.number p.owner x h.set h.queues k (now h.queues) own with none_free none_free_now m.number m.owner y;
   }
+
+  pub becomes_own : r.cells ≡ q.cells → Becomes s t q r (with_own (subpools_of s q) p present)
+  becomes_own e = lifted s t q r (with_own (subpools_of s q) p present) h e (λ id. refl) set_becomes
 
 -- an owner that sees none of the number has none
 pub unseen_pool : (s : Store) (q : SubpoolSet) (n o : ℕ) → IsSubpoolSet s q → sight s q o n ≡ None → pool s q n o ≡ None
@@ -94,17 +96,17 @@ unseen_pool s q n o h unseen = go (pool s q n o) refl where
   go None e = e
   go (Some p) e = absurd (none_some (sight s q o n) o unseen (pools_are_named s q n o p h e).3)
 
-pub create_becomes : (s t : Store) (q r : SubpoolStorage) (p : Subpool) (id : ℕ) → Stands s q → IsSubpoolSet t r.set → (QueuesStand s q.set → QueuesStand t r.set) → Leaves s t (owned s q.set) (owned t r.set)
+pub create_becomes : (s t : Store) (q r : SubpoolStorage) (p : Subpool) (id : ℕ) → r.cells ≡ q.cells → Stands s q → IsSubpoolSet t r.set → (QueuesStand s q.set → QueuesStand t r.set) → Leaves s t (owned s q.set) (owned t r.set)
     → ((m l : ℕ) → pool t r.set m l ≡ pools_with (pool s q.set) p.number p.owner (Some (record { id = id; queues = no_queues })) m l)
     → ((a b : ℕ) → sight t r.set a b ≡ sight_with (sight s q.set) p.owner p.number (Some p.owner) a b)
     → sight s q.set p.owner p.number ≡ None → NewQueuesAreEmpty → Becomes s t q r (with_own (subpools_of s q) p true)
 unfolding Stands
-create_becomes s t q r p id h k now own with sights unseen empty =
+create_becomes s t q r p id e h k now own with sights unseen empty =
     let none : pool s q.set p.number p.owner ≡ None = unseen_pool s q.set p.number p.owner h.set unseen in
     becomes_own s t q r p true (Some (record { id = id; queues = no_queues })) h k now own with sights
     (ap (ids_at s) none) (ap (λ (z : List ℕ). z ++ FreeQueue.owned t no_queues.free) (empty t).2 ∙ (empty t).5)
     (λ y. ap (λ (z : Option Pool). page_in s z y) none) (λ y. ap (contains y) (empty t).1)
-    (λ y. ap (λ (z : Option Pool). free_in s z y) none) (λ y. ap (contains y) (empty t).4)
+    (λ y. ap (λ (z : Option Pool). free_in s z y) none) (λ y. ap (contains y) (empty t).4) e
 
 -- queues without pages and free storage have no elements
 runs_none : (rs : List Run) (set : ℕ → Bool) → AreRunsOf rs set → ((n : ℕ) → set n ≡ false) → rs ≡ []
@@ -128,10 +130,10 @@ bare_at s q n o was no_page none_free = go (pool s q n o) refl where
   go None e = ap (ids_at s) e
   go (Some p) e = ap (ids_at s) e ∙ bare_ids s p.queues (was.stand n o p e) (λ x. sym (ap (λ (z : Option Pool). page_in s z x) e) ∙ no_page x) (λ d. sym (ap (λ (z : Option Pool). free_in s z d) e) ∙ none_free d)
 
-pub remove_becomes : (s t : Store) (q r : SubpoolStorage) (p : Subpool) → Stands s q → IsSubpoolSet t r.set → (QueuesStand s q.set → QueuesStand t r.set) → Leaves s t (owned s q.set) (owned t r.set)
+pub remove_becomes : (s t : Store) (q r : SubpoolStorage) (p : Subpool) → r.cells ≡ q.cells → Stands s q → IsSubpoolSet t r.set → (QueuesStand s q.set → QueuesStand t r.set) → Leaves s t (owned s q.set) (owned t r.set)
     → ((m l : ℕ) → pool t r.set m l ≡ pools_with (pool s q.set) p.number p.owner None m l)
     → ((a b : ℕ) → sight t r.set a b ≡ sight_with (sight s q.set) p.owner p.number None a b)
     → ((x : ℕ) → (subpools_of s q).pages p x ≡ false) → ((d : ℕ) → (subpools_of s q).free p d ≡ false) → Becomes s t q r (with_own (subpools_of s q) p false)
 unfolding Stands subpools_of
-remove_becomes s t q r p h k now own with sights no_page none_free =
-    becomes_own s t q r p false None h k now own with sights (bare_at s q.set p.number p.owner h.queues no_page none_free) refl no_page (λ y. refl) none_free (λ y. refl)
+remove_becomes s t q r p e h k now own with sights no_page none_free =
+    becomes_own s t q r p false None h k now own with sights (bare_at s q.set p.number p.owner h.queues no_page none_free) refl no_page (λ y. refl) none_free (λ y. refl) e

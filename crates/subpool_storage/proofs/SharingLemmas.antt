@@ -19,9 +19,13 @@ use Rattle.subpool_set.specs.SubpoolSet.{sight, pool, owned, queue_ids, IsSubpoo
 use Rattle.vsm_model.specs.declared.Subpool.{Subpool}
 use Rattle.vsm_model.specs.Passing.{sight_after_gift}
 use Rattle.subpool_storage.specs.declared.storage.SubpoolStorage.{SubpoolStorage}
-use Rattle.subpool_storage.specs.Subpools.{with_sharer, with_passed}
-use Rattle.subpool_storage.specs.SubpoolStorage.{page_in, free_in, subpools_of, hold, Stands, Becomes}
-use Rattle.subpool_storage.proofs.SubpoolLemmas.{same_subpools}
+use Rattle.cell_pool.specs.declared.pools.CellPools.{CellPools}
+use Rattle.cell_pool.specs.Pools.{handed_on}
+use Rattle.cell_pool.specs.CellPools.{by_id, IsCellPools}
+use Rattle.cell_pool.specs.CellPools
+use Rattle.subpool_storage.specs.Subpools.{Subpools, with_sharer, with_passed}
+use Rattle.subpool_storage.specs.SubpoolStorage.{page_in, free_in, subpools_of, Stands, Becomes}
+use Rattle.subpool_storage.proofs.LiftLemmas.{lifted, follow, cells_become}
 use Rattle.subpool_storage.proofs.SetLemmas.{unseen_pool}
 use Rattle.subpool_storage.proofs.ViewLemmas.{page_kept, free_kept}
 
@@ -69,22 +73,21 @@ module _ (s t : Store) (q r : SubpoolSet) (h : IsSubpoolSet s q) (was : QueuesSt
   free_same m l d = free_kept s t (pool s q m l) (was.stand m l) (kept m l) d
 
 -- one row of sight comes or goes, and no pool changes
-pub sharer_becomes : (s t : Store) (q r : SubpoolStorage) (p : Subpool) (task : ℕ) (present : Bool) → Stands s q → IsSubpoolSet t r.set → (QueuesStand s q.set → QueuesStand t r.set) → Leaves s t (owned s q.set) (owned t r.set)
+pub sharer_becomes : (s t : Store) (q r : SubpoolStorage) (p : Subpool) (task : ℕ) (present : Bool) → r.cells ≡ q.cells → Stands s q → IsSubpoolSet t r.set → (QueuesStand s q.set → QueuesStand t r.set) → Leaves s t (owned s q.set) (owned t r.set)
     → ((m l : ℕ) → pool t r.set m l ≡ pool s q.set m l)
     → ((a b : ℕ) → sight t r.set a b ≡ sight_with (sight s q.set) task p.number (if present then Some p.owner else None) a b)
     → Becomes s t q r (with_sharer (subpools_of s q) p task present)
-unfolding Stands hold subpools_of
-sharer_becomes s t q r p task present h k now own pools sights =
+unfolding Stands subpools_of
+sharer_becomes s t q r p task present e h k now own pools sights =
     let there : (m l : ℕ) (x : Pool) → pool s q.set m l ≡ Some x → Somewhere t r.set x = λ m l x e. record { m = m; l = l; is = pools m l ∙ e } in
     let back : (m l : ℕ) (x : Pool) → pool t r.set m l ≡ Some x → Somewhere s q.set x = λ m l x e. record { m = m; l = l; is = sym (pools m l) ∙ e } in
-    record {
+    lifted s t q r (with_sharer (subpools_of s q) p task present) h e (λ id. refl) (record {
       stands = record { set = k; queues = now h.queues };
       moves = same_moves s t q.set r.set h.set h.queues k (now h.queues) own there back;
-      subpools = same_subpools (subpools_of t r) (with_sharer (subpools_of s q) p task present)
-          (λ a b. sights a b ∙ ap (λ (z : Bool). if z then (if present then Some p.owner else None) else sight s q.set a b) (same_sym task p.number a b))
-          (λ m y. ap (λ (z : Option Pool). page_in t z y) (pools m.number m.owner) ∙ page_same s t q.set r.set h.set h.queues k (now h.queues) own there back m.number m.owner y)
-          (λ m y. ap (λ (z : Option Pool). free_in t z y) (pools m.number m.owner) ∙ free_same s t q.set r.set h.set h.queues k (now h.queues) own there back m.number m.owner y);
-    }
+      sights = λ a b. sights a b ∙ ap (λ (z : Bool). if z then (if present then Some p.owner else None) else sight s q.set a b) (same_sym task p.number a b);
+      pages = λ m y. ap (λ (z : Option Pool). page_in t z y) (pools m.number m.owner) ∙ page_same s t q.set r.set h.set h.queues k (now h.queues) own there back m.number m.owner y;
+      free = λ m y. ap (λ (z : Option Pool). free_in t z y) (pools m.number m.owner) ∙ free_same s t q.set r.set h.set h.queues k (now h.queues) own there back m.number m.owner y;
+    })
 
 -- what is at a place that is the taker's, the giver's or neither's
 given_at : {A : Type 0} (f : Option Pool → A → Bool) (a b c : Bool) (x z : Option Pool) (y : A) (theirs own : Bool) → f None y ≡ false → (a ≡ true → f x y ≡ theirs) → f z y ≡ own
@@ -143,27 +146,41 @@ module _ (s t : Store) (q r : SubpoolSet) (n giver to : ℕ) (vacant : pool s q 
     go true false true ea eb ec = absurd (none_some (pool t r m l) p (at_giver m l ea eb ec) e)
     go true false false ea eb ec = record { m = m; l = l; is = sym (at_others m l ea eb ec) ∙ e }
 
--- a subpool is another task's
-pub passed_becomes : (s t : Store) (q r : SubpoolStorage) (p : Subpool) (to : ℕ) → Stands s q → IsSubpoolSet t r.set → (QueuesStand s q.set → QueuesStand t r.set) → Leaves s t (owned s q.set) (owned t r.set)
+-- a subpool is another task's, but for its cell pools
+abbrev pub queues_passed : Subpools → Subpool → ℕ → Subpools
+queues_passed m p to = record (with_passed m p to) { cells = m.cells }
+
+pub passed_becomes : (s t : Store) (q r : SubpoolStorage) (p : Subpool) (to : ℕ) → r.cells ≡ q.cells → Stands s q → IsSubpoolSet t r.set → (QueuesStand s q.set → QueuesStand t r.set) → Leaves s t (owned s q.set) (owned t r.set)
     → ((m l : ℕ) → pool t r.set m l ≡ pools_given (pool s q.set) p.number p.owner to m l)
     → ((a b : ℕ) → sight t r.set a b ≡ sight_given (sight s q.set) p.number p.owner to a b)
-    → (subpools_of s q).sight to p.number ≡ None → Becomes s t q r (with_passed (subpools_of s q) p to)
-unfolding Stands hold subpools_of
-passed_becomes s t q r p to h k now own pools sights unseen =
+    → (subpools_of s q).sight to p.number ≡ None → Becomes s t q r (queues_passed (subpools_of s q) p to)
+unfolding Stands subpools_of
+passed_becomes s t q r p to e h k now own pools sights unseen =
     let vacant : pool s q.set p.number to ≡ None = unseen_pool s q.set p.number to h.set unseen in
     let there : (m l : ℕ) (x : Pool) → pool s q.set m l ≡ Some x → Somewhere t r.set x = given_stays s t q.set r.set p.number p.owner to vacant pools in
     let back : (m l : ℕ) (x : Pool) → pool t r.set m l ≡ Some x → Somewhere s q.set x = given_was s t q.set r.set p.number p.owner to vacant pools in
     let page = page_same s t q.set r.set h.set h.queues k (now h.queues) own there back in
     let free = free_same s t q.set r.set h.set h.queues k (now h.queues) own there back in
-    record {
+    lifted s t q r (queues_passed (subpools_of s q) p to) h e (λ id. refl) (record {
       stands = record { set = k; queues = now h.queues };
       moves = same_moves s t q.set r.set h.set h.queues k (now h.queues) own there back;
-      subpools = same_subpools (subpools_of t r) (with_passed (subpools_of s q) p to)
-          (λ a b. sights a b ∙ given_sight (sight s q.set) p.number p.owner to a b)
-          (λ m y. ap (λ (z : Option Pool). page_in t z y) (pools m.number m.owner)
+      sights = λ a b. sights a b ∙ given_sight (sight s q.set) p.number p.owner to a b;
+      pages = λ m y. ap (λ (z : Option Pool). page_in t z y) (pools m.number m.owner)
           ∙ given_at (page_in t) (m.number == p.number) (m.owner == to) (m.owner == p.owner) (pool s q.set m.number p.owner) (pool s q.set m.number m.owner) y (page_in s (pool s q.set p.number p.owner) y) (page_in s (pool s q.set m.number m.owner) y) refl
-          (λ e. page m.number p.owner y ∙ ap (λ (z : ℕ). page_in s (pool s q.set z p.owner) y) (eqb_same m.number p.number e)) (page m.number m.owner y))
-          (λ m y. ap (λ (z : Option Pool). free_in t z y) (pools m.number m.owner)
+          (λ e. page m.number p.owner y ∙ ap (λ (z : ℕ). page_in s (pool s q.set z p.owner) y) (eqb_same m.number p.number e)) (page m.number m.owner y);
+      free = λ m y. ap (λ (z : Option Pool). free_in t z y) (pools m.number m.owner)
           ∙ given_at (free_in t) (m.number == p.number) (m.owner == to) (m.owner == p.owner) (pool s q.set m.number p.owner) (pool s q.set m.number m.owner) y (free_in s (pool s q.set p.number p.owner) y) (free_in s (pool s q.set m.number m.owner) y) refl
-          (λ e. free m.number p.owner y ∙ ap (λ (z : ℕ). free_in s (pool s q.set z p.owner) y) (eqb_same m.number p.number e)) (free m.number m.owner y));
-    }
+          (λ e. free m.number p.owner y ∙ ap (λ (z : ℕ). free_in s (pool s q.set z p.owner) y) (eqb_same m.number p.number e)) (free m.number m.owner y);
+    })
+
+-- and with them
+pub all_passed : (s t u : Store) (q r : SubpoolStorage) (c : CellPools) (p : Subpool) (to : ℕ) → Becomes s t q r (queues_passed (subpools_of s q) p to) → IsCellPools u c → Leaves t u (CellPools.owned t r.cells) (CellPools.owned u c)
+    → ((id : ℕ) → by_id u c id ≡ option_map (handed_on p to) (by_id t r.cells id)) → Becomes s u q (record { set = r.set; cells = c }) (with_passed (subpools_of s q) p to)
+unfolding subpools_of
+all_passed s t u q r c p to b stand leaves ids =
+    follow s t u q r (record { set = r.set; cells = c }) (queues_passed (subpools_of s q) p to) (with_passed (subpools_of s q) p to) b
+    (cells_become t u r c (with_passed (subpools_of s q) p to) b.stands stand leaves
+    (λ id. ids id ∙ ap (option_map (handed_on p to)) (was id))
+    (ap (λ (z : Subpools). record z { cells = (with_passed (subpools_of s q) p to).cells }) (sym b.subpools))) where
+      was : (id : ℕ) → by_id t r.cells id ≡ (subpools_of s q).cells id
+      was id = ap (λ (z : Subpools). z.cells id) b.subpools

@@ -3,6 +3,7 @@ use Rattle.std.specs.Prelude.{◌≡◌, ℕ, ◌<◌, ◌≤◌, Some, IsSome, 
 use Rattle.vsm_elements.specs.Store.{Store, at}
 use Rattle.vsm_model.specs.declared.Subpool.{Subpool}
 use Rattle.subpool_storage.specs.declared.storage.SubpoolStorage.{SubpoolStorage}
+use Rattle.cell_pool.specs.Pools.{Pool}
 use Rattle.cell_tables.specs.Named.{AreNamed}
 use Rattle.subpool_storage.specs.Subpools.{is_there}
 use Rattle.subpool_storage.specs.SubpoolStorage.{subpools_of, hold, Stands}
@@ -26,6 +27,11 @@ SubpoolsAreThere = (s : Store) (q : SubpoolStorage) → Stands s q
 abbrev pub StorageStays : Type 0
 StorageStays = (s t : Store) (q : SubpoolStorage) → Stands s q → ((i : ℕ) → 0 < hold s q i → at t i ≡ at s i)
     → Stands t q × (subpools_of t q ≡ subpools_of s q) × ((i : ℕ) → hold t q i ≡ hold s q i)
+
+-- the id of a cell pool is that of an element that is held
+abbrev pub PoolsAreHeld : Type 0
+PoolsAreHeld = (s : Store) (q : SubpoolStorage) (id : ℕ) (p : Pool) → Stands s q → (subpools_of s q).cells id ≡ Some p
+    → 0 < hold s q id
 
 -- a cell pool is found under its own id, which is an element's, each has a name of its own, and its free cells are cells
 -- of its extents

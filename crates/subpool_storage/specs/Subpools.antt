@@ -1,14 +1,15 @@
 -- Subpools with their pages, their free storage and their cell pools, as functions, and what one call does to them.
 -- Assembler Services Guide, "Virtual storage management", "Subpool handling"; Assembler Services Reference, CPOOL.
 use Rattle.std.specs.Prelude.{◌≡◌, ◌≢◌, ◌⊎◌, ℕ, Bool, false, ◌&&◌, ◌==◌, if◌then◌else◌, Option, Some, None}
-use Rattle.std.specs.Prelude.{option_map, List}
+use Rattle.std.specs.Prelude.{option_map, List, [], ◌∷◌}
 use Rattle.run_set.specs.declared.run.Run.{Run}
 use Rattle.run_set.specs.Runs.{inside}
 use Rattle.vsm_model.specs.declared.Subpool.{Subpool}
 use Rattle.vsm_model.specs.Passing.{sight_after_gift}
 use Rattle.vsm_model.specs.Search.{holds}
 use Rattle.vsm_model.specs.Subpools.{same_subpool}
-use Rattle.cell_pool.specs.Pools.{Pool, at_id, handed_on, exchanged, lies_in}
+use Rattle.cell_pool.specs.Pools.{Pool, cells_from, at_id, handed_on, exchanged, lies_in}
+use Rattle.cell_extents.specs.declared.settings.Settings.{Settings}
 
 -- A set is its test: equal subpools are equal at every place.
 pub record Subpools : Type 0 where
@@ -83,6 +84,22 @@ with_pool_of m others id = record m { cells = λ i. if i == id then others.cells
 -- The change is made to the cell pool of the id.
 abbrev pub with_changed : Subpools → ℕ → (Pool → Pool) → Subpools
 with_changed m id change = record m { cells = λ i. option_map (at_id id change) (m.cells i) }
+
+-- a cell pool of one extent, whose cells are all free, in ascending order
+abbrev pub built_pool : ℕ → List ℕ → Settings → Option (List ℕ) → ℕ → ℕ → Pool
+built_pool id name settings header start count =
+    record {
+      id = id;
+      name = name;
+      settings = settings;
+      header = header;
+      extents = record { start = start; count = count } ∷ [];
+      cells = cells_from settings.size start count;
+    }
+
+-- The cell pool is there, under its own id.
+abbrev pub with_new_pool : Subpools → Pool → Subpools
+with_new_pool m p = record m { cells = λ id. if id == p.id then Some p else m.cells id }
 
 -- A task sees the subpool from now on, or it sees none of that number.
 abbrev pub with_sharer : Subpools → Subpool → ℕ → Bool → Subpools

@@ -1,15 +1,16 @@
 //! Cell pools of subpools: their cells and their extents.
 
 ghost use Rattle.std.specs.Prelude.{◌≡◌, ℕ, ◌+◌, ◌*◌, ◌≤◌, ◌<◌, ◌^◌, ◌∷◌, true, false, None, Some, IsSome, IfSome};
-ghost use Rattle.std.specs.Prelude.{slice_get, if◌then◌else◌};
-ghost use Rattle.vsm_elements.specs.Owners.{times};
+ghost use Rattle.std.specs.Prelude.{slice_get, option_map, if◌then◌else◌};
+ghost use Rattle.vsm_elements.specs.Owners.{times, Moves};
 ghost use Rattle.cell_pool.specs.CellPools.{by_id, owned as cells_own, IsCellPools};
 ghost use Rattle.cell_pool.specs.Pools.{Pool, uses, meets, mark_items, without_first, with_first, extended, retracted};
-ghost use Rattle.subpool_storage.specs.Subpools.{with_changed, with_pool_of, HasPool, IsSingle};
+ghost use Rattle.subpool_storage.specs.Subpools.{with_changed, with_pool_of, with_new_pool, built_pool};
+ghost use Rattle.subpool_storage.specs.Subpools.{HasPool, IsSingle, IsUnnamed};
 ghost use Rattle.subpool_storage.specs.SubpoolStorage.{subpools_of, hold, Stands, Becomes};
 
 use crate::storage::SubpoolStorage;
-use cell_pool::{CellId, CellPools};
+use cell_pool::{CellId, CellPools, Header, Name, Settings as CellSettings};
 use vsm_elements::Elements;
 
 #[tactic(auto, unfolding(
@@ -29,6 +30,34 @@ impl SubpoolStorage {
         ensures held { (i : ℕ) → times i (cells_own elements.now result) ≤ hold elements.now self.now i }
     {
         self.cells
+    }
+
+    /// A cell pool of a name that none has, with one extent: `count` cells from an address on, all of them free, in
+    /// ascending order. (z/OS MVS Programming: Assembler Services Reference, CPOOL BUILD.)
+    ///
+    /// It takes six elements, one for the extent, one for each cell, and `count / 224 + 1` for the marks of its cells.
+    pub fn build_pool(
+        &mut self,
+        elements: &mut Elements,
+        name: &Name,
+        settings: CellSettings,
+        header: Option<Header>,
+        start: u32,
+        count: u32,
+    ) -> CellId
+        requires stands { Stands elements.old self.old }
+        requires unnamed { IsUnnamed (subpools_of elements.old self.old) name.now.bytes }
+        requires size { 0 < settings.size }
+        requires range { start + count * settings.size ≤ 2 ^ 32 }
+        requires room { 7 + count + mark_items count ≤ elements.old.spare }
+        ensures becomes { Becomes elements.old elements.new self.old self.new
+            (with_new_pool (subpools_of elements.old self.old)
+            (built_pool result name.now.bytes settings (option_map (λ h. h.items) header) start count)) }
+        ensures spares { elements.new.spare + (7 + count + mark_items count) ≡ elements.old.spare }
+    {
+        let id = self.cells.build(elements, name, settings, header);
+        self.cells.extend(elements, id, start, count);
+        id
     }
 
     /// The first free cell of a cell pool is in use from now on. (z/OS MVS Programming: Assembler Services Reference,
@@ -117,10 +146,10 @@ impl SubpoolStorage {
             ≡ with_pool_of (subpools_of elements.old self.old) (subpools_of elements.old others.old) id }
         ensures other_subpools { subpools_of elements.new others.new
             ≡ with_pool_of (subpools_of elements.old others.old) (subpools_of elements.old self.old) id }
-        ensures held { (i : ℕ) → hold elements.new self.new i + hold elements.new others.new i
-            ≡ hold elements.old self.old i + hold elements.old others.old i }
-        ensures kept { (i : ℕ) → hold elements.old self.old i + hold elements.old others.old i ≡ 0
-            → at elements.new i ≡ at elements.old i }
+        ensures apart { (i : ℕ) → hold elements.new self.new i + hold elements.new others.new i ≤ 1 }
+        ensures moves { Moves elements.old elements.new
+            (λ i. hold elements.old self.old i + hold elements.old others.old i)
+            (λ i. hold elements.new self.new i + hold elements.new others.new i) }
         ensures spares { elements.new.spare ≡ elements.old.spare }
     {
         self.cells

@@ -1,7 +1,7 @@
 //! What follows from the definitions. Each law is the contract of a function that does nothing.
 
 ghost use Rattle.subpool_storage.specs.Extents.{ExtentsAreRuns, ExtentsAreFew, FreeAreasAreRuns};
-ghost use Rattle.subpool_storage.specs.Laws.{StorageOwns, SubpoolsAreThere, StorageStays, CellPoolsAreNamed};
+ghost use Rattle.subpool_storage.specs.Laws.{StorageOwns, SubpoolsAreThere, StorageStays, CellPoolsAreNamed, PoolsAreHeld};
 
 /// No element has two owners among the subpools and their queues, and each is live.
 pub fn storage_owns()
@@ -36,4 +36,9 @@ pub fn free_areas_are_runs()
 /// A cell pool is found under its own id, and no two have one name.
 pub fn cell_pools_are_named()
     ensures { CellPoolsAreNamed }
+{}
+
+/// The id of a cell pool is that of an element that is held.
+pub fn pools_are_held()
+    ensures { PoolsAreHeld }
 {}

@@ -10,7 +10,7 @@ mod readers;
 mod sharing;
 mod storage;
 
-pub use cell_pool::{CellId, CellPools, Header, Settings as CellSettings};
+pub use cell_pool::{CellId, CellPools, Header, Name, Settings as CellSettings};
 pub use storage::SubpoolStorage;
 pub use subpool_set::{PoolPlace, SharerPlace};
 

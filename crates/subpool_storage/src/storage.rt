@@ -1,5 +1,6 @@
 ghost use Rattle.std.specs.Prelude.{◌≡◌, ◌≢◌, ℕ, ◌+◌, ◌^◌, ◌<◌, ◌≤◌, true, false, Some, None};
-ghost use Rattle.vsm_elements.specs.Store.{Store, at};
+ghost use Rattle.vsm_elements.specs.Store.{Store};
+ghost use Rattle.vsm_elements.specs.Owners.{Moves};
 ghost use Rattle.run_set.specs.Runs.{AllIn, NoneIn};
 ghost use Rattle.run_set.specs.Counts.{joins};
 ghost use Rattle.subpool_set.specs.SubpoolSet.{IsPool, number_of, owner_of};
@@ -201,10 +202,10 @@ impl SubpoolStorage {
             ≡ with_storage_of (subpools_of elements.old self.old) (subpools_of elements.old others.old) subpool }
         ensures other_subpools { subpools_of elements.new others.new
             ≡ with_storage_of (subpools_of elements.old others.old) (subpools_of elements.old self.old) subpool }
-        ensures held { (i : ℕ) → hold elements.new self.new i + hold elements.new others.new i
-            ≡ hold elements.old self.old i + hold elements.old others.old i }
-        ensures kept { (i : ℕ) → hold elements.old self.old i + hold elements.old others.old i ≡ 0
-            → at elements.new i ≡ at elements.old i }
+        ensures apart { (i : ℕ) → hold elements.new self.new i + hold elements.new others.new i ≤ 1 }
+        ensures moves { Moves elements.old elements.new
+            (λ i. hold elements.old self.old i + hold elements.old others.old i)
+            (λ i. hold elements.new self.new i + hold elements.new others.new i) }
         ensures spares { elements.new.spare ≡ elements.old.spare }
     {
         let id = self.id(elements, subpool);

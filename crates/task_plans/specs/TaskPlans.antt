@@ -8,14 +8,15 @@ use Rattle.vsm_model.specs.declared.replies.Reply.TheVariants.{Attached, Returne
 use Rattle.vsm_model.specs.declared.services.Passed.{Passed}
 use Rattle.vsm_model.specs.Passing.{numbers_in}
 use Rattle.vsm_model.specs.Services.{Service}
-use Rattle.vsm_model.specs.Standing.{Accepted, Refused}
+use Rattle.vsm_model.specs.Standing.{Refused}
 use Rattle.vsm_model.specs.Step.{step}
 use Rattle.storage_changes.specs.State.{StorageState}
-use Rattle.storage_changes.specs.Changes.{Change, change_parking, Fit, overlay}
-use Rattle.storage_changes.specs.Meaning.{model_of, IsSound}
+use Rattle.storage_changes.specs.Changes.{Change, change_parking}
+use Rattle.storage_changes.specs.Meaning.{model_of}
 use Rattle.storage_actions.specs.Actions.{register_records}
 use Rattle.task_actions.specs.Attaching.{attach_records, attach_blanks, CanAttach}
 use Rattle.task_actions.specs.Ending.{ended_below, owned_by_these, end_records, end_blanks, with_turn, CanEnd}
+pub use Rattle.storage_plans.specs.Plans.{IsAccepted}
 use Rattle.task_plans.specs.declared.attach.AttachPlan.{AttachPlan}
 use Rattle.task_plans.specs.declared.end.EndPlan.{EndPlan}
 
@@ -44,14 +45,6 @@ end_change m plan =
     change_parking (owned_by_these m.subpools ended)
     (end_records m ended plan.next ++ register_records (with_turn m plan.next) (end_registers plan.reply))
     (end_blanks m ended)
-
--- The service is accepted with this reply, in the state that the change leads to. The change fits, and leads to a sound
--- storage.
-pub record IsAccepted (settings : Settings) (names_full : Bool) (m : StorageState) (x : Service) (d : Change)
-    (reply : Reply) : Type 0 where
-  pub accepted : step settings names_full (model_of m) x ≡ Accepted (model_of (overlay m d)) reply
-  pub fits : Fit m d
-  pub sound : IsSound settings (overlay m d)
 
 -- The bytes of both operands are there, and the task can come with what they name.
 pub record CanBeAttached (m : StorageState) (plan : AttachPlan) : Type 0 where

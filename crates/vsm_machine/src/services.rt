@@ -3,17 +3,18 @@ ghost use Rattle.std.specs.Prelude.{◌≡◌, IfSome};
 ghost use Rattle.std.specs.Option.{option_map};
 ghost use Rattle.vsm_model.specs.Meaning.{service_in};
 ghost use Rattle.storage_core.specs.Planned.{CanBePlanned};
-ghost use Rattle.macro_statements.specs.Requests.{act_in, length_in, subpools_in, target_in};
-ghost use Rattle.macro_statements.specs.Requests.{IsLength, IsSubpools, IsValidAct};
+ghost use Rattle.macro_statements.specs.Requests.{act_in, length_in, subpools_in, target_in, written_in, stored_in};
+ghost use Rattle.macro_statements.specs.Requests.{IsLength, IsStored, IsSubpools, IsTarget, IsValidAct, IsValue};
 ghost use Rattle.vsm_machine.specs.Changes.{plain_of};
 ghost use Rattle.vsm_machine.specs.Machine.{service_asked, lengths_asked, passed_asked, name_asked};
-ghost use Rattle.vsm_machine.specs.Machine.{family_asked, register_in};
+ghost use Rattle.vsm_machine.specs.Machine.{area_asked, area_back, family_asked, looked_up, register_in};
+ghost use Rattle.vsm_machine.specs.Machine.{bytes_in, with_bytes, with_lengths, with_passed, with_three};
 
 use crate::machine::Machine;
 use crate::values::{bytes_of, look_up};
 use macro_statements::{Family, Length, Statement, Subpools};
-use operand_texts::{Name, Place};
-use storage_core::{Attach, Lengths, Obtain, Passed, Release, Service};
+use operand_texts::{Content, Name, Place, Value};
+use storage_core::{Attach, Boundary, Lengths, Location, Obtain, Passed, Release, Service};
 
 /// The register that is set besides register 1, if the place is one.
 fn register_of(place: &Option<Place>) -> Option<u8>
@@ -53,6 +54,101 @@ fn passed_of(machine: &Machine, subpools: &Subpools) -> Option<Passed>
     }
 }
 
+/// The new task that a statement asks for; `None` where a name in one of its values isn't defined.
+fn attach_of<'a>(
+    machine: &Machine,
+    given: &Subpools,
+    shared: &Subpools,
+    shares_zero: bool,
+) -> Option<Service<'a>>
+    requires given { IsSubpools (subpools_in given.now) }
+    requires shared { IsSubpools (subpools_in shared.now) }
+    ensures is { option_map service_in result ≡ with_passed shares_zero
+        (passed_asked (plain_of machine.now) (subpools_in given.now))
+        (passed_asked (plain_of machine.now) (subpools_in shared.now)) }
+    ensures bounds { IfSome result (λ service. CanBePlanned (service_in service)) }
+{
+    Some(Service::Attach(Attach {
+        given: passed_of(machine, given)?,
+        shared: passed_of(machine, shared)?,
+        shares_zero,
+    }))
+}
+
+/// The area that a statement asks for; `None` where a name in one of its values isn't defined.
+fn obtain_of<'a>(
+    machine: &Machine,
+    length: &Length,
+    subpool: &Value,
+    place: &Option<Place>,
+    boundary: Boundary,
+    location: Location,
+    conditional: bool,
+) -> Option<Service<'a>>
+    requires length { IsLength (length_in length.now) }
+    requires subpool { IsValue (written_in subpool.now) }
+    requires place { IfSome (option_map target_in place.now) IsTarget }
+    ensures is { option_map service_in result ≡ with_lengths
+        (area_asked (register_in (option_map target_in place.now)) boundary location conditional)
+        (lengths_asked (plain_of machine.now) (length_in length.now))
+        (looked_up (plain_of machine.now) (written_in subpool.now)) }
+    ensures bounds { IfSome result (λ service. CanBePlanned (service_in service)) }
+{
+    Some(Service::Obtain(Obtain {
+        lengths: lengths_of(machine, length)?,
+        number: look_up(machine, subpool)?,
+        boundary,
+        location,
+        register: register_of(place),
+        conditional,
+    }))
+}
+
+/// The release of an area that a statement asks for; `None` where a name in one of its values isn't defined.
+fn release_of<'a>(
+    machine: &Machine,
+    length: &Value,
+    address: &Value,
+    subpool: &Value,
+    conditional: bool,
+) -> Option<Service<'a>>
+    requires length { IsValue (written_in length.now) }
+    requires address { IsValue (written_in address.now) }
+    requires subpool { IsValue (written_in subpool.now) }
+    ensures is { option_map service_in result ≡ with_three (area_back conditional)
+        (looked_up (plain_of machine.now) (written_in length.now))
+        (looked_up (plain_of machine.now) (written_in address.now))
+        (looked_up (plain_of machine.now) (written_in subpool.now)) }
+    ensures bounds { IfSome result (λ service. CanBePlanned (service_in service)) }
+{
+    Some(Service::Release(Release {
+        length: look_up(machine, length)?,
+        address: look_up(machine, address)?,
+        number: look_up(machine, subpool)?,
+        conditional,
+    }))
+}
+
+/// The store that a statement asks for; `None` where a name in one of its values isn't defined. A value that is stored
+/// is written into `room`.
+fn store_of<'a>(
+    machine: &Machine,
+    address: &Value,
+    content: &'a Content,
+    room: &'a mut [u8; 4],
+) -> Option<Service<'a>>
+    requires address { IsValue (written_in address.now) }
+    requires content { IsStored (stored_in content.now) }
+    ensures is { option_map service_in result ≡ with_bytes (looked_up (plain_of machine.now) (written_in address.now))
+        (bytes_in (plain_of machine.now) (stored_in content.now)) }
+    ensures bounds { IfSome result (λ service. CanBePlanned (service_in service)) }
+{
+    Some(Service::Store {
+        address: look_up(machine, address)?,
+        bytes: bytes_of(machine, content, room)?,
+    })
+}
+
 /// The service that a statement asks for, with the words of its values; `None` where a name in one of them isn't
 /// defined. A value that is stored is written into `room`.
 pub(crate) fn service_of<'a>(
@@ -72,25 +168,21 @@ pub(crate) fn service_of<'a>(
             boundary,
             location,
             form,
-        } => Some(Service::Obtain(Obtain {
-            lengths: lengths_of(machine, length)?,
-            number: look_up(machine, subpool)?,
-            boundary: *boundary,
-            location: *location,
-            register: register_of(place),
-            conditional: form.conditional,
-        })),
+        } => obtain_of(
+            machine,
+            length,
+            subpool,
+            place,
+            *boundary,
+            *location,
+            form.conditional,
+        ),
         Statement::Release {
             length,
             address,
             subpool,
             form,
-        } => Some(Service::Release(Release {
-            length: look_up(machine, length)?,
-            address: look_up(machine, address)?,
-            number: look_up(machine, subpool)?,
-            conditional: form.conditional,
-        })),
+        } => release_of(machine, length, address, subpool, form.conditional),
         Statement::Whole { subpool, .. } => Some(Service::Whole {
             number: look_up(machine, subpool)?,
         }),
@@ -98,11 +190,7 @@ pub(crate) fn service_of<'a>(
             given,
             shared,
             shares_zero,
-        } => Some(Service::Attach(Attach {
-            given: passed_of(machine, given)?,
-            shared: passed_of(machine, shared)?,
-            shares_zero: *shares_zero,
-        })),
+        } => attach_of(machine, given, shared, *shares_zero),
         Statement::Detach { task } => Some(Service::Detach {
             task: look_up(machine, task)?,
         }),
@@ -110,10 +198,7 @@ pub(crate) fn service_of<'a>(
             task: look_up(machine, task)?,
         }),
         Statement::EndTask => Some(Service::EndTask),
-        Statement::Poke { address, content } => Some(Service::Store {
-            address: look_up(machine, address)?,
-            bytes: bytes_of(machine, content, room)?,
-        }),
+        Statement::Poke { address, content } => store_of(machine, address, content, room),
     }
 }
 

@@ -30,6 +30,7 @@ returns-clause-reserves c =
     let m = (subpools_of c.args.storage.now.elements c.args.storage.now.subpools) in
     reserves c.args.storage.now (change_from m c.args.emptied c.args.records.now c.args.blanks c.args.fresh) c.args.fresh c.requires.stands c.requires.once c.requires.frameless c.requires.tables
     (meant-frames m c.args.records.now c.args.blanks c.args.fresh c.args.emptied)
+    c.take_frames-frames.new.region c.take_frames-frames.result c.take_frames-frames.ensures.frames c.take_frames-frames.ensures.pages c.take_frames-frames.ensures.tables c.take_frames-frames.ensures.count c.take_frames-frames.ensures.out
     c.take_records-records.new.elements c.take_records-records.result c.take_records-records.ensures.chain
     (c.take_records-records.ensures.records ∙ ap (λ (rs : List Run). emptying c.args.emptied rs ++ c.args.records.now) c.extents_emptied-extents.ensures.runs ∙ sym (meant-records m c.args.records.now c.args.blanks c.args.fresh c.args.emptied))
     c.take_records-records.ensures.owned
@@ -39,4 +40,3 @@ returns-clause-reserves c =
     c.park_empty-parked.new.elements c.park_empty-parked.result c.park_empty-parked.ensures.stands
     (c.park_empty-parked.ensures.subpools ∙ sym (meant-parked m c.args.records.now c.args.blanks c.args.fresh c.args.emptied))
     c.park_empty-parked.ensures.moves
-    c.take_frames-frames.new.region c.take_frames-frames.result c.take_frames-frames.ensures.frames c.take_frames-frames.ensures.pages c.take_frames-frames.ensures.tables c.take_frames-frames.ensures.count c.take_frames-frames.ensures.out

@@ -1,15 +1,17 @@
-use Rattle.std.proofs.Common.{◌≡◌, ◌≤◌, ◌==◌, ◌∷◌, ◌++◌, ◌∙◌, ℕ, List, Option, true, false, ap, sym, subst, arith, length, refl, eq-eqb}
+use Rattle.std.proofs.Common.{◌≡◌, ◌≤◌, ◌∷◌, ◌++◌, ◌∙◌, ℕ, List, Option, true, false, ap, sym, subst, arith, length, refl}
 use Rattle.std.specs.Prelude.{IfSome}
 use Rattle.vsm_elements.specs.Store.{among}
 use Rattle.vsm_elements.specs.Ownership.{Leaves}
 use Rattle.vsm_elements.proofs.ChainFrame.{Leaves-trans}
-use Rattle.list_table.specs.Entries.{Entry, word}
+use Rattle.list_table.specs.Entries.{Entry}
 use Rattle.list_table.specs.ListTable.{entries, entry_of}
 use Rattle.list_table.specs.ListTable
 use Rattle.cell_pool.specs.Pools.{lies_in}
 use Rattle.cell_extents.specs.Items.{pool_of}
 use Rattle.cell_pool.specs.CellPools.{owned, IsCellPools}
-use Rattle.cell_extents.proofs.EntryLemmas.{pool_subpool, eqb_false}
+use Rattle.cell_extents.proofs.EntryLemmas.{pool_subpool}
+use Rattle.vsm_model.specs.declared.Subpool.{Subpool}
+use Rattle.vsm_model.specs.Subpools.{same_subpool}
 use Rattle.cell_pool.proofs.ParkLemmas.{moved, append_none, left_is, fewer, gone_rest, gone_went, kept_rest, kept_went, all_rest, all_went, leaves_same, left_kept, out_kept, left_names, left_ids, out_names, out_ids}
 use Rattle.cell_pool.proofs.pools.CellPools.park_pools.Goals as goal
 
@@ -33,10 +35,10 @@ loop-left-init c = record {
   spares = refl;
 }
 
-pub loop-left-preserved-then-row-subpool : goal.loop-left-preserved-then-row-subpool
-loop-left-preserved-then-row-subpool c =
+pub loop-left-preserved-then-says_subpool : goal.loop-left-preserved-then-says_subpool
+loop-left-preserved-then-says_subpool c =
     let Q : Option Entry → Type 0 = λ z. IfSome z (λ (e : Entry). entries c.move_row.new.elements c.move_row.new.to ≡ e ∷ (entries c.loop-left.elements c.loop-left.out)) in
-    let goes : lies_in c.args.subpool (pool_of (entry_of c.loop-left.elements c.row-row.result)) ≡ true = ap (λ (z : ℕ). z == c.args.subpool) (pool_subpool (entry_of c.loop-left.elements c.row-row.result)) ∙ eq-eqb (word c.row-row.result.words 0) c.args.subpool c.if-row-subpool.true in
+    let goes : lies_in c.args.subpool (pool_of (entry_of c.loop-left.elements c.row-row.result)) ≡ true = ap (λ (z : Subpool). same_subpool z c.args.subpool) (pool_subpool (entry_of c.loop-left.elements c.row-row.result)) ∙ sym c.says_subpool.ensures ∙ c.if-says_subpool.true in
     let left = left_is c.loop-left.elements c.move_row.new.elements c.loop-left.self.table c.move_row.new.self c.loop-left.place.index c.move_row.ensures.left in
     record {
       table = c.move_row.ensures.table;
@@ -53,7 +55,7 @@ loop-left-preserved-then-row-subpool c =
 
 pub loop-left-preserved : goal.loop-left-preserved
 loop-left-preserved c =
-    let stays : lies_in c.args.subpool (pool_of (entry_of c.loop-left.elements c.row-row.result)) ≡ false = ap (λ (z : ℕ). z == c.args.subpool) (pool_subpool (entry_of c.loop-left.elements c.row-row.result)) ∙ eqb_false c.args.subpool (word c.row-row.result.words 0) (λ e. c.if-row-subpool.false (sym e)) in
+    let stays : lies_in c.args.subpool (pool_of (entry_of c.loop-left.elements c.row-row.result)) ≡ false = ap (λ (z : Subpool). same_subpool z c.args.subpool) (pool_subpool (entry_of c.loop-left.elements c.row-row.result)) ∙ sym c.says_subpool.ensures ∙ c.if-says_subpool.false in
     record {
       table = c.loop-left.invariant.table;
       out = c.loop-left.invariant.out;

@@ -19,7 +19,7 @@ returns-in-Own-clause-exchanges c = exchanges-as c.args.self.now _ c.args.given.
     (c.exchange_own.ensures c.args.given.now c.args.parked.now c.requires.stands)
 
 pub returns-in-Queues-clause-exchanges : goal.returns-in-Queues-clause-exchanges
-returns-in-Queues-clause-exchanges c = exchanges-as c.args.self.now _ c.args.given.now c.args.given.now c.args.parked.now c.args.parked.now _ c.args.change (sym c.in-Queues.is)
+returns-in-Queues-clause-exchanges c = exchanges-as c.args.self.now _ c.args.given.now c.args.given.now c.args.parked.now c.exchange_queues.new.parked _ c.args.change (sym c.in-Queues.is)
     (c.exchange_queues.ensures c.args.given.now)
 
 pub returns-in-Register-clause-exchanges : goal.returns-in-Register-clause-exchanges
@@ -45,3 +45,15 @@ returns-in-Sharer-clause-exchanges c = exchanges-as c.args.self.now _ c.args.giv
 pub returns-in-Pass-clause-exchanges : goal.returns-in-Pass-clause-exchanges
 returns-in-Pass-clause-exchanges c = exchanges-as c.args.self.now _ c.args.given.now c.args.given.now c.args.parked.now c.args.parked.now _ c.args.change (sym c.in-Pass.is)
     (c.exchange_pass.ensures.exchanges c.args.given.now c.args.parked.now c.requires.stands)
+
+pub returns-in-CellPool-clause-exchanges : goal.returns-in-CellPool-clause-exchanges
+returns-in-CellPool-clause-exchanges c = exchanges-as c.args.self.now _ c.args.given.now c.args.given.now c.args.parked.now c.exchange_cell_pool.new.parked _ c.args.change (sym c.in-CellPool.is)
+    (c.exchange_cell_pool.ensures.exchanges c.args.given.now)
+
+pub returns-in-CellExtent-clause-exchanges : goal.returns-in-CellExtent-clause-exchanges
+returns-in-CellExtent-clause-exchanges c = exchanges-as c.args.self.now _ c.args.given.now c.args.given.now c.args.parked.now c.args.parked.now _ c.args.change (sym c.in-CellExtent.is)
+    (c.exchange_cell_extent.ensures.exchanges c.args.given.now c.args.parked.now c.requires.stands)
+
+pub returns-in-Cell-clause-exchanges : goal.returns-in-Cell-clause-exchanges
+returns-in-Cell-clause-exchanges c = exchanges-as c.args.self.now _ c.args.given.now c.args.given.now c.args.parked.now c.args.parked.now _ c.args.change (sym c.in-Cell.is)
+    (c.exchange_cell.ensures.exchanges c.args.given.now c.args.parked.now c.requires.stands)

@@ -1,0 +1,68 @@
+//! Plans of cells that are given back.
+ghost use Rattle.std.specs.Prelude.{◌≡◌, [], ◌∷◌, ◌++◌, Bool, None};
+ghost use Rattle.vsm_model.specs.declared.limits.Settings.{Settings};
+ghost use Rattle.vsm_model.specs.declared.replies.Reply.TheVariants.{Returned};
+ghost use Rattle.vsm_model.specs.Services.{free};
+ghost use Rattle.storage_actions.specs.Actions.{register_records, run_of};
+ghost use Rattle.storage_exchange.specs.Storage.{state_of, Stand};
+ghost use Rattle.storage_plans.specs.Places.{StandsSound};
+ghost use Rattle.cell_actions.specs.Actions.{given_back_records};
+ghost use Rattle.cell_plans.specs.CellPlans.{IsCellPlanned};
+
+use crate::find::find_seen;
+use arrayvec::ArrayVec;
+use cell_actions::laws::giving_back_cells_leads;
+use cell_extents::{CellId, Name};
+use cell_laws::laws::cell_pools_stay_well_formed;
+use storage_changes::{CellRecord, Record};
+use storage_exchange::Storage;
+use storage_plans::Plan;
+use storage_plans::plan::{NO_PAGES, push_register};
+use vsm_model::{Cause, Reply};
+
+// The plan by which the cell is the first free one of its cell pool.
+fn give_back(storage: &Storage, pool: CellId, cell: u32) -> Plan
+    ensures emptied { result.emptied ≡ None }
+    ensures records { result.records.items
+        ≡ given_back_records pool cell ++ register_records (state_of storage.now) ((15, 0) ∷ []) }
+    ensures blanks { result.blanks ≡ 1 }
+    ensures fresh { result.fresh ≡ run_of 0 0 }
+    ensures reply { result.reply ≡ Returned 0 }
+{
+    let mut records = ArrayVec::new();
+    records.push(Record::Cell(CellRecord {
+        pool,
+        cell,
+        free: true,
+    }));
+    push_register(&mut records, storage.tasks.current(), 15, 0);
+    Plan {
+        emptied: None,
+        records,
+        blanks: 1,
+        fresh: NO_PAGES,
+        reply: Reply::Returned(0),
+    }
+}
+
+/// A plan by which a cell is given back to its cell pool (*Assembler Services Reference*, CPOOL FREE): it's the next one
+/// that is handed out. Register 15 gets 0. Reads alone, and takes no memory.
+///
+/// The causes that refuse it, in order: `NoCellPool` where there is no cell pool of the name or the current task doesn't
+/// see its subpool, and `NotInUse` where the address isn't that of a cell which was handed out.
+pub fn plan_free(storage: &Storage, name: &Name, cell: u32) -> Result<Plan, Cause>
+    requires { Stand storage.now }
+    ensures { (settings : Settings) (names_full : Bool) → StandsSound settings storage.now
+        → IsCellPlanned settings names_full (state_of storage.now) (free name.now.bytes cell) result }
+{
+    giving_back_cells_leads();
+    cell_pools_stay_well_formed();
+    let Some(pool) = find_seen(storage, name) else {
+        return Err(Cause::NoCellPool);
+    };
+    let pools = storage.subpools.cell_pools(&storage.elements);
+    if !pools.in_use(&storage.elements, pool, cell) {
+        return Err(Cause::NotInUse);
+    }
+    Ok(give_back(storage, pool, cell))
+}

@@ -1,0 +1,86 @@
+-- That cell pools stand has one proof at most, and what they are is a set.
+use Rattle.std.specs.Prelude.{ℕ, List, [], ◌∷◌, Option, Some, None, IfSome}
+use Rattle.std.proofs.Props.{props}
+use mathlib.Core.HLevel.{Unit-prop, ×_prop}
+use Rattle.vsm_model.specs.declared.Subpool.{Subpool}
+use Rattle.vsm_elements.specs.Store.{Store}
+use Rattle.vsm_elements.specs.Chain.{Link}
+use Rattle.vsm_elements.specs.Props.{Apart-prop, Distinct-prop, IsChain-prop}
+use Rattle.vsm_elements.specs.declared.chain.Chain.{Chain}
+use Rattle.list_table.specs.Entries.{Entry}
+use Rattle.list_table.specs.Kept.{head_of, listed, AllStand}
+use Rattle.list_table.specs.Kept as rows
+use Rattle.list_table.specs.ListTable.{IsTable}
+use Rattle.list_table.specs.declared.table.ListTable.{ListTable}
+use Rattle.cell_extents.specs.declared.label.Label.{Label}
+use Rattle.cell_extents.specs.declared.settings.Settings.{Settings}
+use Rattle.cell_extents.specs.declared.settings.Extent.{Extent}
+use Rattle.cell_extents.specs.Names.{AreBytes, AreTexts}
+use Rattle.cell_extents.specs.Marks.{IsMarked}
+use Rattle.cell_extents.specs.Items.{IsSound}
+use Rattle.cell_pool.specs.declared.pools.CellPools.{CellPools}
+use Rattle.cell_pool.specs.Pools.{Pool, AreApart, Single}
+use Rattle.cell_pool.specs.Kept.{AllSound, IsKept}
+use Rattle.cell_pool.specs.CellPools.{IsCellPools}
+
+pub Subpool-set : IsSet Subpool
+Subpool-set = hlevel props
+
+pub Settings-set : IsSet Settings
+Settings-set = hlevel (Subpool-set, props)
+
+pub Extent-set : IsSet Extent
+Extent-set = hlevel props
+
+pub Pool-set : IsSet Pool
+Pool-set = hlevel (Settings-set, Extent-set, props)
+
+Label-set : IsSet Label
+Label-set = hlevel props
+
+AllStand-prop : (s : Store) (ns : List Link) → IsProp (AllStand s ns)
+AllStand-prop s [] = Unit-prop
+AllStand-prop s (n ∷ ns) = hlevel (IsChain-prop, Apart-prop, AllStand-prop s ns, props)
+
+rows-prop : (s : Store) (c : Chain) → IsProp (rows.IsKept s c)
+rows-prop s c = hlevel (IsChain-prop, Apart-prop, AllStand-prop, props)
+
+IsTable-prop : (s : Store) (q : ListTable) → IsProp (IsTable s q)
+unfolding IsTable
+IsTable-prop s q = rows-prop s q.chain
+
+AreBytes-prop : (bytes : List ℕ) → IsProp (AreBytes bytes)
+AreBytes-prop [] = Unit-prop
+AreBytes-prop (b ∷ bs) = ×_prop (hlevel props) (AreBytes-prop bs)
+
+header-prop : (header : Option (List ℕ)) → IsProp (IfSome header AreBytes)
+header-prop None = Unit-prop
+header-prop (Some bytes) = AreBytes-prop bytes
+
+AreTexts-prop : (name : List ℕ) (header : Option (List ℕ)) → IsProp (AreTexts name header)
+AreTexts-prop name header = hlevel (AreBytes-prop, header-prop, props)
+
+AreApart-prop : (size : ℕ) (extents : List Extent) → IsProp (AreApart size extents)
+AreApart-prop size [] = Unit-prop
+AreApart-prop size (x ∷ xs) = ×_prop (hlevel props) (AreApart-prop size xs)
+
+IsMarked-prop : (p : Pool) (items : List (List ℕ)) → IsProp (IsMarked p items)
+IsMarked-prop p items = hlevel (Distinct-prop, AreApart-prop, props)
+
+IsSound-prop : (e : Entry) → IsProp (IsSound e)
+IsSound-prop e = hlevel (Label-set, AreTexts-prop, IsMarked-prop, props)
+
+AllSound-prop : (es : List Entry) → IsProp (AllSound es)
+AllSound-prop [] = Unit-prop
+AllSound-prop (e ∷ es) = ×_prop (IsSound-prop e) (AllSound-prop es)
+
+Single-prop : (ps : List Pool) → IsProp (Single ps)
+Single-prop [] = Unit-prop
+Single-prop (p ∷ ps) = ×_prop (hlevel (Pool-set, props)) (Single-prop ps)
+
+IsKept-prop : (s : Store) (q : ListTable) → IsProp (IsKept s q)
+IsKept-prop s q = hlevel (IsTable-prop, Single-prop, AllSound-prop, props)
+
+pub IsCellPools-prop : (s : Store) (q : CellPools) → IsProp (IsCellPools s q)
+unfolding IsCellPools
+IsCellPools-prop s q = IsKept-prop s q.table
