@@ -1,14 +1,14 @@
 -- A cell pool that goes, with its extents.
-use Rattle.std.proofs.Common.{◌≡◌, ◌⊎◌, inl, inr, ℕ, ◌+◌, ◌*◌, ◌/◌, ◌<◌, ◌≤◌, Bool, true, false, ◌==◌, if◌then◌else◌, List, ◌∷◌, ◌++◌, map, length, Option, Some, None, IsSome, is_some, refl, sym, ◌∙◌, ap, subst, arith}
+use Rattle.std.proofs.Common.{◌≡◌, inl, inr, ℕ, ◌/◌, ◌<◌, Bool, false, ◌==◌, if◌then◌else◌, List, ◌++◌, map, Option, Some, None, is_some, refl, sym, ◌∙◌, ap, subst, arith}
 use Rattle.std.specs.Prelude.{All, unwrap_or}
 use Rattle.run_set.specs.Runs.{inside}
 use Rattle.vsm_model.specs.declared.limits.Settings.{Settings}
-use Rattle.vsm_model.specs.CellPools.{CellPool, CellPools, cell_pool_in, without_cell_pool}
-use Rattle.vsm_model.specs.Cells.{no_pool, without_extents, deleted, are_cells}
+use Rattle.vsm_model.specs.CellPools.{CellPool, cell_pool_in, without_cell_pool}
+use Rattle.vsm_model.specs.Cells.{no_pool, without_extents, deleted}
 use Rattle.vsm_model.specs.State.{State}
 use Rattle.vsm_model.specs.WellFormed.{IsWellFormed, PagesAreSound, PoolIsSound, IsInSubpool, all_extents}
 use Rattle.cell_laws.proofs.CellLists.{cell_bounds}
-use Rattle.cell_laws.proofs.Emptied.{emptied, extents_given_back as extents_are_emptied}
+use Rattle.cell_laws.proofs.Emptied.{extents_given_back as extents_are_emptied}
 use Rattle.cell_laws.specs.Extents.{lies_in}
 use Rattle.cell_laws.proofs.Lists.{across_turned}
 use Rattle.cell_laws.proofs.Pools.{sight_stays, tasks_stay, sound_of, rest_of}
@@ -18,10 +18,9 @@ use Rattle.std.specs.List.{list_any}
 use Rattle.cell_pool.specs.Pools.{Pool}
 use Rattle.cell_tables.specs.Laws.{GonePoolsHaveNoRow, PoolsAreFound}
 use Rattle.cell_tables.specs.Named.{AreNamed}
-use Rattle.cell_tables.specs.Table.{cell_pool_of, extent_of}
+use Rattle.cell_tables.specs.Table.{cell_pool_of}
 use Rattle.subpool_storage.specs.Subpools.{Subpools, no_subpools}
 use Rattle.storage_changes.specs.declared.record.CellPoolRecord.{CellPoolRecord}
-use Rattle.storage_changes.specs.declared.record.Record.{Record}
 use Rattle.storage_changes.specs.declared.record.Record.TheVariants.{CellPool as CellPoolRow, Register}
 use Rattle.storage_changes.specs.Changes.{Change, change_of, outset}
 use Rattle.storage_changes.specs.Fits.{Fits, FitInTurn}
@@ -30,14 +29,12 @@ use Rattle.storage_changes.specs.State.{StorageState}
 use Rattle.storage_changes.specs.Steps.{walk}
 use Rattle.storage_changes.specs.Walk.{Walk}
 use Rattle.storage_actions.specs.Actions.{run_of, register_records}
-use Rattle.storage_actions.specs.Leads.{AreRegisters}
 use Rattle.storage_actions.proofs.Goes.{walk_on, fits_on}
 use Rattle.storage_actions.proofs.Rows.{with_rows, rows_fit, rows_walk, stands_of, leads_to, fresh_of, none_fresh, none_brought, task_is_there}
 use Rattle.cell_actions.specs.Actions.{extents_given_back, deleting_records, deleting_blanks}
 use Rattle.cell_actions.specs.Laws.{DeletingLeads}
-use Rattle.cell_actions.proofs.Changed.{some_is}
 use Rattle.cell_actions.proofs.Elsewhere.{with_cells}
-use Rattle.cell_actions.proofs.GivenBack.{walk_at, Reaches, GivesBack, all_given_back}
+use Rattle.cell_actions.proofs.GivenBack.{walk_at, all_given_back}
 use Rattle.cell_actions.proofs.Ready.{AreReady, ready}
 
 -- A table without a row leaves a well-formed state well-formed, and the extents of the row's cell pool are ready.

@@ -1,5 +1,5 @@
 -- Extents that are given back one after the other.
-use Rattle.std.proofs.Common.{◌≡◌, ℕ, zero, suc, ◌+◌, ◌-◌, ◌*◌, ◌/◌, ◌<◌, ◌≤◌, Bool, true, false, not, ◌&&◌, if◌then◌else◌, List, [], ◌∷◌, ◌++◌, map, length, Option, Some, None, IsSome, refl, sym, ◌∙◌, ap, subst, arith}
+use Rattle.std.proofs.Common.{◌≡◌, ℕ, zero, suc, ◌+◌, ◌-◌, ◌*◌, ◌/◌, ◌<◌, ◌≤◌, Bool, true, false, not, ◌&&◌, if◌then◌else◌, List, [], ◌∷◌, ◌++◌, map, length, Option, Some, None, refl, sym, ◌∙◌, ap, subst, arith}
 use Rattle.std.proofs.Math.Nat.{mul-pos}
 use Rattle.std.proofs.lemmas.Bool.{not-true}
 use Rattle.std.proofs.lemmas.List.Elements.{All-nil}
@@ -30,9 +30,9 @@ use Rattle.storage_changes.specs.Walk.{Walk}
 use Rattle.std.specs.Prelude.{◌^◌}
 use Rattle.storage_changes.proofs.Cases.{same-self}
 use Rattle.storage_changes.proofs.MeaningLemmas.{named_pages_are_there}
-use Rattle.storage_actions.specs.Actions.{run_of, give_back_records, emptied_pages, first_emptied, past_emptied, register_records}
+use Rattle.storage_actions.specs.Actions.{run_of, give_back_records, emptied_pages, first_emptied, past_emptied}
 use Rattle.storage_actions.specs.Leads.{Leads}
-use Rattle.storage_actions.proofs.Cases.{inside_in, in_inside}
+use Rattle.storage_actions.proofs.Cases.{in_inside}
 use Rattle.storage_actions.proofs.GivingBack.{giving_back_leads}
 use Rattle.storage_actions.proofs.Goes.{walk_on, fits_on}
 use Rattle.storage_actions.proofs.Idle.{emptied_pages_are_a_run}

@@ -1,12 +1,10 @@
--- The records of a cell pool that comes, hands out a cell, has a further extent, or gets a cell back. Assembler Services
--- Reference, CPOOL; Assembler Services Guide, "Virtual storage management", "Using the CPOOL macro".
+-- The records of a cell pool that comes, hands out a cell, has a further extent, gets a cell back, or goes. Assembler
+-- Services Reference, CPOOL; Assembler Services Guide, "Virtual storage management", "Using the CPOOL macro".
 use Rattle.std.specs.Prelude.{◌≡◌, ℕ, ◌+◌, ◌*◌, ◌/◌, ◌^◌, ◌≤◌, true, false, drop, List, [], ◌∷◌, ◌++◌, length}
 use Rattle.run_set.specs.declared.run.Run.{Run}
 use Rattle.vsm_model.specs.declared.Subpool.{Subpool}
 use Rattle.vsm_model.specs.Areas.{Place, Inside, Fresh, Nowhere, address_of}
-use Rattle.vsm_model.specs.CellPools.{CellPool}
-use Rattle.vsm_model.specs.Cells.{extent_at, with_pool}
-use Rattle.vsm_model.specs.CellPools.{with_extent, extent_doublewords}
+use Rattle.vsm_model.specs.Cells.{with_pool}
 use Rattle.vsm_model.specs.Obtaining.{with_area}
 use Rattle.vsm_model.specs.Regions.{among, doublewords, pages_for}
 use Rattle.vsm_model.specs.State.{State}
