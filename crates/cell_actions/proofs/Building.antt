@@ -1,6 +1,5 @@
 -- A cell pool that comes, with its first extent.
-use Rattle.std.proofs.Common.{◌≡◌, ◌⊎◌, inl, inr, ℕ, ◌+◌, ◌*◌, ◌/◌, ◌<◌, ◌≤◌, Bool, true, false, ◌==◌, if◌then◌else◌, List, ◌∷◌, ◌++◌, Option, Some, None, IsSome, is_some, refl, sym, ◌∙◌, ap, subst, arith}
-use Rattle.std.specs.Prelude.{◌≢◌}
+use Rattle.std.proofs.Common.{◌≡◌, inl, inr, ℕ, ◌*◌, ◌/◌, ◌<◌, Bool, true, false, ◌==◌, if◌then◌else◌, List, ◌++◌, Option, Some, None, is_some, refl, sym, ◌∙◌, ap, subst, arith}
 use Rattle.std.proofs.Math.Nat.{mul-pos}
 use Rattle.std.proofs.lemmas.Bool.{cond-true, eqb-true, eq-eqb}
 use Rattle.run_set.specs.declared.run.Run.{Run}
@@ -10,12 +9,12 @@ use Rattle.vsm_model.specs.Obtaining.{with_area}
 use Rattle.cell_pool.specs.Pools.{Pool}
 use Rattle.cell_tables.specs.Laws.{NewPoolsHaveARow}
 use Rattle.cell_tables.specs.Table.{cell_pool_of}
-use Rattle.subpool_storage.specs.Subpools.{no_subpools, HasPool, IsUnnamed}
+use Rattle.subpool_storage.specs.Subpools.{no_subpools, IsUnnamed}
 use Rattle.storage_changes.specs.declared.record.CellPoolRecord.{CellPoolRecord}
 use Rattle.storage_changes.specs.declared.record.Record.{Record}
 use Rattle.storage_changes.specs.declared.record.Record.TheVariants.{CellPool}
 use Rattle.storage_changes.specs.Changes.{Change, change_of, change_building, outset}
-use Rattle.storage_changes.specs.Fits.{Fits, FitInTurn, CellPoolFits}
+use Rattle.storage_changes.specs.Fits.{Fits, FitInTurn}
 use Rattle.storage_changes.specs.Meaning.{model_of}
 use Rattle.storage_changes.specs.State.{StorageState}
 use Rattle.storage_changes.specs.Steps.{step, walk}
@@ -23,7 +22,7 @@ use Rattle.storage_changes.specs.Walk.{Walk}
 use Rattle.storage_actions.specs.Actions.{own_records, register_records}
 use Rattle.storage_actions.specs.Leads.{with_new}
 use Rattle.storage_actions.proofs.Goes.{at, Goes, goes_on}
-use Rattle.storage_actions.proofs.Rows.{Stands, with_rows, rows_go, task_is_there, leads_to, fresh_of}
+use Rattle.storage_actions.proofs.Rows.{with_rows, rows_go, task_is_there, leads_to, fresh_of}
 use Rattle.cell_actions.specs.Actions.{area_records, area_blanks, area_pages, doublewords_for}
 use Rattle.cell_actions.specs.Laws.{BuildingLeads}
 use Rattle.cell_actions.proofs.Changed.{some_is}

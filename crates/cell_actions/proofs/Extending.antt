@@ -1,5 +1,5 @@
 -- A cell pool that has a further extent, whose first cell it hands out.
-use Rattle.std.proofs.Common.{◌≡◌, ℕ, ◌+◌, ◌*◌, ◌/◌, ◌<◌, ◌≤◌, false, ◌++◌, Option, None, refl, ◌∙◌, ap, arith}
+use Rattle.std.proofs.Common.{◌≡◌, ◌+◌, ◌*◌, ◌<◌, false, ◌++◌, refl, ◌∙◌, ap, arith}
 use Rattle.std.specs.Prelude.{drop}
 use Rattle.std.proofs.Math.Nat.{mul-pos}
 use Rattle.vsm_model.specs.Areas.{address_of}
@@ -7,9 +7,7 @@ use Rattle.vsm_model.specs.Cells.{with_pool}
 use Rattle.cell_pool.specs.Pools.{Pool, cells_from, extended, without_first}
 use Rattle.cell_tables.specs.Laws.{ChangedPoolsHaveTheirRow, PoolsAreFound}
 use Rattle.cell_tables.specs.Table.{cell_pool_of, cell_pools_in}
-use Rattle.storage_changes.specs.Changes.{change_of}
 use Rattle.storage_changes.specs.Meaning.{model_of}
-use Rattle.storage_changes.specs.State.{StorageState}
 use Rattle.storage_actions.specs.Actions.{register_records}
 use Rattle.storage_actions.proofs.Goes.{at, goes_on}
 use Rattle.storage_actions.proofs.Rows.{with_rows, rows_go, task_is_there, leads_with_rows}
@@ -17,7 +15,7 @@ use Rattle.cell_actions.specs.Actions.{area_records, area_blanks, area_pages, ex
 use Rattle.cell_actions.specs.Laws.{ExtendingLeads}
 use Rattle.cell_actions.proofs.Changed.{changed, changed_stands, hands_out, extends, ids_changed, at_twice, found_changed}
 use Rattle.cell_actions.proofs.Extents.{meets_none, first_free, first_is_used}
-use Rattle.cell_actions.proofs.Places.{Takes, takes, with_parts, zeros_for, nothing, below_line}
+use Rattle.cell_actions.proofs.Places.{takes, with_parts, zeros_for, nothing, below_line}
 
 pub extending_leads : ChangedPoolsHaveTheirRow → PoolsAreFound → ExtendingLeads
 extending_leads row are_found settings m p count goes rows sound named there empty some size own room are formed =
