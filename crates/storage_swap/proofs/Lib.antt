@@ -9,6 +9,7 @@ mod AppendLemmas
 mod ThreeLemmas
 pub mod ReserveLemmas
 mod ParkingLemmas
+mod BuildingLemmas
 mod SettingsLemmas
 pub mod FreshLemmas
 pub mod BackLemmas

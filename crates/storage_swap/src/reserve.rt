@@ -104,7 +104,7 @@ fn extents_emptied(storage: &Storage, emptied: Option<Subpool>) -> Extents
 }
 
 // So many elements are spare, and a frame and a table for each page of the run.
-fn grow(storage: &mut Storage, elements: u32, fresh: Run) -> Result<(), AllocError>
+pub(crate) fn grow(storage: &mut Storage, elements: u32, fresh: Run) -> Result<(), AllocError>
     requires segments { (page : ℕ) → inside page fresh ≡ true → IsTrue (has_segment storage.old.region page) }
     ensures grown { Grown storage.old storage.new }
     ensures elements { OnOk result (elements ≤ storage.new.elements.spare) }
@@ -184,7 +184,7 @@ fn park_empty(elements: &mut Elements, emptied: Option<Subpool>) -> SubpoolStora
 }
 
 // Frames of zeros for the pages of a run. The pages themselves stay as they are.
-fn take_frames(region: &mut Region, run: Run) -> Parked
+pub(crate) fn take_frames(region: &mut Region, run: Run) -> Parked
     requires range { run.start + run.len ≤ 2 ^ 20 }
     requires tables { HaveTables region.old run.start run.len }
     requires frameless { (page : ℕ) → inside page run ≡ true → bytes_at region.old page ≡ None }
