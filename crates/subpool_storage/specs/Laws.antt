@@ -27,7 +27,7 @@ abbrev pub StorageStays : Type 0
 StorageStays = (s t : Store) (q : SubpoolStorage) → Stands s q → ((i : ℕ) → 0 < hold s q i → at t i ≡ at s i)
     → Stands t q × (subpools_of t q ≡ subpools_of s q) × ((i : ℕ) → hold t q i ≡ hold s q i)
 
--- a cell pool is found under its own id, which is an element's, each has a name of its own, and its free cells are cells
--- of its extents
+-- a cell pool is found under its own id, which is an element's, each has a name of its own, and its free cells are
+-- cells of its extents
 abbrev pub CellPoolsAreNamed : Type 0
 CellPoolsAreNamed = (s : Store) (q : SubpoolStorage) → Stands s q → AreNamed (subpools_of s q).cells

@@ -109,7 +109,8 @@ impl SubpoolStorage {
         requires stands { Stands elements.old self.old }
         requires others { Stands elements.old others.old }
         requires apart { (i : ℕ) → hold elements.old self.old i + hold elements.old others.old i ≤ 1 }
-        requires single { (p : Pool) → HasPool (subpools_of elements.old self.old) (subpools_of elements.old others.old) id p
+        requires single { (p : Pool)
+            → HasPool (subpools_of elements.old self.old) (subpools_of elements.old others.old) id p
             → IsSingle (subpools_of elements.old self.old) (subpools_of elements.old others.old) id p.name }
         ensures stands { Stands elements.new self.new }
         ensures others { Stands elements.new others.new }
@@ -123,7 +124,6 @@ impl SubpoolStorage {
             (λ i. hold elements.new self.new i + hold elements.new others.new i) }
         ensures spares { elements.new.spare ≡ elements.old.spare }
     {
-        self.cells
-            .exchange_pool(elements, id, &mut others.cells);
+        self.cells.exchange_pool(elements, id, &mut others.cells);
     }
 }
