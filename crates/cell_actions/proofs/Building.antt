@@ -25,7 +25,7 @@ use Rattle.storage_actions.proofs.Goes.{at, Goes, goes_on}
 use Rattle.storage_actions.proofs.Rows.{with_rows, rows_go, task_is_there, leads_to, fresh_of}
 use Rattle.cell_actions.specs.Actions.{area_records, area_blanks, area_pages, doublewords_for}
 use Rattle.cell_actions.specs.Laws.{BuildingLeads}
-use Rattle.cell_actions.proofs.Changed.{some_is}
+use Rattle.cell_actions.proofs.Changed.{some_is, listed_too, leads_there, brings_none}
 use Rattle.cell_actions.proofs.Elsewhere.{with_cells, goes_with, elsewhere_on, own_elsewhere, area_elsewhere}
 use Rattle.cell_actions.proofs.Places.{takes, with_parts, zeros_for, nothing}
 
@@ -117,7 +117,7 @@ building_leads row settings m p is_new count goes rows sound named absent small 
     leads_to settings m end (change_building p (change_of (area ++ registers) blanks fresh)) rows
     (with_pool (with_area (with_new (model_of m) sub is_new) sub length goes) p.name pool)
     (fit_building m p (area ++ registers) blanks fresh absent unnamed (with_rows end rows) b g 0 go)
-    (ap (λ (v : Walk). v.state) there) (λ a. ap (λ (v : Walk). v.brought a) there ∙ taking.none a)
+    (leads_there _ _ there) (brings_none _ _ there taking.none)
     (λ a. fresh_of m fresh a (inside (a / 4096) fresh) refl (taking.fresh (a / 4096)))
     (record { apart = taking.stands.apart; named = taking.stands.named; rest = taking.stands.rest; free = taking.stands.free })
-    (listed ∙ ap (λ s. with_pool s p.name pool) taking.leads) formed
+    (listed_too _ _ _ p.name pool listed taking.leads) formed

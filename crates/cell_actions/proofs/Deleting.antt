@@ -33,6 +33,7 @@ use Rattle.storage_actions.proofs.Goes.{walk_on, fits_on}
 use Rattle.storage_actions.proofs.Rows.{with_rows, rows_fit, rows_walk, stands_of, leads_to, fresh_of, none_fresh, none_brought, task_is_there}
 use Rattle.cell_actions.specs.Actions.{extents_given_back, deleting_records, deleting_blanks}
 use Rattle.cell_actions.specs.Laws.{DeletingLeads}
+use Rattle.cell_actions.proofs.Changed.{leads_there, brings_none}
 use Rattle.cell_actions.proofs.Elsewhere.{with_cells}
 use Rattle.cell_actions.proofs.GivenBack.{walk_at, all_given_back}
 use Rattle.cell_actions.proofs.Ready.{AreReady, ready}
@@ -169,6 +170,6 @@ deleting_leads gone_row are_found settings m p rows valid sound named there are 
     let P : Walk → Type 0 = λ x. FitInTurn x registers in
     leads_to settings m n change rows (deleted s p.name).0
     (goes m p named there change refl, fits_on begin back registers reached.fits (subst P (sym reached.there) fit))
-    (ap (λ (x : Walk). x.state) full) (λ a. ap (λ (x : Walk). x.brought a) full ∙ none_brought a)
+    (leads_there _ _ full) (brings_none _ _ full none_brought)
     (λ a. fresh_of m (run_of 0 0) a (inside (a / 4096) (run_of 0 0)) refl (none_fresh m (a / 4096)))
     (stands_of settings n all.sound) (without ∙ deleted_is settings s w p found) formed

@@ -13,7 +13,7 @@ use Rattle.storage_actions.proofs.Goes.{at, goes_on}
 use Rattle.storage_actions.proofs.Rows.{with_rows, rows_go, task_is_there, leads_with_rows}
 use Rattle.cell_actions.specs.Actions.{area_records, area_blanks, area_pages, extent_records, extent_blanks, handed_out_records, doublewords_for, with_extended}
 use Rattle.cell_actions.specs.Laws.{ExtendingLeads}
-use Rattle.cell_actions.proofs.Changed.{changed, changed_stands, hands_out, extends, ids_changed, at_twice, found_changed}
+use Rattle.cell_actions.proofs.Changed.{changed, listed_too, changed_stands, hands_out, extends, ids_changed, at_twice, found_changed}
 use Rattle.cell_actions.proofs.Extents.{meets_none, first_free, first_is_used}
 use Rattle.cell_actions.proofs.Places.{takes, with_parts, zeros_for, nothing, below_line}
 
@@ -54,4 +54,4 @@ extending_leads row are_found settings m p count goes rows sound named there emp
     (drop 1 (cells_from p.settings.size start count)) (first_free p start count empty some size) (first_is_used p start count empty some size) (omega arith)))
     (λ s less. rows_go end b g s 0 rows (task_is_there settings m sound) are less))
     taking.none taking.fresh (changed_stands settings grown p.id without_first (changed_stands settings n p.id grow taking.stands))
-    (listed ∙ ap (λ s. with_pool s p.name pool) taking.leads) formed
+    (listed_too _ _ _ p.name pool listed taking.leads) formed
