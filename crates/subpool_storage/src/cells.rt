@@ -55,9 +55,9 @@ impl SubpoolStorage {
             (built_pool result name.now.bytes settings (option_map (λ h. h.items) header) start count)) }
         ensures spares { elements.new.spare + (7 + count + mark_items count) ≡ elements.old.spare }
     {
-        let id = self.cells.build(elements, name, settings, header);
-        self.cells.extend(elements, id, start, count);
-        id
+        let made = self.cells.build(elements, name, settings, header);
+        self.cells.extend(elements, made, start, count);
+        made
     }
 
     /// The first free cell of a cell pool is in use from now on. (z/OS MVS Programming: Assembler Services Reference,
