@@ -21,6 +21,7 @@ use Rattle.cell_tables.specs.Named.{AreNamed}
 use Rattle.cell_tables.specs.Table.{cell_pool_of}
 use Rattle.subpool_storage.specs.Subpools.{Subpools, no_subpools}
 use Rattle.storage_changes.specs.declared.record.CellPoolRecord.{CellPoolRecord}
+use Rattle.storage_changes.specs.declared.record.Record.{Record}
 use Rattle.storage_changes.specs.declared.record.Record.TheVariants.{CellPool as CellPoolRow, Register}
 use Rattle.storage_changes.specs.Changes.{Change, change_of, outset}
 use Rattle.storage_changes.specs.Fits.{Fits, FitInTurn}
@@ -33,7 +34,6 @@ use Rattle.storage_actions.proofs.Goes.{walk_on, fits_on}
 use Rattle.storage_actions.proofs.Rows.{with_rows, rows_fit, rows_walk, stands_of, leads_to, fresh_of, none_fresh, none_brought, task_is_there}
 use Rattle.cell_actions.specs.Actions.{extents_given_back, deleting_records, deleting_blanks}
 use Rattle.cell_actions.specs.Laws.{DeletingLeads}
-use Rattle.cell_actions.proofs.Changed.{leads_there, brings_none}
 use Rattle.cell_actions.proofs.Elsewhere.{with_cells}
 use Rattle.cell_actions.proofs.GivenBack.{walk_at, all_given_back}
 use Rattle.cell_actions.proofs.Ready.{AreReady, ready}
@@ -130,6 +130,21 @@ module _ (m : StorageState) (p : Pool) (named : AreNamed m.subpools.cells) (ther
     ];
   }
 
+-- what the walk over the three parts leads to
+module _ (begin v : Walk) (n : StorageState) (rows : List (ℕ × ℕ)) (back registers : List Record) (fits : FitInTurn begin back) (there : walk begin back ≡ v)
+    (fit : FitInTurn v registers) (walks : walk v registers ≡ record v { state = with_rows n rows }) where
+  pub fit_all : FitInTurn begin (back ++ registers)
+  fit_all = fits_on begin back registers fits (let P : Walk → Type 0 = λ x. FitInTurn x registers in subst P (sym there) fit)
+
+  full : walk begin (back ++ registers) ≡ record v { state = with_rows n rows }
+  full = walk_on begin back registers ∙ ap (λ (x : Walk). walk x registers) there ∙ walks
+
+  pub leads_there : (walk begin (back ++ registers)).state ≡ with_rows n rows
+  leads_there = ap (λ (x : Walk). x.state) full
+
+  pub brings_none : ((a : ℕ) → v.brought a ≡ None) → (a : ℕ) → (walk begin (back ++ registers)).brought a ≡ None
+  brings_none none a = ap (λ (x : Walk). x.brought a) full ∙ none a
+
 pub deleting_leads : GonePoolsHaveNoRow → PoolsAreFound → DeletingLeads
 deleting_leads gone_row are_found settings m p rows valid sound named there are formed =
     let pool = cell_pool_of p in
@@ -165,11 +180,8 @@ deleting_leads gone_row are_found settings m p rows valid sound named there are 
     let fit : FitInTurn v registers =
     subst (λ rs. FitInTurn v rs) same (rows_fit v rows (task_is_there settings n all.sound) are) in
     let walks : walk v registers ≡ record v { state = with_rows n rows } = ap (walk v) (sym same) ∙ rows_walk v rows in
-    let full : walk begin (back ++ registers) ≡ record v { state = with_rows n rows } =
-    walk_on begin back registers ∙ ap (λ (x : Walk). walk x registers) reached.there ∙ walks in
-    let P : Walk → Type 0 = λ x. FitInTurn x registers in
     leads_to settings m n change rows (deleted s p.name).0
-    (goes m p named there change refl, fits_on begin back registers reached.fits (subst P (sym reached.there) fit))
-    (leads_there _ _ full) (brings_none _ _ full none_brought)
+    (goes m p named there change refl, fit_all begin v n rows back registers reached.fits reached.there fit walks)
+    (leads_there begin v n rows back registers reached.fits reached.there fit walks) (brings_none begin v n rows back registers reached.fits reached.there fit walks none_brought)
     (λ a. fresh_of m (run_of 0 0) a (inside (a / 4096) (run_of 0 0)) refl (none_fresh m (a / 4096)))
     (stands_of settings n all.sound) (without ∙ deleted_is settings s w p found) formed
