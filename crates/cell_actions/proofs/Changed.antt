@@ -17,7 +17,6 @@ use Rattle.storage_changes.specs.declared.record.Record.TheVariants.{CellExtent,
 use Rattle.storage_changes.specs.Fits.{AreUnderTheirIds, IsExtent, IsCell}
 use Rattle.storage_changes.specs.Meaning.{model_of}
 use Rattle.storage_changes.specs.State.{StorageState}
-use Rattle.storage_changes.specs.Walk.{Walk}
 use Rattle.storage_actions.proofs.Goes.{at, Goes, goes_step}
 use Rattle.storage_actions.proofs.Rows.{Stands}
 use Rattle.cell_actions.specs.Actions.{handed_out_records, given_back_records, extent_records, extent_blanks}
@@ -28,13 +27,6 @@ some_is x y e = cc
 -- a row on the plain machine beside what else becomes of it
 pub listed_too : (end now s : State) (name : List ℕ) (pool : CellPool) → end ≡ with_pool now name pool → now ≡ s → end ≡ with_pool s name pool
 listed_too end now s name pool listed leads = listed ∙ ap (λ t. with_pool t name pool) leads
-
--- the state of a walk, and what it brings still
-pub leads_there : (v w : Walk) → v ≡ w → v.state ≡ w.state
-leads_there v w e = ap (λ (x : Walk). x.state) e
-
-pub brings_none : (v w : Walk) → v ≡ w → ((a : ℕ) → w.brought a ≡ None) → (a : ℕ) → v.brought a ≡ None
-brings_none v w e none a = ap (λ (x : Walk). x.brought a) e ∙ none a
 
 -- the state once a cell pool is changed
 abbrev pub changed : StorageState → ℕ → (Pool → Pool) → StorageState

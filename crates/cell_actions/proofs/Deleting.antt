@@ -1,5 +1,5 @@
 -- A cell pool that goes, with its extents.
-use Rattle.std.proofs.Common.{◌≡◌, inl, inr, ℕ, ◌/◌, ◌<◌, Bool, false, ◌==◌, if◌then◌else◌, List, ◌++◌, map, Option, Some, None, is_some, refl, sym, ◌∙◌, ap, subst, arith}
+use Rattle.std.proofs.Common.{◌≡◌, inl, inr, ℕ, ◌/◌, ◌<◌, Bool, false, ◌==◌, if◌then◌else◌, List, ◌++◌, map, Option, Some, None, IsSome, is_some, refl, sym, ◌∙◌, ap, subst, arith}
 use Rattle.std.specs.Prelude.{All, unwrap_or}
 use Rattle.run_set.specs.Runs.{inside}
 use Rattle.vsm_model.specs.declared.limits.Settings.{Settings}
@@ -21,6 +21,7 @@ use Rattle.cell_tables.specs.Named.{AreNamed}
 use Rattle.cell_tables.specs.Table.{cell_pool_of}
 use Rattle.subpool_storage.specs.Subpools.{Subpools, no_subpools}
 use Rattle.storage_changes.specs.declared.record.CellPoolRecord.{CellPoolRecord}
+use Rattle.storage_changes.specs.declared.record.Record.{Record}
 use Rattle.storage_changes.specs.declared.record.Record.TheVariants.{CellPool as CellPoolRow, Register}
 use Rattle.storage_changes.specs.Changes.{Change, change_of, outset}
 use Rattle.storage_changes.specs.Fits.{Fits, FitInTurn}
@@ -28,12 +29,12 @@ use Rattle.storage_changes.specs.Meaning.{model_of, IsSound}
 use Rattle.storage_changes.specs.State.{StorageState}
 use Rattle.storage_changes.specs.Steps.{walk}
 use Rattle.storage_changes.specs.Walk.{Walk}
+use Rattle.storage_actions.specs.Leads.{AreRegisters}
 use Rattle.storage_actions.specs.Actions.{run_of, register_records}
 use Rattle.storage_actions.proofs.Goes.{walk_on, fits_on}
 use Rattle.storage_actions.proofs.Rows.{with_rows, rows_fit, rows_walk, stands_of, leads_to, fresh_of, none_fresh, none_brought, task_is_there}
 use Rattle.cell_actions.specs.Actions.{extents_given_back, deleting_records, deleting_blanks}
 use Rattle.cell_actions.specs.Laws.{DeletingLeads}
-use Rattle.cell_actions.proofs.Changed.{leads_there, brings_none}
 use Rattle.cell_actions.proofs.Elsewhere.{with_cells}
 use Rattle.cell_actions.proofs.GivenBack.{walk_at, all_given_back}
 use Rattle.cell_actions.proofs.Ready.{AreReady, ready}
@@ -130,6 +131,28 @@ module _ (m : StorageState) (p : Pool) (named : AreNamed m.subpools.cells) (ther
     ];
   }
 
+-- what the walk leads to once the registers are set too
+module _ (begin : Walk) (n : StorageState) (given : ℕ → Option ℕ) (parked : Subpools) (rows : List (ℕ × ℕ)) (back registers : List Record) (fits : FitInTurn begin back)
+    (there : walk begin back ≡ walk_at n given parked (walk begin back).spare) (task : IsSome (n.tasks.parents n.tasks.current)) (are : AreRegisters rows)
+    (same : register_records n rows ≡ registers) where
+  abbrev v : Walk
+  v = walk_at n given parked (walk begin back).spare
+
+  fit : FitInTurn v registers
+  fit = subst (λ rs. FitInTurn v rs) same (rows_fit v rows task are)
+
+  pub fit_all : FitInTurn begin (back ++ registers)
+  fit_all = fits_on begin back registers fits (let P : Walk → Type 0 = λ x. FitInTurn x registers in subst P (sym there) fit)
+
+  full : walk begin (back ++ registers) ≡ record v { state = with_rows n rows }
+  full = walk_on begin back registers ∙ ap (λ (x : Walk). walk x registers) there ∙ ap (walk v) (sym same) ∙ rows_walk v rows
+
+  pub leads_there : (walk begin (back ++ registers)).state ≡ with_rows n rows
+  leads_there = ap (λ (x : Walk). x.state) full
+
+  pub brings_none : (a : ℕ) → (walk begin (back ++ registers)).brought a ≡ None
+  brings_none a = ap (λ (x : Walk). x.brought a) full ∙ none_brought a
+
 pub deleting_leads : GonePoolsHaveNoRow → PoolsAreFound → DeletingLeads
 deleting_leads gone_row are_found settings m p rows valid sound named there are formed =
     let pool = cell_pool_of p in
@@ -154,22 +177,17 @@ deleting_leads gone_row are_found settings m p rows valid sound named there are 
     let back = extents_given_back m.subpools p.settings.subpool p.settings.size p.extents in
     let registers = register_records m rows in
     let change = change_of (deleting_records m.subpools p ++ registers) blanks (run_of 0 0) in
-    let begin = walk_at m1 (λ a. None) (parked m p named there) blanks in
-    let reached = all.go (λ a. None) (parked m p named there) blanks (λ a e. cc) (omega arith) in
-    let v = walk_at n reached.given (parked m p named there) (walk begin back).spare in
+    let away = parked m p named there in
+    let begin = walk_at m1 (λ a. None) away blanks in
+    let reached = all.go (λ a. None) away blanks (λ a e. cc) (omega arith) in
     let without : model_of n ≡ without_extents (record s { cell_pools = table }) pool pool.extents =
     all.leads ∙ ap (λ t. without_extents t pool pool.extents) listed in
     let current : n.tasks.current ≡ m.tasks.current = ap (λ (t : State). t.current) without ∙ current_stays settings s w p found in
     let same : register_records n rows ≡ registers =
     ap (λ c. map (λ row. Register (record { task = c; register = row.0; word = row.1 })) rows) current in
-    let fit : FitInTurn v registers =
-    subst (λ rs. FitInTurn v rs) same (rows_fit v rows (task_is_there settings n all.sound) are) in
-    let walks : walk v registers ≡ record v { state = with_rows n rows } = ap (walk v) (sym same) ∙ rows_walk v rows in
-    let full : walk begin (back ++ registers) ≡ record v { state = with_rows n rows } =
-    walk_on begin back registers ∙ ap (λ (x : Walk). walk x registers) reached.there ∙ walks in
-    let P : Walk → Type 0 = λ x. FitInTurn x registers in
+    let task = task_is_there settings n all.sound in
     leads_to settings m n change rows (deleted s p.name).0
-    (goes m p named there change refl, fits_on begin back registers reached.fits (subst P (sym reached.there) fit))
-    (leads_there _ _ full) (brings_none _ _ full none_brought)
+    (goes m p named there change refl, fit_all begin n reached.given away rows back registers reached.fits reached.there task are same)
+    (leads_there begin n reached.given away rows back registers reached.fits reached.there task are same) (brings_none begin n reached.given away rows back registers reached.fits reached.there task are same)
     (λ a. fresh_of m (run_of 0 0) a (inside (a / 4096) (run_of 0 0)) refl (none_fresh m (a / 4096)))
     (stands_of settings n all.sound) (without ∙ deleted_is settings s w p found) formed

@@ -4,6 +4,7 @@ use Rattle.std.specs.Prelude.{drop}
 use Rattle.std.proofs.Math.Nat.{mul-pos}
 use Rattle.vsm_model.specs.Areas.{address_of}
 use Rattle.vsm_model.specs.Cells.{with_pool}
+use Rattle.vsm_model.specs.Obtaining.{with_area}
 use Rattle.cell_pool.specs.Pools.{Pool, cells_from, extended, without_first}
 use Rattle.cell_tables.specs.Laws.{ChangedPoolsHaveTheirRow, PoolsAreFound}
 use Rattle.cell_tables.specs.Table.{cell_pool_of, cell_pools_in}
@@ -54,4 +55,4 @@ extending_leads row are_found settings m p count goes rows sound named there emp
     (drop 1 (cells_from p.settings.size start count)) (first_free p start count empty some size) (first_is_used p start count empty some size) (omega arith)))
     (λ s less. rows_go end b g s 0 rows (task_is_there settings m sound) are less))
     taking.none taking.fresh (changed_stands settings grown p.id without_first (changed_stands settings n p.id grow taking.stands))
-    (listed_too _ _ _ p.name pool listed taking.leads) formed
+    (listed_too (model_of end) (model_of n) (with_area (model_of m) sub length goes) p.name pool listed taking.leads) formed

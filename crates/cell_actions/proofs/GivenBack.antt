@@ -38,7 +38,7 @@ use Rattle.storage_actions.proofs.Goes.{walk_on, fits_on}
 use Rattle.storage_actions.proofs.Idle.{emptied_pages_are_a_run}
 use Rattle.storage_actions.proofs.Rows.{none_brought}
 use Rattle.cell_actions.specs.Actions.{extents_given_back}
-use Rattle.cell_actions.proofs.Beside.{IsAway, all_beside, gives_back}
+use Rattle.cell_actions.proofs.Beside.{IsAway, beside, all_beside, gives_back}
 use Rattle.cell_actions.proofs.Places.{zeros_for}
 use Rattle.cell_actions.proofs.Ready.{AreReady, IsClear, kept, still_ready}
 
@@ -62,6 +62,12 @@ reach_on w v rs ss n parked fits e next =
       fits = fits_on w rs ss fits (let P : Walk → Type 0 = λ x. FitInTurn x ss in subst P (sym e) next.fits);
       there = full ∙ next.there ∙ ap (λ (x : Walk). walk_at n next.given parked x.spare) (sym full);
     }
+
+plainly :
+    (u : Walk) (given : ℕ → Option ℕ) (parked : Subpools) (more : ℕ) (x : Walk) → x ≡ beside u given parked more → ((a : ℕ) → u.brought a ≡ None)
+    → x ≡ walk_at u.state given parked (u.spare + more)
+plainly u given parked more x e none =
+    e ∙ (λ i. record (walk_at u.state given parked (u.spare + more)) { brought = λ a. (none a ∙ sym (none_brought a)) i })
 
 nothing_more : (rs : List Record) → rs ++ [] ≡ rs
 nothing_more [] = refl
@@ -175,7 +181,7 @@ module _ (settings : Settings) (valid : settings_valid settings ≡ true) (p : P
       let spare = (walk w (give run)).spare + more in
       let v = walk_at then_there all.then_given parked spare in
       let there : walk (walk_at m g parked (7 + more)) (give run) ≡ v =
-      all.there ∙ (λ i. record v { brought = λ a. (leads.fits.brought a ∙ sym (none_brought a)) i }) in
+      plainly (walk w (give run)) all.then_given parked more (walk (walk_at m g parked (7 + more)) (give run)) all.there leads.fits.brought in
       let e : 7 + more ≡ s = omega (arith, less) in
       subst (λ k. Reaches (walk_at m g parked k) (give run ++ rest) n parked) e
       (reach_on (walk_at m g parked (7 + more)) v (give run) rest n parked all.fits there (next all.then_given spare all.away (omega (arith, less))))
