@@ -29,8 +29,8 @@ pub struct AttachPlan {
 }
 
 /// A plan for a new task (*Assembler Services Reference*, ATTACH): it gets the least free number, shares subpool 0 or
-/// has one of its own, is given subpools with their cell pools, and shares others. Register 15 gets 0 and register 1 its
-/// number. Reads alone, and takes no memory.
+/// has one of its own, is given subpools with their cell pools, and shares others. Register 15 gets 0 and register 1
+/// its number. Reads alone, and takes no memory.
 ///
 /// The causes that refuse it, in order: `NotAssigned` where a byte of a list doesn't lie in an assigned page, that of
 /// the subpools that are given first; `BadList` where a number is 0, above 127 or named twice; `NotOwner` where a
