@@ -1,10 +1,13 @@
-//! Readings of bytes and registers.
-ghost use Rattle.std.specs.Prelude.{◌≡◌, length, None, Some, OnOk, OnErr, IfErr};
+//! Readings of bytes and registers, and what cell pools are read from.
+ghost use Rattle.std.specs.Prelude.{◌≡◌, ℕ, length, None, Some, OnOk, OnErr, IfErr};
 ghost use Rattle.vsm_model.specs.Bytes.{load};
-ghost use Rattle.storage_core.specs.Meaning.{state_of};
+ghost use Rattle.cell_pool.specs.CellPools.{by_id, IsCellPools};
+ghost use Rattle.storage_core.specs.Meaning.{state_in_place, state_of};
 
 use crate::storage::Storage;
+use cell_pool::CellPools;
 use storage_plans as plans;
+use vsm_elements::Elements;
 use vsm_model::Cause;
 
 impl Storage {
@@ -31,5 +34,21 @@ impl Storage {
         ensures { result ≡ (state_of self.now).current }
     {
         plans::current(&self.parts)
+    }
+
+    /// The cell pools, to be read in [`Storage::elements`], as long as the storage stays as it is.
+    pub fn cell_pools(&self) -> CellPools
+        ensures stands { IsCellPools self.now.parts.elements result }
+        ensures pools { (id : ℕ) → by_id self.now.parts.elements result id
+            ≡ (state_in_place self.now).subpools.cells id }
+    {
+        self.parts.subpools.cell_pools(&self.parts.elements)
+    }
+
+    /// The elements that the storage stands in, to be read.
+    pub fn elements(&self) -> &Elements
+        ensures { result.now ≡ self.now.parts.elements }
+    {
+        &self.parts.elements
     }
 }
