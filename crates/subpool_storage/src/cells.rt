@@ -152,7 +152,6 @@ impl SubpoolStorage {
             (λ i. hold elements.new self.new i + hold elements.new others.new i) }
         ensures spares { elements.new.spare ≡ elements.old.spare }
     {
-        self.cells
-            .exchange_pool(elements, id, &mut others.cells);
+        self.cells.exchange_pool(elements, id, &mut others.cells);
     }
 }
