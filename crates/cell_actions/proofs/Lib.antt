@@ -1,0 +1,11 @@
+pub mod Changed
+pub mod CellsInTurn
+pub mod Places
+pub mod Extents
+pub mod Extending
+pub mod Elsewhere
+pub mod Building
+pub mod Beside
+pub mod Ready
+pub mod GivenBack
+pub mod Deleting

@@ -2,23 +2,47 @@
 //! nothing.
 
 ghost use Rattle.cell_actions.specs.Laws.{HandingOutLeads, ExtendingLeads, GivingBackCellsLeads, BuildingLeads};
+ghost use Rattle.cell_actions.specs.Laws.{DeletingLeads};
+
+use cell_pool::laws::first_cell_is_used;
+use cell_tables::laws::{
+    changed_pools_have_their_row, gone_pools_have_no_row, new_pools_have_a_row, pools_are_found,
+};
 
 /// A cell pool hands out its first free cell.
 pub fn handing_out_leads()
     ensures { HandingOutLeads }
-{}
+{
+    changed_pools_have_their_row();
+    first_cell_is_used();
+}
 
 /// A cell pool without a free cell has a further extent, and hands out its first cell.
 pub fn extending_leads()
     ensures { ExtendingLeads }
-{}
+{
+    changed_pools_have_their_row();
+    pools_are_found();
+}
 
 /// A cell that is in use becomes the first free one.
 pub fn giving_back_cells_leads()
     ensures { GivingBackCellsLeads }
-{}
+{
+    changed_pools_have_their_row();
+}
 
 /// A cell pool comes, with its first extent.
 pub fn building_leads()
     ensures { BuildingLeads }
-{}
+{
+    new_pools_have_a_row();
+}
+
+/// A cell pool goes, with its extents.
+pub fn deleting_leads()
+    ensures { DeletingLeads }
+{
+    gone_pools_have_no_row();
+    pools_are_found();
+}

@@ -12,8 +12,8 @@ use vsm_elements::{Chain, Elements, Id};
 /// How many items of text stand at the head of each list: three of the name, one of the header, one of its form.
 pub const TEXTS: u32 = 5;
 
-// The id of the item before place `k`, or 0 at the front.
-pub(crate) fn before(list: Chain, elements: &Elements, k: u32) -> Id
+/// The id of the item before place `k`, or 0 at the front.
+pub fn before(list: Chain, elements: &Elements, k: u32) -> Id
     requires chain { IsChain elements.now list }
     requires within { k ≤ list.count }
     ensures { result ≡ last_or 0 (take k (links elements.now list)) }

@@ -1,7 +1,7 @@
 -- The byte order of names.
-use Rattle.std.proofs.Common.{◌≡◌, ℕ, ◌+◌, Bool, true, false, ◌&&◌, not, List, [], ◌∷◌, take, Option, Some, None, IsSome, refl, ap, ◌∙◌}
+use Rattle.std.proofs.Common.{◌≡◌, ℕ, ◌+◌, Bool, true, false, ◌&&◌, List, [], ◌∷◌, take, Option, Some, None, IsSome, refl, ap, ◌∙◌}
 use Rattle.std.specs.Prelude.{slice_get}
-use Rattle.std.specs.Ordering.{nat_cmp, is_lt, is_le, ordering_reverse}
+use Rattle.std.specs.Ordering.{nat_cmp, is_lt, ordering_reverse}
 use Rattle.std.specs.declared.cmp.Ordering.{Ordering}
 use Rattle.std.specs.declared.cmp.Ordering.TheVariants.{Less, Equal, Greater}
 use Rattle.std.specs.Cmp.Lexicographic.{slice_cmp, nat_list_cmp_total}
@@ -10,7 +10,7 @@ use Rattle.vsm_elements.proofs.ChainLemmas.{not_both}
 use Rattle.cell_pool.specs.Pools.{Pool, first_with, is_named, pool_in}
 use Rattle.cell_extents.specs.Items.{pool_of}
 use Rattle.cell_pool.specs.Kept.{pools_of}
-use Rattle.cell_pool.specs.Order.{is_before, is_between}
+use Rattle.cell_pool.specs.Order.{is_before, is_behind, is_between}
 use Rattle.list_table.specs.Entries.{Entry}
 use Rattle.cell_pool.proofs.PoolLemmas.{none_at, none_more, none_found, found_passes}
 use Rattle.cell_extents.proofs.EntryLemmas.{if_false}
@@ -18,25 +18,7 @@ use Rattle.cell_extents.proofs.EntryLemmas.{if_false}
 abbrev cmp : List ℕ → List ℕ → Ordering
 cmp = slice_cmp nat_cmp
 
-le_turned : (o : Ordering) → is_lt (ordering_reverse o) ≡ not (is_le o)
-le_turned Less = refl
-le_turned Equal = refl
-le_turned Greater = refl
-
-behind_is : (low name : List ℕ) → is_before low name ≡ not (is_le (cmp name low))
-behind_is low name = ap is_lt (nat_list_cmp_total.antisymm low name) ∙ le_turned (cmp name low)
-
-pub not_behind : (low name : List ℕ) → is_le (cmp name low) ≡ true → is_before low name ≡ false
-not_behind low name h = behind_is low name ∙ ap not h
-
-pub is_behind : (low name : List ℕ) → is_le (cmp name low) ≡ false → is_before low name ≡ true
-is_behind low name h = behind_is low name ∙ ap not h
-
-pub low_fails : (low : List ℕ) (high : Option (List ℕ)) (name : List ℕ) → is_before low name ≡ false → is_between low high name ≡ false
-low_fails low None name h = h
-low_fails low (Some high) name h = ap (λ (b : Bool). b && is_before name high) h
-
-pub low_passes : (low high name : List ℕ) → is_before low name ≡ true → is_between low (Some high) name ≡ is_before name high
+pub low_passes : (low : Option (List ℕ)) (high name : List ℕ) → is_behind low name ≡ true → is_between low (Some high) name ≡ is_before name high
 low_passes low high name h = ap (λ (b : Bool). b && is_before name high) h
 
 tested : (o : Ordering) → is_lt o ≡ true → o ≡ Less
@@ -60,16 +42,16 @@ and_parts true b h = (refl, h)
 and_parts false b h = absurd (not_both false h refl)
 
 -- what is between is behind the low one
-pub between_low : (low : List ℕ) (high : Option (List ℕ)) (name : List ℕ) → is_between low high name ≡ true → is_before low name ≡ true
+pub between_low : (low high : Option (List ℕ)) (name : List ℕ) → is_between low high name ≡ true → is_behind low name ≡ true
 between_low low None name h = h
-between_low low (Some high) name h = (and_parts (is_before low name) (is_before name high) h).0
+between_low low (Some high) name h = (and_parts (is_behind low name) (is_before name high) h).0
 
 -- what is between the low one and a name that is between is between
-pub between_less : (low : List ℕ) (high : Option (List ℕ)) (name other : List ℕ) → is_between low high name ≡ true → is_between low (Some name) other ≡ true → is_between low high other ≡ true
-between_less low None name other h k = (and_parts (is_before low other) (is_before other name) k).0
+pub between_less : (low high : Option (List ℕ)) (name other : List ℕ) → is_between low high name ≡ true → is_between low (Some name) other ≡ true → is_between low high other ≡ true
+between_less low None name other h k = (and_parts (is_behind low other) (is_before other name) k).0
 between_less low (Some high) name other h k =
-    let p = and_parts (is_before low other) (is_before other name) k in
-    let q = and_parts (is_before low name) (is_before name high) h in
+    let p = and_parts (is_behind low other) (is_before other name) k in
+    let q = and_parts (is_behind low name) (is_before name high) h in
     low_passes low high other p.0 ∙ before_chain other name high p.1 q.1
 
 -- where none passes a test, none passes one that says more
@@ -82,7 +64,7 @@ fewer test more less (p ∷ ps) h =
       missed true e f = absurd (not_both (test p) (less p e) f)
       missed false e f = e
 
-abbrev pub lies_between : List ℕ → Option (List ℕ) → Pool → Bool
+abbrev pub lies_between : Option (List ℕ) → Option (List ℕ) → Pool → Bool
 lies_between low high p = is_between low high p.name
 
 never : (b : Bool) → (b && false) ≡ false
@@ -90,15 +72,15 @@ never true = refl
 never false = refl
 
 -- a pool that lies between is the candidate from now on
-pub nearer : (low : List ℕ) (high : Option (List ℕ)) (es : List Entry) (k : ℕ) (e : Entry) → slice_get es k ≡ Some e → first_with (lies_between low high) (pools_of (take k es)) ≡ None → lies_between low high (pool_of e) ≡ true
+pub nearer : (low high : Option (List ℕ)) (es : List Entry) (k : ℕ) (e : Entry) → slice_get es k ≡ Some e → first_with (lies_between low high) (pools_of (take k es)) ≡ None → lies_between low high (pool_of e) ≡ true
     → first_with (lies_between low (Some (pool_of e).name)) (pools_of (take (k + 1) es)) ≡ None
 nearer low high es k e there none hit =
     let n : List ℕ = (pool_of e).name in
     none_more (lies_between low (Some n)) es k e there (fewer (lies_between low high) (lies_between low (Some n)) (λ p. between_less low high n p.name hit) (pools_of (take k es)) none)
-    (ap (λ (b : Bool). is_before low n && b) (before_itself n) ∙ never (is_before low n))
+    (ap (λ (b : Bool). is_behind low n && b) (before_itself n) ∙ never (is_behind low n))
 
 -- no pool's name lies between
-pub none_lies : (low : List ℕ) (high : Option (List ℕ)) (ps : List Pool) → first_with (lies_between low high) ps ≡ None → (n : List ℕ) → IsSome (pool_in n ps) → is_between low high n ≡ false
+pub none_lies : (low high : Option (List ℕ)) (ps : List Pool) → first_with (lies_between low high) ps ≡ None → (n : List ℕ) → IsSome (pool_in n ps) → is_between low high n ≡ false
 none_lies low high ps none n there = go (pool_in n ps) refl there where
   go : (o : Option Pool) → pool_in n ps ≡ o → IsSome o → is_between low high n ≡ false
   go None e h = absurd (not_both false h refl)

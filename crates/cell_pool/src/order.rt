@@ -1,7 +1,7 @@
 //! Cell pools in the order of their names, the reader going on from where it was.
 
 ghost use Rattle.std.specs.Prelude.{◌≡◌, IsSome, IfSome, IfNone, option_map};
-ghost use Rattle.cell_pool.specs.Order.{is_between, IsNext, IsLast};
+ghost use Rattle.cell_pool.specs.Order.{is_behind, is_between, IsNext, IsLast};
 
 use crate::pools::{CellPools, Place};
 use cell_extents::lists::label;
@@ -16,32 +16,41 @@ struct Candidate {
     name: Name,
 }
 
-// Whether a name comes behind one and before the candidate, if there is any.
-fn is_between(low: &Name, name: &Name, high: &Option<Candidate>) -> bool
-    ensures { result ≡ is_between low.now.bytes (option_map (λ c. c.name.bytes) high.now) name.now.bytes }
+// Whether a name comes behind the one that is given, if one is.
+fn is_behind(low: Option<&Name>, name: &Name) -> bool
+    ensures { result ≡ is_behind (option_map (λ n. n.now.bytes) low.entry) name.now.bytes }
 {
-    if name <= low {
-        return false;
-    }
-    match high {
-        Some(candidate) => name < &candidate.name,
+    match low {
+        Some(low) => low < name,
         None => true,
+    }
+}
+
+// Whether it comes before the candidate besides, if there is any.
+fn is_between(low: Option<&Name>, name: &Name, high: &Option<Candidate>) -> bool
+    ensures { result ≡ is_between (option_map (λ n. n.now.bytes) low.entry)
+        (option_map (λ c. c.name.bytes) high.now) name.now.bytes }
+{
+    match high {
+        Some(candidate) => is_behind(low, name) && name < &candidate.name,
+        None => is_behind(low, name),
     }
 }
 
 impl CellPools {
     ghost use Rattle.cell_pool.specs.CellPools.{pool, by_id, IsCellPools};
 
-    /// The pool whose name comes next behind this one in byte order; `None` past the last. The empty name comes
-    /// before all others.
+    /// The pool whose name comes next behind this one in byte order, or comes first where none is given; `None` past
+    /// the last.
     ///
     /// It walks over all pools.
-    pub fn pool_after(&self, elements: &Elements, name: &Name) -> Option<CellId>
+    pub fn pool_after(&self, elements: &Elements, behind: Option<&Name>) -> Option<CellId>
         requires { IsCellPools elements.now self.now }
-        ensures none { IfNone result (IsLast (pool elements.now self.now) name.now.bytes) }
+        ensures none { IfNone result (IsLast (pool elements.now self.now)
+            (option_map (λ n. n.now.bytes) behind.entry)) }
         ensures there { IfSome result (λ id. IsSome (by_id elements.now self.now id)) }
         ensures next { IfSome result (λ id. IfSome (by_id elements.now self.now id) (λ p.
-            IsNext (pool elements.now self.now) name.now.bytes p.name)) }
+            IsNext (pool elements.now self.now) (option_map (λ n. n.now.bytes) behind.entry) p.name)) }
     {
         let count = self.table.count(elements);
         let mut next: Option<Candidate> = None;
@@ -52,7 +61,7 @@ impl CellPools {
         while place.index < count {
             let row = self.table.row(elements, place.index, place.before);
             let named = name_of(label(row.list, elements));
-            if is_between(name, &named, &next) {
+            if is_between(behind, &named, &next) {
                 next = Some(Candidate {
                     id: row.id,
                     name: named,

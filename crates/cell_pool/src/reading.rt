@@ -1,6 +1,6 @@
 //! What is asked of cell pools.
 
-ghost use Rattle.std.specs.Prelude.{◌≡◌, ◌↔◌, IsSome, IsTrue, IfSome, option_map, slice_get};
+ghost use Rattle.std.specs.Prelude.{◌≡◌, ◌↔◌, IsSome, IsTrue, IfSome, option_map};
 ghost use Rattle.cell_pool.specs.Pools.{uses, Meets};
 
 use crate::pools::{CellPools, Place};
@@ -8,7 +8,7 @@ use cell_extents::lists::{TEXTS, item, label};
 use cell_extents::marks::{is_marked, mark_of};
 use cell_extents::texts::{header_of, location_of, name_of, subpool_of};
 use cell_extents::walks::meets;
-use cell_extents::{CellId, Extent, Header, Name, Settings};
+use cell_extents::{CellId, Header, Name, Settings};
 use vsm_elements::Elements;
 
 impl CellPools {
@@ -89,36 +89,5 @@ impl CellPools {
             secondary: form[3],
             location,
         }
-    }
-
-    /// The pool's extent at an index, in the order in which they were made; `None` past the last.
-    pub fn extent_at(&self, elements: &Elements, id: CellId, i: u32) -> Option<Extent>
-        requires pools { IsCellPools elements.now self.now }
-        requires there { IsSome (by_id elements.now self.now id) }
-        ensures { IfSome (by_id elements.now self.now id) (λ p. result ≡ slice_get p.extents i) }
-    {
-        let row = self.row(elements, id);
-        if i >= row.words[4] {
-            return None;
-        }
-        let words = item(row.list, elements, TEXTS + i);
-        Some(Extent {
-            start: words[0],
-            count: words[1],
-        })
-    }
-
-    /// The pool's free cell at an index, in the order in which they are handed out; `None` past the last.
-    pub fn cell_at(&self, elements: &Elements, id: CellId, i: u32) -> Option<u32>
-        requires pools { IsCellPools elements.now self.now }
-        requires there { IsSome (by_id elements.now self.now id) }
-        ensures { IfSome (by_id elements.now self.now id) (λ p. result ≡ slice_get p.cells i) }
-    {
-        let row = self.row(elements, id);
-        let front = TEXTS + row.words[3];
-        if i >= row.list.count - front {
-            return None;
-        }
-        Some(item(row.list, elements, front + i)[0])
     }
 }

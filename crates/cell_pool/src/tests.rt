@@ -48,15 +48,35 @@ fn find(rt: &impl Abort, elements: &Elements, pools: &CellPools, text: &str) -> 
     pools.find(elements, &name).expect(rt, "no cell pool")
 }
 
-fn name_after(rt: &impl Abort, elements: &Elements, pools: &CellPools, name: &Name) -> Name
+fn name_after(
+    rt: &impl Abort,
+    elements: &Elements,
+    pools: &CellPools,
+    behind: Option<&Name>,
+) -> Name
     requires { IsCellPools elements.now pools.now }
 {
     let id = pools
-        .pool_after(elements, name)
+        .pool_after(elements, behind)
         .expect(rt, "no cell pool behind");
     let header = pools.header(elements, id).expect(rt, "no header");
     assert_eq!(rt; header.as_slice(), b"H".as_slice());
     pools.name(elements, id)
+}
+
+// The pool has just one extent, of two cells, and this free cell alone.
+fn check_walks(rt: &impl Abort, elements: &Elements, pools: &CellPools, text: &str, cell: u32)
+    requires { IsCellPools elements.now pools.now }
+{
+    let id = find(rt, elements, pools, text);
+    let first = pools.first_extent(elements, id);
+    let (extent, last) = CellPools::next_extent(elements, first).expect(rt, "no extent");
+    assert_eq!(rt; extent.count, 2);
+    assert!(rt; CellPools::next_extent(elements, last).is_none());
+    let first = pools.first_cell(elements, id);
+    let (free, last) = CellPools::next_cell(elements, first).expect(rt, "no free cell");
+    assert_eq!(rt; free, cell);
+    assert!(rt; CellPools::next_cell(elements, last).is_none());
 }
 
 fn get(rt: &impl Abort, elements: &mut Elements, pools: &mut CellPools, text: &str) -> u32
@@ -92,7 +112,7 @@ fn park_and_restore(rt: &impl Abort, elements: &mut Elements, pools: &mut CellPo
     let id = find(rt, elements, pools, "B");
     assert_eq!(rt; pools.settings(elements, id).subpool, subpool(2));
     assert_eq!(rt; pools.first_free(elements, id), Some(8208));
-    assert_eq!(rt; pools.cell_at(elements, id, 1), None);
+    check_walks(rt, elements, pools, "B", 8208);
     assert!(rt; pools.in_use(elements, id, 8192));
     assert!(rt; !pools.holds(elements, 4096, 32));
     pools.restore_pools(elements, parked);
@@ -110,9 +130,8 @@ fn cells_come_back_in_their_order(rt: HostRuntime) -> Result<(), Fail> {
     free(&rt, &mut elements, &mut pools, "CP", 4096);
     free(&rt, &mut elements, &mut pools, "CP", 4112);
     assert_eq!(rt; get(&rt, &mut elements, &mut pools, "CP"), 4112);
+    check_walks(&rt, &elements, &pools, "CP", 4096);
     let id = find(&rt, &elements, &pools, "CP");
-    assert_eq!(rt; pools.cell_at(&elements, id, 0), Some(4096));
-    assert_eq!(rt; pools.cell_at(&elements, id, 1), None);
     assert_eq!(rt; pools.settings(&elements, id).size, 16);
     assert!(rt; pools.holds(&elements, 4120, 8));
     assert!(rt; !pools.holds(&elements, 4128, 8));
@@ -155,13 +174,13 @@ fn pools_come_in_the_order_of_their_names(rt: HostRuntime) -> Result<(), Fail> {
     build(&rt, &mut elements, &mut pools, "B", 4096);
     build(&rt, &mut elements, &mut pools, "A", 4096);
     build(&rt, &mut elements, &mut pools, "ABCD", 4096);
-    let first = name_after(&rt, &elements, &pools, &Name::new());
+    let first = name_after(&rt, &elements, &pools, None);
     assert_eq!(rt; first.as_str(), "A");
-    let second = name_after(&rt, &elements, &pools, &first);
+    let second = name_after(&rt, &elements, &pools, Some(&first));
     assert_eq!(rt; second.as_str(), "ABCD");
-    let third = name_after(&rt, &elements, &pools, &second);
+    let third = name_after(&rt, &elements, &pools, Some(&second));
     assert_eq!(rt; third.as_str(), "B");
-    assert_eq!(rt; pools.pool_after(&elements, &third), None);
+    assert_eq!(rt; pools.pool_after(&elements, Some(&third)), None);
     let rest = pools.park_pools(&mut elements, subpool(1));
     rest.discard(&mut elements);
     assert_eq!(rt; elements.spare(), 128);

@@ -2,3 +2,4 @@ mod Rows
 mod Tabled
 mod Changes
 mod Found
+mod Ordered

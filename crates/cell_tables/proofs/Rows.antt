@@ -49,14 +49,14 @@ other_name a b apart =
     elim (cases_Bool (eq_by_cmp by_name a b)) [ inl is ↦ absurd (apart (same_name a b is)) | inr is ↦ is ]
 
 -- The first row has the name, or it doesn't.
-found_first : (row : List ℕ × CellPool) (rows : CellPools) (name : List ℕ) → eq_by_cmp by_name name row.0 ≡ true → cell_pool_in (row ∷ rows) name ≡ Some row.1
+pub found_first : (row : List ℕ × CellPool) (rows : CellPools) (name : List ℕ) → eq_by_cmp by_name name row.0 ≡ true → cell_pool_in (row ∷ rows) name ≡ Some row.1
 found_first row rows name is = cond-true (eq_by_cmp by_name name row.0) (Some row.1) (cell_pool_in rows name) is
 
-found_later : (row : List ℕ × CellPool) (rows : CellPools) (name : List ℕ) → eq_by_cmp by_name name row.0 ≡ false → cell_pool_in (row ∷ rows) name ≡ cell_pool_in rows name
+pub found_later : (row : List ℕ × CellPool) (rows : CellPools) (name : List ℕ) → eq_by_cmp by_name name row.0 ≡ false → cell_pool_in (row ∷ rows) name ≡ cell_pool_in rows name
 found_later row rows name other = cond-false (eq_by_cmp by_name name row.0) (Some row.1) (cell_pool_in rows name) other
 
 -- a name that is below all names isn't there
-none_below : (name : List ℕ) (rows : CellPools) → below_all by_name name rows ≡ true → cell_pool_in rows name ≡ None
+pub none_below : (name : List ℕ) (rows : CellPools) → below_all by_name name rows ≡ true → cell_pool_in rows name ≡ None
 none_below name [] e = refl
 none_below name (row ∷ rows) e =
     let parts = and_parts (is_lt (by_name name row.0)) (below_all by_name name rows) e in

@@ -5,3 +5,4 @@ pub mod Order
 pub mod Sums
 mod Counts
 pub mod Totals
+mod CellEnds

@@ -40,7 +40,7 @@ is_within first count k low high = and_from (nat_le first k) (nat_lt k (first + 
 abbrev pub InEither : ℕ → ℕ → ℕ → ℕ → ℕ → Type 0
 InEither a n b m k = ((a ≤ k) × (k < a + n)) ⊎ ((b ≤ k) × (k < b + m))
 
-either_region : (settings : Settings) (k : ℕ) → in_a_region settings k ≡ true → InEither 6 (settings.low_k / 4) 32768 (settings.high_k / 4) k
+pub either_region : (settings : Settings) (k : ℕ) → in_a_region settings k ≡ true → InEither 6 (settings.low_k / 4) 32768 (settings.high_k / 4) k
 either_region settings k e = go (within (high_region settings) k) (within (low_region settings) k) refl refl e where
   go : (a b : Bool) → within (high_region settings) k ≡ a → within (low_region settings) k ≡ b → (a || (b || false)) ≡ true
       → InEither 6 (settings.low_k / 4) 32768 (settings.high_k / 4) k

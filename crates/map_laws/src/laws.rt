@@ -2,7 +2,10 @@
 
 ghost use Rattle.map_laws.specs.Lists.{ExtentsAreShown, FreeAreasAreShown, SharersAreShown, SubpoolsAreShown};
 ghost use Rattle.map_laws.specs.Lists.{ExtentsEndInRegions, FreeAreasEndInRegions};
+ghost use Rattle.map_laws.specs.Cells.{CellExtentsEndInRegions};
 ghost use Rattle.map_laws.specs.Totals.{PagesAreCounted, BytesAreCounted, TotalsAreFew};
+
+use cell_tables::laws::pools_are_found;
 
 /// The extents and the free areas of a subpool are those that the plain machine has in the region below the line, and
 /// then those above it; and none of them ends behind the regions.
@@ -26,3 +29,10 @@ pub fn totals_are_sums()
     ensures bytes { BytesAreCounted }
     ensures few { TotalsAreFew }
 {}
+
+/// No extent of a cell pool ends behind the regions.
+pub fn cell_extents_end()
+    ensures { CellExtentsEndInRegions }
+{
+    pools_are_found();
+}

@@ -1,5 +1,5 @@
--- A subpool that loses all its pages and its free storage.
-use Rattle.std.proofs.Common.{◌≡◌, ℕ, ◌<◌, ◌≤◌, Bool, true, false, not, ◌&&◌, if◌then◌else◌, List, Option, Some, None, is_some, refl, sym, ◌∙◌, ap, arith, subst, true≢false}
+-- A subpool that loses all its pages, its free storage and its cell pools.
+use Rattle.std.proofs.Common.{◌≡◌, ℕ, ◌<◌, ◌≤◌, Bool, true, false, not, ◌&&◌, if◌then◌else◌, List, Option, Some, None, is_some, inl, inr, refl, sym, ◌∙◌, ap, arith, subst, true≢false}
 use Rattle.std.specs.Prelude.{◌^◌, ◌/◌}
 use Rattle.std.proofs.lemmas.Bool.{cond-false, and_right, and_from, false_from_ne_true}
 use Rattle.run_set.specs.Runs.{inside, contains, AreRunsOf}
@@ -12,14 +12,17 @@ use Rattle.vsm_model.specs.Releasing.{without_storage}
 use Rattle.vsm_model.specs.Registers.{with_registers}
 use Rattle.vsm_model.specs.WellFormed.{IsWellFormed}
 use Rattle.subpool_storage.specs.Extents.{extents}
-use Rattle.subpool_storage.specs.Subpools.{is_there, no_subpools, with_own, with_storage_of}
+use Rattle.subpool_storage.specs.Subpools.{is_there, no_subpools, with_own, with_storage_of, HasPool}
+use Rattle.cell_pool.specs.Pools.{Pool}
+use Rattle.cell_tables.specs.Named.{AreNamed}
+use Rattle.cell_tables.specs.Laws.{RowsOfTheOthersStay}
 use Rattle.subpool_storage.proofs.ExtentLemmas.{extents_are_runs}
 use Rattle.storage_laws.proofs.Places.{page_is_low}
 use Rattle.storage_changes.specs.declared.record.Record.{Record}
 use Rattle.storage_changes.specs.State.{StorageState}
 use Rattle.storage_changes.specs.Walk.{Walk}
 use Rattle.storage_changes.specs.Steps.{walk, queues_step}
-use Rattle.storage_changes.specs.Fits.{FitInTurn}
+use Rattle.storage_changes.specs.Fits.{QueuesFits, FitInTurn}
 use Rattle.storage_changes.specs.Changes.{Change, change_from, unassigned_records, outset, arrival}
 use Rattle.storage_changes.specs.Meaning.{first_of, all_subpools, model_of, subpool_of, is_taken, IsSound}
 use Rattle.storage_changes.proofs.Cases.{same-is, same-self}
@@ -27,7 +30,8 @@ use Rattle.storage_changes.proofs.MeaningLemmas.{named_pages_are_there}
 use Rattle.storage_actions.specs.Actions.{run_of, register_records}
 use Rattle.storage_actions.specs.Leads.{Leads, AreRegisters}
 use Rattle.storage_actions.specs.Laws.{EmptyingLeads}
-use Rattle.storage_actions.proofs.Cases.{belongs_is, same_answers}
+use Rattle.storage_actions.proofs.Cases.{belongs_is, same_answers, none_some}
+use Rattle.storage_actions.proofs.Cells.{rows_stay, can_exchange}
 use Rattle.storage_actions.proofs.Owned.{own_is_there}
 use Rattle.storage_actions.proofs.Goes.{walk_on, fits_on}
 use Rattle.storage_actions.proofs.Rows.{with_rows, rows_fit, rows_walk, Stands, task_is_there, leads_to, none_fresh, none_brought, fresh_of}
@@ -100,12 +104,13 @@ module _ (settings : Settings) (m : StorageState) (p : Subpool) (sound : IsSound
   taken_lead d false other =
       ap (λ o. is_taken after.subpools o d) (named_out (d / 512) other) ∙ taken_stays d (subpool_of m.subpools (d / 512)) other
 
-  emptied_leads : model_of after ≡ without_storage (model_of m) (same_subpool p)
-  emptied_leads = λ i. record (model_of m) {
+  emptied_leads : RowsOfTheOthersStay → AreNamed m.subpools.cells → model_of after ≡ without_storage (model_of m) (same_subpool p)
+  emptied_leads stay names = λ i. record (model_of m) {
     pages = λ k. (pages_lead k (m.subpools.pages p k) refl ∙ ap (λ b. if b then None else subpool_of m.subpools k) (sym (its k))) i;
     taken = λ d. (taken_lead d (m.subpools.pages p (d / 512)) refl
         ∙ ap (λ b. not b && is_taken m.subpools (subpool_of m.subpools (d / 512)) d) (sym (its (d / 512)))) i;
     bytes = λ a. ap (λ b. if b then None else m.bytes a) (sym (its (a / 4096))) i;
+    cell_pools = rows_stay stay m.subpools.cells p names i;
   }
 
   -- it stands
@@ -139,8 +144,8 @@ module _ (settings : Settings) (m : StorageState) (p : Subpool) (sound : IsSound
   none_beyond valid k high =
       false_from_ne_true (m.subpools.pages p k) (λ own. let low = below valid k own in absurd (omega (arith, low, high)))
 
-  module _ (rows : List (ℕ × ℕ)) (valid : settings_valid settings ≡ true) (there : is_there m.subpools p ≡ true) (are : AreRegisters rows)
-      (runs : AreRunsOf (extents m.subpools p) (m.subpools.pages p)) where
+  module _ (rows : List (ℕ × ℕ)) (valid : settings_valid settings ≡ true) (stay : RowsOfTheOthersStay) (names : AreNamed m.subpools.cells)
+      (there : is_there m.subpools p ≡ true) (are : AreRegisters rows) (runs : AreRunsOf (extents m.subpools p) (m.subpools.pages p)) where
     abbrev change : Change
     change = change_from m.subpools (Some p) (register_records m rows) 1 (run_of 0 0)
 
@@ -183,8 +188,21 @@ module _ (settings : Settings) (m : StorageState) (p : Subpool) (sound : IsSound
         let P : Walk → Type 0 = λ w. FitInTurn w (register_records m rows) in
         subst P (sym is_settled) (rows_fit settled rows (task_is_there settings m sound) are)
 
+    -- no cell pool is parked yet
+    was : (id : ℕ) (x : Pool) → HasPool m.subpools (with_own no_subpools p true) id x → m.subpools.cells id ≡ Some x
+    was id x (inl at) = at
+    was id x (inr at) = absurd (none_some x at)
+
+    fits_first : QueuesFits (outset m change) (record { subpool = p })
+    fits_first = record {
+      there = there;
+      parked = own_is_there no_subpools p;
+      apart = λ id some. refl;
+      names = can_exchange m.subpools.cells m.subpools (with_own no_subpools p true) p names was;
+    }
+
     fits : FitInTurn (outset m change) change.records
-    fits = (record { there = there; parked = own_is_there no_subpools p }, fits_on emptied leaving (register_records m rows) leave.fits rows_then)
+    fits = (fits_first, fits_on emptied leaving (register_records m rows) leave.fits rows_then)
 
     arrives : arrival m change ≡ record settled { state = with_rows after rows }
     arrives =
@@ -197,9 +215,9 @@ module _ (settings : Settings) (m : StorageState) (p : Subpool) (sound : IsSound
         leads_to settings m after change rows (without_storage (model_of m) (same_subpool p)) fits (ap (λ w. w.state) arrives)
         (λ a. ap (λ w. w.brought a) arrives ∙ leave.none_brought a)
         (λ a. fresh_of m (run_of 0 0) a (inside (a / 4096) (run_of 0 0)) refl (none_fresh m (a / 4096)))
-        stands emptied_leads formed
+        stands (emptied_leads stay names) formed
 
-pub emptying_leads : EmptyingLeads
-emptying_leads settings m p rows valid sound there are =
-    emptied_and_set_leads settings m p sound rows valid there are
+pub emptying_leads : RowsOfTheOthersStay → EmptyingLeads
+emptying_leads stay settings m p rows valid sound names there are =
+    emptied_and_set_leads settings m p sound rows valid stay names there are
     (extents_are_runs m.subpools p (λ k high. none_beyond settings m p sound valid k (omega (arith, high))))

@@ -27,20 +27,20 @@ use Rattle.storage_actions.proofs.Records.{freed, owned, paged, assigned, brough
 
 module _ (settings : Settings) (m : StorageState) (p : Subpool) (is_new : Bool) (page count : ℕ) (sound : IsSound settings m) (more : 0 < count) (place : CanBe p)
     (rest : (k : ℕ) → inside k (run_of page (pages_for count)) ≡ true → m.unassigned k ≡ true) where
-  abbrev n : ℕ
+  abbrev pub n : ℕ
   n = pages_for count
 
-  abbrev zeros : ℕ → Option ℕ
+  abbrev pub zeros : ℕ → Option ℕ
   zeros a = if inside (a / 4096) (run_of page n) then Some 0 else None
 
   -- with the subpool, the pages, and what is left of them
-  abbrev made : StorageState
+  abbrev pub made : StorageState
   made = owned m p is_new
 
-  abbrev got : StorageState
+  abbrev pub got : StorageState
   got = paged (assigned made zeros page n true) p page n true
 
-  abbrev all : StorageState
+  abbrev pub all : StorageState
   all = freed got p (512 * page + count) (512 * n - count) true
 
   enough : (count ≤ 512 * n) × (512 * n < count + 512)
@@ -163,7 +163,7 @@ module _ (settings : Settings) (m : StorageState) (p : Subpool) (is_new : Bool) 
       subst P (sym (freed_is q d (same_subpool q p) refl own e)) (pages_in (d / 512) own)
   free_at q d false other e = pages_out q (d / 512) other ∙ sound.free q d (sym (free_out q d other) ∙ e)
 
-  stands : Stands settings all.subpools all.unassigned
+  pub stands : Stands settings all.subpools all.unassigned
   stands = record {
     apart = λ q r k. apart_at q r k (inside k (run_of page n)) refl;
     named = λ q k. named_at q k (inside k (run_of page n)) refl;
@@ -172,7 +172,7 @@ module _ (settings : Settings) (m : StorageState) (p : Subpool) (is_new : Bool) 
   }
 
   -- the records lead there
-  abbrev none : ℕ → Option ℕ
+  abbrev pub none : ℕ → Option ℕ
   none a = None
 
   module _ (there : is_there made.subpools p ≡ true) (high : page + n ≤ 2 ^ 20) where
@@ -183,22 +183,23 @@ module _ (settings : Settings) (m : StorageState) (p : Subpool) (is_new : Bool) 
       not_given = refl;
     }
 
-    fresh_go : (s : ℕ) → 4 ≤ s → Goes (at made zeros none s) (take_fresh_records p page count) all (brought_then zeros page n) (given_then made none page n true) 1
-    fresh_go s enough_blanks =
+    pub fresh_go : (s left : ℕ) → 1 ≤ left → left + 3 ≤ s
+        → Goes (at made zeros none s) (take_fresh_records p page count) all (brought_then zeros page n) (given_then made none page n true) left
+    fresh_go s left some enough_blanks =
         let c = brought_then zeros page n in
         let h = given_then made none page n true in
-        goes_on (at made zeros none s) (assigned_records p page n) (area_records p (512 * page + count) (512 * n - count) true) got all c h c h 2 1
-        (assigned_go made zeros none s 2 p page n there (omega (arith, more, enough.0)) high rest (λ k own. not_had p k own) frame (omega arith) (omega (arith, enough_blanks)))
-        (λ t less. area_goes got c h t 1 p (512 * page + count) (512 * n - count) true there (omega (arith, high, enough.0))
-        (λ d own. not_free p d (left_in d own)) (omega arith) (omega (arith, less)))
+        goes_on (at made zeros none s) (assigned_records p page n) (area_records p (512 * page + count) (512 * n - count) true) got all c h c h (left + 1) left
+        (assigned_go made zeros none s (left + 1) p page n there (omega (arith, more, enough.0)) high rest (λ k own. not_had p k own) frame (omega arith) (omega (arith, enough_blanks)))
+        (λ t less. area_goes got c h t left p (512 * page + count) (512 * n - count) true there (omega (arith, high, enough.0))
+        (λ d own. not_free p d (left_in d own)) some (omega (arith, less)))
 
-    none_left : (a : ℕ) (b : Bool) → ◌≡◌ {A = Option ℕ} (if b then None else (if b then Some 0 else None)) None
+    pub none_left : (a : ℕ) (b : Bool) → ◌≡◌ {A = Option ℕ} (if b then None else (if b then Some 0 else None)) None
     none_left a true = refl
     none_left a false = refl
 
 module _ (settings : Settings) (m : StorageState) (p : Subpool) (page count : ℕ) (sound : IsSound settings m) (more : 0 < count) (place : CanBe p)
     (rest : (k : ℕ) → inside k (run_of page (pages_for count)) ≡ true → m.unassigned k ≡ true) where
-  fresh_leads : (is_new : Bool) → model_of (all settings m p is_new page count sound more place rest)
+  pub fresh_leads : (is_new : Bool) → model_of (all settings m p is_new page count sound more place rest)
       ≡ with_taken (with_pages (with_new (model_of m) p is_new) p page (pages_for count)) (512 * page) count
   fresh_leads true = λ i. record (owned_leads m p true i) {
     pages = λ k. pages_lead settings m p true page count sound more place rest k i;
@@ -227,7 +228,7 @@ taking_fresh_leads settings m p is_new page count rows sound own are more high r
     (goes_on (at m change.frames none 5) records (register_records m rows) n (with_rows n rows) c h c h 1 1
     (goes_on (at m change.frames none 5) (own_records p is_new) (take_fresh_records p page count) v n change.frames none c h 4 1
     (own_records_go settings m sound change.frames none 5 4 p is_new own (omega arith) (omega arith))
-    (λ s less. fresh_go settings m p is_new page count sound more place rest there high s less))
+    (λ s less. fresh_go settings m p is_new page count sound more place rest there high s 1 (omega arith) (omega (arith, less))))
     (λ s less. rows_go n c h s 1 rows (task_is_there settings m sound) are less))
     (λ a. none_left settings m p is_new page count sound more place rest there high a (inside (a / 4096) (run_of page (pages_for count))))
     rest (stands settings m p is_new page count sound more place rest) (fresh_leads settings m p page count sound more place rest is_new) formed

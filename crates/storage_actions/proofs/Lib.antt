@@ -10,4 +10,5 @@ pub mod GivingBack
 pub mod Idle
 pub mod Writing
 pub mod Unassigned
+pub mod Cells
 pub mod Emptying

@@ -19,21 +19,21 @@ use Rattle.storage_actions.proofs.Rows.{with_rows, Stands, rows_go, task_is_ther
 use Rattle.storage_actions.proofs.Records.{freed, area_goes}
 
 module _ (settings : Settings) (m : StorageState) (p : Subpool) (d count : ℕ) (sound : IsSound settings m) (free : (k : ℕ) → inside k (run_of d count) ≡ true → m.subpools.free p k ≡ true) where
-  abbrev n : StorageState
+  abbrev pub n : StorageState
   n = freed m p d count false
 
   -- a doubleword of the area lies in a page of the subpool
   here : (k : ℕ) → inside k (run_of d count) ≡ true → subpool_of m.subpools (k / 512) ≡ Some p
   here k own = sound.named p (k / 512) (sound.free p k (free k own))
 
-  taken_leads : model_of n ≡ with_taken (model_of m) d count
+  pub taken_leads : model_of n ≡ with_taken (model_of m) d count
   taken_leads = areas_are_taken m p (run_of d count) here
 
   freed_in_page : (q : Subpool) (k : ℕ) (b : Bool) → (if b then false else m.subpools.free q k) ≡ true → m.subpools.pages q (k / 512) ≡ true
   freed_in_page q k true e = absurd (true≢false (sym e))
   freed_in_page q k false e = sound.free q k e
 
-  taken_stands : Stands settings n.subpools n.unassigned
+  pub taken_stands : Stands settings n.subpools n.unassigned
   taken_stands = record {
     apart = sound.apart;
     named = sound.named;

@@ -11,6 +11,8 @@ ghost use Rattle.storage_actions.specs.Laws.{
   WritingLeads,
 };
 
+use cell_tables::laws::rows_of_the_others_stay;
+
 /// An area of the subpool's free storage is taken, and registers are set: three blank elements are enough.
 pub fn taking_leads()
     ensures { TakingLeads }
@@ -35,11 +37,13 @@ pub fn emptied_pages_are_a_run()
     ensures { EmptiedPagesAreARun }
 {}
 
-/// The pages and the free storage of a subpool go over into the change as they stand, and its pages are unassigned;
-/// registers are set. One blank element is enough besides one for each of its extents.
+/// The pages, the free storage and the cell pools of a subpool go over into the change as they stand, and its pages are
+/// unassigned; registers are set. One blank element is enough besides one for each of its extents.
 pub fn emptying_leads()
     ensures { EmptyingLeads }
-{}
+{
+    rows_of_the_others_stay();
+}
 
 /// Bytes are written, where each address has one. It takes no element.
 pub fn writing_leads()

@@ -19,6 +19,8 @@ use Rattle.vsm_model.proofs.Chosen.{Stepped}
 use Rattle.storage_laws.proofs.Allowed.{whole_allowed}
 use Rattle.storage_laws.proofs.Cases.{some_from}
 use Rattle.storage_laws.proofs.Kept.{whole_release_leaves_well_formed}
+use Rattle.cell_tables.specs.Laws.{RowsOfTheOthersStay}
+use Rattle.cell_tables.specs.Named.{AreNamed}
 use Rattle.subpool_storage.specs.Subpools.{is_there}
 use Rattle.storage_changes.specs.State.{StorageState}
 use Rattle.storage_changes.specs.Meaning.{model_of, IsSound}
@@ -29,7 +31,8 @@ use Rattle.storage_plans.specs.declared.plan.Plan.{Plan}
 use Rattle.storage_plans.specs.Plans.{CarriesOut}
 use Rattle.storage_plans.proofs.Carried.{carries_out_from, no_registers, register_and}
 
-module _ (settings : Settings) (names_full : Bool) (m : StorageState) (number : ℕ) (none : first_cause (whole_causes (model_of m) number) ≡ None) where
+module _ (settings : Settings) (names_full : Bool) (m : StorageState) (number : ℕ) (stay : RowsOfTheOthersStay) (named : AreNamed m.subpools.cells)
+    (none : first_cause (whole_causes (model_of m) number) ≡ None) where
   abbrev s : State
   s = model_of m
 
@@ -56,7 +59,7 @@ module _ (settings : Settings) (names_full : Bool) (m : StorageState) (number : 
       let outcome : Reply → Stepped = λ r. Accepted after r in
       carries_out_from settings names_full m (whole number) plan (Some own) (register_records m ((15, 0) ∷ [])) 1 (run_of 0 0) after emptied records blanks fresh
       (accepted ∙ ap outcome (sym reply))
-      (emptying_leads settings m own ((15, 0) ∷ []) valid sound (seen_is_there sound) (register_and 15 0 [] (omega arith) no_registers)
+      (emptying_leads stay settings m own ((15, 0) ∷ []) valid sound named (seen_is_there sound) (register_and 15 0 [] (omega arith) no_registers)
       (whole_release_leaves_well_formed settings names_full s after number (Returned 0) sound.well_formed accepted))
       (seen_is_there sound) (omega arith) (omega arith) (none_fresh m)
 

@@ -1,9 +1,11 @@
 -- The causes of a release, and its plan on the plain machine.
-use Rattle.std.proofs.Common.{◌≡◌, ◌≢◌, ℕ, ◌+◌, ◌/◌, ◌%◌, ◌<◌, ◌≤◌, ◌^◌, Bool, true, false, not, ◌&&◌, ◌==◌, Option, Some, None, is_some, [], ◌∷◌, ◌++◌, sym, ap, ◌∙◌, arith}
+use Rattle.std.proofs.Common.{◌≡◌, ◌≢◌, ℕ, ◌+◌, ◌*◌, ◌/◌, ◌%◌, ◌<◌, ◌≤◌, ◌^◌, Bool, true, false, not, ◌&&◌, ◌==◌, Option, Some, None, is_some, [], ◌∷◌, ◌++◌, sym, ap, ◌∙◌, arith}
 use Rattle.std.proofs.lemmas.Bool.{eq-eqb, ne_eqb, and_parts, not-false, not-true}
+use Rattle.std.specs.Prelude.{Result, Ok, Err, IfErr}
 use Rattle.std.proofs.Math.Logic.{∥∥₁_elim, ∥∥₁_prop}
 use Rattle.run_set.specs.declared.run.Run.{Run}
 use Rattle.vsm_model.specs.declared.Subpool.{Subpool}
+use Rattle.vsm_model.specs.declared.causes.Cause.{Cause}
 use Rattle.vsm_model.specs.declared.causes.Cause.TheVariants.{BadLength, Misaligned, NotInSubpool, OverlapsFree, OverlapsCells}
 use Rattle.vsm_model.specs.declared.limits.Settings.{Settings}
 use Rattle.vsm_model.specs.declared.replies.Reply.{Reply}
@@ -12,7 +14,7 @@ use Rattle.vsm_model.specs.declared.services.Release.{Release}
 use Rattle.vsm_model.specs.Causes.{Causes, first_cause}
 use Rattle.vsm_model.specs.Regions.{among, doublewords}
 use Rattle.vsm_model.specs.Registers.{with_registers}
-use Rattle.vsm_model.specs.Releasing.{is_foreign, is_not_taken, release_causes, without_area}
+use Rattle.vsm_model.specs.Releasing.{is_foreign, is_not_taken, overlaps_cells, release_causes, without_area}
 use Rattle.vsm_model.specs.Search.{some_pass, holds}
 use Rattle.vsm_model.specs.Services.{release}
 use Rattle.vsm_model.specs.Standing.{Accepted}
@@ -46,8 +48,11 @@ module _ (settings : Settings) (s : State) (p : Subpool) (d count : ℕ) where
   abbrev not_taken : Bool
   not_taken = some_pass (is_not_taken s p) d count
 
+  abbrev on_cells : Bool
+  on_cells = overlaps_cells s (8 * d) (8 * count)
+
   abbrev cell_rows : Causes
-  cell_rows = (false, OverlapsCells) ∷ []
+  cell_rows = (on_cells, OverlapsCells) ∷ []
 
   abbrev free_rows : Causes
   free_rows = (not_taken, OverlapsFree) ∷ cell_rows
@@ -58,15 +63,35 @@ module _ (settings : Settings) (s : State) (p : Subpool) (d count : ℕ) where
   pub is_free_first : foreign ≡ false → not_taken ≡ true → first_cause (area_causes settings s p d count) ≡ Some OverlapsFree
   is_free_first e f = skip foreign NotInSubpool free_rows e ∙ stop not_taken OverlapsFree cell_rows f
 
-  pub has_no_cause : foreign ≡ false → not_taken ≡ false → first_cause (area_causes settings s p d count) ≡ None
-  has_no_cause e f = skip foreign NotInSubpool free_rows e ∙ skip not_taken OverlapsFree cell_rows f
+  behind_free : foreign ≡ false → not_taken ≡ false → first_cause (area_causes settings s p d count) ≡ first_cause cell_rows
+  behind_free e f = skip foreign NotInSubpool free_rows e ∙ skip not_taken OverlapsFree cell_rows f
+
+  is_on_cells_first : foreign ≡ false → not_taken ≡ false → on_cells ≡ true → first_cause (area_causes settings s p d count) ≡ Some OverlapsCells
+  is_on_cells_first e f g = behind_free e f ∙ stop on_cells OverlapsCells [] g
+
+  -- so it's the cause that an answer names, where the answer is that of its cells
+  pub caused : {A : Type 0} (answer : Result A Cause) → foreign ≡ false → not_taken ≡ false → IfErr answer (λ cause. (cause ≡ OverlapsCells) × (on_cells ≡ true))
+      → IfErr answer (λ cause. first_cause (area_causes settings s p d count) ≡ Some cause)
+  caused (Ok x) e f none = tt
+  caused (Err cause) e f is = is_on_cells_first e f is.1 ∙ ap Some (sym is.0)
+
+  pub has_no_cause : foreign ≡ false → not_taken ≡ false → on_cells ≡ false → first_cause (area_causes settings s p d count) ≡ None
+  has_no_cause e f g = behind_free e f ∙ skip on_cells OverlapsCells [] g
 
 module _ (settings : Settings) (m : StorageState) (r : Release) where
   abbrev s : State
   s = model_of m
 
+  -- the causes of its area, where cell pools are looked at from this address on
+  abbrev rows_at : ℕ → Causes
+  rows_at address =
+      (some_pass (is_foreign settings s (seen_or_own s r.number)) (r.address / 8) (doublewords r.length), NotInSubpool)
+      ∷ (some_pass (is_not_taken s (seen_or_own s r.number)) (r.address / 8) (doublewords r.length), OverlapsFree)
+      ∷ (overlaps_cells s address (8 * doublewords r.length), OverlapsCells)
+      ∷ []
+
   abbrev area_rows : Causes
-  area_rows = area_causes settings s (seen_or_own s r.number) (r.address / 8) (doublewords r.length)
+  area_rows = rows_at r.address
 
   abbrev sight_rows : Causes
   sight_rows = (not (sees_one s r.number), NotInSubpool) ∷ area_rows
@@ -86,6 +111,7 @@ module _ (settings : Settings) (m : StorageState) (r : Release) where
       ∙ skip (r.length == 0) BadLength address_rows (ne_eqb r.length 0 some)
       ∙ skip (not ((r.address % 8) == 0)) Misaligned sight_rows (ap not (eq-eqb (r.address % 8) 0 whole))
       ∙ skip (not (sees_one s r.number)) NotInSubpool area_rows (ap not (ap is_some (ap (s.sight s.current) (sym is) ∙ seen)))
+      ∙ ap (λ address. first_cause (rows_at address)) (let e : r.address ≡ 8 * (r.address / 8) = omega (arith, whole) in e)
       ∙ (λ i. first_cause (area_causes settings s (sym (own number owner is seen) i) (sym at i) (sym long i)))
 
   -- an area that no cause keeps is given back by the plan

@@ -6,6 +6,7 @@ pub mod AskedLengths
 pub mod LeastFits
 pub mod Regions
 mod Stores
+mod CellAreas
 mod OwnedAreas
 mod GivenBack
 mod Emptied

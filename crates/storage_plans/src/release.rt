@@ -1,5 +1,5 @@
 //! Plans of STORAGE RELEASE.
-ghost use Rattle.std.specs.Prelude.{◌≡◌, ◌+◌, ◌-◌, ◌/◌, ◌^◌, ◌<◌, ◌≤◌, ◌&&◌, Bool, true, not, nat_le};
+ghost use Rattle.std.specs.Prelude.{◌≡◌, ◌+◌, ◌-◌, ◌*◌, ◌/◌, ◌^◌, ◌<◌, ◌≤◌, ◌&&◌, Bool, true, false, not, nat_le};
 ghost use Rattle.std.specs.Prelude.{None, Some, IfOk, IfErr, OnOk, IsTrue, [], ◌++◌};
 ghost use Rattle.arrayvec.specs.ArrayVec.{array_vec_len};
 ghost use Rattle.vsm_model.specs.Causes.{first_cause};
@@ -21,6 +21,7 @@ use crate::areas::check_number;
 use crate::plan::{NO_PAGES, PLAN_RECORDS, Plan, answer_cause, push_area, push_register};
 use crate::searches::{PAGE_DOUBLEWORDS, pages_on};
 use arrayvec::ArrayVec;
+use cell_pool::laws::pools_are_one;
 use cell_tables::laws::overlaps_are_met;
 use descriptor_queue::Page;
 use run_set::{Cover, Run};
@@ -158,6 +159,7 @@ fn check_area(
 // Whether no extent of a cell pool has a byte in common with the area.
 fn check_cells(storage: &Storage, area: Run) -> Result<(), Cause>
     requires stands { Stand storage.now }
+    requires some { 0 < area.len }
     requires range { area.start + area.len ≤ 2 ^ 29 }
     requires short { area.len < 2 ^ 29 }
     ensures ok { OnOk result (overlaps_cells (model_of (state_of storage.now)) (8 * area.start) (8 * area.len)
@@ -166,6 +168,7 @@ fn check_cells(storage: &Storage, area: Run) -> Result<(), Cause>
         × (overlaps_cells (model_of (state_of storage.now)) (8 * area.start) (8 * area.len) ≡ true)) }
 {
     overlaps_are_met();
+    pools_are_one();
     cell_pools_are_named();
     let pools = storage.subpools.cell_pools(&storage.elements);
     if pools.holds(&storage.elements, 8 * area.start, 8 * area.len) {
@@ -343,7 +346,8 @@ fn give_back(storage: &Storage, found: GivenBack) -> Plan
 /// `SubpoolNotAllowed`), `BadLength` for zero bytes, `Misaligned`, `NotInSubpool` where the task doesn't see the
 /// subpool or a doubleword of the area lies outside both regions or in a page of another subpool, `OverlapsFree` where
 /// one is free in the subpool or lies in a page that isn't assigned, and `OverlapsCells` where the area has a byte in
-/// common with an extent of a cell pool. A conditional form has in place of the last three a plan that sets register 15 to 4, and nothing else.
+/// common with an extent of a cell pool. A conditional form has in place of the last three a plan that sets register 15
+/// to 4, and nothing else.
 pub fn plan_release(storage: &Storage, settings: Settings, r: Release) -> Result<Plan, Cause>
     requires sound { StandsSound settings storage.now }
     requires frameless { IsFrameless storage.now }

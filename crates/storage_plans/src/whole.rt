@@ -16,7 +16,9 @@ ghost use Rattle.storage_plans.specs.Plans.{IsPlanned};
 use crate::areas::check_number;
 use crate::plan::{NO_PAGES, Plan, push_register};
 use arrayvec::ArrayVec;
+use cell_tables::laws::rows_of_the_others_stay;
 use storage_exchange::Storage;
+use subpool_storage::laws::cell_pools_are_named;
 use vsm_model::{Cause, Reply, Subpool};
 
 /// The blank elements that the release of a whole subpool needs besides one for each of its extents.
@@ -67,8 +69,9 @@ fn empty(storage: &Storage, subpool: Subpool) -> Plan
 }
 
 /// A plan for the release of a whole subpool (*Assembler Services Reference*, FREEMAIN and STORAGE, RELEASE): its pages
-/// are unassigned again, with all that was obtained in them, and the subpool stays, empty, with its owner and those who
-/// share it. Register 15 gets 0. Reads alone, and takes no memory, however many areas and extents the subpool has.
+/// are unassigned again, with all that was obtained in them, its cell pools are gone, and the subpool stays, empty,
+/// with its owner and those who share it. Register 15 gets 0. Reads alone, and takes no memory, however many areas,
+/// extents and cell pools the subpool has.
 ///
 /// The causes that refuse it, in order: a number above 127 (`UnsupportedSubpool` for 131 and 132, else
 /// `SubpoolNotAllowed`), `WholeOfZero` for subpool 0, `NotInSubpool` where the task doesn't see the subpool, and
@@ -79,5 +82,7 @@ pub fn plan_whole(storage: &Storage, number: u32) -> Result<Plan, Cause>
         → StandsSound settings storage.now
         → IsPlanned settings names_full (state_of storage.now) (whole number) result }
 {
+    rows_of_the_others_stay();
+    cell_pools_are_named();
     Ok(empty(storage, find_owned(storage, number)?))
 }

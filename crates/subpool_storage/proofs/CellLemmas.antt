@@ -1,15 +1,16 @@
 -- Two storages exchange cell pools.
-use Rattle.std.proofs.Common.{◌≡◌, ℕ, ◌+◌, ◌-◌, ◌<◌, ◌≤◌, Bool, true, false, ◌⊎◌, inl, inr, List, ◌++◌, length, Option, Some, None, IsSome, refl, sym, ap, ◌∙◌, arith}
-use Rattle.std.specs.Prelude.{IfSome, slice_get}
-use Rattle.vsm_elements.specs.Store.{Store, at, among}
+use Rattle.std.proofs.Common.{◌≡◌, ℕ, ◌+◌, ◌-◌, ◌<◌, ◌≤◌, Bool, true, false, ◌⊎◌, inl, inr, ◌++◌, length, Option, Some, None, IsSome, refl, sym, ap, ◌∙◌, arith, subst, ◌==◌}
+use Rattle.std.specs.Prelude.{IfSome, slice_get, if◌then◌else◌}
+use Rattle.vsm_elements.specs.Store.{Store, at}
 use Rattle.vsm_elements.specs.Ownership.{Leaves, Apart}
 use Rattle.vsm_elements.specs.Owners.{times, Moves}
-use Rattle.vsm_elements.proofs.TimesLemmas.{times-append, times-none, none-from, some-from}
+use Rattle.vsm_elements.proofs.TimesLemmas.{times-append, times-none, some-from}
 use Rattle.vsm_elements.proofs.MoveLemmas.{none-or-some, others-kept, moves-of, moves-by, moves-like, moves-follow, apart-from}
-use Rattle.subpool_set.proofs.KeyLemmas.{none_some}
+use Rattle.subpool_set.proofs.KeyLemmas.{none_some, if_true, eqb_refl}
 use Rattle.cell_pool.specs.declared.pools.CellPools.{CellPools}
 use Rattle.vsm_model.specs.declared.Subpool.{Subpool}
-use Rattle.cell_pool.specs.Pools.{Pool, exchanged, extended, retracted, IsExtended, GoTogether}
+use Rattle.cell_tables.specs.Named.{AreNamed}
+use Rattle.cell_pool.specs.Pools.{Pool, lies_in, holds_of, either_of, exchanged, extended, retracted, IsExtended, GoTogether}
 use Rattle.cell_extents.specs.declared.settings.Extent.{Extent}
 use Rattle.cell_pool.specs.CellPools.{pool, by_id, owned, IsCellPools}
 use Rattle.cell_pool.specs.Laws.{AreOne}
@@ -20,7 +21,7 @@ use Rattle.subpool_storage.specs.SubpoolStorage.{subpools_of, hold_queues, hold,
 use Rattle.subpool_storage.proofs.SubpoolLemmas.{same_subpools}
 use Rattle.subpool_storage.proofs.KeptLemmas.{ids_are_owned}
 use Rattle.subpool_storage.proofs.ExchangeLemmas.{QueuesExchanged}
-use Rattle.subpool_storage.proofs.LiftLemmas.{SetStands, SetSame, set_same, set_live, cells_once, hold_cells}
+use Rattle.subpool_storage.proofs.LiftLemmas.{SetSame, set_same, set_live, cells_once}
 
 -- a cell pool that is what it is with one extent more
 pub is_extended : (x : Option Pool) (start count : ℕ) → IfSome x (λ p. p ≡ extended start count (retracted count p)) → IfSome x (λ p. IsExtended p)
@@ -42,6 +43,45 @@ single_back m k id single p has i x there same = single p (turned id p has) i x 
   turned : (j : ℕ) (y : Pool) → HasPool k m j y → HasPool m k j y
   turned j y (inl e) = inr e
   turned j y (inr e) = inl e
+
+-- cell pools with names of their own can be exchanged with none
+pub bare_can_exchange : (m k : Subpools) (p : Subpool) → AreNamed m.cells → ((id : ℕ) → k.cells id ≡ None) → CanExchange m k p
+bare_can_exchange m k p named bare i j x y (inl e) (inl w) same = ap (lies_in p) (some_is (sym e ∙ ap m.cells (named.once i j x y e w same) ∙ w)) where
+  some_is : Some x ≡ Some y → x ≡ y
+  some_is z = cc
+bare_can_exchange m k p named bare i j x y (inr e) w same = absurd (none_some (k.cells i) x (bare i) e)
+bare_can_exchange m k p named bare i j x y (inl e) (inr w) same = absurd (none_some (k.cells j) y (bare j) w)
+
+-- and back, once they are exchanged
+pub back_can_exchange : (m k : Subpools) (p : Subpool) → CanExchange m k p → CanExchange (with_storage_of k m p) (with_storage_of m k p) p
+back_can_exchange m k p can i j x y e w same = can i j x y (was i x e) (was j y w) same where
+  either_one : (b : Bool) (a c : Option Pool) (z : Pool) → (if b then a else c) ≡ Some z → (a ≡ Some z) ⊎ (c ≡ Some z)
+  either_one true a c z h = inl h
+  either_one false a c z h = inr h
+
+  turned : (id : ℕ) (z : Pool) → (k.cells id ≡ Some z) ⊎ (m.cells id ≡ Some z) → HasPool m k id z
+  turned id z (inl h) = inr h
+  turned id z (inr h) = inl h
+
+  was : (id : ℕ) (z : Pool) → HasPool (with_storage_of k m p) (with_storage_of m k p) id z → HasPool m k id z
+  was id z (inl h) = either_one (holds_of (lies_in p) (either_of (k.cells id) (m.cells id))) (m.cells id) (k.cells id) z h
+  was id z (inr h) = turned id z (either_one (holds_of (lies_in p) (either_of (m.cells id) (k.cells id))) (k.cells id) (m.cells id) z h)
+
+pub exchanged_back : (m k m' k' : Subpools) (p : Subpool) → m' ≡ with_storage_of m k p → k' ≡ with_storage_of k m p → CanExchange m k p → CanExchange k' m' p
+exchanged_back m k m' k' p e w can =
+    let P : Subpools → Type 0 = λ z. CanExchange z m' p in
+    let Q : Subpools → Type 0 = λ z. CanExchange (with_storage_of k m p) z p in
+    subst P (sym w) (subst Q (sym e) (back_can_exchange m k p can))
+
+-- the cell pool that has come
+pub is_new : (id : ℕ) (x : Option Pool) (p : Pool) (y : Option Pool) → x ≡ (if id == id then Some p else y) → x ≡ Some p
+is_new id x p y e = e ∙ if_true (id == id) (Some p) y (eqb_refl id)
+
+pub of_new : (P : Pool → Type 0) (x : Option Pool) (p : Pool) → x ≡ Some p → P p → IfSome x P
+of_new P x p e h = let Q : Option Pool → Type 0 = λ z. IfSome z P in subst Q (sym e) h
+
+pub some_new : (x : Option Pool) (p : Pool) → x ≡ Some p → IsSome x
+some_new x p e = let Q : Option Pool → Type 0 = λ z. IsSome z in subst Q (sym e) refl
 
 module _ (s : Store) (q r : SubpoolStorage) (h : Stands s q) (g : Stands s r) (once : (i : ℕ) → hold s q i + hold s r i ≤ 1) where
   -- the cell pools of both have no element in common

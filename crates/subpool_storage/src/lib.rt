@@ -15,6 +15,8 @@ pub use storage::SubpoolStorage;
 pub use subpool_set::{PoolPlace, SharerPlace};
 
 #[cfg(test)]
+mod cell_tests;
+#[cfg(test)]
 mod sharing_tests;
 #[cfg(test)]
 mod tests;

@@ -1,7 +1,8 @@
 //! Subpools made, filled, emptied and removed: each call does what it may, and every element is given back.
 
 ghost use Rattle.std.specs.Prelude.{◌≡◌, ℕ, ◌+◌, ◌≤◌};
-ghost use Rattle.subpool_storage.specs.SubpoolStorage.{hold, Stands};
+ghost use Rattle.subpool_storage.specs.Subpools.{CanExchange};
+ghost use Rattle.subpool_storage.specs.SubpoolStorage.{subpools_of, hold, Stands};
 
 use super::*;
 use descriptor_queue::{Extents, Run};
@@ -308,14 +309,15 @@ fn every_element_is_given_back(rt: HostRuntime) -> Result<(), Fail> {
 fn there_and_back(
     rt: &impl Abort,
     elements: &mut Elements,
-    one: &SubpoolStorage,
-    other: &SubpoolStorage,
+    one: &mut SubpoolStorage,
+    other: &mut SubpoolStorage,
     subpool: Subpool,
     page: u32,
 )
-    requires stands { Stands elements.old one.now }
-    requires other { Stands elements.old other.now }
-    requires apart { (i : ℕ) → hold elements.old one.now i + hold elements.old other.now i ≤ 1 }
+    requires stands { Stands elements.old one.old }
+    requires other { Stands elements.old other.old }
+    requires apart { (i : ℕ) → hold elements.old one.old i + hold elements.old other.old i ≤ 1 }
+    requires names { CanExchange (subpools_of elements.old one.old) (subpools_of elements.old other.old) subpool }
 {
     assert!(rt; one.has_subpool(elements, subpool) && other.has_subpool(elements, subpool));
     one.exchange_storage(elements, other, subpool);
@@ -334,17 +336,17 @@ fn there_and_back(
 fn beside(
     rt: &impl Abort,
     elements: &mut Elements,
-    one: &SubpoolStorage,
+    one: &mut SubpoolStorage,
     subpool: Subpool,
     page: u32,
 )
-    requires { Stands elements.old one.now }
+    requires { Stands elements.old one.old }
 {
     assert!(rt; subpool.owner >= 1 && subpool.owner <= 64 && subpool.number <= 127);
     assert!(rt; elements.spare() > 0);
     let mut other = SubpoolStorage::new();
     other.create(elements, subpool);
-    there_and_back(rt, elements, one, &other, subpool, page);
+    there_and_back(rt, elements, one, &mut other, subpool, page);
 }
 
 #[test]
@@ -354,6 +356,6 @@ fn what_a_subpool_has_goes_over_and_comes_back(rt: HostRuntime) -> Result<(), Fa
     let mut storage = SubpoolStorage::new();
     create(&rt, &mut elements, &mut storage, FIRST);
     fill(&rt, &mut elements, &storage, FIRST, 5);
-    beside(&rt, &mut elements, &storage, FIRST, 5);
+    beside(&rt, &mut elements, &mut storage, FIRST, 5);
     Ok(())
 }

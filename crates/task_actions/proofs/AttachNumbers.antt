@@ -7,6 +7,8 @@ use Rattle.vsm_model.specs.declared.limits.Settings.{Settings}
 use Rattle.vsm_model.specs.Passing.{handed_on, with_gift, with_share}
 use Rattle.vsm_model.specs.Search.{holds}
 use Rattle.vsm_model.specs.Subpools.{same_subpool, sees_one, with_sight, with_subpool}
+use Rattle.cell_tables.specs.Laws.{AllRowsChange}
+use Rattle.cell_tables.specs.Named.{AreNamed}
 use Rattle.subpool_storage.specs.Subpools.{is_there}
 use Rattle.storage_changes.specs.Meaning.{subpool_of, model_of}
 use Rattle.storage_changes.specs.State.{StorageState, Tasks}
@@ -16,7 +18,8 @@ use Rattle.storage_actions.proofs.Rows.{Stands}
 use Rattle.task_laws.proofs.Options.{none_some}
 use Rattle.task_laws.proofs.SightRows.{owner_seen, owner_own}
 use Rattle.task_actions.specs.Attaching.{subpool, made, given_records, sharing_records}
-use Rattle.task_actions.proofs.AttachOpen.{IsOpen, share_steps, made_steps, pass_steps}
+use Rattle.task_actions.proofs.AttachCells.{rows_not_handed_on}
+use Rattle.task_actions.proofs.AttachOpen.{IsOpen, no_cells, share_steps, made_steps, pass_steps}
 use Rattle.task_actions.proofs.AttachSteps.{Steps, steps_as, steps_on}
 
 -- the numbers of the task and of the current one, which are two
@@ -25,8 +28,8 @@ pub record AreTwo (tasks : Tasks) (task : ℕ) : Type 0 where
   pub current : (1 ≤ tasks.current) × (tasks.current ≤ 64)
   pub apart : task ≢ tasks.current
 
-module _ (settings : Settings) (n : StorageState) (task number : ℕ) (stands : Stands settings n.subpools n.unassigned) (two : AreTwo n.tasks task) (low : number ≤ 127)
-    (opened : IsOpen n.subpools task number) where
+module _ (settings : Settings) (n : StorageState) (task number : ℕ) (stands : Stands settings n.subpools n.unassigned) (named : AreNamed n.subpools.cells)
+    (two : AreTwo n.tasks task) (low : number ≤ 127) (opened : IsOpen n.subpools task number) (change : AllRowsChange) where
   abbrev current : ℕ
   current = n.tasks.current
 
@@ -70,20 +73,22 @@ module _ (settings : Settings) (n : StorageState) (task number : ℕ) (stands : 
       subpools = λ k t. there_given k t (k == number) (t == task) (t == current) refl refl refl i;
       sight = λ t k. seen_given t k (k == number) (t == task) (t == current) refl refl refl i;
       pages = λ page. pages_given page (subpool_of n.subpools page) refl i;
+      cell_pools = rows_not_handed_on (subpool number current) task change n.subpools.cells named
+          (no_cells settings n number stands named task low opened current none) i;
     }
 
   pub gift_steps : (o : Option ℕ) → n.subpools.sight current number ≡ o → holds (λ owner. not (owner == current)) o ≡ false
       → Steps settings n (given_records task number o) (with_gift (model_of n) current task number) 2 (λ k. number == k)
   gift_steps None none own =
       steps_as settings n (made number task ∷ []) (with_subpool (model_of n) number task) (with_gift (model_of n) current task number) 1 2 (λ k. number == k) (λ k. number == k)
-      (made_steps settings n number stands task low opened task two.range opened.unseen) (none_given none) (omega arith) (λ k e. e)
+      (made_steps settings n number stands named task low opened task two.range opened.unseen) (none_given none) (omega arith) (λ k e. e)
   gift_steps (Some owner) at own =
       let is : current ≡ owner = sym (eqb-true owner current (not-false (owner == current) own)) in
       let P : ℕ → Type 0 = λ x. Steps settings n (given_records task number (Some x)) (with_gift (model_of n) current task number) 2 (λ k. number == k) in
       subst P is
       (steps_as settings n (given_records task number (Some current)) (with_gift (model_of n) current task number) (with_gift (model_of n) current task number) 1 2
       (λ k. number == k) (λ k. number == k)
-      (pass_steps settings n number stands task low opened current two.current two.range (at ∙ ap Some (sym is)) two.apart) refl (omega arith) (λ k e. e))
+      (pass_steps settings n number stands named task low opened change current two.current two.range (at ∙ ap Some (sym is)) two.apart) refl (omega arith) (λ k e. e))
 
   -- what is shared where the current task sees one, and where it sees none
   shares_seen : (owner : ℕ) → n.subpools.sight current number ≡ Some owner → with_sight (model_of n) task number owner ≡ with_share (model_of n) task number
@@ -102,12 +107,12 @@ module _ (settings : Settings) (n : StorageState) (task number : ℕ) (stands : 
       let apart : task ≢ owner = λ is. opened.unowned current (at ∙ ap Some (sym is)) in
       steps_as settings n (sharing_records current task number (Some owner)) (with_sight (model_of n) task number owner) (with_share (model_of n) task number) 1 2
       (λ k. number == k) (λ k. number == k)
-      (share_steps settings n number stands owner task two.range (opened.seen current owner at) opened.unseen apart) (shares_seen owner at) (omega arith) (λ k e. e)
+      (share_steps settings n number stands named owner task two.range (opened.seen current owner at) opened.unseen apart) (shares_seen owner at) (omega arith) (λ k e. e)
   sharing_steps None none =
-      let first = made_steps settings n number stands task low opened current two.current none in
+      let first = made_steps settings n number stands named task low opened current two.current none in
       let own_test : Bool = (current == current) && (number == number) in
       let task_test : Bool = (task == current) && (number == number) in
-      let next = share_steps settings first.after number first.stands current task two.range
+      let next = share_steps settings first.after number first.stands first.named current task two.range
       (cond-true own_test (Some current) (n.subpools.sight current number) (and_from (current == current) (number == number) (eq-eqb current current refl) (eq-eqb number number refl)))
       (cond-false task_test (Some current) (n.subpools.sight task number) (and_left (task == current) (number == number) (ne_eqb task current two.apart)) ∙ opened.unseen)
       two.apart in

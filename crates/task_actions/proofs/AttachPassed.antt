@@ -9,6 +9,8 @@ use Rattle.vsm_model.specs.Passing.{handed_on, with_gift}
 use Rattle.vsm_model.specs.Regions.{in_a_region}
 use Rattle.vsm_model.specs.Search.{holds}
 use Rattle.vsm_model.specs.Subpools.{same_subpool}
+use Rattle.cell_tables.specs.Laws.{AllRowsChange}
+use Rattle.cell_tables.specs.Named.{AreNamed}
 use Rattle.subpool_storage.specs.Subpools.{Subpools, owned_by, with_passed}
 use Rattle.storage_changes.specs.State.{StorageState}
 use Rattle.storage_changes.specs.Laws.{CanBe, PagesAreApart}
@@ -17,6 +19,7 @@ use Rattle.storage_changes.proofs.Cases.{same-self, same-is}
 use Rattle.storage_changes.proofs.MeaningLemmas.{pages_are_named, named_pages_are_there}
 use Rattle.storage_actions.proofs.Rows.{Stands}
 use Rattle.task_laws.proofs.Options.{some_mapped}
+use Rattle.task_actions.proofs.AttachCells.{rows_handed_on}
 
 -- What is in the old subpool is in the new one, whose own is empty.
 module _ (f : Subpool → ℕ → Bool) (old new : Subpool) where
@@ -165,9 +168,10 @@ module _ (settings : Settings) (m : StorageState) (old : Subpool) (to : ℕ) (st
       ]
 
   -- and so it is on the plain machine
-  pub passed_leads : to ≢ old.owner → model_of (passed m old to) ≡ with_gift (model_of m) old.owner to old.number
-  passed_leads other = λ i. record (with_gift (model_of m) old.owner to old.number) {
+  pub passed_leads : AllRowsChange → AreNamed u.cells → to ≢ old.owner → model_of (passed m old to) ≡ with_gift (model_of m) old.owner to old.number
+  passed_leads change named other = λ i. record (with_gift (model_of m) old.owner to old.number) {
     subpools = λ number owner. there_leads owner (number == old.number) (owner == to) (owner == old.owner) (u.sight owner number) other refl refl i;
     pages = λ k. pages_lead k i;
     taken = λ d. taken_lead d i;
+    cell_pools = rows_handed_on old to change u.cells named i;
   }

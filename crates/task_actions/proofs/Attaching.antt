@@ -11,6 +11,8 @@ use Rattle.vsm_model.specs.Search.{holds, is_in, IsLeastAmong}
 use Rattle.vsm_model.specs.State.{State, is_task}
 use Rattle.vsm_model.specs.Tasks.{with_zero}
 use Rattle.vsm_model.proofs.Least.{least_among}
+use Rattle.cell_tables.specs.Laws.{PoolsAreFound, AllRowsChange}
+use Rattle.cell_tables.specs.Named.{AreNamed}
 use Rattle.storage_changes.specs.declared.record.Record.{Record}
 use Rattle.storage_changes.specs.declared.record.Record.TheVariants.{Register, Task}
 use Rattle.storage_changes.specs.Changes.{change_parking, no_pages}
@@ -26,10 +28,11 @@ use Rattle.task_laws.proofs.Options.{same_some}
 use Rattle.task_actions.specs.Attaching.{attach_records, attach_blanks, gift_records, made, share_records, sharing_records, zero_records, with_attached}
 use Rattle.task_actions.specs.Laws.{AttachingLeads}
 use Rattle.task_actions.proofs.AttachNumbers.{AreTwo, gift_steps, sharing_steps}
-use Rattle.task_actions.proofs.AttachOpen.{open_of, open_on, made_steps}
+use Rattle.task_actions.proofs.AttachOpen.{IsOpen, open_of, open_on, made_steps}
 use Rattle.task_actions.proofs.AttachSteps.{AreSameAt, Steps, same_here, same_on, steps_as, steps_on, all_steps}
 
-module _ (settings : Settings) (m : StorageState) (task : ℕ) (sound : IsSound settings m) (range : (1 ≤ task) × (task ≤ 64)) (free : is_task (model_of m) task ≡ false) where
+module _ (settings : Settings) (m : StorageState) (task : ℕ) (sound : IsSound settings m) (found : PoolsAreFound) (change : AllRowsChange)
+    (named : AreNamed m.subpools.cells) (range : (1 ≤ task) × (task ≤ 64)) (free : is_task (model_of m) task ≡ false) where
   abbrev s : State
   s = model_of m
 
@@ -91,16 +94,20 @@ module _ (settings : Settings) (m : StorageState) (task : ℕ) (sound : IsSound 
       (ap is_some (cond-false (m.tasks.current == task) (Some m.tasks.current) (m.tasks.parents m.tasks.current) (ne_eqb m.tasks.current task (λ is. apart (sym is))))
       ∙ task_is_there settings m sound)
 
-  module _ (n : StorageState) (x : ℕ) (stands : Stands settings n.subpools n.unassigned) (tasks : n.tasks ≡ began.tasks) (same : AreSameAt m.subpools n.subpools x) (low : x ≤ 127) where
+  module _ (n : StorageState) (x : ℕ) (stands : Stands settings n.subpools n.unassigned) (names : AreNamed n.subpools.cells) (tasks : n.tasks ≡ began.tasks)
+      (same : AreSameAt m.subpools n.subpools x) (low : x ≤ 127) where
     now : n.tasks.current ≡ m.tasks.current
     now = ap (λ (t : Tasks). t.current) tasks
 
     sees : n.subpools.sight n.tasks.current x ≡ m.subpools.sight m.tasks.current x
     sees = ap (λ t. n.subpools.sight t x) now ∙ same.sight m.tasks.current
 
+    opened : IsOpen n.subpools task x
+    opened = open_on m.subpools n.subpools task x same (open_of found settings m sound named task free x)
+
     one_gift : is_anothers s x ≡ false → Steps settings n (gift_records m task x) (with_gift (model_of n) n.tasks.current task x) 2 (λ k. x == k)
     one_gift own =
-        gift_steps settings n task x stands (two n.tasks tasks) low (open_on m.subpools n.subpools task x same (open_of settings m sound task free x))
+        gift_steps settings n task x stands names (two n.tasks tasks) low opened change
         (m.subpools.sight m.tasks.current x) sees
         (ap (λ current. holds (λ owner. not (owner == current)) (m.subpools.sight m.tasks.current x)) now ∙ own)
 
@@ -108,15 +115,15 @@ module _ (settings : Settings) (m : StorageState) (task : ℕ) (sound : IsSound 
     one_share =
         let P : ℕ → Type 0 = λ current. Steps settings n (sharing_records current task x (m.subpools.sight m.tasks.current x)) (with_share (model_of n) task x) 2 (λ k. x == k) in
         subst P now
-        (sharing_steps settings n task x stands (two n.tasks tasks) low (open_on m.subpools n.subpools task x same (open_of settings m sound task free x))
+        (sharing_steps settings n task x stands names (two n.tasks tasks) low opened change
         (m.subpools.sight m.tasks.current x) sees)
 
   zero_steps : (shares_zero : Bool) → Steps settings began (zero_records m task shares_zero) (with_zero (model_of began) task shares_zero) 2 (λ k. 0 == k)
-  zero_steps true = one_share began 0 (stands_of settings m sound) refl (same_here m.subpools 0) (omega arith)
+  zero_steps true = one_share began 0 (stands_of settings m sound) named refl (same_here m.subpools 0) (omega arith)
   zero_steps false =
-      let opened = open_of settings m sound task free 0 in
+      let here = open_of found settings m sound named task free 0 in
       steps_as settings began (made 0 task ∷ []) (with_zero (model_of began) task false) (with_zero (model_of began) task false) 1 2 (λ k. 0 == k) (λ k. 0 == k)
-      (made_steps settings began 0 (stands_of settings m sound) task (omega arith) opened task range opened.unseen) refl (omega arith) (λ k e. e)
+      (made_steps settings began 0 (stands_of settings m sound) named task (omega arith) here task range here.unseen) refl (omega arith) (λ k e. e)
 
   -- all that follows the task's record
   module _ (shares_zero : Bool) (gifts shares : List ℕ) (good : is_bad_list (gifts ++ shares) ≡ false) (owned : (x : ℕ) → is_in gifts x ≡ true → is_anothers s x ≡ false) where
@@ -141,15 +148,15 @@ module _ (settings : Settings) (m : StorageState) (task : ℕ) (sound : IsSound 
 
     gifts_next : Steps settings zero_first.after (flat_map (gift_records m task) gifts) (with_gifts (model_of zero_first.after) task gifts) (2 * length gifts) (is_in gifts)
     gifts_next =
-        all_steps settings began (gift_records m task) (λ t x. with_gift t t.current task x) IsOwn (λ n x stands tasks same own. one_gift n x stands tasks same own.0 own.1)
-        (λ t xs. with_gifts t task xs) (λ t. refl) (λ t x xs. refl) gifts zero_first.after zero_first.stands zero_first.tasks (apart_left gifts shares all_apart)
+        all_steps settings began (gift_records m task) (λ t x. with_gift t t.current task x) IsOwn (λ n x stands names tasks same own. one_gift n x stands names tasks same own.0 own.1)
+        (λ t xs. with_gifts t task xs) (λ t. refl) (λ t x xs. refl) gifts zero_first.after zero_first.stands zero_first.named zero_first.tasks (apart_left gifts shares all_apart)
         (all_in IsOwn gifts (λ x is. ((private x (in_left gifts shares x is)).1, owned x is)))
         (λ x is. behind_zero x (in_left gifts shares x is))
 
     shares_last : Steps settings gifts_next.after (flat_map (share_records m task) shares) (with_shares (model_of gifts_next.after) task shares) (2 * length shares) (is_in shares)
     shares_last =
-        all_steps settings began (share_records m task) (λ t x. with_share t task x) IsLow (λ n x stands tasks same low. one_share n x stands tasks same low)
-        (λ t xs. with_shares t task xs) (λ t. refl) (λ t x xs. refl) shares gifts_next.after gifts_next.stands (gifts_next.tasks ∙ zero_first.tasks) (apart_right gifts shares all_apart)
+        all_steps settings began (share_records m task) (λ t x. with_share t task x) IsLow (λ n x stands names tasks same low. one_share n x stands names tasks same low)
+        (λ t xs. with_shares t task xs) (λ t. refl) (λ t x xs. refl) shares gifts_next.after gifts_next.stands gifts_next.named (gifts_next.tasks ∙ zero_first.tasks) (apart_right gifts shares all_apart)
         (all_in IsLow shares (λ x is. (private x (in_right gifts shares x is)).1))
         (λ x is. same_on m.subpools zero_first.after.subpools gifts_next.after.subpools x (behind_zero x (in_right gifts shares x is))
         (gifts_next.others x (false_from_ne_true (is_in gifts x) (λ also. not_in_both gifts shares x all_apart also is))))
@@ -190,17 +197,17 @@ module _ (settings : Settings) (m : StorageState) (task : ℕ) (sound : IsSound 
           (λ spare less. all_behind.goes b g spare 1 (omega arith) (omega (arith, less))))
           (registers_go b g)
 
-pub attaching_leads : AttachingLeads
-attaching_leads settings m task shares_zero gifts shares rows sound can are formed =
+pub attaching_leads : PoolsAreFound → AllRowsChange → AttachingLeads
+attaching_leads found change settings m task shares_zero gifts shares rows sound named can are formed =
     let s : State = model_of m in
-    let found = subst (IsLeastAmong (λ t. not (is_task s t)) 1 64) can.number (least_among (λ t. not (is_task s t)) 1 64) in
-    let below = found.2 in
-    let range : (1 ≤ task) × (task ≤ 64) = (found.1, omega (arith, below)) in
-    let free = not-true (is_task s task) found.0 in
+    let least = subst (IsLeastAmong (λ t. not (is_task s t)) 1 64) can.number (least_among (λ t. not (is_task s t)) 1 64) in
+    let below = least.2 in
+    let range : (1 ≤ task) × (task ≤ 64) = (least.1, omega (arith, below)) in
+    let free = not-true (is_task s task) least.0 in
     let owned : (x : ℕ) → is_in gifts x ≡ true → is_anothers s x ≡ false = λ x is. none_any (is_anothers s) gifts x can.owned is in
-    let steps = all_behind settings m task sound range free shares_zero gifts shares can.good owned in
+    let steps = all_behind settings m task sound found change named range free shares_zero gifts shares can.good owned in
     let d = change_parking [] (attach_records m task shares_zero gifts shares ++ register_records m rows) (attach_blanks gifts shares) in
-    let go = all_go settings m task sound range free shares_zero gifts shares can.good owned rows are d.frames (λ a. None) in
+    let go = all_go settings m task sound found change named range free shares_zero gifts shares can.good owned rows are d.frames (λ a. None) in
     leads_to settings m steps.after d rows (with_attached s task shares_zero gifts shares) go.fits (ap (λ v. v.state) go.there)
     (λ a. ap (λ v. v.brought a) go.there ∙ none_brought a) (λ a. fresh_of m no_pages a (inside (a / 4096) no_pages) refl (none_fresh m (a / 4096)))
     steps.stands steps.leads formed

@@ -11,6 +11,8 @@ use Rattle.vsm_model.specs.Registers.{with_registers}
 use Rattle.vsm_model.specs.Search.{holds, is_in}
 use Rattle.vsm_model.specs.State.{State}
 use Rattle.vsm_model.specs.WellFormed.{IsWellFormed}
+use Rattle.cell_tables.specs.Laws.{PoolsAreFound, RowsOfTheOthersStay}
+use Rattle.cell_tables.specs.Named.{AreNamed}
 use Rattle.subpool_storage.specs.Subpools.{is_there}
 use Rattle.storage_changes.specs.declared.record.Record.{Record}
 use Rattle.storage_changes.specs.declared.record.Record.TheVariants.{Turn}
@@ -31,11 +33,15 @@ use Rattle.task_actions.proofs.EndSubpools.{owned_are_apart}
 use Rattle.task_actions.proofs.EndTasks.{having, AllGo, ends_go}
 use Rattle.task_actions.proofs.EndWalk.{Comes, LeadsOn, leads_first, leads_by_same, comes_on, rows_then}
 
+-- what is known of tables: each cell pool is found in one, and what it becomes where some of them go
+abbrev TableLaws : Type 0
+TableLaws = PoolsAreFound × RowsOfTheOthersStay
+
 module _ (settings : Settings) (m : StorageState) (ended : List ℕ) (next : ℕ) (set : List (ℕ × ℕ)) (valid : settings_valid settings ≡ true)
-    (sound : IsSound settings m) (can : CanEnd (model_of m) ended next) (are : AreRegisters set) where
+    (sound : IsSound settings m) (laws : TableLaws) (named : AreNamed m.subpools.cells) (can : CanEnd (model_of m) ended next) (are : AreRegisters set) where
   -- at the turn of the next task
   abbrev turned : StorageState
-  turned = with_turn (released settings m sound valid ended) next
+  turned = with_turn (released settings m sound valid laws.0 named ended) next
 
   -- where none sees what the tasks owned,
   abbrev unshared_state : StorageState
@@ -81,9 +87,9 @@ module _ (settings : Settings) (m : StorageState) (ended : List ℕ) (next : ℕ
       (λ p d own. cond-true (is_in ended p.owner) false (m.subpools.free p d) own))
       (owned_are_apart m.subpools ended)
 
-  turn_leads : LeadsOn (released settings m sound valid ended) (Turn (record { task = next }) ∷ unshared_records m.subpools ended) unshared_state
+  turn_leads : LeadsOn (released settings m sound valid laws.0 named ended) (Turn (record { task = next }) ∷ unshared_records m.subpools ended) unshared_state
   turn_leads =
-      leads_first (released settings m sound valid ended) turned unshared_state (Turn (record { task = next })) (unshared_records m.subpools ended)
+      leads_first (released settings m sound valid laws.0 named ended) turned unshared_state (Turn (record { task = next })) (unshared_records m.subpools ended)
       (λ w rests. (
         record { task = can.turn; current = task_is_there settings m sound },
         record { state = refl; none_brought = rests.none_brought; spare = rests.spare },
@@ -101,7 +107,7 @@ module _ (settings : Settings) (m : StorageState) (ended : List ℕ) (next : ℕ
   first_comes : Comes (outset m change) first unshared_state
   first_comes =
       comes_on (outset m change) (released_records m.subpools ended) (Turn (record { task = next }) ∷ unshared_records m.subpools ended)
-      (released settings m sound valid ended) unshared_state (released_go settings m sound valid ended change.records) turn_leads
+      (released settings m sound valid laws.0 named ended) unshared_state (released_go settings m sound valid laws.0 named ended change.records) turn_leads
 
   removed_comes : Comes (outset m change) (first ++ removed_records m.subpools ended) removed_state
   removed_comes = comes_on (outset m change) first (removed_records m.subpools ended) unshared_state removed_state first_comes removed_leads
@@ -150,15 +156,17 @@ module _ (settings : Settings) (m : StorageState) (ended : List ℕ) (next : ℕ
     words = λ t r. words_lead t r i;
     subpools = λ number owner. subpools_lead number owner i;
     sight = λ t n. sight_leads settings m sound ended t n i;
-    pages = λ k. pages_lead settings m sound (gone settings m sound valid ended) m.subpools.sight k i;
-    taken = λ d. taken_lead settings m sound (gone settings m sound valid ended) m.subpools.sight d i;
+    pages = λ k. pages_lead settings m sound (gone settings m sound valid laws.0 named ended) m.subpools.sight k i;
+    taken = λ d. taken_lead settings m sound (gone settings m sound valid laws.0 named ended) m.subpools.sight d i;
+    cell_pools = laws.1 m.subpools.cells (λ q. is_in ended q.settings.subpool.owner) (λ row. is_in ended row.subpool.owner) named (λ q. refl) i;
   }
 
   leads_there : IsWellFormed settings (with_registers plain set) → Leads settings m change (with_registers plain set)
   leads_there formed =
       leads_to settings m last change set plain all_comes.fits all_comes.rests.state all_comes.rests.none_brought
       (λ a. fresh_of m (run_of 0 0) a (inside (a / 4096) (run_of 0 0)) refl (none_fresh m (a / 4096)))
-      (stands settings m sound (gone settings m sound valid ended) (last_sight settings m sound ended)) model_leads formed
+      (stands settings m sound (gone settings m sound valid laws.0 named ended) (last_sight settings m sound ended)) model_leads formed
 
-pub ending_leads : EndingLeads
-ending_leads settings m ended next set valid sound can are formed = leads_there settings m ended next set valid sound can are formed
+pub ending_leads : PoolsAreFound → RowsOfTheOthersStay → EndingLeads
+ending_leads found stay settings m ended next set valid sound named can are formed =
+    leads_there settings m ended next set valid sound (found, stay) named can are formed

@@ -1,4 +1,5 @@
--- What is left of a storage without the pages and the free storage of some subpools, on the plain machine.
+-- What is left of a storage without the pages, the free storage and the cell pools of some subpools, on the plain
+-- machine.
 use Rattle.std.proofs.Common.{◌≡◌, ℕ, Bool, true, false, not, ◌&&◌, if◌then◌else◌, Option, Some, None, is_some, refl, sym, ◌∙◌, ap, true≢false}
 use Rattle.std.specs.Prelude.{◌/◌}
 use Rattle.std.proofs.lemmas.Bool.{and_from, false_from_ne_true, cond-false}
@@ -6,6 +7,7 @@ use Rattle.vsm_model.specs.declared.Subpool.{Subpool}
 use Rattle.vsm_model.specs.declared.limits.Settings.{Settings}
 use Rattle.vsm_model.specs.Regions.{in_a_region}
 use Rattle.vsm_model.specs.Search.{holds}
+use Rattle.cell_pool.specs.Pools.{all_but}
 use Rattle.subpool_storage.specs.Subpools.{Subpools}
 use Rattle.storage_changes.specs.State.{StorageState}
 use Rattle.storage_changes.specs.Meaning.{first_of, all_subpools, subpool_of, is_taken, IsSound}
@@ -20,6 +22,7 @@ module _ (settings : Settings) (m : StorageState) (sound : IsSound settings m) (
         sight = sight;
         pages = λ q k. if gone q then false else m.subpools.pages q k;
         free = λ q d. if gone q then false else m.subpools.free q d;
+        cells = λ id. all_but (λ q. gone q.settings.subpool) (m.subpools.cells id);
       }
 
   -- the page was one of theirs

@@ -1,5 +1,5 @@
 -- Empty subpools are parked, and all of them go.
-use Rattle.std.proofs.Common.{◌≡◌, ℕ, Bool, true, false, ◌&&◌, ◌==◌, if◌then◌else◌, List, [], ◌∷◌, Some, None, refl, sym, ◌∙◌, ap, subst, arith}
+use Rattle.std.proofs.Common.{◌≡◌, ℕ, Bool, true, false, ◌&&◌, ◌==◌, if◌then◌else◌, List, [], ◌∷◌, Option, Some, None, refl, sym, ◌∙◌, ap, subst, arith}
 use Rattle.std.specs.Prelude.{◌/◌}
 use Rattle.std.proofs.lemmas.Bool.{cond_both, and_parts, eqb-true, eq-eqb}
 use Rattle.vsm_model.specs.declared.Subpool.{Subpool}
@@ -7,6 +7,9 @@ use Rattle.vsm_model.specs.declared.limits.Settings.{Settings}
 use Rattle.vsm_model.specs.Regions.{settings_valid}
 use Rattle.vsm_model.specs.Search.{holds, is_in}
 use Rattle.vsm_model.specs.Subpools.{same_subpool}
+use Rattle.cell_pool.specs.Pools.{Pool, all_but, only}
+use Rattle.cell_tables.specs.Laws.{PoolsAreFound}
+use Rattle.cell_tables.specs.Named.{AreNamed}
 use Rattle.subpool_storage.specs.Subpools.{Subpools, is_there, with_own}
 use Rattle.storage_changes.specs.State.{StorageState}
 use Rattle.storage_changes.specs.Changes.{empties, change_parking, outset}
@@ -15,6 +18,7 @@ use Rattle.storage_changes.specs.declared.record.Record.{Record}
 use Rattle.storage_changes.proofs.Cases.{same-is}
 use Rattle.storage_changes.proofs.MeaningLemmas.{named_pages_are_there}
 use Rattle.storage_actions.proofs.Cases.{same_answers}
+use Rattle.storage_actions.proofs.Cells.{has_subpool}
 use Rattle.storage_actions.proofs.Owned.{has_pages, there_is_named, own_is_there}
 use Rattle.storage_actions.proofs.Rows.{none_brought}
 use Rattle.task_laws.proofs.Options.{held}
@@ -23,7 +27,7 @@ use Rattle.task_actions.proofs.EndLists.{or_nothing}
 use Rattle.task_actions.proofs.EndEach.{Each, each_all, each_so, some_has, any_so}
 use Rattle.task_actions.proofs.EndSubpools.{IsAnother, is_listed, owned_have, owned_are_apart, owned_list}
 use Rattle.task_actions.proofs.EndModel.{left, unassigned}
-use Rattle.task_actions.proofs.EndStorage.{have, emptied_of, onto, any_onto, IsParked, IsAmid, empties_go}
+use Rattle.task_actions.proofs.EndStorage.{have, lies_among, emptied_of, onto, any_onto, IsParked, IsAmid, empties_go}
 use Rattle.task_actions.proofs.EndWalk.{Comes}
 
 empties_have_none : (ps : List Subpool) (q : Subpool) (k : ℕ) → (empties ps).pages q k ≡ false
@@ -56,7 +60,21 @@ none_either true false x e = sym e
 none_either false true x e = e
 none_either false false x e = refl
 
-module _ (settings : Settings) (m : StorageState) (sound : IsSound settings m) (valid : settings_valid settings ≡ true) (ended : List ℕ) where
+no_cells : (ps : List Subpool) (id : ℕ) → (empties ps).cells id ≡ None
+no_cells [] id = refl
+no_cells (p ∷ ps) id = no_cells ps id
+
+-- where no subpool goes all cell pools stay, and none is parked
+all_stay : (x : Option Pool) → x ≡ all_but (lies_among []) x
+all_stay None = refl
+all_stay (Some q) = refl
+
+none_goes : (x : Option Pool) → only (lies_among []) x ≡ None
+none_goes None = refl
+none_goes (Some q) = refl
+
+module _ (settings : Settings) (m : StorageState) (sound : IsSound settings m) (valid : settings_valid settings ≡ true) (found : PoolsAreFound)
+    (named : AreNamed m.subpools.cells) (ended : List ℕ) where
   abbrev pub owned : List Subpool
   owned = owned_by_these m.subpools ended
 
@@ -74,10 +92,11 @@ module _ (settings : Settings) (m : StorageState) (sound : IsSound settings m) (
 
   amid : (records : List Record) → IsAmid m (outset m (change_parking owned records (end_blanks m ended))) [] owned
   amid records = record {
-    state = refl;
+    state = λ i. record m { subpools = record m.subpools { cells = λ id. all_stay (m.subpools.cells id) i } };
     none_brought = none_brought;
     given = λ a _. refl;
     parked = empties_are_parked owned;
+    parked_cells = λ id. no_cells owned id ∙ sym (none_goes (m.subpools.cells id));
     others = each_all (λ p. Each (IsAnother p) []) owned (λ _. tt);
     apart = owned_are_apart m.subpools ended;
     there = each_so (λ p. (is_in ended p.owner ≡ true) × (is_there m.subpools p ≡ true)) (λ p. is_there m.subpools p ≡ true) owned (λ p h. h.1) (owned_have m.subpools ended);
@@ -105,6 +124,12 @@ module _ (settings : Settings) (m : StorageState) (sound : IsSound settings m) (
     go true own = ap (λ b. if b then false else m.subpools.free q d) (listed q (has_pages settings m sound q (d / 512) (sound.free q d own)))
     go false none = none_either (is_listed (onto [] owned) q) (gone q) (m.subpools.free q d) none
 
+  cells_same : (id : ℕ) → all_but (lies_among (onto [] owned)) (m.subpools.cells id) ≡ all_but (λ q. gone q.settings.subpool) (m.subpools.cells id)
+  cells_same id = go (m.subpools.cells id) refl where
+    go : (x : Option Pool) → m.subpools.cells id ≡ x → all_but (lies_among (onto [] owned)) x ≡ all_but (λ q. gone q.settings.subpool) x
+    go None at = refl
+    go (Some q) at = ap (λ b. if b then None else Some q) (listed q.settings.subpool (has_subpool found settings m sound named id q at))
+
   have_same : (k : ℕ) → have m (onto [] owned) k ≡ holds gone (subpool_of m.subpools k)
   have_same k =
       any_onto (λ p. m.subpools.pages p k) [] owned ∙ or_nothing (have m owned k)
@@ -121,7 +146,7 @@ module _ (settings : Settings) (m : StorageState) (sound : IsSound settings m) (
 
   released_is : emptied_of m (onto [] owned) ≡ released
   released_is = λ i. record m {
-    subpools = record m.subpools { pages = λ q k. pages_same q k i; free = λ q d. free_same q d i };
+    subpools = record m.subpools { pages = λ q k. pages_same q k i; free = λ q d. free_same q d i; cells = λ id. cells_same id i };
     unassigned = λ k. ap (λ b. if b then true else m.unassigned k) (have_same k) i;
     bytes = λ a. ap (λ b. if b then None else m.bytes a) (have_same (a / 4096)) i;
   }
@@ -130,4 +155,4 @@ module _ (settings : Settings) (m : StorageState) (sound : IsSound settings m) (
   released_go records =
       let start = outset m (change_parking owned records (end_blanks m ended)) in
       let P : StorageState → Type 0 = λ n. Comes start (released_records m.subpools ended) n in
-      subst P released_is (empties_go settings m sound valid start [] owned (amid records))
+      subst P released_is (empties_go settings m sound valid named start [] owned (amid records))

@@ -1,5 +1,6 @@
--- The storage of subpools goes over into a change that has an empty one parked under each of their names.
-use Rattle.std.proofs.Common.{◌≡◌, ℕ, suc, ◌+◌, ◌<◌, Bool, true, false, not, ◌||◌, if◌then◌else◌, List, [], ◌∷◌, ◌++◌, length, None, IsSome, is_some, refl, sym, ◌∙◌, ap, subst, arith, true≢false}
+-- The storage of subpools, with their cell pools, goes over into a change that has an empty one parked under each of
+-- their names.
+use Rattle.std.proofs.Common.{◌≡◌, ℕ, suc, ◌+◌, ◌<◌, Bool, true, false, not, ◌||◌, if◌then◌else◌, List, [], ◌∷◌, ◌++◌, length, Option, Some, None, IsSome, is_some, inl, inr, refl, sym, ◌∙◌, ap, subst, arith, true≢false}
 use Rattle.std.specs.Prelude.{◌/◌}
 use Rattle.std.specs.List.{flat_map, list_any}
 use Rattle.std.proofs.lemmas.Bool.{cond-false, and_right, or_parts, false_from_ne_true}
@@ -10,17 +11,20 @@ use Rattle.vsm_model.specs.declared.limits.Settings.{Settings}
 use Rattle.vsm_model.specs.Regions.{in_a_region, settings_valid}
 use Rattle.vsm_model.specs.Subpools.{same_subpool}
 use Rattle.subpool_storage.specs.Extents.{extents}
-use Rattle.subpool_storage.specs.Subpools.{Subpools, is_there}
+use Rattle.cell_pool.specs.Pools.{Pool, all_but, only, lies_in, exchanged}
+use Rattle.cell_tables.specs.Named.{AreNamed}
+use Rattle.subpool_storage.specs.Subpools.{Subpools, is_there, HasPool}
 use Rattle.subpool_storage.proofs.ExtentLemmas.{extents_are_runs}
 use Rattle.storage_changes.specs.declared.record.Record.{Record}
 use Rattle.storage_changes.specs.declared.record.Record.TheVariants.{Queues}
 use Rattle.storage_changes.specs.State.{StorageState}
 use Rattle.storage_changes.specs.Walk.{Walk}
 use Rattle.storage_changes.specs.Steps.{walk, queues_step}
-use Rattle.storage_changes.specs.Fits.{FitInTurn}
+use Rattle.storage_changes.specs.Fits.{QueuesFits, FitInTurn}
 use Rattle.storage_changes.specs.Changes.{unassigned_records}
 use Rattle.storage_changes.specs.Meaning.{IsSound}
 use Rattle.storage_changes.proofs.Cases.{same-is, same-self}
+use Rattle.storage_actions.proofs.Cells.{same_turned, can_exchange, all_but_was, only_was, goes_from, goes_to_others, not_both}
 use Rattle.storage_actions.proofs.Goes.{walk_on, fits_on}
 use Rattle.storage_actions.proofs.Unassigned.{CanLeave, Leave, runs_leave}
 use Rattle.storage_actions.proofs.Emptying.{below, none_beyond}
@@ -33,6 +37,10 @@ use Rattle.task_actions.proofs.EndWalk.{Rests, Comes}
 abbrev pub have : StorageState → List Subpool → ℕ → Bool
 have m ps k = list_any (λ p. m.subpools.pages p k) ps
 
+-- the cell pool lies in one of them
+abbrev pub lies_among : List Subpool → Pool → Bool
+lies_among ps q = is_listed ps q.settings.subpool
+
 -- the storage without theirs
 abbrev pub emptied_of : StorageState → List Subpool → StorageState
 emptied_of m ps =
@@ -40,6 +48,7 @@ emptied_of m ps =
       subpools = record m.subpools {
         pages = λ q k. if is_listed ps q then false else m.subpools.pages q k;
         free = λ q d. if is_listed ps q then false else m.subpools.free q d;
+        cells = λ id. all_but (lies_among ps) (m.subpools.cells id);
       };
       unassigned = λ k. if have m ps k then true else m.unassigned k;
       bytes = λ a. if have m ps (a / 4096) then None else m.bytes a;
@@ -71,6 +80,7 @@ pub record IsAmid (m : StorageState) (w : Walk) (done left : List Subpool) : Typ
   pub none_brought : (a : ℕ) → w.brought a ≡ None
   pub given : (a : ℕ) → have m done (a / 4096) ≡ false → w.given a ≡ None
   pub parked : Each (IsParked w.parked) left
+  pub parked_cells : (id : ℕ) → w.parked.cells id ≡ only (lies_among done) (m.subpools.cells id)
   pub others : Each (λ p. Each (IsAnother p) done) left
   pub apart : Apart IsAnother left
   pub there : Each (λ p. is_there m.subpools p ≡ true) left
@@ -88,7 +98,12 @@ length_records : (rs : List Run) → length (unassigned_records rs) ≡ length r
 length_records [] = refl
 length_records (r ∷ rs) = ap suc (length_records rs)
 
-module _ (settings : Settings) (m : StorageState) (sound : IsSound settings m) (valid : settings_valid settings ≡ true) where
+-- a subpool that isn't among others isn't listed
+not_listed : (p : Subpool) (done : List Subpool) → Each (IsAnother p) done → is_listed done p ≡ false
+not_listed p [] others = refl
+not_listed p (q ∷ done) others = ap (λ b. b || is_listed done p) (same_turned p q ∙ others.0) ∙ not_listed p done others.1
+
+module _ (settings : Settings) (m : StorageState) (sound : IsSound settings m) (valid : settings_valid settings ≡ true) (named : AreNamed m.subpools.cells) where
   -- a page of a subpool is none of others'
   not_had : (p : Subpool) (k : ℕ) (done : List Subpool) → Each (IsAnother p) done → m.subpools.pages p k ≡ true → have m done k ≡ false
   not_had p k [] others own = refl
@@ -111,6 +126,12 @@ module _ (settings : Settings) (m : StorageState) (sound : IsSound settings m) (
 
     abbrev moved : Walk
     moved = queues_step here (record { subpool = p })
+
+    -- a cell pool of others that are emptied already lies in none of its
+    cells_apart : (q : Pool) → lies_among done q ≡ true → lies_in p q ≡ false
+    cells_apart q among =
+        false_from_ne_true (lies_in p q)
+        (λ own. true≢false (sym among ∙ ap (is_listed done) (same-is q.settings.subpool p own) ∙ not_listed p done amid.others.0))
 
     had : (k : ℕ) → contains k (extents m.subpools p) ≡ true → m.subpools.pages p k ≡ true
     had k own = sym ((runs p).holds k) ∙ own
@@ -152,6 +173,8 @@ module _ (settings : Settings) (m : StorageState) (sound : IsSound settings m) (
             (λ same. ap (λ r. w.parked.pages r k) (same-is q p same) ∙ amid.parked.0.no_pages k) i;
         free = λ q d. either_none (same_subpool q p) (is_listed done q) (w.parked.free q d) (m.subpools.free q d) false
             (λ same. ap (λ r. w.parked.free r d) (same-is q p same) ∙ amid.parked.0.none_free d) i;
+        cells = λ id. (ap (exchanged p (all_but (lies_among done) (m.subpools.cells id))) (amid.parked_cells id)
+            ∙ goes_from p (lies_among done) cells_apart (m.subpools.cells id)) i;
       };
       unassigned = λ k. (ap (λ b. if b then true else (if have m done k then true else m.unassigned k)) ((runs p).holds k)
           ∙ either_none (m.subpools.pages p k) (have m done k) true (m.unassigned k) true (λ _. refl)) i;
@@ -177,6 +200,12 @@ module _ (settings : Settings) (m : StorageState) (sound : IsSound settings m) (
         })
         amid.apart.0 amid.parked.1)
 
+    cells_after : (id : ℕ) → after.parked.cells id ≡ only (lies_among (p ∷ done)) (m.subpools.cells id)
+    cells_after id =
+        ap (λ (u : Subpools). u.cells id) leave.parked
+        ∙ ap (λ x. exchanged p x (all_but (lies_among done) (m.subpools.cells id))) (amid.parked_cells id)
+        ∙ goes_to_others p (lies_among done) cells_apart (m.subpools.cells id)
+
     others_after : Each (λ q. Each (IsAnother q) (p ∷ done)) left
     others_after =
         each_both (IsAnother p) (λ q. Each (IsAnother q) done) (λ q. Each (IsAnother q) (p ∷ done)) left
@@ -190,14 +219,28 @@ module _ (settings : Settings) (m : StorageState) (sound : IsSound settings m) (
       none_brought = leave.none_brought;
       given = given_after;
       parked = parked_after;
+      parked_cells = cells_after;
       others = others_after;
       apart = amid.apart.1;
       there = amid.there.1;
       room = let few = enough in let kept = leave.spare in omega (arith, few, kept);
     }
 
+    -- what is there or parked was there at first
+    was : (id : ℕ) (x : Pool) → HasPool here.state.subpools w.parked id x → m.subpools.cells id ≡ Some x
+    was id x (inl at) = all_but_was (lies_among done) (m.subpools.cells id) x at
+    was id x (inr at) = only_was (lies_among done) (m.subpools.cells id) x (sym (amid.parked_cells id) ∙ at)
+
+    fits_queues : QueuesFits here (record { subpool = p })
+    fits_queues = record {
+      there = amid.there.0;
+      parked = amid.parked.0.there;
+      apart = λ id some. amid.parked_cells id ∙ not_both (lies_among done) (m.subpools.cells id) some;
+      names = can_exchange m.subpools.cells here.state.subpools w.parked p named was;
+    }
+
     fits_here : FitInTurn here (Queues (record { subpool = p }) ∷ leaving)
-    fits_here = (record { there = amid.there.0; parked = amid.parked.0.there }, leave.fits)
+    fits_here = (fits_queues, leave.fits)
 
     fits_one : FitInTurn w (emptying_records m.subpools p)
     fits_one =

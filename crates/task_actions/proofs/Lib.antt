@@ -1,3 +1,4 @@
+mod AttachCells
 mod AttachNumbers
 mod AttachOpen
 mod AttachPassed

@@ -3,12 +3,17 @@
 
 ghost use Rattle.task_actions.specs.Laws.{AttachingLeads, EndingLeads, EndsAreInOrder, TurningLeads};
 
+use cell_tables::laws::{all_rows_change, pools_are_found, rows_of_the_others_stay};
+
 /// A task comes, below the current one: it shares subpool 0 or has one of its own, it is given subpools, and it shares
 /// others; and registers of the current task are set. Seven blank elements are enough, and two more for each number
 /// that is given or shared.
 pub fn attaching_leads()
     ensures { AttachingLeads }
-{}
+{
+    pools_are_found();
+    all_rows_change();
+}
 
 /// Another task makes the requests. It takes no element.
 pub fn turning_leads()
@@ -20,7 +25,10 @@ pub fn turning_leads()
 /// One blank element is enough besides those for the subpools and their extents.
 pub fn ending_leads()
     ensures { EndingLeads }
-{}
+{
+    pools_are_found();
+    rows_of_the_others_stay();
+}
 
 /// The tasks of a subtree, those furthest below its top first, can end one by one.
 pub fn ends_are_in_order()

@@ -6,5 +6,7 @@ pub returns : goal.returns
 returns c settings names_full valid stands =
     let its = c.in_ok-find_owned.ensures in
     let plan = c.empty in
-    emptying_carried_out settings names_full (state_of c.args.storage.now) c.args.number its.none valid stands.sound c.in_ok-find_owned.field-0 its.subpool
+    let storage = c.args.storage.now in
+    emptying_carried_out settings names_full (state_of storage) c.args.number c.rows_of_the_others_stay.ensures
+    (c.cell_pools_are_named.ensures storage.elements storage.subpools c.requires.subpools) its.none valid stands.sound c.in_ok-find_owned.field-0 its.subpool
     plan.result plan.ensures.emptied plan.ensures.records plan.ensures.blanks plan.ensures.fresh plan.ensures.reply

@@ -8,7 +8,7 @@ use Rattle.cell_pool.specs.Pools.{Pool, first_with, is_named, is_of, id_in}
 use Rattle.cell_extents.specs.Items.{pool_of}
 use Rattle.cell_pool.specs.Kept.{pools_of}
 use Rattle.cell_pool.specs.CellPools.{pool, by_id, IsCellPools}
-use Rattle.cell_pool.specs.Order.{is_before, is_between, IsNext}
+use Rattle.cell_pool.specs.Order.{is_behind, is_between, IsNext}
 use Rattle.cell_pool.proofs.PoolLemmas.{none_more, none_all, found_other, one_named, name_refl}
 use Rattle.cell_extents.proofs.EntryLemmas.{pool_name}
 use Rattle.cell_pool.proofs.OrderLemmas.{lies_between, nearer, none_lies, low_passes, between_low}
@@ -34,15 +34,15 @@ name_of-named-requires-clause-bytes c = has_bytes c.args.elements.now c.args.sel
 abbrev high_name : Option Candidate → Option (List ℕ)
 high_name o = option_map (λ c. c.name.bytes) o
 
-abbrev IsFound : List Pool → List ℕ → Option Candidate → Type 0
-IsFound ps low o = IfSome o (λ c. (p : Pool) × (id_in c.id ps ≡ Some p) × (p.name ≡ c.name.bytes) × (is_before low c.name.bytes ≡ true))
+abbrev IsFound : List Pool → Option (List ℕ) → Option Candidate → Type 0
+IsFound ps low o = IfSome o (λ c. (p : Pool) × (id_in c.id ps ≡ Some p) × (p.name ≡ c.name.bytes) × (is_behind low c.name.bytes ≡ true))
 
 pub loop-place-preserved : goal.loop-place-preserved
 loop-place-preserved c =
     let es : List Entry = entries c.args.elements.now c.args.self.now.table in
     let e : Entry = entry_of c.args.elements.now c.row-row.result in
     let p : Pool = pool_of e in
-    let low : List ℕ = c.args.name.now.bytes in
+    let low : Option (List ℕ) = option_map (λ n. n.now.bytes) c.args.behind in
     let high : Option (List ℕ) = high_name c.loop-place.next in
     let named : c.name_of-named.result.bytes ≡ p.name = c.name_of-named.ensures ∙ ap spelled c.label.ensures ∙ sym (pool_name e) in
     let told : c.is_between.result ≡ is_between low high p.name = c.is_between.ensures ∙ ap (is_between low high) named in
@@ -55,7 +55,7 @@ loop-place-preserved c =
           let M : Option (List ℕ) → Type 0 = λ o. first_with (lies_between low o) (pools_of (take (c.loop-place.place.index + 1) es)) ≡ None in
           record {
             place = c.row-row.ensures.next;
-            found = subst F (sym w.next-is) (p, own, sym named, ap (is_before low) named ∙ between_low low high p.name hit);
+            found = subst F (sym w.next-is) (p, own, sym named, ap (is_behind low) named ∙ between_low low high p.name hit);
             earlier = subst N (sym w.next-is) (subst M (ap Some (sym named)) (nearer low high es c.loop-place.place.index e c.row-row.ensures.entry c.loop-place.invariant.earlier hit));
           })
       | else-is_between w ↦ record {
@@ -68,7 +68,7 @@ loop-place-preserved c =
 pub returns-in-Some-clause-there : goal.returns-in-Some-clause-there
 unfolding by_id
 returns-in-Some-clause-there c =
-    let F : Option Candidate → Type 0 = IsFound (pools_of (entries c.args.elements.now c.args.self.now.table)) c.args.name.now.bytes in
+    let F : Option Candidate → Type 0 = IsFound (pools_of (entries c.args.elements.now c.args.self.now.table)) (option_map (λ n. n.now.bytes) c.args.behind) in
     let f = subst F c.in-Some.is c.loop-place.invariant.found in
     let Q : Option Pool → Type 0 = IsSome in
     subst Q (sym f.1) refl
@@ -78,7 +78,7 @@ unfolding by_id pool IsCellPools
 returns-in-Some-clause-next c =
     let es : List Entry = entries c.args.elements.now c.args.self.now.table in
     let ps : List Pool = pools_of es in
-    let low : List ℕ = c.args.name.now.bytes in
+    let low : Option (List ℕ) = option_map (λ n. n.now.bytes) c.args.behind in
     let past : length es ≤ c.loop-place.place.index = omega (arith, c.count-count.ensures.count, c.loop-place-test.false) in
     let F : Option Candidate → Type 0 = IsFound ps low in
     let f = subst F c.in-Some.is c.loop-place.invariant.found in
@@ -90,7 +90,7 @@ returns-in-Some-clause-next c =
     let G : Option Pool → Type 0 = λ z. IfSome z (λ (p : Pool). IsNext (pool c.args.elements.now c.args.self.now) low p.name) in
     subst G (sym f.1) (record {
       there = subst Q (sym (found_other (is_of c.in-Some.candidate.id) (is_named p.name) ps p f.1 (one_named p.name ps c.requires.single) (name_refl p.name))) refl;
-      behind = ap (is_before low) f.2 ∙ f.3;
+      behind = ap (is_behind low) f.2 ∙ f.3;
       first = λ n there behind. sym (low_passes low p.name n behind) ∙ none_lies low (Some p.name) ps near n there;
     })
 
@@ -98,7 +98,7 @@ pub returns-in-None-clause-none : goal.returns-in-None-clause-none
 unfolding pool
 returns-in-None-clause-none c =
     let es : List Entry = entries c.args.elements.now c.args.self.now.table in
-    let low : List ℕ = c.args.name.now.bytes in
+    let low : Option (List ℕ) = option_map (λ n. n.now.bytes) c.args.behind in
     let past : length es ≤ c.loop-place.place.index = omega (arith, c.count-count.ensures.count, c.loop-place-test.false) in
     let N : Option (List ℕ) → Type 0 = λ o. first_with (lies_between low o) (pools_of es) ≡ None in
     let none : first_with (lies_between low None) (pools_of es) ≡ None = subst N (ap high_name c.in-None.is) (none_all (lies_between low (high_name c.loop-place.next)) es c.loop-place.place.index past c.loop-place.invariant.earlier) in

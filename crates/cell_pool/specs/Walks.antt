@@ -1,0 +1,35 @@
+-- Places among the extents and among the free cells of one cell pool.
+use Rattle.std.specs.Prelude.{◌≡◌, ℕ, ◌-◌, ◌≤◌, List, map, take, drop}
+use Rattle.vsm_elements.specs.Store.{Store}
+use Rattle.vsm_elements.specs.Chain.{links, last_or, IsChain}
+use Rattle.list_table.specs.Kept.{items_of}
+use Rattle.cell_extents.specs.Items.{cell_of, extent_of}
+use Rattle.cell_extents.specs.declared.settings.Extent.{Extent}
+use Rattle.cell_pool.specs.declared.walks.ItemPlace.{ItemPlace}
+use Rattle.cell_pool.specs.declared.walks.ExtentPlace.{ExtentPlace}
+use Rattle.cell_pool.specs.declared.walks.CellPlace.{CellPlace}
+
+-- the words of the items behind the place, up to its end. No public clause cites it.
+abbrev pub items_left : Store → ItemPlace → List (List ℕ)
+items_left s w = take (w.end - w.index) (drop w.index (items_of (links s w.list)))
+
+-- the place stands in its list, behind the item of this id, or in front of all of them; nor this
+pub record StandsAt (s : Store) (w : ItemPlace) : Type 0 where
+  pub chain : IsChain s w.list
+  pub within : w.index ≤ w.end
+  pub inside : w.end ≤ w.list.count
+  pub behind : w.before ≡ last_or 0 (take w.index (links s w.list))
+
+-- the place is before, between or behind the extents of a pool, and these are behind it
+unfoldable pub IsExtentPlace : Store → ExtentPlace → Type 0
+IsExtentPlace s place = StandsAt s place.items
+
+unfoldable pub extents_left : Store → ExtentPlace → List Extent
+extents_left s place = map extent_of (items_left s place.items)
+
+-- the place is before, between or behind the free cells of a pool, and these are behind it
+unfoldable pub IsCellPlace : Store → CellPlace → Type 0
+IsCellPlace s place = StandsAt s place.items
+
+unfoldable pub cells_left : Store → CellPlace → List ℕ
+cells_left s place = map cell_of (items_left s place.items)

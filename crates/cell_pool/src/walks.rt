@@ -1,0 +1,141 @@
+//! Walks over the extents and over the free cells of one pool, in their order, at the cost of an element a step.
+
+ghost use Rattle.std.specs.Prelude.{◌≡◌, ◌+◌, ◌-◌, ◌≤◌, [], ◌∷◌, take, drop, IsSome, IfSome, IfNone};
+ghost use Rattle.vsm_elements.specs.Chain.{links, IsChain};
+ghost use Rattle.list_table.specs.Kept.{items_of};
+ghost use Rattle.cell_pool.specs.Walks.{items_left, StandsAt, IsExtentPlace, extents_left, IsCellPlace, cells_left};
+
+use crate::pools::CellPools;
+use cell_extents::lists::{TEXTS, before};
+use cell_extents::{CellId, Extent};
+use vsm_elements::{Chain, Elements, Id};
+
+// A place before, between or behind some items of a pool's list: how many items stand before it, the id of the last of
+// these, or 0, and how many stand before the end of the walk.
+#[derive(Clone, Copy, Debug, PartialEq, Eq)]
+struct ItemPlace {
+    list: Chain,
+    index: u32,
+    before: Id,
+    end: u32,
+}
+
+/// A place before, between or behind the extents of a pool, from which [`CellPools::next_extent`] goes on without a
+/// walk. It is one as long as the pools stay as they are.
+#[derive(Clone, Copy, Debug, PartialEq, Eq)]
+pub struct ExtentPlace {
+    items: ItemPlace,
+}
+
+/// A place before, between or behind the free cells of a pool, from which [`CellPools::next_cell`] goes on likewise.
+#[derive(Clone, Copy, Debug, PartialEq, Eq)]
+pub struct CellPlace {
+    items: ItemPlace,
+}
+
+impl ItemPlace {
+    // The place before the item of this index, of a walk that ends before the item at `end`.
+    fn new(list: Chain, elements: &Elements, index: u32, end: u32) -> ItemPlace
+        requires chain { IsChain elements.now list }
+        requires within { (index ≤ end) × (end ≤ list.count) }
+        ensures stands { StandsAt elements.now result }
+        ensures items { items_left elements.now result
+            ≡ take (end - index) (drop index (items_of (links elements.now list))) }
+    {
+        let before = before(list, elements, index);
+        ItemPlace {
+            list,
+            index,
+            before,
+            end,
+        }
+    }
+
+    // The words of the item behind the place, and the place behind that item; `None` at the end.
+    fn next(self, elements: &Elements) -> Option<([u32; 7], ItemPlace)>
+        requires { StandsAt elements.now self }
+        ensures none { IfNone result (items_left elements.now self ≡ []) }
+        ensures next { IfSome result (λ r. items_left elements.now self ≡ r.0 ∷ items_left elements.now r.1) }
+        ensures place { IfSome result (λ r. StandsAt elements.now r.1) }
+    {
+        if self.index == self.end {
+            return None;
+        }
+        let id = self.list.next(elements, self.index, self.before);
+        let words = self.list.words(elements, self.index, id);
+        let behind = ItemPlace {
+            list: self.list,
+            index: self.index + 1,
+            before: id,
+            end: self.end,
+        };
+        Some((words, behind))
+    }
+}
+
+#[tactic(auto, unfolding(
+// where a walk over extents stands, and what is left of it
+crate::specs::Walks::IsExtentPlace, crate::specs::Walks::extents_left,
+// and one over free cells
+crate::specs::Walks::IsCellPlace, crate::specs::Walks::cells_left))]
+impl CellPools {
+    ghost use Rattle.cell_pool.specs.CellPools.{by_id, IsCellPools};
+
+    /// The place before the first extent of the pool.
+    pub fn first_extent(&self, elements: &Elements, id: CellId) -> ExtentPlace
+        requires pools { IsCellPools elements.now self.now }
+        requires there { IsSome (by_id elements.now self.now id) }
+        ensures place { IsExtentPlace elements.now result }
+        ensures all { IfSome (by_id elements.now self.now id) (λ p. extents_left elements.now result ≡ p.extents) }
+    {
+        let row = self.row(elements, id);
+        let end = TEXTS + row.words[4];
+        ExtentPlace {
+            items: ItemPlace::new(row.list, elements, TEXTS, end),
+        }
+    }
+
+    /// The extent behind the place, and the place behind that extent; `None` behind the last. From the first place on,
+    /// the extents come in the order in which they were made.
+    pub fn next_extent(elements: &Elements, place: ExtentPlace) -> Option<(Extent, ExtentPlace)>
+        requires { IsExtentPlace elements.now place }
+        ensures none { IfNone result (extents_left elements.now place ≡ []) }
+        ensures next { IfSome result (λ r. extents_left elements.now place ≡ r.0 ∷ extents_left elements.now r.1) }
+        ensures place { IfSome result (λ r. IsExtentPlace elements.now r.1) }
+    {
+        let (words, items) = place.items.next(elements)?;
+        let extent = Extent {
+            start: words[0],
+            count: words[1],
+        };
+        Some((extent, ExtentPlace { items }))
+    }
+
+    /// The place before the first free cell of the pool.
+    ///
+    /// It walks over the pool's extents and their marks.
+    pub fn first_cell(&self, elements: &Elements, id: CellId) -> CellPlace
+        requires pools { IsCellPools elements.now self.now }
+        requires there { IsSome (by_id elements.now self.now id) }
+        ensures place { IsCellPlace elements.now result }
+        ensures all { IfSome (by_id elements.now self.now id) (λ p. cells_left elements.now result ≡ p.cells) }
+    {
+        let row = self.row(elements, id);
+        let front = TEXTS + row.words[3];
+        CellPlace {
+            items: ItemPlace::new(row.list, elements, front, row.list.count),
+        }
+    }
+
+    /// The free cell behind the place, and the place behind that cell; `None` behind the last. From the first place on,
+    /// the cells come in the order in which they are handed out.
+    pub fn next_cell(elements: &Elements, place: CellPlace) -> Option<(u32, CellPlace)>
+        requires { IsCellPlace elements.now place }
+        ensures none { IfNone result (cells_left elements.now place ≡ []) }
+        ensures next { IfSome result (λ r. cells_left elements.now place ≡ r.0 ∷ cells_left elements.now r.1) }
+        ensures place { IfSome result (λ r. IsCellPlace elements.now r.1) }
+    {
+        let (words, items) = place.items.next(elements)?;
+        Some((words[0], CellPlace { items }))
+    }
+}
