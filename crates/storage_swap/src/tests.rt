@@ -129,7 +129,6 @@ fn a_cell_pool_comes_and_goes(rt: HostRuntime) -> Result<(), Fail> {
         .find(&storage.elements, &name)
         .expect(&rt, "no cell pool");
     assert_eq!(rt; pools.first_free(&storage.elements, id), Some(4096));
-    assert_eq!(rt; pools.cell_at(&storage.elements, id, 2), Some(4128));
     change.swap(&mut storage);
     let pools = storage.subpools.cell_pools(&storage.elements);
     assert!(rt; pools.find(&storage.elements, &name).is_none());
