@@ -15,3 +15,4 @@ pub mod FreshLemmas
 pub mod BackLemmas
 mod ObtainLemmas
 mod TakenLemmas
+mod ComeLemmas
