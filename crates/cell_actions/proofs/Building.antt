@@ -1,6 +1,5 @@
 -- A cell pool that comes, with its first extent.
-use Rattle.std.proofs.Common.{◌≡◌, ◌⊎◌, inl, inr, ℕ, ◌+◌, ◌*◌, ◌/◌, ◌<◌, ◌≤◌, Bool, true, false, ◌==◌, if◌then◌else◌, List, ◌∷◌, ◌++◌, Option, Some, None, IsSome, is_some, refl, sym, ◌∙◌, ap, subst, arith}
-use Rattle.std.specs.Prelude.{◌≢◌}
+use Rattle.std.proofs.Common.{◌≡◌, inl, inr, ℕ, ◌*◌, ◌/◌, ◌<◌, Bool, true, false, ◌==◌, if◌then◌else◌, List, ◌++◌, Option, Some, None, is_some, refl, sym, ◌∙◌, ap, subst, arith}
 use Rattle.std.proofs.Math.Nat.{mul-pos}
 use Rattle.std.proofs.lemmas.Bool.{cond-true, eqb-true, eq-eqb}
 use Rattle.run_set.specs.declared.run.Run.{Run}
@@ -10,12 +9,12 @@ use Rattle.vsm_model.specs.Obtaining.{with_area}
 use Rattle.cell_pool.specs.Pools.{Pool}
 use Rattle.cell_tables.specs.Laws.{NewPoolsHaveARow}
 use Rattle.cell_tables.specs.Table.{cell_pool_of}
-use Rattle.subpool_storage.specs.Subpools.{no_subpools, HasPool, IsUnnamed}
+use Rattle.subpool_storage.specs.Subpools.{no_subpools, IsUnnamed}
 use Rattle.storage_changes.specs.declared.record.CellPoolRecord.{CellPoolRecord}
 use Rattle.storage_changes.specs.declared.record.Record.{Record}
 use Rattle.storage_changes.specs.declared.record.Record.TheVariants.{CellPool}
-use Rattle.storage_changes.specs.Changes.{Change, change_of, change_building, outset}
-use Rattle.storage_changes.specs.Fits.{Fits, FitInTurn, CellPoolFits}
+use Rattle.storage_changes.specs.Changes.{Change, change_of, change_building, outset, arrival, overlay}
+use Rattle.storage_changes.specs.Fits.{Fits, FitInTurn}
 use Rattle.storage_changes.specs.Meaning.{model_of}
 use Rattle.storage_changes.specs.State.{StorageState}
 use Rattle.storage_changes.specs.Steps.{step, walk}
@@ -23,10 +22,10 @@ use Rattle.storage_changes.specs.Walk.{Walk}
 use Rattle.storage_actions.specs.Actions.{own_records, register_records}
 use Rattle.storage_actions.specs.Leads.{with_new}
 use Rattle.storage_actions.proofs.Goes.{at, Goes, goes_on}
-use Rattle.storage_actions.proofs.Rows.{Stands, with_rows, rows_go, task_is_there, leads_to, fresh_of}
+use Rattle.storage_actions.proofs.Rows.{with_rows, rows_go, task_is_there, leads_to, fresh_of}
 use Rattle.cell_actions.specs.Actions.{area_records, area_blanks, area_pages, doublewords_for}
 use Rattle.cell_actions.specs.Laws.{BuildingLeads}
-use Rattle.cell_actions.proofs.Changed.{some_is}
+use Rattle.cell_actions.proofs.Changed.{some_is, listed_too}
 use Rattle.cell_actions.proofs.Elsewhere.{with_cells, goes_with, elsewhere_on, own_elsewhere, area_elsewhere}
 use Rattle.cell_actions.proofs.Places.{takes, with_parts, zeros_for, nothing}
 
@@ -86,8 +85,14 @@ module _ (m : StorageState) (p : Pool) (records : List Record) (blanks : ℕ) (f
     pub fit_building : FitInTurn (outset m d) d.records
     fit_building = (fits, let P : Walk → Type 0 = λ v. FitInTurn v records in subst P (sym comes) go.fits)
 
-    pub arrives : walk (outset m d) d.records ≡ at n b g (walk (at (with_cells m joined) (zeros_for fresh) nothing blanks) records).spare
+    arrives : walk (outset m d) d.records ≡ at n b g (walk (at (with_cells m joined) (zeros_for fresh) nothing blanks) records).spare
     arrives = ap (λ (v : Walk). walk v records) comes ∙ go.there
+
+    pub leads_there : overlay m d ≡ n
+    leads_there = ap (λ (v : Walk). v.state) arrives
+
+    pub brings_none : ((a : ℕ) → b a ≡ None) → (a : ℕ) → (arrival m d).brought a ≡ None
+    brings_none none a = ap (λ (v : Walk). v.brought a) arrives ∙ none a
 
 pub building_leads : NewPoolsHaveARow → BuildingLeads
 building_leads row settings m p is_new count goes rows sound named absent small unnamed own some size extents cells room are formed =
@@ -111,14 +116,14 @@ building_leads row settings m p is_new count goes rows sound named absent small 
     (elsewhere_on (own_records sub is_new) (area_records sub length goes) (own_elsewhere sub is_new) (area_elsewhere sub length goes))
     (taking.go blanks 1 (omega arith) (omega arith)))
     (λ s less. rows_go end b g s 0 rows (task_is_there settings m sound) are (omega arith)) in
-    let there = arrives m p (area ++ registers) blanks fresh absent unnamed (with_rows end rows) b g 0 go in
     let pool = cell_pool_of p in
+    let leads = with_area (with_new (model_of m) sub is_new) sub length goes in
     let table = row m.subpools.cells p.id p named small absent (λ i q e same. unnamed i q e same) in
     let listed : model_of end ≡ with_pool (model_of n) p.name pool = λ i. record (model_of n) { cell_pools = table i } in
     leads_to settings m end (change_building p (change_of (area ++ registers) blanks fresh)) rows
-    (with_pool (with_area (with_new (model_of m) sub is_new) sub length goes) p.name pool)
+    (with_pool leads p.name pool)
     (fit_building m p (area ++ registers) blanks fresh absent unnamed (with_rows end rows) b g 0 go)
-    (ap (λ (v : Walk). v.state) there) (λ a. ap (λ (v : Walk). v.brought a) there ∙ taking.none a)
+    (leads_there m p (area ++ registers) blanks fresh absent unnamed (with_rows end rows) b g 0 go) (brings_none m p (area ++ registers) blanks fresh absent unnamed (with_rows end rows) b g 0 go taking.none)
     (λ a. fresh_of m fresh a (inside (a / 4096) fresh) refl (taking.fresh (a / 4096)))
     (record { apart = taking.stands.apart; named = taking.stands.named; rest = taking.stands.rest; free = taking.stands.free })
-    (listed ∙ ap (λ s. with_pool s p.name pool) taking.leads) formed
+    (listed_too (model_of end) (model_of n) leads p.name pool listed taking.leads) formed

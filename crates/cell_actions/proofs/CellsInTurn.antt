@@ -1,6 +1,5 @@
 -- A cell that is handed out or given back.
-use Rattle.std.proofs.Common.{◌≡◌, ℕ, ◌++◌, Option, None, refl, arith}
-use Rattle.vsm_model.specs.declared.limits.Settings.{Settings}
+use Rattle.std.proofs.Common.{ℕ, ◌++◌, Option, None, refl, arith}
 use Rattle.cell_pool.specs.Laws.{FirstCellIsUsed}
 use Rattle.cell_pool.specs.Pools.{without_first, with_first}
 use Rattle.cell_tables.specs.Laws.{ChangedPoolsHaveTheirRow}

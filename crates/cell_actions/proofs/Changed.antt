@@ -1,9 +1,11 @@
 -- A cell pool that changes: its records, and its row on the plain machine.
-use Rattle.std.proofs.Common.{◌≡◌, ℕ, ◌+◌, ◌-◌, ◌≤◌, Bool, true, false, ◌==◌, if◌then◌else◌, List, [], ◌∷◌, Option, Some, None, IsSome, is_some, refl, sym, ◌∙◌, ap, arith, subst, true≢false}
+use Rattle.std.proofs.Common.{◌≡◌, ℕ, ◌+◌, ◌-◌, ◌≤◌, Bool, true, false, ◌==◌, if◌then◌else◌, List, ◌∷◌, Option, Some, None, is_some, refl, sym, ◌∙◌, ap, arith, subst, true≢false}
 use Rattle.std.specs.Prelude.{◌*◌, ◌^◌, option_map, drop}
 use Rattle.std.proofs.lemmas.Bool.{cond-true, eq-eqb}
 use Rattle.vsm_model.specs.declared.limits.Settings.{Settings}
+use Rattle.vsm_model.specs.CellPools.{CellPool}
 use Rattle.vsm_model.specs.Cells.{with_pool}
+use Rattle.vsm_model.specs.State.{State}
 use Rattle.cell_pool.specs.Pools.{Pool, at_id, uses, meets, without_first, with_first, extended}
 use Rattle.cell_tables.specs.Laws.{ChangedPoolsHaveTheirRow}
 use Rattle.cell_tables.specs.Named.{AreNamed}
@@ -21,6 +23,10 @@ use Rattle.cell_actions.specs.Actions.{handed_out_records, given_back_records, e
 
 pub some_is : {A : Type 0} (x y : A) → Some x ≡ Some y → x ≡ y
 some_is x y e = cc
+
+-- a row on the plain machine beside what else becomes of it
+pub listed_too : (end now s : State) (name : List ℕ) (pool : CellPool) → end ≡ with_pool now name pool → now ≡ s → end ≡ with_pool s name pool
+listed_too end now s name pool listed leads = listed ∙ ap (λ t. with_pool t name pool) leads
 
 -- the state once a cell pool is changed
 abbrev pub changed : StorageState → ℕ → (Pool → Pool) → StorageState

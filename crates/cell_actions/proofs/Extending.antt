@@ -1,23 +1,22 @@
 -- A cell pool that has a further extent, whose first cell it hands out.
-use Rattle.std.proofs.Common.{◌≡◌, ℕ, ◌+◌, ◌*◌, ◌/◌, ◌<◌, ◌≤◌, false, ◌++◌, Option, None, refl, ◌∙◌, ap, arith}
+use Rattle.std.proofs.Common.{◌≡◌, ◌+◌, ◌*◌, ◌<◌, false, ◌++◌, refl, ◌∙◌, ap, arith}
 use Rattle.std.specs.Prelude.{drop}
 use Rattle.std.proofs.Math.Nat.{mul-pos}
 use Rattle.vsm_model.specs.Areas.{address_of}
 use Rattle.vsm_model.specs.Cells.{with_pool}
+use Rattle.vsm_model.specs.Obtaining.{with_area}
 use Rattle.cell_pool.specs.Pools.{Pool, cells_from, extended, without_first}
 use Rattle.cell_tables.specs.Laws.{ChangedPoolsHaveTheirRow, PoolsAreFound}
 use Rattle.cell_tables.specs.Table.{cell_pool_of, cell_pools_in}
-use Rattle.storage_changes.specs.Changes.{change_of}
 use Rattle.storage_changes.specs.Meaning.{model_of}
-use Rattle.storage_changes.specs.State.{StorageState}
 use Rattle.storage_actions.specs.Actions.{register_records}
 use Rattle.storage_actions.proofs.Goes.{at, goes_on}
 use Rattle.storage_actions.proofs.Rows.{with_rows, rows_go, task_is_there, leads_with_rows}
 use Rattle.cell_actions.specs.Actions.{area_records, area_blanks, area_pages, extent_records, extent_blanks, handed_out_records, doublewords_for, with_extended}
 use Rattle.cell_actions.specs.Laws.{ExtendingLeads}
-use Rattle.cell_actions.proofs.Changed.{changed, changed_stands, hands_out, extends, ids_changed, at_twice, found_changed}
+use Rattle.cell_actions.proofs.Changed.{changed, listed_too, changed_stands, hands_out, extends, ids_changed, at_twice, found_changed}
 use Rattle.cell_actions.proofs.Extents.{meets_none, first_free, first_is_used}
-use Rattle.cell_actions.proofs.Places.{Takes, takes, with_parts, zeros_for, nothing, below_line}
+use Rattle.cell_actions.proofs.Places.{takes, with_parts, zeros_for, nothing, below_line}
 
 pub extending_leads : ChangedPoolsHaveTheirRow → PoolsAreFound → ExtendingLeads
 extending_leads row are_found settings m p count goes rows sound named there empty some size own room are formed =
@@ -56,4 +55,4 @@ extending_leads row are_found settings m p count goes rows sound named there emp
     (drop 1 (cells_from p.settings.size start count)) (first_free p start count empty some size) (first_is_used p start count empty some size) (omega arith)))
     (λ s less. rows_go end b g s 0 rows (task_is_there settings m sound) are less))
     taking.none taking.fresh (changed_stands settings grown p.id without_first (changed_stands settings n p.id grow taking.stands))
-    (listed ∙ ap (λ s. with_pool s p.name pool) taking.leads) formed
+    (listed_too (model_of end) (model_of n) (with_area (model_of m) sub length goes) p.name pool listed taking.leads) formed

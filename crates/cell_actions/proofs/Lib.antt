@@ -5,3 +5,7 @@ pub mod Extents
 pub mod Extending
 pub mod Elsewhere
 pub mod Building
+pub mod Beside
+pub mod Ready
+pub mod GivenBack
+pub mod Deleting

@@ -1,5 +1,5 @@
 -- An area that is taken at its place.
-use Rattle.std.proofs.Common.{◌≡◌, ℕ, ◌+◌, ◌-◌, ◌<◌, ◌≤◌, Bool, true, false, not, ◌&&◌, if◌then◌else◌, ◌++◌, Option, Some, None, is_some, refl, sym, ◌∙◌, ap, arith, subst, true≢false}
+use Rattle.std.proofs.Common.{◌≡◌, ℕ, ◌+◌, ◌<◌, ◌≤◌, Bool, true, false, not, if◌then◌else◌, ◌++◌, Option, Some, None, is_some, refl, sym, ◌∙◌, ap, arith, true≢false}
 use Rattle.std.specs.Prelude.{◌*◌, ◌/◌, ◌^◌}
 use Rattle.std.proofs.lemmas.Bool.{and_parts, not-true}
 use Rattle.run_set.specs.declared.run.Run.{Run}
@@ -11,7 +11,7 @@ use Rattle.vsm_model.specs.Obtaining.{with_area}
 use Rattle.vsm_model.specs.Regions.{pages_for, in_a_region}
 use Rattle.storage_changes.specs.Meaning.{model_of, subpool_of, is_taken, IsSound}
 use Rattle.storage_changes.specs.State.{StorageState}
-use Rattle.storage_actions.specs.Actions.{run_of, own_records, take_records, take_fresh_records}
+use Rattle.storage_actions.specs.Actions.{run_of, own_records, take_fresh_records}
 use Rattle.storage_actions.specs.Leads.{CanOwn, with_new}
 use Rattle.storage_actions.proofs.Cases.{in_inside, none_from}
 use Rattle.storage_actions.proofs.Fresh.{all, fresh_go, none_left, stands as fresh_stands, fresh_leads}

@@ -1,21 +1,21 @@
--- The records of a cell pool that comes, hands out a cell, has a further extent, or gets a cell back. Assembler Services
--- Reference, CPOOL; Assembler Services Guide, "Virtual storage management", "Using the CPOOL macro".
-use Rattle.std.specs.Prelude.{◌≡◌, ℕ, ◌+◌, ◌*◌, ◌^◌, ◌≤◌, true, false, drop, List, [], ◌∷◌}
+-- The records of a cell pool that comes, hands out a cell, has a further extent, gets a cell back, or goes. Assembler
+-- Services Reference, CPOOL; Assembler Services Guide, "Virtual storage management", "Using the CPOOL macro".
+use Rattle.std.specs.Prelude.{◌≡◌, ℕ, ◌+◌, ◌*◌, ◌/◌, ◌^◌, ◌≤◌, true, false, drop, List, [], ◌∷◌, ◌++◌, length}
 use Rattle.run_set.specs.declared.run.Run.{Run}
 use Rattle.vsm_model.specs.declared.Subpool.{Subpool}
 use Rattle.vsm_model.specs.Areas.{Place, Inside, Fresh, Nowhere, address_of}
-use Rattle.vsm_model.specs.CellPools.{CellPool}
-use Rattle.vsm_model.specs.Cells.{extent_at, with_pool}
-use Rattle.vsm_model.specs.CellPools.{with_extent, extent_doublewords}
+use Rattle.vsm_model.specs.Cells.{with_pool}
 use Rattle.vsm_model.specs.Obtaining.{with_area}
 use Rattle.vsm_model.specs.Regions.{among, doublewords, pages_for}
 use Rattle.vsm_model.specs.State.{State}
+use Rattle.cell_extents.specs.declared.settings.Extent.{Extent}
 use Rattle.cell_pool.specs.Pools.{Pool, extended, mark_items}
 use Rattle.cell_tables.specs.Table.{cell_pool_of}
 use Rattle.storage_changes.specs.declared.record.Record.{Record}
-use Rattle.storage_changes.specs.declared.record.Record.TheVariants.{CellExtent, Cell}
+use Rattle.storage_changes.specs.declared.record.Record.TheVariants.{CellPool as CellPoolRow, CellExtent, Cell}
+use Rattle.subpool_storage.specs.Subpools.{Subpools, with_free}
 use Rattle.storage_changes.specs.State.{StorageState}
-use Rattle.storage_actions.specs.Actions.{run_of, take_records, take_fresh_records}
+use Rattle.storage_actions.specs.Actions.{run_of, take_records, take_fresh_records, give_back_records, emptied_pages}
 
 -- the first free cell of a cell pool is handed out, or a cell that is in use is the first free one
 abbrev pub handed_out_records : ℕ → ℕ → List Record
@@ -63,6 +63,26 @@ HasRoom m p count Nowhere = ⊥
 -- the doublewords of an extent of so many cells
 abbrev pub doublewords_for : Pool → ℕ → ℕ
 doublewords_for p count = doublewords (count * p.settings.size)
+
+-- Each of these extents is given back, with the pages that it empties once those before it are given back, whose
+-- doublewords are free storage then,
+abbrev pub extents_given_back : Subpools → Subpool → ℕ → List Extent → List Record
+extents_given_back m p size [] = []
+extents_given_back m p size (x ∷ xs) =
+    let count = doublewords (x.count * size) in
+    let run = emptied_pages m p (x.start / 8) count in
+    give_back_records p (x.start / 8) count run.start run.len
+    ++ extents_given_back (with_free m p (run_of (x.start / 8) count) true) p size xs
+
+-- behind the cell pool's own record.
+abbrev pub deleting_records : Subpools → Pool → List Record
+deleting_records m p =
+    CellPoolRow (record { pool = p.id; present = false })
+    ∷ extents_given_back m p.settings.subpool p.settings.size p.extents
+
+-- The blank elements that this takes at most.
+abbrev pub deleting_blanks : Pool → ℕ
+deleting_blanks p = 7 * length p.extents
 
 -- the state in which a cell pool has the next cells, where the one that it hands out is its first free one,
 abbrev pub with_handed_out : State → Pool → State

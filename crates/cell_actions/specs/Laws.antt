@@ -2,8 +2,9 @@
 use Rattle.std.specs.Prelude.{◌≡◌, ℕ, ◌+◌, ◌^◌, ◌<◌, Bool, true, None, Some, List, [], ◌∷◌, ◌++◌}
 use Rattle.vsm_model.specs.declared.limits.Settings.{Settings}
 use Rattle.vsm_model.specs.Areas.{Place, address_of}
-use Rattle.vsm_model.specs.Cells.{with_pool}
+use Rattle.vsm_model.specs.Cells.{with_pool, deleted}
 use Rattle.vsm_model.specs.Obtaining.{with_area}
+use Rattle.vsm_model.specs.Regions.{settings_valid}
 use Rattle.vsm_model.specs.Registers.{with_registers}
 use Rattle.vsm_model.specs.WellFormed.{IsWellFormed}
 use Rattle.cell_pool.specs.Pools.{Pool, uses, cells_from}
@@ -18,6 +19,7 @@ use Rattle.storage_actions.specs.Leads.{Leads, with_new, CanOwn, AreRegisters}
 use Rattle.cell_actions.specs.Actions.{handed_out_records, given_back_records, extent_records, extent_blanks}
 use Rattle.cell_actions.specs.Actions.{area_records, area_blanks, area_pages, HasRoom, doublewords_for}
 use Rattle.cell_actions.specs.Actions.{with_handed_out, with_given_back, with_extended}
+use Rattle.cell_actions.specs.Actions.{deleting_records, deleting_blanks}
 
 -- A cell pool hands out its first free cell,
 abbrev pub HandingOutLeads : Type 0
@@ -81,3 +83,14 @@ BuildingLeads =
     (with_pool
     (with_area (with_new (model_of m) p.settings.subpool is_new) p.settings.subpool (doublewords_for p count) goes)
     p.name (cell_pool_of p)) rows)
+
+-- A cell pool goes, and each of its extents is given back with the pages that it empties.
+abbrev pub DeletingLeads : Type 0
+DeletingLeads =
+    (settings : Settings) (m : StorageState) (p : Pool) (rows : List (ℕ × ℕ)) →
+    settings_valid settings ≡ true → IsSound settings m → AreNamed m.subpools.cells → m.subpools.cells p.id ≡ Some p →
+    AreRegisters rows →
+    IsWellFormed settings (with_registers (deleted (model_of m) p.name).0 rows) →
+    Leads settings m
+    (change_of (deleting_records m.subpools p ++ register_records m rows) (deleting_blanks p) (run_of 0 0))
+    (with_registers (deleted (model_of m) p.name).0 rows)

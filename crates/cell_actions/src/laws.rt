@@ -2,9 +2,12 @@
 //! nothing.
 
 ghost use Rattle.cell_actions.specs.Laws.{HandingOutLeads, ExtendingLeads, GivingBackCellsLeads, BuildingLeads};
+ghost use Rattle.cell_actions.specs.Laws.{DeletingLeads};
 
 use cell_pool::laws::first_cell_is_used;
-use cell_tables::laws::{changed_pools_have_their_row, new_pools_have_a_row, pools_are_found};
+use cell_tables::laws::{
+    changed_pools_have_their_row, gone_pools_have_no_row, new_pools_have_a_row, pools_are_found,
+};
 
 /// A cell pool hands out its first free cell.
 pub fn handing_out_leads()
@@ -34,4 +37,12 @@ pub fn building_leads()
     ensures { BuildingLeads }
 {
     new_pools_have_a_row();
+}
+
+/// A cell pool goes, with its extents.
+pub fn deleting_leads()
+    ensures { DeletingLeads }
+{
+    gone_pools_have_no_row();
+    pools_are_found();
 }

@@ -3,7 +3,8 @@
 -- A row's words are the subpool's number, the cell size, the subpool's owner, how many items the extents and the marks
 -- take, and how many extents there are. Its list has three items of the name, one of the header and one of its end with
 -- the side and both counts, then the extents, then the marks, then the free cells.
-use Rattle.std.specs.Prelude.{◌≡◌, ℕ, zero, suc, ◌+◌, ◌%◌, ◌^◌, ◌≤◌, ◌<◌, List, [], ◌∷◌, length, take, drop, map, slice_index_or}
+use Rattle.std.specs.Prelude.{◌≡◌, ℕ, zero, suc, ◌+◌, ◌%◌, ◌^◌, ◌≤◌, ◌<◌, List, [], ◌∷◌, length, take, drop}
+use Rattle.std.specs.Prelude.{map, slice_index_or}
 use Rattle.list_table.specs.Entries.{Entry, word}
 use Rattle.vsm_model.specs.declared.Subpool.{Subpool}
 use Rattle.cell_extents.specs.declared.label.Label.{Label}

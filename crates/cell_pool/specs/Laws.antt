@@ -3,7 +3,8 @@ use Rattle.std.specs.Prelude.{◌≡◌, ℕ, ◌<◌, ◌^◌, Bool, true, List
 use Rattle.vsm_elements.specs.Store.{Store, SameElements, Distinct}
 use Rattle.vsm_elements.specs.Ownership.{Owns, Leaves, Apart}
 use Rattle.cell_pool.specs.declared.pools.CellPools.{CellPools}
-use Rattle.cell_pool.specs.Pools.{Pool, HasCells, without_first, uses, id_in, pool_in, extended, retracted, only, all_but, either_of}
+use Rattle.cell_pool.specs.Pools.{Pool, HasCells, without_first, uses, id_in, pool_in, extended, retracted}
+use Rattle.cell_pool.specs.Pools.{only, all_but, either_of}
 use Rattle.cell_pool.specs.CellPools.{pools, pool, by_id, owned, IsCellPools}
 
 -- the pool of a name is the pool of its id, and the other way round

@@ -46,7 +46,8 @@ impl CellPools {
     /// It walks over all pools.
     pub fn pool_after(&self, elements: &Elements, behind: Option<&Name>) -> Option<CellId>
         requires { IsCellPools elements.now self.now }
-        ensures none { IfNone result (IsLast (pool elements.now self.now) (option_map (λ n. n.now.bytes) behind.entry)) }
+        ensures none { IfNone result (IsLast (pool elements.now self.now)
+            (option_map (λ n. n.now.bytes) behind.entry)) }
         ensures there { IfSome result (λ id. IsSome (by_id elements.now self.now id)) }
         ensures next { IfSome result (λ id. IfSome (by_id elements.now self.now id) (λ p.
             IsNext (pool elements.now self.now) (option_map (λ n. n.now.bytes) behind.entry) p.name)) }

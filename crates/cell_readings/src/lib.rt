@@ -1,5 +1,5 @@
-//! What a storage says of its cell pools: in the order of their names, with what they were built with, their extents and
-//! their free cells. (z/OS MVS Programming: Assembler Services Reference, CPOOL.) Nothing takes memory.
+//! What a storage says of its cell pools: in the order of their names, with what they were built with, their extents
+//! and their free cells. (z/OS MVS Programming: Assembler Services Reference, CPOOL.) Nothing takes memory.
 #![tactic(auto)]
 
 mod pools;

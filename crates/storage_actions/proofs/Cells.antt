@@ -1,5 +1,5 @@
 -- The cell pools where those of some subpools go, and where a subpool is handed on.
-use Rattle.std.proofs.Common.{◌≡◌, ℕ, Bool, true, false, not, ◌&&◌, ◌||◌, ◌==◌, if◌then◌else◌, filter, Option, Some, None, IsSome, List, [], ◌∷◌, refl, sym, ◌∙◌, ap, subst, true≢false}
+use Rattle.std.proofs.Common.{◌≡◌, ℕ, Bool, true, false, not, ◌||◌, if◌then◌else◌, filter, Option, Some, None, IsSome, List, [], ◌∷◌, refl, sym, ◌∙◌, ap, subst, true≢false}
 use Rattle.std.specs.Prelude.{All}
 use Rattle.std.specs.Cmp.Lexicographic.{slice_cmp}
 use Rattle.std.specs.Option.{option_map}
@@ -10,7 +10,7 @@ use Rattle.vsm_model.specs.declared.limits.Settings.{Settings}
 use Rattle.vsm_model.specs.CellPools.{CellPool, CellPools, cell_pool_in}
 use Rattle.vsm_model.specs.Subpools.{same_subpool}
 use Rattle.vsm_model.specs.WellFormed.{PoolIsSound}
-use Rattle.cell_pool.specs.Pools.{Pool, HasCells, all_but, only, lies_in, handed_on, either_of, exchanged}
+use Rattle.cell_pool.specs.Pools.{Pool, HasCells, all_but, only, lies_in, handed_on, exchanged}
 use Rattle.cell_tables.specs.Named.{AreNamed}
 use Rattle.cell_tables.specs.Table.{cell_pool_of, cell_pools_in}
 use Rattle.cell_tables.specs.Laws.{PoolsAreFound, RowsOfTheOthersStay}

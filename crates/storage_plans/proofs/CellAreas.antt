@@ -1,5 +1,5 @@
 -- Whether an area has a byte in common with an extent of a cell pool.
-use Rattle.std.proofs.Common.{◌≡◌, ℕ, true, false, Option, Some, sym, ◌∙◌, true≢false}
+use Rattle.std.proofs.Common.{◌≡◌, ℕ, true, false, Option, sym, ◌∙◌, true≢false}
 use Rattle.std.proofs.lemmas.Bool.{false_from_ne_true}
 use Rattle.std.proofs.Math.Logic.{∥∥₁_elim}
 use Rattle.std.proofs.Math.Bool.{Bool-set}
@@ -7,7 +7,7 @@ use Rattle.vsm_elements.specs.Store.{Store}
 use Rattle.cell_pool.specs.declared.pools.CellPools.{CellPools}
 use Rattle.cell_pool.specs.CellPools.{pool, by_id}
 use Rattle.cell_pool.specs.Laws.{AreOne}
-use Rattle.cell_pool.specs.Pools.{Pool, Meets, meets}
+use Rattle.cell_pool.specs.Pools.{Pool, Meets}
 use Rattle.cell_tables.specs.Laws.{OverlapsAreMet, overlaps_table}
 use Rattle.cell_tables.specs.Named.{AreNamed}
 use Rattle.cell_tables.specs.Table.{cell_pools_in}

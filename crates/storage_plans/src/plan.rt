@@ -100,11 +100,7 @@ pub(crate) fn answer_four(storage: &Storage) -> Plan
 
 /// What a request is answered of which this is the first cause: a plan that sets register 15 to 4, where it is
 /// conditional and the cause is one of those that such a form answers so; else the cause refuses it.
-pub fn answer_cause(
-    storage: &Storage,
-    cause: Cause,
-    conditional: bool,
-) -> Result<Plan, Cause>
+pub fn answer_cause(storage: &Storage, cause: Cause, conditional: bool) -> Result<Plan, Cause>
     ensures { (settings : Settings) (names_full : Bool) (x : Service) → ∥ IsSound settings (state_of storage.now) ∥₁
         → is_conditional x ≡ conditional
         → first_cause (causes settings names_full (model_of (state_of storage.now)) x) ≡ Some cause

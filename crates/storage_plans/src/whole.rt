@@ -69,9 +69,9 @@ fn empty(storage: &Storage, subpool: Subpool) -> Plan
 }
 
 /// A plan for the release of a whole subpool (*Assembler Services Reference*, FREEMAIN and STORAGE, RELEASE): its pages
-/// are unassigned again, with all that was obtained in them, its cell pools are gone, and the subpool stays, empty, with
-/// its owner and those who share it. Register 15 gets 0. Reads alone, and takes no memory, however many areas, extents
-/// and cell pools the subpool has.
+/// are unassigned again, with all that was obtained in them, its cell pools are gone, and the subpool stays, empty,
+/// with its owner and those who share it. Register 15 gets 0. Reads alone, and takes no memory, however many areas,
+/// extents and cell pools the subpool has.
 ///
 /// The causes that refuse it, in order: a number above 127 (`UnsupportedSubpool` for 131 and 132, else
 /// `SubpoolNotAllowed`), `WholeOfZero` for subpool 0, `NotInSubpool` where the task doesn't see the subpool, and

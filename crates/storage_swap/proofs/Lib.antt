@@ -9,8 +9,10 @@ mod AppendLemmas
 mod ThreeLemmas
 pub mod ReserveLemmas
 mod ParkingLemmas
+mod BuildingLemmas
 mod SettingsLemmas
 pub mod FreshLemmas
 pub mod BackLemmas
 mod ObtainLemmas
 mod TakenLemmas
+mod ComeLemmas

@@ -1,15 +1,17 @@
 //! The records of a change as a chain, in their order.
 
-ghost use Rattle.std.specs.Prelude.{◌≡◌, ◌+◌, ◌≤◌, ◌<◌, [], ◌∷◌, ◌++◌, length, IfSome};
+ghost use Rattle.std.specs.Prelude.{◌≡◌, ◌+◌, ◌≤◌, ◌<◌, [], ◌∷◌, ◌++◌, true, length, IfSome};
 ghost use Rattle.vsm_elements.specs.Chain.{last_or, links, owned, IsChain};
 ghost use Rattle.vsm_elements.specs.Ownership.{Apart, Leaves};
 ghost use Rattle.descriptor_queue.specs.Extents.{extents, owned as owned_extents, IsExtents};
 ghost use Rattle.storage_changes.specs.Changes.{unassigned_records};
+ghost use Rattle.storage_changes.specs.declared.record.Record.TheVariants.{CellPool};
 ghost use Rattle.storage_swap.specs.Beside.{records_of};
 ghost use Rattle.storage_swap.specs.Reserve.{emptying};
 
 use descriptor_queue::Extents;
-use storage_changes::{PagesRecord, QueuesRecord, Record};
+use storage_changes::{CellPoolRecord, PagesRecord, QueuesRecord, Record};
+use subpool_storage::CellId;
 use vsm_elements::{Chain, Elements, Id};
 use vsm_model::Subpool;
 
@@ -48,6 +50,25 @@ pub(crate) fn chain_of(elements: &mut Elements, records: &[Record]) -> Chain
 {
     let mut chain = Chain::new();
     append_records(elements, &mut chain, 0, records);
+    chain
+}
+
+// These records, behind the one by which a cell pool comes.
+pub(crate) fn building_records(elements: &mut Elements, pool: CellId, records: &[Record]) -> Chain
+    requires room { 1 + length records.now ≤ elements.old.spare }
+    ensures chain { IsChain elements.new result }
+    ensures records { records_of elements.new result
+        ≡ CellPool (record { pool = pool; present = true }) ∷ records.now }
+    ensures owned { Leaves elements.old elements.new [] (owned elements.new result) }
+    ensures spare { elements.new.spare + (1 + length records.now) ≡ elements.old.spare }
+{
+    let mut chain = Chain::new();
+    let comes = Record::CellPool(CellPoolRecord {
+        pool,
+        present: true,
+    });
+    let last = append(elements, &mut chain, 0, comes);
+    append_records(elements, &mut chain, last, records);
     chain
 }
 

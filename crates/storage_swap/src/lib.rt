@@ -3,6 +3,7 @@
 #![tactic(auto)]
 
 mod beginning;
+mod building;
 mod chains;
 mod change;
 mod ending;
@@ -12,6 +13,7 @@ mod records;
 mod reserve;
 
 pub use beginning::fresh;
+pub use building::NewPool;
 pub use change::Change;
 pub use ending::{Released, release};
 

@@ -36,8 +36,8 @@ impl Change {
     /// state of the storage stays as it is.
     ///
     /// Where a subpool is to be emptied, an empty one is parked under its name, and records stand before these: one by
-    /// which its pages and its free storage go over into the change, and one for each of its extents, in ascending
-    /// order, by which the pages become unassigned.
+    /// which its pages, its free storage and its cell pools go over into the change, and one for each of its extents,
+    /// in ascending order, by which the pages become unassigned.
     ///
     /// Each call on a queue takes one blank element at most, and one has to be left: so one more than the calls is
     /// enough; those for the extents of the subpool are added. The run is in pages of 4,096 bytes, and each of them has
@@ -104,7 +104,7 @@ fn extents_emptied(storage: &Storage, emptied: Option<Subpool>) -> Extents
 }
 
 // So many elements are spare, and a frame and a table for each page of the run.
-fn grow(storage: &mut Storage, elements: u32, fresh: Run) -> Result<(), AllocError>
+pub(crate) fn grow(storage: &mut Storage, elements: u32, fresh: Run) -> Result<(), AllocError>
     requires segments { (page : ℕ) → inside page fresh ≡ true → IsTrue (has_segment storage.old.region page) }
     ensures grown { Grown storage.old storage.new }
     ensures elements { OnOk result (elements ≤ storage.new.elements.spare) }
@@ -184,7 +184,7 @@ fn park_empty(elements: &mut Elements, emptied: Option<Subpool>) -> SubpoolStora
 }
 
 // Frames of zeros for the pages of a run. The pages themselves stay as they are.
-fn take_frames(region: &mut Region, run: Run) -> Parked
+pub(crate) fn take_frames(region: &mut Region, run: Run) -> Parked
     requires range { run.start + run.len ≤ 2 ^ 20 }
     requires tables { HaveTables region.old run.start run.len }
     requires frameless { (page : ℕ) → inside page run ≡ true → bytes_at region.old page ≡ None }

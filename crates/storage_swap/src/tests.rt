@@ -1,10 +1,11 @@
 //! Three pages of the first subpool, obtained, undone and redone; and its whole storage, which a change takes over and
-//! hands back. All elements and frames are given back.
+//! hands back; and a cell pool that comes, goes and is let go. All elements and frames are given back.
 
 use super::*;
 use run_set::Run;
 use std::test::Fail;
 use storage_changes::{AreaRecord, ExtentRecord, PagesRecord, QueuesRecord, Record};
+use subpool_storage::{CellSettings, Header, Name};
 use vsm_model::{Residence, Settings, Subpool};
 
 const SETTINGS: Settings = Settings {
@@ -94,5 +95,46 @@ fn a_change_takes_a_subpools_storage_over(rt: HostRuntime) -> Result<(), Fail> {
     let released = release(storage);
     assert_eq!(rt; released.blocks, 1);
     assert_eq!(rt; released.frames, 3);
+    Ok(())
+}
+
+#[test]
+fn a_cell_pool_comes_and_goes(rt: HostRuntime) -> Result<(), Fail> {
+    let mut storage = fresh(rt.alloc(), SETTINGS)?;
+    let name = Name::new();
+    let mut header = Header::new();
+    header.push(b'H');
+    let header = Some(header);
+    let pool = NewPool {
+        name: &name,
+        settings: CellSettings {
+            subpool: FIRST,
+            size: 16,
+            primary: 3,
+            secondary: 1,
+            location: Residence::Below,
+        },
+        header: &header,
+        start: 4096,
+        count: 3,
+    };
+    let none = Run { start: 0, len: 0 };
+    let (mut change, _) = Change::reserve_building(&mut storage, &pool, &[], 1, none)?;
+    assert_eq!(rt; storage.elements.spare(), 108);
+    let pools = storage.subpools.cell_pools(&storage.elements);
+    assert!(rt; pools.find(&storage.elements, &name).is_none());
+    change.swap(&mut storage);
+    let pools = storage.subpools.cell_pools(&storage.elements);
+    let id = pools
+        .find(&storage.elements, &name)
+        .expect(&rt, "no cell pool");
+    assert_eq!(rt; pools.first_free(&storage.elements, id), Some(4096));
+    change.swap(&mut storage);
+    let pools = storage.subpools.cell_pools(&storage.elements);
+    assert!(rt; pools.find(&storage.elements, &name).is_none());
+    change.discard(&mut storage);
+    assert_eq!(rt; storage.elements.spare(), 121);
+    let released = release(storage);
+    assert_eq!(rt; released.blocks, 1);
     Ok(())
 }

@@ -1,10 +1,10 @@
 -- Two storages exchange cell pools.
-use Rattle.std.proofs.Common.{◌≡◌, ℕ, ◌+◌, ◌-◌, ◌<◌, ◌≤◌, Bool, true, false, ◌⊎◌, inl, inr, List, ◌++◌, length, Option, Some, None, IsSome, refl, sym, ap, ◌∙◌, arith, subst, ◌==◌}
+use Rattle.std.proofs.Common.{◌≡◌, ℕ, ◌+◌, ◌-◌, ◌<◌, ◌≤◌, Bool, true, false, ◌⊎◌, inl, inr, ◌++◌, length, Option, Some, None, IsSome, refl, sym, ap, ◌∙◌, arith, subst, ◌==◌}
 use Rattle.std.specs.Prelude.{IfSome, slice_get, if◌then◌else◌}
-use Rattle.vsm_elements.specs.Store.{Store, at, among}
+use Rattle.vsm_elements.specs.Store.{Store, at}
 use Rattle.vsm_elements.specs.Ownership.{Leaves, Apart}
 use Rattle.vsm_elements.specs.Owners.{times, Moves}
-use Rattle.vsm_elements.proofs.TimesLemmas.{times-append, times-none, none-from, some-from}
+use Rattle.vsm_elements.proofs.TimesLemmas.{times-append, times-none, some-from}
 use Rattle.vsm_elements.proofs.MoveLemmas.{none-or-some, others-kept, moves-of, moves-by, moves-like, moves-follow, apart-from}
 use Rattle.subpool_set.proofs.KeyLemmas.{none_some, if_true, eqb_refl}
 use Rattle.cell_pool.specs.declared.pools.CellPools.{CellPools}
@@ -21,7 +21,7 @@ use Rattle.subpool_storage.specs.SubpoolStorage.{subpools_of, hold_queues, hold,
 use Rattle.subpool_storage.proofs.SubpoolLemmas.{same_subpools}
 use Rattle.subpool_storage.proofs.KeptLemmas.{ids_are_owned}
 use Rattle.subpool_storage.proofs.ExchangeLemmas.{QueuesExchanged}
-use Rattle.subpool_storage.proofs.LiftLemmas.{SetStands, SetSame, set_same, set_live, cells_once, hold_cells}
+use Rattle.subpool_storage.proofs.LiftLemmas.{SetSame, set_same, set_live, cells_once}
 
 -- a cell pool that is what it is with one extent more
 pub is_extended : (x : Option Pool) (start count : ℕ) → IfSome x (λ p. p ≡ extended start count (retracted count p)) → IfSome x (λ p. IsExtended p)

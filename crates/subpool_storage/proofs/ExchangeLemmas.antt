@@ -19,7 +19,6 @@ use Rattle.subpool_set.specs.QueueElements.{ids_of, StandApart, AreApart}
 use Rattle.subpool_set.specs.SubpoolSet.{sight, pool, owned, queue_ids, number_of, owner_of, IsSubpoolSet, IsPool, QueuesStand}
 use Rattle.subpool_set.proofs.LawLemmas.{pools_are_named, queue_ids_are}
 use Rattle.subpool_storage.specs.declared.storage.SubpoolStorage.{SubpoolStorage}
-use Rattle.cell_pool.specs.CellPools
 use Rattle.cell_pool.specs.Laws.{AreSame}
 use Rattle.subpool_storage.specs.SubpoolStorage.{page_in, free_in, subpools_of, hold_queues, hold, Stands}
 use Rattle.subpool_storage.proofs.SubpoolLemmas.{same_subpools, other_at}

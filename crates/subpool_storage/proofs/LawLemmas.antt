@@ -8,7 +8,7 @@ use Rattle.subpool_set.proofs.KeyLemmas.{not_both}
 use Rattle.subpool_set.specs.declared.set.SubpoolSet.{SubpoolSet}
 use Rattle.subpool_set.specs.Pools.{Pool}
 use Rattle.subpool_set.specs.QueueElements.{ids_of}
-use Rattle.subpool_set.specs.SubpoolSet.{sight, pool, owned, queue_ids, IsSubpoolSet}
+use Rattle.subpool_set.specs.SubpoolSet.{sight, pool, queue_ids, IsSubpoolSet}
 use Rattle.subpool_set.proofs.LawLemmas.{pools_are_named, queue_ids_are}
 use Rattle.subpool_storage.specs.declared.storage.SubpoolStorage.{SubpoolStorage}
 use Rattle.subpool_storage.specs.SubpoolStorage.{page_in, free_in, subpools_of, hold_queues, hold, Stands, Becomes}
@@ -19,7 +19,6 @@ use Rattle.vsm_model.specs.Search.{holds}
 use Rattle.subpool_set.proofs.KeyLemmas.{eqb_refl, none_some}
 use Rattle.subpool_set.proofs.LawLemmas.{sets_stand, sights_are_in_range}
 use Rattle.subpool_storage.specs.Subpools.{Subpools, is_there}
-use Rattle.cell_pool.specs.CellPools
 use Rattle.cell_pool.specs.Laws.{AreSame}
 use Rattle.cell_pool.proofs.LawLemmas.{pools_are_one, pools_have_cells, ids_are_small, names_are_single}
 use Rattle.subpool_storage.specs.Laws.{StorageOwns, SubpoolsAreThere, StorageStays, CellPoolsAreNamed, PoolsAreHeld}

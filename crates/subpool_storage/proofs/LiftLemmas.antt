@@ -6,14 +6,12 @@ use Rattle.vsm_elements.specs.Owners.{times, Moves}
 use Rattle.vsm_elements.proofs.TimesLemmas.{times-append, times-some, some-from, times-once}
 use Rattle.vsm_elements.proofs.MoveLemmas.{none-or-some, others-kept, moves-of, moves-by, moves-like, moves-follow}
 use Rattle.vsm_model.specs.declared.Subpool.{Subpool}
-use Rattle.subpool_set.specs.declared.set.SubpoolSet.{SubpoolSet}
 use Rattle.subpool_set.specs.Pools.{Pool}
 use Rattle.subpool_set.specs.QueueElements.{ids_of}
 use Rattle.subpool_set.specs.SubpoolSet.{sight, pool, owned, queue_ids, IsSubpoolSet, QueuesStand}
 use Rattle.subpool_set.proofs.LawLemmas.{queue_ids_are, sets_stand, sets_kept, queues_kept}
 use Rattle.subpool_set.proofs.CountLemmas.{ids_once}
 use Rattle.cell_pool.specs.declared.pools.CellPools.{CellPools}
-use Rattle.cell_pool.specs.Pools
 use Rattle.cell_pool.specs.CellPools.{by_id, IsCellPools}
 use Rattle.cell_pool.specs.CellPools
 use Rattle.cell_pool.specs.Laws.{AreSame}

@@ -33,7 +33,7 @@ abbrev pub PoolsAreHeld : Type 0
 PoolsAreHeld = (s : Store) (q : SubpoolStorage) (id : ℕ) (p : Pool) → Stands s q → (subpools_of s q).cells id ≡ Some p
     → 0 < hold s q id
 
--- a cell pool is found under its own id, which is an element's, each has a name of its own, and its free cells are cells
--- of its extents
+-- a cell pool is found under its own id, which is an element's, each has a name of its own, and its free cells are
+-- cells of its extents
 abbrev pub CellPoolsAreNamed : Type 0
 CellPoolsAreNamed = (s : Store) (q : SubpoolStorage) → Stands s q → AreNamed (subpools_of s q).cells

@@ -61,8 +61,8 @@ with_storage_of m others p =
 abbrev pub HasPool : Subpools → Subpools → ℕ → Pool → Type 0
 HasPool m others id x = (m.cells id ≡ Some x) ⊎ (others.cells id ≡ Some x)
 
--- Cell pools of both that have one name lie all in the subpool, or all outside it: no name comes to be there twice where
--- the subpool's storage is exchanged.
+-- Cell pools of both that have one name lie all in the subpool, or all outside it: no name comes to be there twice
+-- where the subpool's storage is exchanged.
 abbrev pub CanExchange : Subpools → Subpools → Subpool → Type 0
 CanExchange m others p =
     (i j : ℕ) (x y : Pool) → HasPool m others i x → HasPool m others j y → x.name ≡ y.name

@@ -55,9 +55,9 @@ impl SubpoolStorage {
             (built_pool result name.now.bytes settings (option_map (λ h. h.items) header) start count)) }
         ensures spares { elements.new.spare + (7 + count + mark_items count) ≡ elements.old.spare }
     {
-        let id = self.cells.build(elements, name, settings, header);
-        self.cells.extend(elements, id, start, count);
-        id
+        let made = self.cells.build(elements, name, settings, header);
+        self.cells.extend(elements, made, start, count);
+        made
     }
 
     /// The first free cell of a cell pool is in use from now on. (z/OS MVS Programming: Assembler Services Reference,
@@ -138,7 +138,8 @@ impl SubpoolStorage {
         requires stands { Stands elements.old self.old }
         requires others { Stands elements.old others.old }
         requires apart { (i : ℕ) → hold elements.old self.old i + hold elements.old others.old i ≤ 1 }
-        requires single { (p : Pool) → HasPool (subpools_of elements.old self.old) (subpools_of elements.old others.old) id p
+        requires single { (p : Pool)
+            → HasPool (subpools_of elements.old self.old) (subpools_of elements.old others.old) id p
             → IsSingle (subpools_of elements.old self.old) (subpools_of elements.old others.old) id p.name }
         ensures stands { Stands elements.new self.new }
         ensures others { Stands elements.new others.new }
@@ -152,7 +153,6 @@ impl SubpoolStorage {
             (λ i. hold elements.new self.new i + hold elements.new others.new i) }
         ensures spares { elements.new.spare ≡ elements.old.spare }
     {
-        self.cells
-            .exchange_pool(elements, id, &mut others.cells);
+        self.cells.exchange_pool(elements, id, &mut others.cells);
     }
 }

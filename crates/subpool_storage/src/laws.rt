@@ -1,7 +1,8 @@
 //! What follows from the definitions. Each law is the contract of a function that does nothing.
 
 ghost use Rattle.subpool_storage.specs.Extents.{ExtentsAreRuns, ExtentsAreFew, FreeAreasAreRuns};
-ghost use Rattle.subpool_storage.specs.Laws.{StorageOwns, SubpoolsAreThere, StorageStays, CellPoolsAreNamed, PoolsAreHeld};
+ghost use Rattle.subpool_storage.specs.Laws.{StorageOwns, SubpoolsAreThere, StorageStays, CellPoolsAreNamed};
+ghost use Rattle.subpool_storage.specs.Laws.{PoolsAreHeld};
 
 /// No element has two owners among the subpools and their queues, and each is live.
 pub fn storage_owns()

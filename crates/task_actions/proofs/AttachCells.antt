@@ -1,17 +1,15 @@
 -- The cell pools of a subpool that passes to another task.
-use Rattle.std.proofs.Common.{◌≡◌, ℕ, Bool, true, false, ◌==◌, ◌&&◌, if◌then◌else◌, map, Option, Some, None, refl, sym, ◌∙◌, ap}
+use Rattle.std.proofs.Common.{◌≡◌, ℕ, Bool, true, false, ◌==◌, if◌then◌else◌, map, Option, Some, None, refl, sym, ◌∙◌, ap}
 use Rattle.std.specs.Option.{option_map}
 use Rattle.std.proofs.lemmas.Bool.{and_left, cond-false}
 use Rattle.vsm_model.specs.declared.Subpool.{Subpool}
 use Rattle.vsm_model.specs.Passing
-use Rattle.vsm_model.specs.Subpools.{same_subpool}
 use Rattle.cell_pool.specs.Pools.{Pool, handed_on, lies_in}
 use Rattle.cell_tables.specs.Laws.{AllRowsChange}
 use Rattle.cell_tables.specs.Named.{AreNamed}
 use Rattle.cell_tables.specs.Table.{cell_pool_of, cell_pools_in}
 use Rattle.storage_changes.proofs.Cases.{same-is}
 use Rattle.storage_actions.proofs.Cells.{handed_name, handed_from}
-use Rattle.task_laws.proofs.Options.{none_some, same_some}
 
 module _ (old : Subpool) (to : ℕ) where
   -- a cell pool that is handed on stays where it is, where it lies in another subpool

@@ -20,6 +20,7 @@ use Rattle.vsm_model.proofs.Chosen.{Stepped}
 use Rattle.vsm_model.proofs.Least.{least_by}
 use Rattle.task_laws.proofs.Attaches.{attach_leaves_well_formed}
 use Rattle.task_tree.specs.Tasks.{IsLeastFree}
+use Rattle.cell_tables.specs.Named.{AreNamed}
 use Rattle.storage_changes.specs.State.{StorageState}
 use Rattle.storage_changes.specs.Meaning.{model_of, IsSound}
 use Rattle.storage_actions.specs.Leads.{Leads}
@@ -92,14 +93,15 @@ module _ (settings : Settings) (names_full : Bool) (m : StorageState) (a : Attac
     owned = ap (list_any (is_anothers s)) gifts_are ∙ own;
   }
 
-  carried : AttachingLeads → IsSound settings m → IsAccepted settings names_full m (attach a) (attach_change m plan) (Attached task)
-  carried law sound =
+  carried : AttachingLeads → AreNamed m.subpools.cells → IsSound settings m
+      → IsAccepted settings names_full m (attach a) (attach_change m plan) (Attached task)
+  carried law named sound =
       let outcome : State → Stepped = λ t. Accepted t (Attached task) in
       let its : Leads settings m (attach_change m plan) (after task) =
-      law settings m task a.shares_zero gifts shares ((15, 0) ∷ (1, task) ∷ []) sound can_attach
+      law settings m task a.shares_zero gifts shares ((15, 0) ∷ (1, task) ∷ []) sound named can_attach
       (register_and 15 0 ((1, task) ∷ []) (omega arith) (register_and 1 task [] (omega arith) no_registers))
       (attach_leaves_well_formed settings names_full s (after task) a (Attached task) sound.well_formed accepted) in
       record { accepted = accepted ∙ ap outcome (sym its.leads); fits = its.fits; sound = its.sound }
 
-  pub attach_planned : AttachingLeads → ∥ IsSound settings m ∥₁ → IsAttachPlanned settings names_full m (attach a) (Ok plan)
-  attach_planned law sound = (∥∥₁_map sound (carried law), record { given = ap is_some are_given; shared = ap is_some are_shared; can = can_attach })
+  pub attach_planned : AttachingLeads → AreNamed m.subpools.cells → ∥ IsSound settings m ∥₁ → IsAttachPlanned settings names_full m (attach a) (Ok plan)
+  attach_planned law named sound = (∥∥₁_map sound (carried law named), record { given = ap is_some are_given; shared = ap is_some are_shared; can = can_attach })

@@ -24,6 +24,7 @@ use Rattle.vsm_model.proofs.Least.{all_pass_from, all_pass_none}
 use Rattle.task_laws.proofs.Ends.{not_one, not_now, parent_of_ended}
 use Rattle.task_laws.proofs.Options.{held}
 use Rattle.task_laws.proofs.Stays.{detach_leaves_well_formed, end_task_leaves_well_formed}
+use Rattle.cell_tables.specs.Named.{AreNamed}
 use Rattle.storage_changes.specs.State.{StorageState}
 use Rattle.storage_changes.specs.Meaning.{model_of, IsSound}
 use Rattle.storage_actions.proofs.Cases.{same_answers}
@@ -52,7 +53,7 @@ task_climbs s top there (suc steps) task e =
     ]
 
 -- the records of tasks that end lead to the service's outcome
-module _ (settings : Settings) (names_full : Bool) (m : StorageState) (order : EndsAreInOrder) (law : EndingLeads) where
+module _ (settings : Settings) (names_full : Bool) (m : StorageState) (order : EndsAreInOrder) (law : EndingLeads) (named : AreNamed m.subpools.cells) where
   abbrev s : State
   s = model_of m
 
@@ -94,7 +95,7 @@ module _ (settings : Settings) (names_full : Bool) (m : StorageState) (order : E
         let after : (ℕ → Bool) → State = λ f. with_registers (without_tasks s f) ((15, 0) ∷ []) in
         let same : after (is_in below) ≡ after (is_in_subtree s task) = ap after (these w) in
         let stays = detach_leaves_well_formed settings names_full s after_detach task (Returned 0) sound.well_formed detach_accepted in
-        let leads = law settings m below s.current ((15, 0) ∷ []) valid sound (detach_can w) (register_and 15 0 [] (omega arith) no_registers) (subst (IsWellFormed settings) (sym same) stays) in
+        let leads = law settings m below s.current ((15, 0) ∷ []) valid sound named (detach_can w) (register_and 15 0 [] (omega arith) no_registers) (subst (IsWellFormed settings) (sym same) stays) in
         let outcome : State → Stepped = λ t. Accepted t (Returned 0) in
         record {
           accepted = detach_accepted ∙ ap outcome (sym (leads.leads ∙ same));
@@ -139,7 +140,7 @@ module _ (settings : Settings) (names_full : Bool) (m : StorageState) where
   pub is_first : ((t : ℕ) → before.parents t ≢ Some before.current) → before.current ≡ 1 → step settings names_full before end_task ≡ Refused NotParent
   is_first none is = ap (answered settings before end_task) (by_causes false true (none_has none) (eq-eqb before.current 1 is))
 
-  module _ (order : EndsAreInOrder) (law : EndingLeads) (none : (t : ℕ) → before.parents t ≢ Some before.current) (later : before.current ≢ 1) where
+  module _ (order : EndsAreInOrder) (law : EndingLeads) (named : AreNamed m.subpools.cells) (none : (t : ℕ) → before.parents t ≢ Some before.current) (later : before.current ≢ 1) where
     abbrev alone : List ℕ
     alone = ended_below m.tasks.parents before.current
 
@@ -192,7 +193,7 @@ module _ (settings : Settings) (names_full : Bool) (m : StorageState) where
         let after : (ℕ → Bool) → State = λ f. without_tasks (record before { current = parent }) f in
         let same : after (is_in alone) ≡ after_end = ap after (just_it w) in
         let stays = end_task_leaves_well_formed settings names_full before after_end (Turn parent) sound.well_formed end_accepted in
-        let leads = law settings m alone parent [] valid sound (end_can w) no_registers (subst (IsWellFormed settings) (sym same) stays) in
+        let leads = law settings m alone parent [] valid sound named (end_can w) no_registers (subst (IsWellFormed settings) (sym same) stays) in
         let outcome : State → Stepped = λ t. Accepted t (Turn parent) in
         record {
           accepted = end_accepted ∙ ap outcome (sym (leads.leads ∙ same));

@@ -15,6 +15,7 @@ use crate::passing::{push_gifts, push_shares, push_zero};
 use std::alloc::{AllocError, Global};
 use storage_changes::{Record, TaskRecord};
 use storage_exchange::Storage;
+use subpool_storage::laws::cell_pools_are_named;
 use task_actions::laws::attaching_leads;
 use vsm_model::{Attach, Cause};
 
@@ -28,8 +29,8 @@ pub struct AttachPlan {
 }
 
 /// A plan for a new task (*Assembler Services Reference*, ATTACH): it gets the least free number, shares subpool 0 or
-/// has one of its own, is given subpools, and shares others. Register 15 gets 0 and register 1 its
-/// number. Reads alone, and takes no memory.
+/// has one of its own, is given subpools with their cell pools, and shares others. Register 15 gets 0 and register 1
+/// its number. Reads alone, and takes no memory.
 ///
 /// The causes that refuse it, in order: `NotAssigned` where a byte of a list doesn't lie in an assigned page, that of
 /// the subpools that are given first; `BadList` where a number is 0, above 127 or named twice; `NotOwner` where a
@@ -41,6 +42,7 @@ pub fn plan_attach(storage: &Storage, request: Attach) -> Result<AttachPlan, Cau
         → IsAttachPlanned settings names_full (state_of storage.now) (attach request) result }
 {
     attaching_leads();
+    cell_pools_are_named();
     let given = numbers_of(storage, request.given)?;
     let shared = numbers_of(storage, request.shared)?;
     if has_bad_number(&given, &shared) {

@@ -25,7 +25,7 @@ use storage_changes::{OwnRecord, PagesRecord, QueuesRecord, Record, SharerRecord
 use storage_exchange::Storage;
 use subpool_set::PoolPlace;
 use subpool_storage::SubpoolStorage;
-use subpool_storage::laws::subpools_are_there;
+use subpool_storage::laws::{cell_pools_are_named, subpools_are_there};
 use task_actions::laws::{ending_leads, ends_are_in_order};
 use task_tree::TreeFault;
 use task_tree::laws::trees_stand;
@@ -59,6 +59,7 @@ pub fn plan_detach(storage: &Storage, task: u32) -> Result<EndPlan, Cause>
     trees_stand();
     ends_are_in_order();
     ending_leads();
+    cell_pools_are_named();
     if task > 64 {
         return Err(Cause::NoTask);
     }
@@ -88,6 +89,7 @@ pub fn plan_end_task(storage: &Storage) -> Result<EndPlan, Cause>
     trees_stand();
     ends_are_in_order();
     ending_leads();
+    cell_pools_are_named();
     let current = storage.tasks.current();
     match storage.tasks.check_end(&storage.elements, current) {
         Ok(()) => {

@@ -10,9 +10,9 @@ returns-then-holds-clause-err c =
     let pools = c.cell_pools-pools in (
       refl,
       meets_one storage.elements pools.result (state_of storage).subpools.cells c.overlaps_are_met.ensures
-      (c.pools_are_one.ensures storage.elements pools.result pools.ensures.stands)
-      (c.cell_pools_are_named.ensures storage.elements storage.subpools c.requires.stands.subpools) pools.ensures.pools
-      (8 * area.start) (8 * area.len) (c.holds.ensures.0 c.if-holds.true),
+          (c.pools_are_one.ensures storage.elements pools.result pools.ensures.stands)
+          (c.cell_pools_are_named.ensures storage.elements storage.subpools c.requires.stands.subpools) pools.ensures.pools
+          (8 * area.start) (8 * area.len) (c.holds.ensures.0 c.if-holds.true),
     )
 
 pub returns-clause-ok : goal.returns-clause-ok

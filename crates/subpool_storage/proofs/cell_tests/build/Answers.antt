@@ -1,7 +1,7 @@
-use Rattle.std.proofs.Common.{◌≡◌, ℕ, ◌+◌, ◌*◌, ◌^◌, ◌≤◌, false, refl, arith}
+use Rattle.std.proofs.Common.{◌≡◌, ◌+◌, ◌*◌, ◌^◌, ◌≤◌, false, refl, arith}
 use Rattle.cell_pool.specs.CellPools.{by_id}
 use Rattle.cell_pool.specs.Pools.{Pool, meets}
-use Rattle.subpool_storage.specs.SubpoolStorage.{subpools_of, Becomes}
+use Rattle.subpool_storage.specs.SubpoolStorage.{subpools_of}
 use Rattle.subpool_storage.proofs.LiftLemmas.{cells_of, cells_become}
 use Rattle.subpool_storage.proofs.CellLemmas.{is_new, of_new, some_new}
 use Rattle.subpool_storage.proofs.cell_tests.build.Goals as goal

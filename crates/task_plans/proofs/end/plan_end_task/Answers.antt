@@ -6,9 +6,11 @@ use Rattle.task_plans.proofs.end.plan_end_task.Goals as goal
 
 pub returns-in-Ok : goal.returns-in-Ok
 returns-in-Ok c = λ settings names_full valid stands.
-    let m = state_of c.args.storage.now in
+    let p = c.args.storage.now in
+    let m = state_of p in
     let here : c.current-current.result ≡ m.tasks.current = c.current-current.ensures in
     end_planned settings names_full m c.ends_are_in_order.ensures c.ending_leads.ensures
+    (c.cell_pools_are_named.ensures p.elements p.subpools c.requires.stands.subpools)
     (λ t at. c.in-Ok.ensures.ok.1 t (at ∙ ap Some (sym here))) (λ is. c.in-Ok.ensures.ok.0 (here ∙ is))
     c.current-current.result c.unwrap_or-parent.result here
     (c.unwrap_or-parent.ensures ∙ ap (λ o. unwrap_or o 0) c.parent_of.ensures ∙ ap (λ (t : ℕ). unwrap_or (m.tasks.parents t) 0) here)

@@ -1,9 +1,9 @@
-use Rattle.std.proofs.Common.{◌≡◌, ℕ, ◌+◌, ◌++◌, [], refl, sym, ap, ◌∙◌, arith, length, length-append}
-use Rattle.vsm_elements.specs.Owners.{times, Moves}
+use Rattle.std.proofs.Common.{ℕ, ◌+◌, ◌++◌, ap, ◌∙◌, arith, length, length-append}
+use Rattle.vsm_elements.specs.Owners.{times}
 use Rattle.vsm_elements.proofs.TimesLemmas.{times-append}
 use Rattle.cell_pool.specs.CellPools
 use Rattle.subpool_set.specs.SubpoolSet.{owned, queue_ids}
-use Rattle.subpool_storage.specs.SubpoolStorage.{hold_queues, hold}
+use Rattle.subpool_storage.specs.SubpoolStorage.{hold}
 use Rattle.subpool_storage.proofs.LiftLemmas.{set_gone, set_gone_moves}
 use Rattle.subpool_storage.proofs.storage.SubpoolStorage.discard.Goals as goal
 

@@ -1,8 +1,6 @@
-use Rattle.std.proofs.Common.{ℕ, ◌+◌, ◌≤◌, ◌⊎◌, inl, inr, arith}
-use Rattle.vsm_elements.specs.Store.{Store}
-use Rattle.subpool_storage.specs.SubpoolStorage.{subpools_of, hold}
+use Rattle.std.proofs.Common.{arith}
+use Rattle.subpool_storage.specs.SubpoolStorage.{subpools_of}
 use Rattle.subpool_storage.specs.Subpools.{with_pool_of}
-use Rattle.subpool_storage.proofs.LiftLemmas.{cells_of}
 use Rattle.subpool_storage.proofs.CellLemmas.{cells_apart, name_is_free, single_back, cells_stand, cells_stand_too, cells_are, cells_are_too, cells_parted, cells_move}
 use Rattle.subpool_storage.proofs.storage.SubpoolStorage.exchange_pool.Goals as goal
 

@@ -13,9 +13,9 @@ hand_on-requires c =
     let q = c.args.self.now.set in
     let r : SubpoolStorage = record { set = c.pass.new.self; cells = c.args.self.now.cells } in
     let b : Becomes s c.pass.new.elements c.args.self.now r (queues_passed (subpools_of s c.args.self.now) c.args.subpool c.args.to) = passed_becomes s c.pass.new.elements c.args.self.now r c.args.subpool c.args.to refl c.requires.stands c.pass.ensures.set c.pass.ensures.queues c.pass.ensures.owned
-        (λ m l. c.pass.ensures.pools m l ∙ (λ i. pools_given (pool s q) (c.id-id.ensures.number i) (c.id-id.ensures.owner i) c.args.to m l))
-        (λ a b. c.pass.ensures.sight a b ∙ (λ i. sight_given (sight s q) (c.id-id.ensures.number i) (c.id-id.ensures.owner i) c.args.to a b))
-        c.requires.unseen in
+    (λ m l. c.pass.ensures.pools m l ∙ (λ i. pools_given (pool s q) (c.id-id.ensures.number i) (c.id-id.ensures.owner i) c.args.to m l))
+    (λ a b. c.pass.ensures.sight a b ∙ (λ i. sight_given (sight s q) (c.id-id.ensures.number i) (c.id-id.ensures.owner i) c.args.to a b))
+    c.requires.unseen in
     cells_of c.pass.new.elements r b.stands
 
 pub returns-clause-becomes : goal.returns-clause-becomes
@@ -24,7 +24,7 @@ returns-clause-becomes c =
     let q = c.args.self.now.set in
     let r : SubpoolStorage = record { set = c.pass.new.self; cells = c.args.self.now.cells } in
     let b : Becomes s c.pass.new.elements c.args.self.now r (queues_passed (subpools_of s c.args.self.now) c.args.subpool c.args.to) = passed_becomes s c.pass.new.elements c.args.self.now r c.args.subpool c.args.to refl c.requires.stands c.pass.ensures.set c.pass.ensures.queues c.pass.ensures.owned
-        (λ m l. c.pass.ensures.pools m l ∙ (λ i. pools_given (pool s q) (c.id-id.ensures.number i) (c.id-id.ensures.owner i) c.args.to m l))
-        (λ a b. c.pass.ensures.sight a b ∙ (λ i. sight_given (sight s q) (c.id-id.ensures.number i) (c.id-id.ensures.owner i) c.args.to a b))
-        c.requires.unseen in
+    (λ m l. c.pass.ensures.pools m l ∙ (λ i. pools_given (pool s q) (c.id-id.ensures.number i) (c.id-id.ensures.owner i) c.args.to m l))
+    (λ a b. c.pass.ensures.sight a b ∙ (λ i. sight_given (sight s q) (c.id-id.ensures.number i) (c.id-id.ensures.owner i) c.args.to a b))
+    c.requires.unseen in
     all_passed s c.pass.new.elements c.hand_on.new.elements c.args.self.now r c.args.self.now.cells c.args.subpool c.args.to b c.hand_on.ensures.pools c.hand_on.ensures.owned c.hand_on.ensures.ids

@@ -1,0 +1,149 @@
+//! Changes by which a cell pool comes.
+
+ghost use Rattle.std.specs.Prelude.{◌≡◌, ℕ, ◌+◌, ◌*◌, ◌^◌, ◌<◌, ◌≤◌, ◌∷◌, true, None, length, option_map, IsTrue, IsOk};
+ghost use Rattle.std.specs.Prelude.{IfOk, IfErr};
+ghost use Rattle.vsm_elements.specs.Owners.{Moves};
+ghost use Rattle.run_set.specs.Runs.{inside};
+ghost use Rattle.raw_region.specs.Pages.{has_segment, HaveTables};
+ghost use Rattle.subpool_storage.specs.Subpools.{no_subpools, with_new_pool};
+ghost use Rattle.subpool_storage.specs.SubpoolStorage.{subpools_of, hold as held_parked, Stands};
+ghost use Rattle.storage_changes.specs.Changes.{change_of, change_building};
+ghost use Rattle.storage_exchange.specs.Storage.{hold, state_of, Stand, IsFrameless};
+ghost use Rattle.storage_swap.specs.Reserve.{Grown, Reserves};
+ghost use Rattle.storage_swap.specs.Building.{pool_as, pool_elements, elements_to_build};
+
+use crate::chains::building_records;
+use crate::change::Change;
+use crate::reserve::{grow, take_blanks, take_frames};
+use run_set::Run;
+use std::alloc::AllocError;
+use storage_changes::Record;
+use storage_exchange::Storage;
+use subpool_storage::laws::pools_are_held;
+use subpool_storage::{CellId, CellSettings, Header, Name, SubpoolStorage};
+use vsm_elements::Elements;
+
+/// A cell pool that comes, with its first extent, whose cells are all free.
+#[derive(Clone, Copy)]
+pub struct NewPool<'a> {
+    pub name: &'a Name,
+    pub settings: CellSettings,
+    pub header: &'a Option<Header>,
+    /// The address of its first cell.
+    pub start: u32,
+    /// How many cells it has.
+    pub count: u32,
+}
+
+impl Change {
+    /// A change of these records behind one by which a new cell pool comes, with its first extent, under the id that is
+    /// answered. It has so many blank elements, and frames of zeros for the pages of a run. The state of the storage
+    /// stays as it is.
+    ///
+    /// Each call on a queue takes one blank element at most, and one has to be left. The run is in pages of 4,096
+    /// bytes, and each of them has to be unassigned.
+    ///
+    /// It answers an error where memory is refused. What was made before that stays, as spare elements, spare frames
+    /// and tables. Where so many elements and frames are spare and the tables are there, it takes no memory.
+    pub fn reserve_building(
+        storage: &mut Storage,
+        pool: &NewPool<'_>,
+        records: &[Record],
+        blanks: u32,
+        fresh: Run,
+    ) -> Result<(Change, CellId), AllocError>
+        requires stands { Stand storage.old }
+        requires once { (i : ℕ) → hold storage.old i ≤ 1 }
+        requires frameless { IsFrameless storage.old }
+        requires cells { (0 < pool.now.settings.size) × (pool.now.count ≤ 2 ^ 20) }
+        requires high { pool.now.start + pool.now.count * pool.now.settings.size ≤ 2 ^ 32 }
+        requires size { length records.now + blanks ≤ 2 ^ 20 }
+        requires range { fresh.start + fresh.len ≤ 2 ^ 20 }
+        requires segments { (page : ℕ) → inside page fresh ≡ true → IsTrue (has_segment storage.old.region page) }
+        requires unassigned { (page : ℕ) → inside page fresh ≡ true → (state_of storage.old).unassigned page ≡ true }
+        ensures ok { IfOk result (λ r. Reserves storage.old
+            (change_building (pool_as pool.now r.1) (change_of records.now blanks fresh)) r.0 storage.new) }
+        ensures absent { IfOk result (λ r. (state_of storage.old).subpools.cells r.1 ≡ None) }
+        ensures small { IfOk result (λ r. r.1 < 2 ^ 32) }
+        ensures frames { IfOk result (λ r. length r.0.frames ≡ fresh.len) }
+        ensures grown { IfErr result (λ _. Grown storage.old storage.new) }
+        ensures needless { elements_to_build pool.now (length records.now) blanks ≤ storage.old.elements.spare
+            → fresh.len ≤ storage.old.region.spare → HaveTables storage.old.region fresh.start fresh.len
+            → IsOk result }
+    {
+        let cells = 7 + pool.count + (pool.count / 224 + 1);
+        let count = records.len() as u32;
+        grow(storage, cells + 1 + (count + blanks), fresh)?;
+        Ok(make_building(storage, pool, records, blanks, fresh))
+    }
+}
+
+// The change, of what is spare, and the id of the cell pool.
+fn make_building(
+    storage: &mut Storage,
+    pool: &NewPool<'_>,
+    records: &[Record],
+    blanks: u32,
+    fresh: Run,
+) -> (Change, CellId)
+    requires stands { Stand storage.old }
+    requires once { (i : ℕ) → hold storage.old i ≤ 1 }
+    requires frameless { IsFrameless storage.old }
+    requires cells { 0 < pool.now.settings.size }
+    requires high { pool.now.start + pool.now.count * pool.now.settings.size ≤ 2 ^ 32 }
+    requires spare { elements_to_build pool.now (length records.now) blanks ≤ storage.old.elements.spare }
+    requires range { fresh.start + fresh.len ≤ 2 ^ 20 }
+    requires spare_frames { fresh.len ≤ storage.old.region.spare }
+    requires tables { HaveTables storage.old.region fresh.start fresh.len }
+    requires unassigned { (page : ℕ) → inside page fresh ≡ true → (state_of storage.old).unassigned page ≡ true }
+    ensures reserves { Reserves storage.old
+        (change_building (pool_as pool.now result.1) (change_of records.now blanks fresh)) result.0 storage.new }
+    ensures absent { (state_of storage.old).subpools.cells result.1 ≡ None }
+    ensures frames { length result.0.frames ≡ fresh.len }
+{
+    pools_are_held();
+    let (parked, id) = park_pool(&mut storage.elements, pool);
+    let records = building_records(&mut storage.elements, id, records);
+    let blanks = take_blanks(&mut storage.elements, blanks);
+    let frames = take_frames(&mut storage.region, fresh);
+    let change = Change {
+        records,
+        blanks,
+        frames,
+        parked,
+    };
+    (change, id)
+}
+
+// The cell pool alone, parked, and its id.
+fn park_pool(elements: &mut Elements, pool: &NewPool<'_>) -> (SubpoolStorage, CellId)
+    requires cells { 0 < pool.now.settings.size }
+    requires high { pool.now.start + pool.now.count * pool.now.settings.size ≤ 2 ^ 32 }
+    requires room { pool_elements pool.now ≤ elements.old.spare }
+    ensures stands { Stands elements.new result.0 }
+    ensures subpools { subpools_of elements.new result.0 ≡ with_new_pool no_subpools (pool_as pool.now result.1) }
+    ensures moves { Moves elements.old elements.new (λ i. 0) (λ i. held_parked elements.new result.0 i) }
+    ensures spares { elements.new.spare + pool_elements pool.now ≡ elements.old.spare }
+{
+    let mut parked = SubpoolStorage::new();
+    let header = same_header(pool.header);
+    let id = parked.build_pool(
+        elements,
+        pool.name,
+        pool.settings,
+        header,
+        pool.start,
+        pool.count,
+    );
+    (parked, id)
+}
+
+// The header once more.
+fn same_header(header: &Option<Header>) -> Option<Header>
+    ensures { option_map (λ h. h.items) result ≡ option_map (λ h. h.items) header.now }
+{
+    let text = header.as_ref()?;
+    let mut same = Header::new();
+    let _ = same.try_extend_from_slice(text.as_slice());
+    Some(same)
+}
