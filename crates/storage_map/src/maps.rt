@@ -40,7 +40,8 @@ fn put_bytes<W: Write>(gathered: &mut Gathered, writer: &mut W, totals: Totals)
 
 /// Puts the map of a storage: tasks ascending with their registers, subpools by number and owner with their sharers,
 /// extents and free areas (z/OS MVS Programming: Assembler Services Guide, "Subpool handling"), cell pools by name with
-/// their extents and free cells (Assembler Services Reference, CPOOL), and the totals of pages and bytes. Takes no memory.
+/// their extents and free cells (Assembler Services Reference, CPOOL), and the totals of pages and bytes. Takes no
+/// memory.
 pub fn put_map<W: Write>(gathered: &mut Gathered, writer: &mut W, storage: &Storage)
     ensures { Puts (W.contents writer.old) (W.contents writer.new) gathered.old gathered.new
         (storage_map (settings_of storage.now) (state_of storage.now)) }
