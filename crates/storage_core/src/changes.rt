@@ -14,9 +14,8 @@ ghost use Rattle.storage_core.specs.Stays.{Stays};
 use crate::plans::Plan;
 use crate::storage::Storage;
 use std::alloc::AllocError;
-use storage_plans::Plan as StoragePlan;
+use storage_plans::{Listed, Plan as StoragePlan};
 use storage_swap::Change;
-use task_plans::Listed;
 
 impl Storage {
     /// The change that carries out the plan, with all the memory that it needs: elements, and a frame and a place in a

@@ -4,6 +4,7 @@
 
 pub mod areas;
 mod blocks;
+pub mod listed;
 pub mod obtain;
 pub mod places;
 pub mod plan;
@@ -13,6 +14,7 @@ mod searches;
 mod store;
 mod whole;
 
+pub use listed::Listed;
 pub use obtain::plan_obtain;
 pub use plan::{PLAN_RECORDS, Plan};
 pub use reading::{current, load, register};

@@ -80,7 +80,7 @@ pub fn push_register(
 }
 
 /// The plan of a conditional request that can't be met: register 15 gets 4, and nothing else changes.
-pub(crate) fn answer_four(storage: &Storage) -> Plan
+pub fn answer_four(storage: &Storage) -> Plan
     ensures emptied { result.emptied ≡ None }
     ensures records { result.records.items ≡ register_records (state_of storage.now) ((15, 4) ∷ []) }
     ensures blanks { result.blanks ≡ 0 }

@@ -9,12 +9,13 @@ ghost use Rattle.storage_plans.specs.Places.{StandsSound};
 ghost use Rattle.storage_swap.specs.Reserve.{AreNames};
 ghost use Rattle.task_plans.specs.TaskPlans.{attach_change, CanBeAttached, IsAttachPlanned};
 
-use crate::listed::{Listed, push_register};
 use crate::numbers::{has_bad_number, numbers_of, numbers_or_none, some_is_anothers};
 use crate::passing::{push_gifts, push_shares, push_zero};
 use std::alloc::{AllocError, Global};
 use storage_changes::{Record, TaskRecord};
 use storage_exchange::Storage;
+use storage_plans::Listed;
+use storage_plans::listed::push_register;
 use subpool_storage::laws::cell_pools_are_named;
 use task_actions::laws::attaching_leads;
 use vsm_model::{Attach, Cause};

@@ -18,11 +18,12 @@ ghost use Rattle.task_actions.specs.Ending.{unseeing, unshared, unshared_records
 ghost use Rattle.task_plans.specs.TaskPlans.{end_change, CanBeEnded, IsEndPlanned};
 
 use crate::ended::{is_ended, push_ended};
-use crate::listed::{Listed, push_register};
 use descriptor_queue::Extents;
 use std::alloc::{AllocError, Global};
 use storage_changes::{OwnRecord, PagesRecord, QueuesRecord, Record, SharerRecord, TurnRecord};
 use storage_exchange::Storage;
+use storage_plans::Listed;
+use storage_plans::listed::push_register;
 use subpool_set::PoolPlace;
 use subpool_storage::SubpoolStorage;
 use subpool_storage::laws::{cell_pools_are_named, subpools_are_there};

@@ -4,12 +4,10 @@
 mod attach;
 mod end;
 mod ended;
-mod listed;
 mod numbers;
 mod passing;
 mod run;
 
 pub use attach::{AttachPlan, plan_attach};
 pub use end::{EndPlan, plan_detach, plan_end_task};
-pub use listed::Listed;
 pub use run::plan_run;

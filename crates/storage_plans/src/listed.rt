@@ -1,4 +1,4 @@
-//! What a change of tasks is made of, as lists.
+//! What a change is made of, as lists.
 
 ghost use Rattle.std.specs.Prelude.{◌≡◌, [], ◌∷◌, ◌++◌, OnOk};
 ghost use Rattle.storage_changes.specs.declared.record.Record.TheVariants.{Register};
@@ -7,7 +7,7 @@ use std::alloc::AllocError;
 use storage_changes::{Record, RegisterRecord};
 use vsm_model::Subpool;
 
-/// What a change of tasks is made of, found by reading alone: it has memory of its own, which is given back when the
+/// What a change is made of, found by reading alone: it has memory of its own, which is given back when the
 /// change is made.
 #[derive(Drop)]
 pub struct Listed {
@@ -20,7 +20,7 @@ pub struct Listed {
 }
 
 /// One more record: a register of the task gets the word.
-pub(crate) fn push_register(
+pub fn push_register(
     records: &mut Vec<Record>,
     task: u8,
     register: u8,
