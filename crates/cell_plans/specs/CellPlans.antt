@@ -1,0 +1,86 @@
+-- What the plans of cell pools come to on the plain machine. Assembler Services Reference, CPOOL; Assembler Services
+-- Guide, "Virtual storage management", "Using the CPOOL macro".
+use Rattle.std.specs.Prelude.{◌≡◌, ℕ, ◌+◌, ◌*◌, ◌/◌, ◌^◌, ◌<◌, ◌≤◌, Bool, true, All, IfSome, IsSome, Option, Some, None}
+use Rattle.std.specs.Prelude.{option_map, Result, Ok, Err, length, [], ◌∷◌, ◌++◌}
+use Rattle.run_set.specs.Runs.{inside}
+use Rattle.vsm_model.specs.declared.causes.Cause.{Cause}
+use Rattle.vsm_model.specs.declared.limits.Settings.{Settings}
+use Rattle.vsm_model.specs.declared.replies.Reply.TheVariants.{Obtained, Returned}
+use Rattle.vsm_model.specs.Regions.{doublewords}
+use Rattle.vsm_model.specs.Services.{Service}
+use Rattle.vsm_model.specs.Standing.{Refused}
+use Rattle.vsm_model.specs.Step.{step}
+use Rattle.cell_pool.specs.Pools.{Pool}
+use Rattle.subpool_storage.specs.Subpools.{is_there, built_pool}
+use Rattle.storage_changes.specs.State.{StorageState}
+use Rattle.storage_changes.specs.Changes.{Change, change_of, change_building, no_pages}
+use Rattle.storage_changes.specs.Meaning.{model_of}
+use Rattle.storage_actions.specs.Actions.{register_records}
+use Rattle.storage_plans.specs.declared.plan.Plan.{Plan}
+use Rattle.storage_plans.specs.Plans.{IsAccepted, change_in}
+use Rattle.cell_actions.specs.Actions.{deleting_records, deleting_blanks}
+use Rattle.cell_plans.specs.declared.build.BuildPlan.{BuildPlan}
+use Rattle.cell_plans.specs.declared.delete.DeletePlan.{DeletePlan}
+
+-- The pages that come to be assigned are unassigned, its blank elements are few (a further extent of 4,096 cells takes
+-- 4,121), and a subpool that is emptied is there.
+pub record HasRecords (m : StorageState) (plan : Plan) : Type 0 where
+  pub few : plan.blanks ≤ 2 ^ 13
+  pub range : plan.fresh.start + plan.fresh.len ≤ 2 ^ 20
+  pub there : IfSome plan.emptied (λ p. is_there m.subpools p ≡ true)
+  pub unassigned : (page : ℕ) → inside page plan.fresh ≡ true → m.unassigned page ≡ true
+
+-- A cell that is handed out or given back was planned; or it's refused for this cause.
+abbrev pub IsCellPlanned : Settings → Bool → StorageState → Service → Result Plan Cause → Type 0
+IsCellPlanned settings names_full m x (Ok plan) =
+    (∥ IsAccepted settings names_full m x (change_in m plan) plan.reply ∥₁) × HasRecords m plan
+IsCellPlanned settings names_full m x (Err cause) = step settings names_full (model_of m) x ≡ Refused cause
+
+-- the cell pool that comes, under an id: the cells of its one extent are free
+abbrev pub new_pool : BuildPlan → ℕ → Pool
+new_pool plan id =
+    built_pool id plan.name.bytes plan.settings (option_map (λ h. h.items) plan.header) plan.start plan.settings.primary
+
+-- the change by which it comes
+abbrev pub build_change : BuildPlan → ℕ → Change
+build_change plan id = change_building (new_pool plan id) (change_of plan.records.items plan.blanks plan.fresh)
+
+-- Its cells have a size and an end in storage, its records and blank elements are few, and the pages that come to be
+-- assigned are unassigned.
+pub record CanBeBuilt (m : StorageState) (plan : BuildPlan) : Type 0 where
+  pub size : 0 < plan.settings.size
+  pub count : plan.settings.primary ≤ 2 ^ 12
+  pub high : plan.start + plan.settings.primary * plan.settings.size ≤ 2 ^ 32
+  pub few : plan.blanks ≤ 5
+  pub range : plan.fresh.start + plan.fresh.len ≤ 2 ^ 20
+  pub unassigned : (page : ℕ) → inside page plan.fresh ≡ true → m.unassigned page ≡ true
+
+-- A cell pool's coming was planned, under whatever id that none has; or it's refused for this cause.
+abbrev pub IsBuildPlanned : Settings → Bool → StorageState → Service → Result BuildPlan Cause → Type 0
+IsBuildPlanned settings names_full m x (Ok plan) =
+    ((id : ℕ) → id < 2 ^ 32 → m.subpools.cells id ≡ None
+    → ∥ IsAccepted settings names_full m x (build_change plan id) plan.reply ∥₁)
+    × CanBeBuilt m plan
+IsBuildPlanned settings names_full m x (Err cause) = step settings names_full (model_of m) x ≡ Refused cause
+
+-- the change by which a cell pool goes
+abbrev pub deleting_change : StorageState → Option Pool → Change
+deleting_change m None = change_of [] 0 no_pages
+deleting_change m (Some p) =
+    change_of (deleting_records m.subpools p ++ register_records m ((15, 0) ∷ [])) (deleting_blanks p) no_pages
+
+abbrev pub delete_change : StorageState → DeletePlan → Change
+delete_change m plan = deleting_change m (m.subpools.cells plan.pool)
+
+-- The cell pool is there, with its extents in storage, each of which has a doubleword.
+pub record CanBeDeleted (m : StorageState) (plan : DeletePlan) : Type 0 where
+  pub there : IsSome (m.subpools.cells plan.pool)
+  pub extents : IfSome (m.subpools.cells plan.pool) (λ p. All
+      (λ x. (0 < doublewords (x.count * p.settings.size)) × (x.count * p.settings.size < 2 ^ 32)
+      × (x.start / 8 + doublewords (x.count * p.settings.size) ≤ 2 ^ 29)) p.extents)
+
+-- A cell pool's end was planned; or it's refused for this cause.
+abbrev pub IsDeletePlanned : Settings → Bool → StorageState → Service → Result DeletePlan Cause → Type 0
+IsDeletePlanned settings names_full m x (Ok plan) =
+    (∥ IsAccepted settings names_full m x (delete_change m plan) (Returned 0) ∥₁) × CanBeDeleted m plan
+IsDeletePlanned settings names_full m x (Err cause) = step settings names_full (model_of m) x ≡ Refused cause

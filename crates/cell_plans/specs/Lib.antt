@@ -1,0 +1,3 @@
+pub mod CellPlans
+pub mod Emptied
+pub mod Seen

@@ -1,0 +1,60 @@
+//! Plans of CPOOL FREE.
+ghost use Rattle.std.specs.Prelude.{◌≤◌, Bool, length};
+ghost use Rattle.vsm_model.specs.declared.limits.Settings.{Settings};
+ghost use Rattle.vsm_model.specs.Services.{free};
+ghost use Rattle.storage_exchange.specs.Storage.{state_of, Stand};
+ghost use Rattle.storage_plans.specs.Places.{StandsSound};
+ghost use Rattle.cell_plans.specs.CellPlans.{IsCellPlanned};
+
+use crate::seen::find_seen;
+use arrayvec::ArrayVec;
+use cell_actions::laws::giving_back_cells_leads;
+use cell_laws::laws::cell_pools_stay_well_formed;
+use cell_pool::CellId;
+use storage_changes::{CellRecord, Record};
+use storage_exchange::Storage;
+use storage_plans::Plan;
+use storage_plans::plan::{NO_PAGES, push_register};
+use subpool_storage::laws::cell_pools_are_named;
+use vsm_model::{Cause, Reply};
+
+// The plan by which a cell in use is the first free one.
+fn plan_given_back(storage: &Storage, pool: CellId, cell: u32) -> Plan {
+    let mut records = ArrayVec::new();
+    records.push(Record::Cell(CellRecord {
+        pool,
+        cell,
+        free: true,
+    }));
+    push_register(&mut records, storage.tasks.current(), 15, 0);
+    Plan {
+        emptied: None,
+        records,
+        blanks: 1,
+        fresh: NO_PAGES,
+        reply: Reply::Returned(0),
+    }
+}
+
+/// A plan for a cell that is given back to its cell pool (*Assembler Services Reference*, CPOOL FREE): it's the next
+/// that is handed out. Register 15 gets 0. Reads alone, and takes no memory.
+///
+/// The causes that refuse it, in order: `NoCellPool` where there is no cell pool of the name or the current task
+/// doesn't see its subpool, and `NotInUse` where the address isn't that of a cell that was handed out.
+pub fn plan_free(storage: &Storage, name: &str, cell: u32) -> Result<Plan, Cause>
+    requires stands { Stand storage.now }
+    requires name { length name.now ≤ 63 }
+    ensures { (settings : Settings) (names_full : Bool) → StandsSound settings storage.now
+        → IsCellPlanned settings names_full (state_of storage.now) (free name.now cell) result }
+{
+    giving_back_cells_leads();
+    cell_pools_stay_well_formed();
+    cell_pools_are_named();
+    let id = find_seen(storage, name)?;
+    let pools = storage.subpools.cell_pools(&storage.elements);
+    if pools.in_use(&storage.elements, id, cell) {
+        Ok(plan_given_back(storage, id, cell))
+    } else {
+        Err(Cause::NotInUse)
+    }
+}

@@ -1,0 +1,134 @@
+//! Plans of CPOOL GET.
+ghost use Rattle.std.specs.Prelude.{◌≡◌, ◌<◌, ◌≤◌, true, Bool, length, IfSome};
+ghost use Rattle.vsm_model.specs.Regions.{settings_valid};
+ghost use Rattle.vsm_model.specs.Services.{get};
+ghost use Rattle.storage_exchange.specs.Storage.{state_of};
+ghost use Rattle.storage_plans.specs.Places.{StandsSound};
+ghost use Rattle.cell_plans.specs.CellPlans.{IsCellPlanned};
+
+use crate::seen::find_seen;
+use crate::sizes::extent_doublewords;
+use arrayvec::ArrayVec;
+use cell_actions::laws::{extending_leads, handing_out_leads};
+use cell_laws::laws::cell_pools_stay_well_formed;
+use cell_pool::{CellId, Settings as CellSettings};
+use storage_changes::{CellExtentRecord, CellRecord, Record};
+use storage_exchange::Storage;
+use storage_plans::Plan;
+use storage_plans::obtain::{address_of, needs_of, push_place};
+use storage_plans::places::{AreaPlace, area_place};
+use storage_plans::plan::{NO_PAGES, PLAN_RECORDS, answer_four, push_register};
+use subpool_storage::laws::cell_pools_are_named;
+use vsm_model::{Cause, Get, Reply, Settings};
+
+// The cell is handed out: the return code 0, its address in register 1 and in the one that is named.
+fn push_handed_out(
+    records: &mut ArrayVec<Record, PLAN_RECORDS>,
+    storage: &Storage,
+    pool: CellId,
+    cell: u32,
+    register: Option<u8>,
+) {
+    records.push(Record::Cell(CellRecord {
+        pool,
+        cell,
+        free: false,
+    }));
+    let current = storage.tasks.current();
+    push_register(records, current, 15, 0);
+    push_register(records, current, 1, cell);
+    if let Some(register) = register {
+        push_register(records, current, register, cell);
+    }
+}
+
+// The plan by which the first free cell is handed out.
+fn plan_cell(storage: &Storage, pool: CellId, cell: u32, register: Option<u8>) -> Plan {
+    let mut records = ArrayVec::new();
+    push_handed_out(&mut records, storage, pool, cell, register);
+    Plan {
+        emptied: None,
+        records,
+        blanks: 0,
+        fresh: NO_PAGES,
+        reply: Reply::Cell(cell),
+    }
+}
+
+// The elements that a further extent of so many cells takes: one for each cell, those of its marks, and its own.
+fn extent_blanks(count: u32) -> u32 {
+    count + (count / 224 + 1) + 1
+}
+
+// The plan by which the cell pool has a further extent at its place, whose first cell is handed out.
+fn plan_further(
+    storage: &Storage,
+    pool: CellId,
+    cells: CellSettings,
+    place: AreaPlace,
+    register: Option<u8>,
+) -> Plan {
+    let start = address_of(place);
+    let doublewords = extent_doublewords(cells.secondary, cells.size);
+    let mut records = ArrayVec::new();
+    push_place(&mut records, cells.subpool, place, doublewords);
+    records.push(Record::CellExtent(CellExtentRecord {
+        pool,
+        start,
+        count: cells.secondary,
+        present: true,
+    }));
+    push_handed_out(&mut records, storage, pool, start, register);
+    let (blanks, fresh) = needs_of(place, doublewords);
+    Plan {
+        emptied: None,
+        records,
+        blanks: blanks + extent_blanks(cells.secondary),
+        fresh,
+        reply: Reply::Cell(start),
+    }
+}
+
+/// A plan for a cell of a cell pool (*Assembler Services Reference*, CPOOL GET): its first free one; or, where none is
+/// free, the first one of a further extent of the secondary number of cells. Its address goes into register 1, and into
+/// the one that is named; register 15 gets 0. A conditional form never has a further extent: it sets register 15 to 4,
+/// and nothing else. Reads alone, and takes no memory. `names_full` says that the statement defines a name for which
+/// there is no room.
+///
+/// The causes that refuse it, in order: `NoCellPool` where there is no cell pool of the name or the current task
+/// doesn't see its subpool, `TooManyNames`, and `NoStorage` where a further extent has no place.
+pub fn plan_get(
+    storage: &Storage,
+    settings: Settings,
+    name: &str,
+    g: Get,
+    names_full: bool,
+) -> Result<Plan, Cause>
+    requires sound { StandsSound settings storage.now }
+    requires valid { settings_valid settings ≡ true }
+    requires name { length name.now ≤ 63 }
+    requires register { IfSome g.register (λ r. r < 16) }
+    ensures { IsCellPlanned settings names_full (state_of storage.now) (get name.now g) result }
+{
+    handing_out_leads();
+    extending_leads();
+    cell_pools_stay_well_formed();
+    cell_pools_are_named();
+    let id = find_seen(storage, name)?;
+    if names_full {
+        return Err(Cause::TooManyNames);
+    }
+    let pools = storage.subpools.cell_pools(&storage.elements);
+    if let Some(cell) = pools.first_free(&storage.elements, id) {
+        return Ok(plan_cell(storage, id, cell, g.register));
+    }
+    if g.conditional {
+        return Ok(answer_four(storage));
+    }
+    let cells = pools.settings(&storage.elements, id);
+    let count = extent_doublewords(cells.secondary, cells.size);
+    match area_place(storage, settings, cells.location, cells.subpool, count, 1) {
+        Some(place) => Ok(plan_further(storage, id, cells, place, g.register)),
+        None => Err(Cause::NoStorage),
+    }
+}

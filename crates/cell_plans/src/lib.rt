@@ -1,0 +1,16 @@
+//! Plans of cell pools that come, hand out cells, take them back and go.
+#![tactic(auto)]
+
+mod build;
+mod delete;
+mod emptied;
+mod free;
+mod get;
+mod giving_back;
+mod seen;
+mod sizes;
+
+pub use build::{BuildPlan, plan_build};
+pub use delete::{DeletePlan, plan_delete};
+pub use free::plan_free;
+pub use get::plan_get;
