@@ -7,31 +7,37 @@ ghost use Rattle.storage_plans.specs.Plans.{change_in};
 ghost use Rattle.storage_swap.specs.Reserve.{Reserves, AreNames};
 ghost use Rattle.storage_swap.specs.Swap.{means, Ready, Swaps, Discards};
 ghost use Rattle.storage_core.specs.Meaning.{state_in_place, settings_of};
-ghost use Rattle.storage_core.specs.Planned.{change_for, elements_below, pages_assigned, CanBeReserved, IsSpare};
-ghost use Rattle.storage_core.specs.Planned.{extents_leaving, HasRecords, IsSpareFor};
+ghost use Rattle.cell_pool.specs.Pools.{mark_items};
+ghost use Rattle.cell_plans.specs.CellPlans.{build_change, CanBeBuilt};
+ghost use Rattle.storage_core.specs.Planned.{change_for, elements_below, pages_assigned, storage_elements};
+ghost use Rattle.storage_core.specs.Planned.{CanBeReserved, HasRecords, IsIdFor, IsSpare, IsSpareFor};
 ghost use Rattle.storage_core.specs.Stays.{Stays};
 
 use crate::plans::Plan;
 use crate::storage::Storage;
+use cell_plans::BuildPlan;
 use std::alloc::AllocError;
 use storage_plans::{Listed, Plan as StoragePlan};
-use storage_swap::Change;
+use storage_swap::{Change, NewPool};
 
 impl Storage {
     /// The change that carries out the plan, with all the memory that it needs: elements, and a frame and a place in a
     /// table for each page that comes to be assigned. The storage stays as it is, whatever the answer.
     ///
-    /// The change has fewer than 32 records and blank elements, and 8 more for each extent that leaves with a whole
-    /// subpool that is emptied, or 4 for each number that a new task is given or shares; that of tasks that end has one
-    /// for each of its records, and its blank ones. Besides it has one element for each subpool that it has parked, and
-    /// those of what these hold, which were the storage's. It has just as many frames as pages come to be assigned.
+    /// The change has fewer records and blank elements than 25, those that its plan asks for, and 8 for each extent that
+    /// leaves with a whole subpool that is emptied; that of a new task has fewer than 32, and 4 for each number that it
+    /// is given or shares; that of tasks that end, or of a cell pool that goes, has one for each of its records, and its
+    /// blank ones; and that of a cell pool that comes has fewer than 32. Besides it has one element for each subpool
+    /// that it has parked, and those of what these hold, which were the storage's, and those of a cell pool that comes.
+    /// It has just as many frames as pages come to be assigned.
     ///
-    /// `AllocError` where memory is refused. Of requests for storage that can be only where fewer elements or frames
-    /// are spare, or a table isn't there. What was made before that stays, as spare elements and frames.
+    /// `AllocError` where memory is refused. Of requests for storage or for a cell and of a cell pool that comes that
+    /// can be only where fewer elements or frames are spare, or a table isn't there. What was made before that stays, as
+    /// spare elements and frames.
     pub fn reserve(&mut self, plan: Plan) -> Result<Change, AllocError>
         requires { CanBeReserved (state_in_place self.old) plan }
-        ensures ok { IfOk result (λ change. Reserves self.old.parts
-            (change_for (state_in_place self.old) plan) change self.new.parts) }
+        ensures ok { IfOk result (λ change. (id : ℕ) × IsIdFor (state_in_place self.old) plan id
+            × Reserves self.old.parts (change_for (state_in_place self.old) id plan) change self.new.parts) }
         ensures frames { IfOk result (λ change. length change.frames ≡ pages_assigned plan) }
         ensures few { IfOk result (λ change. change.records.count + change.blanks.count
             < elements_below (state_in_place self.old) plan) }
@@ -49,6 +55,11 @@ impl Storage {
                 let listed = plan.listed(self.alloc, &self.parts)?;
                 self.reserve_listed(listed)
             }
+            Plan::Build(plan) => self.reserve_building(plan),
+            Plan::Delete(plan) => {
+                let listed = plan.listed(self.alloc, &self.parts)?;
+                self.reserve_listed(listed)
+            }
         }
     }
 
@@ -59,10 +70,10 @@ impl Storage {
             (change_in (state_in_place self.old) plan) change self.new.parts) }
         ensures frames { IfOk result (λ change. length change.frames ≡ plan.fresh.len) }
         ensures few { IfOk result (λ change. change.records.count + change.blanks.count
-            < 32 + 8 * extents_leaving (state_in_place self.old).subpools plan.emptied) }
+            < storage_elements (state_in_place self.old) plan) }
         ensures err { OnErr result (Stays self.old.parts self.new.parts) }
-        ensures needless { IsSpareFor self.old.parts
-            (extents_leaving (state_in_place self.old).subpools plan.emptied) plan.fresh → IsOk result }
+        ensures needless { IsSpareFor self.old.parts (storage_elements (state_in_place self.old) plan) plan.fresh
+            → IsOk result }
         ensures settings { settings_of self.new ≡ settings_of self.old }
     {
         Change::reserve(
@@ -72,6 +83,37 @@ impl Storage {
             plan.blanks,
             plan.fresh,
         )
+    }
+
+    // The change by which a cell pool comes, under an id that none has.
+    fn reserve_building(&mut self, plan: BuildPlan) -> Result<Change, AllocError>
+        requires { CanBeBuilt (state_in_place self.old) plan }
+        ensures ok { IfOk result (λ change. (id : ℕ)
+            × ((id < 2 ^ 32) × ((state_in_place self.old).subpools.cells id ≡ None))
+            × Reserves self.old.parts (build_change plan id) change self.new.parts) }
+        ensures frames { IfOk result (λ change. length change.frames ≡ plan.fresh.len) }
+        ensures few { IfOk result (λ change. change.records.count + change.blanks.count < 32) }
+        ensures err { OnErr result (Stays self.old.parts self.new.parts) }
+        ensures needless { IsSpareFor self.old.parts
+            (30 + (plan.settings.primary + mark_items plan.settings.primary)) plan.fresh → IsOk result }
+        ensures settings { settings_of self.new ≡ settings_of self.old }
+    {
+        let pool = NewPool {
+            name: &plan.name,
+            settings: plan.settings,
+            header: &plan.header,
+            start: plan.start,
+            count: plan.settings.primary,
+        };
+        let records = plan.records.as_slice();
+        let (change, _) = Change::reserve_building(
+            &mut self.parts,
+            &pool,
+            records,
+            plan.blanks,
+            plan.fresh,
+        )?;
+        Ok(change)
     }
 
     // The change of listed records.

@@ -6,10 +6,12 @@ ghost use Rattle.vsm_model.specs.Services.{Service as Asked};
 ghost use Rattle.storage_changes.specs.State.{StorageState};
 ghost use Rattle.storage_plans.specs.Plans.{IsPlanned as IsStoragePlanned};
 ghost use Rattle.task_plans.specs.TaskPlans.{IsAttachPlanned, IsEndPlanned};
+ghost use Rattle.cell_plans.specs.CellPlans.{IsBuildPlanned, IsCellPlanned, IsDeletePlanned};
 ghost use Rattle.storage_core.specs.Meaning.{state_in_place, settings_of};
 ghost use Rattle.storage_core.specs.Planned.{reply_of, CanBePlanned, IsPlanned};
 
 use crate::storage::Storage;
+use cell_plans::{BuildPlan, DeletePlan, plan_build, plan_delete, plan_free, plan_get};
 use storage_plans::{Plan as StoragePlan, plan_obtain, plan_release, plan_store, plan_whole};
 use task_plans::{AttachPlan, EndPlan, plan_attach, plan_detach, plan_end_task, plan_run};
 use vsm_model::{Cause, Reply, Service};
@@ -17,12 +19,16 @@ use vsm_model::{Cause, Reply, Service};
 /// What an accepted request will do. It was found by reading alone, and nothing is changed yet.
 #[derive(Drop)]
 pub enum Plan {
-    /// Storage that is obtained, released or stored into, or a turn.
+    /// Storage that is obtained, released or stored into, a cell that is handed out or given back, or a turn.
     Storage(StoragePlan),
     /// A task that comes, with its subpools.
     Attach(AttachPlan),
     /// Tasks that end.
     End(EndPlan),
+    /// A cell pool that comes.
+    Build(BuildPlan),
+    /// A cell pool that goes.
+    Delete(DeletePlan),
 }
 
 impl Plan {
@@ -34,6 +40,8 @@ impl Plan {
             Plan::Storage(plan) => plan.reply,
             Plan::Attach(plan) => Reply::Attached(plan.task),
             Plan::End(plan) => plan.reply,
+            Plan::Build(plan) => plan.reply,
+            Plan::Delete(_) => Reply::Returned(0),
         }
     }
 }
@@ -71,14 +79,47 @@ fn end_planned(planned: Result<EndPlan, Cause>) -> Result<Plan, Cause>
     }
 }
 
+// The plan of a cell that is handed out or given back.
+fn cell_planned(planned: Result<StoragePlan, Cause>) -> Result<Plan, Cause>
+    ensures { (settings : Settings) (names_full : Bool) (m : StorageState) (x : Asked)
+        → IsCellPlanned settings names_full m x planned → IsPlanned settings names_full m x result }
+{
+    match planned {
+        Ok(plan) => Ok(Plan::Storage(plan)),
+        Err(cause) => Err(cause),
+    }
+}
+
+// The plan of a cell pool that comes.
+fn build_planned(planned: Result<BuildPlan, Cause>) -> Result<Plan, Cause>
+    ensures { (settings : Settings) (names_full : Bool) (m : StorageState) (x : Asked)
+        → IsBuildPlanned settings names_full m x planned → IsPlanned settings names_full m x result }
+{
+    match planned {
+        Ok(plan) => Ok(Plan::Build(plan)),
+        Err(cause) => Err(cause),
+    }
+}
+
+// The plan of a cell pool that goes.
+fn delete_planned(planned: Result<DeletePlan, Cause>) -> Result<Plan, Cause>
+    ensures { (settings : Settings) (names_full : Bool) (m : StorageState) (x : Asked)
+        → IsDeletePlanned settings names_full m x planned → IsPlanned settings names_full m x result }
+{
+    match planned {
+        Ok(plan) => Ok(Plan::Delete(plan)),
+        Err(cause) => Err(cause),
+    }
+}
+
 impl Storage {
     /// A plan for the service, or the first cause that refuses it. `names_full` says that the statement defines a name
-    /// for which there is no room. Reads alone, and takes no memory. What can be planned are areas of one length or of
-    /// the greatest between two bounds, releases of areas and of whole subpools, stores, and tasks that come, end and
-    /// make requests.
+    /// for which there is no room. Reads alone, and takes no memory. The name of a cell pool has at most 63 bytes, and
+    /// its header 24.
     ///
     /// The causes of each service and their order are those of `plan_obtain`, `plan_release`, `plan_whole`,
-    /// `plan_store`, `plan_attach`, `plan_detach`, `plan_end_task` and `plan_run`.
+    /// `plan_store`, `plan_attach`, `plan_detach`, `plan_end_task`, `plan_run`, `plan_build`, `plan_get`, `plan_free` and
+    /// `plan_delete`.
     pub fn plan(&self, service: Service<'_>, names_full: bool) -> Result<Plan, Cause>
         requires { CanBePlanned (service_in service) }
         ensures { IsPlanned (settings_of self.now) names_full (state_in_place self.now) (service_in service.entry)
@@ -97,10 +138,20 @@ impl Storage {
             Service::Detach { task } => end_planned(plan_detach(&self.parts, task)),
             Service::EndTask => end_planned(plan_end_task(&self.parts)),
             Service::Run { task } => storage_planned(plan_run(&self.parts, task)),
-            Service::Build { .. }
-            | Service::Get { .. }
-            | Service::Free { .. }
-            | Service::Delete { .. } => unreachable!("the service can't be planned"),
+            Service::Build {
+                name,
+                header,
+                numbers,
+            } => build_planned(plan_build(&self.parts, self.settings, name, header, numbers)),
+            Service::Get { name, operands } => cell_planned(plan_get(
+                &self.parts,
+                self.settings,
+                name,
+                operands,
+                names_full,
+            )),
+            Service::Free { name, cell } => cell_planned(plan_free(&self.parts, name, cell)),
+            Service::Delete { name } => delete_planned(plan_delete(&self.parts, name)),
         }
     }
 }
