@@ -12,8 +12,7 @@ use Rattle.vsm_model.specs.Step.{step}
 use Rattle.macro_statements.specs.Requests.{Act}
 use Rattle.storage_changes.specs.Changes as storage
 use Rattle.storage_changes.specs.Meaning.{model_of, IsSound}
-use Rattle.storage_core.specs.Planned.{change_for, reply_of}
-use Rattle.task_plans.specs.TaskPlans.{IsAccepted}
+use Rattle.storage_core.specs.Planned.{IsAccepted, change_for, reply_of}
 use Rattle.name_table.specs.Steps.{define, reword, step_to}
 use Rattle.name_table.proofs.StepsBack.{step_to_can, step_to_rows}
 use Rattle.name_table.proofs.SameName.{same_name-self}

@@ -3,10 +3,11 @@ use Rattle.std.specs.Prelude.{◌≡◌, ℕ, true, Option, Some, None, List, Re
 use Rattle.std.specs.Option.{option_map}
 use Rattle.vsm_model.specs.declared.replies.Reply.{Reply}
 use Rattle.vsm_model.specs.declared.replies.Reply.TheVariants.{Obtained, Cell}
+use Rattle.vsm_model.specs.Standing as outcome
 use Rattle.vsm_model.specs.Standing.{Accepted, Refused}
 use Rattle.macro_statements.specs.Requests.{Act}
 use Rattle.storage_core.specs.Meaning.{state_in_place}
-use Rattle.storage_core.specs.Planned.{CanBeReserved, change_for, reply_of}
+use Rattle.storage_core.specs.Planned.{CanBeReserved, IsIdFor, change_for, reply_of}
 use Rattle.storage_swap.specs.Reserve.{Reserves}
 use Rattle.name_table.specs.Steps.{NameStep, define, step_in, step_to}
 use Rattle.vsm_machine.specs.declared.machine.Machine.{Machine}
@@ -33,25 +34,35 @@ defined_by _ = None
 abbrev pub step_planned : Planned → Option NameStep
 step_planned p = option_map step_in p.name
 
--- what the change of the plan will mean
-abbrev pub difference_in : MachineState → Planned → Difference
-difference_in m p = record { storage = change_for m.storage p.plan; step = step_planned p; known = true }
+-- what the change of the plan will mean, where a cell pool that comes has this id
+abbrev pub difference_in : MachineState → ℕ → Planned → Difference
+difference_in m id p = record { storage = change_for m.storage id p.plan; step = step_planned p; known = true }
 
--- A statement was planned: it is accepted, with this reply, in the state that the plan's change leads to; and that
--- change fits.
-pub record IsAcceptedBy (m : MachineState) (x : Act) (p : Planned) : Type 0 where
+-- A statement was planned: it is accepted, with this reply, in the state that the plan's change leads to, where a cell
+-- pool that comes has this id; and that change fits.
+pub record IsAcceptedBy (m : MachineState) (x : Act) (p : Planned) (id : ℕ) : Type 0 where
   pub accepted :
-      statement_step m.settings (named_of m) x ≡ Accepted (named_of (overlay m (difference_in m p))) (reply_of p.plan)
-  pub fits : StorageFits m.settings m.storage (change_for m.storage p.plan)
+      statement_step m.settings (named_of m) x
+      ≡ Accepted (named_of (overlay m (difference_in m id p))) (reply_of p.plan)
+  pub fits : StorageFits m.settings m.storage (change_for m.storage id p.plan)
   pub can : CanStepBy m.names (λ name. true) (step_planned p)
   pub gives : undefines_none (step_planned p) ≡ true
 
--- The change can be made then; or the statement is refused for this.
+-- It's accepted, under whatever id that a cell pool that comes can have, and the change can be made.
+pub record CanCarryOut (m : MachineState) (x : Act) (p : Planned) : Type 0 where
+  pub accepts : outcome.IsAccepted (statement_step m.settings (named_of m) x)
+  pub accepted : (id : ℕ) → IsIdFor m.storage p.plan id → ∥ IsAcceptedBy m x p id ∥₁
+  pub can : CanBeReserved m.storage p.plan
+
+-- A statement was planned; or it is refused for this.
 abbrev pub IsPlanned : MachineState → Act → Result Planned Refusal → Type 0
-IsPlanned m x (Ok p) = (∥ IsAcceptedBy m x p ∥₁) × CanBeReserved m.storage p.plan
+IsPlanned m x (Ok p) = CanCarryOut m x p
 IsPlanned m x (Err e) = (why : Why) × (statement_step m.settings (named_of m) x ≡ Refused why) × (e ≡ refusal_for why)
 
--- The change was made of the plan: that of its storage beside this one, and the step of its name.
+-- The change was made of the plan: that of its storage beside this one, in which a cell pool that comes has an id that
+-- none had, and the step of its name.
 pub record IsChangeOf (m : Machine) (p : Planned) (n : Machine) (c : Change) : Type 0 where
-  pub storage : Reserves m.storage.parts (change_for (state_in_place m.storage) p.plan) c.storage n.storage.parts
+  pub id : ℕ
+  pub free : IsIdFor (state_in_place m.storage) p.plan id
+  pub storage : Reserves m.storage.parts (change_for (state_in_place m.storage) id p.plan) c.storage n.storage.parts
   pub step : step_of c ≡ step_planned p
