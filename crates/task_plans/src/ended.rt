@@ -6,10 +6,10 @@ ghost use Rattle.storage_exchange.specs.Storage.{state_of, Stand};
 ghost use Rattle.task_actions.specs.Ending.{is_below_by, ended_below, ended_level, ended_records};
 ghost use Rattle.std.specs.List.{flat_map};
 
-use crate::listed::push_register;
 use std::alloc::AllocError;
 use storage_changes::{Record, TaskRecord};
 use storage_exchange::Storage;
+use storage_plans::listed::push_register;
 
 /// The most steps from a task of the 64 to the first.
 const MOST_STEPS: u8 = 63;
