@@ -146,12 +146,72 @@ BEHIND_1024_NAMES = [
 ]
 
 
-def names_row():
-    defined = [(" STORAGE OBTAIN,LENGTH=8,SP=1,ADDR=N%d" % at, "RC=0 A=%08X L=00000008" % (0x6000 + 8 * at))
-               for at in range(1024)]
-    statements = defined + BEHIND_1024_NAMES
+def statements_row(name, statements, options=()):
+    """A script of these statements, one of which is refused, with their answers."""
     script = [statement.encode() + b"\n" for statement, _ in statements]
-    return Row("no-1025th-name", script, lines_of((at + 1, answer) for at, (_, answer) in enumerate(statements)), 4)
+    answers = ((at + 1, answer) for at, (_, answer) in enumerate(statements))
+    return Row(name, script, lines_of(answers), 4, options=options)
+
+
+def defined_names():
+    """Statements that define 1,024 names in subpool 1, each with its answer."""
+    return [(" STORAGE OBTAIN,LENGTH=8,SP=1,ADDR=N%d" % at, "RC=0 A=%08X L=00000008" % (0x6000 + 8 * at))
+            for at in range(1024)]
+
+
+def names_row():
+    return statements_row("no-1025th-name", defined_names() + BEHIND_1024_NAMES)
+
+# Statements behind those that build 256 cell pools of a cell, each with its answer. A 257th is refused, whatever the storage
+# would answer, but not before a bad size and a name that has a cell pool. One that is deleted, or undone, doesn't count.
+BEHIND_256_CELL_POOLS = [
+    (" CPOOL BUILD,PCELLCT=1,CSIZE=8,CPID=P256", "ABEND U3013"),
+    (" CPOOL BUILD,PCELLCT=4096,CSIZE=4096,CPID=P256", "ABEND U3013"),
+    (" CPOOL BUILD,PCELLCT=1,CSIZE=6,CPID=P256", "ABEND U3012"),
+    (" CPOOL BUILD,PCELLCT=1,CSIZE=8,CPID=P0", "ABEND U3009"),
+    (" CPOOL GET,CPID=P255", "RC=0 A=000067F8"),
+    (" CPOOL DELETE,CPID=P17", "RC=0"),
+    (" CPOOL BUILD,PCELLCT=1,CSIZE=8,CPID=P256", "RC=0 A=00006088 L=00000008"),
+    (" CPOOL BUILD,PCELLCT=1,CSIZE=8,CPID=P17", "ABEND U3013"),
+    (" BACK 2", "KEPT=257"),
+    (" CPOOL BUILD,PCELLCT=1,CSIZE=8,CPID=P256", "ABEND U3013"),
+    (" CPOOL GET,CPID=P17", "RC=0 A=00006088"),
+    (" CPOOL GET,C,CPID=P17", "RC=4"),
+]
+
+
+def cell_pools_row():
+    built = [(" CPOOL BUILD,PCELLCT=1,CSIZE=8,CPID=P%d" % at, "RC=0 A=%08X L=00000008" % (0x6000 + 8 * at))
+             for at in range(256)]
+    return statements_row("no-257th-cell-pool", built + BEHIND_256_CELL_POOLS)
+
+
+# Statements behind those that define 1,024 names, the last of them N1023: a GET whose name would be the 1,025th is refused
+# before it's found that no cell is free, but not before the cell pool is looked for.
+CELLS_BEHIND_1024_NAMES = [
+    (" CPOOL GET,CPID=CP,CELL=ONEMORE", "ABEND U3010"),
+    (" CPOOL BUILD,PCELLCT=1,CSIZE=8,SP=2,CPID=CP", "RC=0 A=00008000 L=00000008"),
+    (" CPOOL GET,CPID=CP,CELL=ONEMORE", "ABEND U3013"),
+    (" CPOOL GET,C,CPID=CP,CELL=ONEMORE", "ABEND U3013"),
+    (" CPOOL GET,CPID=CP,CELL=N5", "RC=0 A=00008000"),
+    (" CPOOL GET,C,CPID=CP,CELL=ONEMORE", "ABEND U3013"),
+    (" CPOOL GET,C,CPID=CP,CELL=N6", "RC=4"),
+    (" CPOOL FREE,CPID=CP,CELL=N6", "ABEND U3011"),
+    (" CPOOL FREE,CPID=CP,CELL=N5", "RC=0"),
+    (" CPOOL FREE,CPID=CP,CELL=ONEMORE", "REFUSED NAME"),
+    (" CPOOL GET,CPID=CP,CELL=(5)", "RC=0 A=00008000"),
+    (" BACK 6", "KEPT=1018"),
+    (" CPOOL BUILD,PCELLCT=1,CSIZE=8,SP=2,CPID=CP", "RC=0 A=00008000 L=00000008"),
+    (" CPOOL GET,CPID=CP,CELL=ONEMORE", "RC=0 A=00008000"),
+    (" CPOOL GET,CPID=CP,CELL=N1023", "ABEND U3013"),
+    (" BACK 1", "KEPT=1019"),
+    (" CPOOL GET,C,CPID=CP,CELL=N1023", "RC=0 A=00008000"),
+    (" CPOOL GET,C,CPID=CP,CELL=ONEMORE", "ABEND U3013"),
+]
+
+
+def cell_names_row():
+    return statements_row("no-1025th-name-of-a-cell", defined_names() + CELLS_BEHIND_1024_NAMES)
 
 
 def map_with(subpool, pages, taken, free, kept):
@@ -181,9 +241,7 @@ def free_areas_row():
                    (" BACK %d" % (count + 1), "KEPT=%d" % (count + 1)), (" STORAGE RELEASE,LENGTH=8,ADDR=X'6000',SP=1", "ABEND SA78"),
                    (" FREEMAIN RU,SP=1", "RC=0"), (" MAP", behind), (" BACK 1", "KEPT=%d" % (count + 1)), (" MAP", before),
                    (" FORWARD 1", "KEPT=%d" % (count + 2)), (" MAP", behind), (" PEEK X'6000',1", "ABEND S0C4")]
-    script = [statement.encode() + b"\n" for statement, _ in statements]
-    return Row("whole-release-of-10000-free-areas", script, lines_of((at + 1, answer) for at, (_, answer) in enumerate(statements)), 4,
-               options=["--low", "256", "--history", "65536"])
+    return statements_row("whole-release-of-10000-free-areas", statements, ["--low", "256", "--history", "65536"])
 
 
 def help_row(name, word):
@@ -194,4 +252,4 @@ def help_row(name, word):
 
 def made_rows():
     help_rows = [help_row("help", "--help"), help_row("short-help", "-h")]
-    return length_rows() + endless_rows() + byte_rows() + [names_row(), free_areas_row()] + help_rows
+    return length_rows() + endless_rows() + byte_rows() + [names_row(), free_areas_row(), cell_pools_row(), cell_names_row()] + help_rows
