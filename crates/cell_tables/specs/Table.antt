@@ -1,8 +1,7 @@
 -- The cell pools of the storage as the plain machine's table by name. Assembler Services Reference, CPOOL.
 use Rattle.std.specs.Prelude.{ℕ, zero, suc, ◌^◌, Option, Some, None, [], map}
 use Rattle.vsm_model.specs.CellPools.{CellPool, CellExtent, CellPools, with_cell_pool}
-use Rattle.cell_extents.specs.declared.settings.Extent.{Extent}
-use Rattle.cell_pool.specs.Pools.{Pool}
+use Rattle.cell_pool.specs.Pools.{Extent, Pool}
 
 -- an extent, and a cell pool, on the plain machine
 abbrev pub extent_of : Extent → CellExtent

@@ -5,6 +5,7 @@ pub mod Steps
 pub mod Turned
 pub mod Fits
 pub mod Changes
+pub mod Names
 pub mod Meaning
 pub mod Laws
 pub mod Props

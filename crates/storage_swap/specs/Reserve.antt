@@ -1,17 +1,17 @@
 -- A change that was reserved.
-use Rattle.std.specs.Prelude.{◌≡◌, ℕ, ◌+◌, ◌*◌, ◌≤◌, true, false, List, [], ◌∷◌, length, IsTrue}
-use Rattle.std.specs.Prelude.{Option, Some, None, All, AllPairs}
+use Rattle.std.specs.Prelude.{◌≡◌, ℕ, ◌+◌, ◌*◌, ◌≤◌, true, List, [], ◌∷◌, length, IsTrue}
+use Rattle.std.specs.Prelude.{Option, Some, None}
 use Rattle.vsm_elements.specs.Store.{SameElements}
 use Rattle.vsm_elements.specs.Owners.{Moves}
 use Rattle.raw_region.specs.Pages.{Pages, has_table, has_segment, SamePages}
 use Rattle.run_set.specs.declared.run.Run.{Run}
 use Rattle.vsm_model.specs.declared.Subpool.{Subpool}
-use Rattle.vsm_model.specs.Subpools.{same_subpool}
 use Rattle.subpool_storage.specs.Extents.{extents}
 use Rattle.subpool_storage.specs.Subpools.{Subpools, no_subpools, with_own}
 use Rattle.storage_changes.specs.declared.record.Record.{Record}
 use Rattle.storage_changes.specs.declared.record.Record.TheVariants.{Queues}
 use Rattle.storage_changes.specs.Changes.{Change, unassigned_records}
+pub use Rattle.storage_changes.specs.Names.{AreNames}
 use Rattle.storage_exchange.specs.declared.storage.Storage.{Storage}
 use Rattle.storage_exchange.specs.Storage.{hold, state_of}
 use Rattle.storage_swap.specs.declared.change.Change.{Change as TheChange}
@@ -60,9 +60,3 @@ emptying (Some p) runs = Queues (record { subpool = p }) ∷ unassigned_records 
 abbrev pub parked_under : Option Subpool → Subpools
 parked_under None = no_subpools
 parked_under (Some p) = with_own no_subpools p true
-
--- Subpools that can be there, each but once.
-pub record AreNames (names : List Subpool) : Type 0 where
-  pub owners : All (λ p. (1 ≤ p.owner) × (p.owner ≤ 64)) names
-  pub numbers : All (λ p. p.number ≤ 127) names
-  pub once : AllPairs (λ p q. same_subpool p q ≡ false) names

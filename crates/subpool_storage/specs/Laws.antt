@@ -4,7 +4,7 @@ use Rattle.vsm_elements.specs.Store.{Store, at}
 use Rattle.vsm_model.specs.declared.Subpool.{Subpool}
 use Rattle.subpool_storage.specs.declared.storage.SubpoolStorage.{SubpoolStorage}
 use Rattle.cell_pool.specs.Pools.{Pool}
-use Rattle.cell_tables.specs.Named.{AreNamed}
+use Rattle.cell_pool.specs.Named.{AreNamed}
 use Rattle.subpool_storage.specs.Subpools.{is_there}
 use Rattle.subpool_storage.specs.SubpoolStorage.{subpools_of, hold, Stands}
 

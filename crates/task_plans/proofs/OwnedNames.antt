@@ -9,7 +9,7 @@ use Rattle.vsm_model.specs.Subpools.{same_subpool}
 use Rattle.subpool_storage.specs.Subpools.{Subpools, is_there}
 use Rattle.storage_changes.specs.Laws.{CanBe}
 use Rattle.storage_changes.proofs.Cases.{same-is, same-self}
-use Rattle.storage_swap.specs.Reserve.{AreNames}
+use Rattle.storage_changes.specs.Names.{AreNames}
 use Rattle.task_laws.proofs.Options.{held}
 use Rattle.task_actions.specs.Ending.{owned_by_these}
 use Rattle.task_actions.proofs.EndEach.{Each, Apart, each_so}

@@ -6,7 +6,7 @@ ghost use Rattle.vsm_model.specs.Services.{attach};
 ghost use Rattle.storage_changes.specs.Changes.{change_parking};
 ghost use Rattle.storage_exchange.specs.Storage.{state_of, Stand, IsFrameless};
 ghost use Rattle.storage_plans.specs.Places.{StandsSound};
-ghost use Rattle.storage_swap.specs.Reserve.{AreNames};
+ghost use Rattle.storage_changes.specs.Names.{AreNames};
 ghost use Rattle.task_plans.specs.TaskPlans.{attach_change, CanBeAttached, IsAttachPlanned};
 
 use crate::numbers::{has_bad_number, numbers_of, numbers_or_none, some_is_anothers};

@@ -8,7 +8,7 @@ ghost use Rattle.vsm_model.specs.Services.{detach, end_task};
 ghost use Rattle.storage_changes.specs.Changes.{change_parking};
 ghost use Rattle.storage_exchange.specs.Storage.{state_of, Stand};
 ghost use Rattle.storage_plans.specs.Places.{StandsSound};
-ghost use Rattle.storage_swap.specs.Reserve.{AreNames};
+ghost use Rattle.storage_changes.specs.Names.{AreNames};
 ghost use Rattle.subpool_set.specs.SubpoolSet.{number_at};
 ghost use Rattle.subpool_storage.specs.Extents.{extents};
 ghost use Rattle.subpool_storage.specs.SubpoolStorage.{IsSubpoolPlace};

@@ -1,5 +1,5 @@
 use Rattle.std.proofs.Common.{sym, subst}
-use Rattle.storage_swap.specs.Reserve.{AreNames}
+use Rattle.storage_changes.specs.Names.{AreNames}
 use Rattle.storage_exchange.specs.Storage.{state_of}
 use Rattle.task_actions.specs.Ending.{ended_below}
 use Rattle.task_plans.proofs.OwnedNames.{owned_are_names}
