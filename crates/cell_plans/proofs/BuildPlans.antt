@@ -1,6 +1,6 @@
 -- The plan of a cell pool that comes leads to what BUILD leaves, or it's refused for the first cause.
-use Rattle.std.proofs.Common.{◌≡◌, ℕ, ◌+◌, ◌*◌, ◌<◌, ◌≤◌, ◌^◌, Bool, true, false, not, ◌&&◌, nat_le, if◌then◌else◌, is_some, Option, Some, None, List, [], ◌∷◌, ◌++◌, length, refl, sym, ap, ◌∙◌, subst, arith, true≢false}
-use Rattle.std.specs.Prelude.{unwrap_or, option_map, Result, Ok}
+use Rattle.std.proofs.Common.{◌≡◌, ℕ, ◌+◌, ◌*◌, ◌<◌, ◌≤◌, ◌^◌, Bool, true, false, not, ◌&&◌, nat_le, is_some, Option, Some, None, List, [], ◌∷◌, ◌++◌, length, refl, sym, ap, ◌∙◌, subst, arith}
+use Rattle.std.specs.Prelude.{unwrap_or, option_map, Ok}
 use Rattle.std.proofs.Math.Bool.{Bool-set}
 use Rattle.std.proofs.Math.Logic.{∥∥₁_map, ∥∥₁_elim}
 use Rattle.std.proofs.Math.Nat.{mul-pos, mul-le-mul_left}
@@ -20,15 +20,14 @@ use Rattle.vsm_model.specs.CellPools.{CellPool, cell_pool_in, with_extent}
 use Rattle.vsm_model.specs.State.{State}
 use Rattle.vsm_model.specs.Subpools.{seen_or_own, sees_one, with_own, with_subpool}
 use Rattle.vsm_model.specs.Areas.{Place, place, is_nowhere, address_of}
-use Rattle.vsm_model.specs.Causes.{Causes, first_cause, number_causes}
+use Rattle.vsm_model.specs.Causes.{Causes, first_cause}
 use Rattle.vsm_model.specs.Cells.{are_cells, secondary_count, build_causes, extent_place, extent_at, new_pool, with_pool}
 use Rattle.vsm_model.specs.Obtaining.{with_area}
 use Rattle.vsm_model.specs.Registers.{with_registers}
 use Rattle.vsm_model.specs.Services.{build}
 use Rattle.vsm_model.specs.Standing.{Accepted}
 use Rattle.vsm_model.specs.Standing as outcome
-use Rattle.vsm_model.specs.Step.{answered, causes, replied, step}
-use Rattle.vsm_model.specs.WellFormed.{IsWellFormed}
+use Rattle.vsm_model.specs.Step.{answered, replied, step}
 use Rattle.vsm_model.proofs.Chosen.{Stepped}
 use Rattle.cell_laws.specs.Kept.{BuildLeavesWellFormed}
 use Rattle.cell_laws.proofs.CellLists.{cell_bounds}
@@ -38,9 +37,8 @@ use Rattle.cell_pool.specs.Pools.{Pool}
 use Rattle.cell_tables.specs.Named.{AreNamed}
 use Rattle.cell_tables.specs.Table.{cell_pool_of}
 use Rattle.subpool_storage.specs.Subpools.{is_there, built_pool, IsUnnamed}
-use Rattle.storage_changes.specs.declared.record.Record.{Record}
 use Rattle.storage_changes.specs.State.{StorageState}
-use Rattle.storage_changes.specs.Changes.{Change, change_of, change_building, overlay}
+use Rattle.storage_changes.specs.Changes.{Change, change_of, change_building}
 use Rattle.storage_changes.specs.Meaning.{model_of, IsSound}
 use Rattle.storage_actions.specs.Actions.{own_records, register_records}
 use Rattle.storage_actions.specs.Leads.{CanOwn, Leads, with_new}
@@ -51,19 +49,11 @@ use Rattle.storage_plans.specs.declared.places.AreaPlace.TheVariants as areas
 use Rattle.storage_plans.specs.ObtainPlans.{place_address, place_blanks, place_pages, place_records}
 use Rattle.storage_plans.specs.Places.{place_of}
 use Rattle.storage_plans.specs.Plans.{IsAccepted}
-use Rattle.storage_plans.proofs.AskedLengths.{is_somewhere, number_allowed, skip, stop}
+use Rattle.storage_plans.proofs.AskedLengths.{is_somewhere, number_allowed, skip}
 use Rattle.storage_plans.proofs.Carried.{no_registers, register_and}
 use Rattle.cell_plans.specs.declared.build.BuildPlan.{BuildPlan}
 use Rattle.cell_plans.specs.CellPlans.{IsBuildPlanned, CanBeBuilt, build_change}
 use Rattle.cell_plans.proofs.BuiltExtents.{cells_are, GoesTo, goes_to, ends_in_storage, has_room, in_words, pages_in_range, pages_unassigned}
-
--- the first cause of a list stays it where more come behind
-still_first : (rows more : Causes) (cause : Cause) → first_cause rows ≡ Some cause → first_cause (rows ++ more) ≡ Some cause
-still_first [] more cause e = absurd (cc)
-still_first (row ∷ rows) more cause e = go row.0 e where
-  go : (b : Bool) → (if b then Some row.1 else first_cause rows) ≡ Some cause → (if b then Some row.1 else first_cause (rows ++ more)) ≡ Some cause
-  go true f = f
-  go false f = still_first rows more cause f
 
 -- The causes of a BUILD.
 module _ (settings : Settings) (s : State) (name : List ℕ) (header : Option (List ℕ)) (b : Build) where
@@ -88,29 +78,14 @@ module _ (settings : Settings) (s : State) (name : List ℕ) (header : Option (L
   abbrev second : Causes
   second = (exists, CellPoolExists) ∷ third
 
-  pub bad_number : (cause : Cause) → first_cause (number_causes b.number) ≡ Some cause → first_cause (build_causes settings s name header b) ≡ Some cause
-  bad_number cause e = still_first (number_causes b.number) ((not fits, BadCells) ∷ second) cause e
-
-  pub bad_cells : b.number ≤ 127 → fits ≡ false → first_cause (build_causes settings s name header b) ≡ Some BadCells
-  bad_cells allowed e = number_allowed b.number ((not fits, BadCells) ∷ second) allowed ∙ stop (not fits) BadCells second (ap not e)
-
   behind_cells : b.number ≤ 127 → fits ≡ true → first_cause (build_causes settings s name header b) ≡ first_cause second
   behind_cells allowed e = number_allowed b.number ((not fits, BadCells) ∷ second) allowed ∙ skip (not fits) BadCells second (ap not e)
-
-  pub pool_exists : b.number ≤ 127 → fits ≡ true → exists ≡ true → first_cause (build_causes settings s name header b) ≡ Some CellPoolExists
-  pool_exists allowed cells e = behind_cells allowed cells ∙ stop exists CellPoolExists third e
 
   behind_name : b.number ≤ 127 → fits ≡ true → exists ≡ false → first_cause (build_causes settings s name header b) ≡ first_cause third
   behind_name allowed cells e = behind_cells allowed cells ∙ skip exists CellPoolExists third e
 
-  pub too_many : b.number ≤ 127 → fits ≡ true → exists ≡ false → full ≡ true → first_cause (build_causes settings s name header b) ≡ Some TooManyCellPools
-  too_many allowed cells new e = behind_name allowed cells new ∙ stop full TooManyCellPools fourth e
-
   behind_count : b.number ≤ 127 → fits ≡ true → exists ≡ false → full ≡ false → first_cause (build_causes settings s name header b) ≡ first_cause fourth
   behind_count allowed cells new e = behind_name allowed cells new ∙ skip full TooManyCellPools fourth e
-
-  pub no_storage : b.number ≤ 127 → fits ≡ true → exists ≡ false → full ≡ false → is_nowhere goes ≡ true → first_cause (build_causes settings s name header b) ≡ Some NoStorage
-  no_storage allowed cells new few e = behind_count allowed cells new few ∙ stop (is_nowhere goes) NoStorage [] e
 
   pub no_cause : b.number ≤ 127 → fits ≡ true → exists ≡ false → full ≡ false → is_nowhere goes ≡ false → first_cause (build_causes settings s name header b) ≡ None
   no_cause allowed cells new few e = behind_count allowed cells new few ∙ skip (is_nowhere goes) NoStorage [] e
@@ -304,8 +279,8 @@ module _ (settings : Settings) (names_full : Bool) (m : StorageState) (name : Li
       planned leads kept named sound = (
         its_accepted,
         (λ id low absent. ∥∥₁_map sound (λ h.
-          let is : Change → Reply → Type 0 = λ d r. IsAccepted settings names_full m (build name header b) d r in
-          subst (λ (r : Reply). is (build_change plan id) r) (sym reply_is)
-          (subst (λ (d : Change). is d (Obtained (place_address x) (8 * count))) (sym (change_is id)) (carried h leads kept named id low absent)))),
+            let is : Change → Reply → Type 0 = λ d r. IsAccepted settings names_full m (build name header b) d r in
+            subst (λ (r : Reply). is (build_change plan id) r) (sym reply_is)
+            (subst (λ (d : Change). is d (Obtained (place_address x) (8 * count))) (sym (change_is id)) (carried h leads kept named id low absent)))),
         can_be_built sound,
       )

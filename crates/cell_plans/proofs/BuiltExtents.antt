@@ -1,5 +1,5 @@
 -- Where an extent has its place: its cells, its free storage or its unassigned pages, and its end.
-use Rattle.std.proofs.Common.{◌≡◌, ℕ, zero, suc, ◌+◌, ◌-◌, ◌*◌, ◌/◌, ◌%◌, ◌<◌, ◌≤◌, ◌^◌, Bool, true, not, ◌&&◌, ◌==◌, is_some, Option, Some, List, ◌∷◌, map, refl, sym, ap, ◌∙◌, subst, arith}
+use Rattle.std.proofs.Common.{◌≡◌, ℕ, zero, suc, ◌+◌, ◌-◌, ◌*◌, ◌/◌, ◌%◌, ◌<◌, ◌≤◌, ◌^◌, Bool, true, not, ◌&&◌, ◌==◌, is_some, Some, List, ◌∷◌, map, refl, sym, ap, ◌∙◌, subst, arith}
 use Rattle.std.specs.List.{range_with_len}
 use Rattle.std.proofs.lemmas.Bool.{and_parts, and_from, eq-eqb}
 use Rattle.run_set.specs.Runs.{inside}
@@ -10,7 +10,7 @@ use Rattle.vsm_model.specs.Search.{all_pass}
 use Rattle.vsm_model.specs.CellPools as model
 use Rattle.vsm_model.specs.Regions.{among, within, regions_for, settings_valid, pages_for}
 use Rattle.vsm_model.specs.State.{State}
-use Rattle.vsm_model.specs.Areas.{Place, Inside, Fresh, fits, is_free, place}
+use Rattle.vsm_model.specs.Areas.{Inside, Fresh, fits, is_free, place}
 use Rattle.vsm_model.proofs.Least.{all_pass_at}
 use Rattle.storage_laws.proofs.Cases.{among_in}
 use Rattle.storage_laws.proofs.Places.{IsOf, Goes, place_goes, place_in_words, regions_are}

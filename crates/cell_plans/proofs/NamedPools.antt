@@ -1,18 +1,16 @@
 -- How many rows the table has.
-use Rattle.std.proofs.Common.{◌≡◌, ◌≢◌, ℕ, Bool, true, false, ◌==◌, ◌||◌, Option, Some, None, is_some, List, [], ◌∷◌, length, map, All, AllPairs, refl, sym, ap, ◌∙◌, subst, arith, inl, inr, true≢false}
-use Rattle.std.specs.Prelude.{option_map}
-use Rattle.std.proofs.lemmas.Bool.{eq-eqb, or_cases, false_from_ne_true, both_ways, or_left, or_right}
+use Rattle.std.proofs.Common.{◌≡◌, ◌≢◌, ℕ, false, ◌==◌, Option, List, [], ◌∷◌, length, map, All, AllPairs, sym, ◌∙◌, arith}
+use Rattle.std.proofs.lemmas.Bool.{eq-eqb, false_from_ne_true, both_ways, or_left, or_right}
 use Rattle.std.proofs.lemmas.List.Elements.{All-cons, All-nil}
 use Rattle.std.proofs.lemmas.List.Kept.{AllPairs-cons}
 use Rattle.vsm_elements.specs.Store.{Store, among, Distinct}
-use Rattle.vsm_model.specs.CellPools.{cell_pool_in}
 use Rattle.cell_pool.specs.declared.pools.CellPools.{CellPools}
-use Rattle.cell_pool.specs.CellPools.{pools, pool, by_id}
-use Rattle.cell_pool.specs.Laws.{AreOne, AreListed}
+use Rattle.cell_pool.specs.CellPools.{pools, by_id}
+use Rattle.cell_pool.specs.Laws.{AreListed}
 use Rattle.cell_pool.specs.Pools.{Pool}
-use Rattle.cell_tables.specs.Laws.{PoolsAreFound, OthersAreNotFound, RowsAreCounted}
+use Rattle.cell_tables.specs.Laws.{RowsAreCounted}
 use Rattle.cell_tables.specs.Named.{AreNamed}
-use Rattle.cell_tables.specs.Table.{cell_pool_of, cell_pools_in}
+use Rattle.cell_tables.specs.Table.{cell_pools_in}
 
 -- Cell pools with distinct ids are apart.
 others : (id : ℕ) (list : List Pool) → among id (map (λ p. p.id) list) ≡ false → All (λ p. id ≢ p.id) list

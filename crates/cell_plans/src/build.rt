@@ -1,6 +1,6 @@
 //! Plans of CPOOL BUILD.
-ghost use Rattle.std.specs.Prelude.{◌≡◌, ℕ, ◌+◌, ◌*◌, ◌/◌, ◌^◌, ◌<◌, ◌≤◌, ◌&&◌, ◌++◌, ◌∷◌, [], true, false, Bool, Option};
-ghost use Rattle.std.specs.Prelude.{List, Some, is_some, length, nat_le, option_map, IfSome, IfOk, IfErr, OnOk};
+ghost use Rattle.std.specs.Prelude.{◌≡◌, ℕ, ◌*◌, ◌^◌, ◌<◌, ◌≤◌, ◌&&◌, ◌++◌, ◌∷◌, [], true, false, Bool, Option, Some};
+ghost use Rattle.std.specs.Prelude.{List, is_some, length, nat_le, option_map, IfSome, IfOk, IfErr, OnOk};
 ghost use Rattle.vsm_model.specs.declared.limits.Settings.{Settings};
 ghost use Rattle.vsm_model.specs.declared.replies.Reply.TheVariants.{Obtained};
 ghost use Rattle.vsm_model.specs.Causes.{first_cause};
