@@ -87,7 +87,7 @@ module _ (settings : Settings) (s : State) (name : List ℕ) (header : Option (L
   behind_count : b.number ≤ 127 → fits ≡ true → exists ≡ false → full ≡ false → first_cause (build_causes settings s name header b) ≡ first_cause fourth
   behind_count allowed cells new e = behind_name allowed cells new ∙ skip full TooManyCellPools fourth e
 
-  pub no_cause : b.number ≤ 127 → fits ≡ true → exists ≡ false → full ≡ false → is_nowhere goes ≡ false → first_cause (build_causes settings s name header b) ≡ None
+  no_cause : b.number ≤ 127 → fits ≡ true → exists ≡ false → full ≡ false → is_nowhere goes ≡ false → first_cause (build_causes settings s name header b) ≡ None
   no_cause allowed cells new few e = behind_count allowed cells new few ∙ skip (is_nowhere goes) NoStorage [] e
 
   -- a BUILD with a cause is refused
@@ -100,7 +100,7 @@ module _ (settings : Settings) (s : State) (name : List ℕ) (header : Option (L
   goes_is sd p n is_side is_subpool is_count = λ i. place s (regions_for settings (is_side i)) (is_subpool i) (is_count i) 1
 
 -- the bytes of an extent
-pub bytes_few : (size count : ℕ) → are_cells size count ≡ true → (0 < count * size) × (count * size ≤ 2 ^ 24)
+bytes_few : (size count : ℕ) → are_cells size count ≡ true → (0 < count * size) × (count * size ≤ 2 ^ 24)
 bytes_few size count e =
     let (least, most, some, few) = cell_bounds size count e in
     let pos : 0 < size = omega (arith, least) in
@@ -173,7 +173,7 @@ module _ (settings : Settings) (names_full : Bool) (m : StorageState) (name : Li
         cond-false (sees_one t b.number) t (with_subpool t b.number t.current) none ∙ ap (λ owner. with_subpool t b.number owner) (sym (owner_new none))
     made false e = cond-true (sees_one t b.number) t (with_subpool t b.number t.current) (not-false (sees_one t b.number) (sym e))
 
-    pub accepted : step settings names_full t (build name header b) ≡ Accepted after (Obtained (place_address x) (8 * count))
+    accepted : step settings names_full t (build name header b) ≡ Accepted after (Obtained (place_address x) (8 * count))
     accepted =
         let y = build name header b in
         let with : State → Place → CellPool → Stepped = λ u g q. replied y (with_pool (with_area u own count g) name q, Obtained (address_of g) (8 * count)) in
