@@ -1,11 +1,11 @@
 -- What the plans of cell pools come to on the plain machine. Assembler Services Reference, CPOOL; Assembler Services
 -- Guide, "Virtual storage management", "Using the CPOOL macro".
 use Rattle.std.specs.Prelude.{◌≡◌, ℕ, ◌+◌, ◌*◌, ◌/◌, ◌^◌, ◌<◌, ◌≤◌, Bool, true, All, IfSome, IsSome, Option, Some, None}
-use Rattle.std.specs.Prelude.{option_map, Result, Ok, Err, length, [], ◌∷◌, ◌++◌}
+use Rattle.std.specs.Prelude.{option_map, Result, Ok, Err, [], ◌∷◌, ◌++◌}
 use Rattle.run_set.specs.Runs.{inside}
 use Rattle.vsm_model.specs.declared.causes.Cause.{Cause}
 use Rattle.vsm_model.specs.declared.limits.Settings.{Settings}
-use Rattle.vsm_model.specs.declared.replies.Reply.TheVariants.{Obtained, Returned}
+use Rattle.vsm_model.specs.declared.replies.Reply.TheVariants.{Returned}
 use Rattle.vsm_model.specs.Regions.{doublewords}
 use Rattle.vsm_model.specs.Services.{Service}
 use Rattle.vsm_model.specs.Standing as outcome

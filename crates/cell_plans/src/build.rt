@@ -1,8 +1,18 @@
 //! Plans of CPOOL BUILD.
-ghost use Rattle.std.specs.Prelude.{◌≡◌, ◌≤◌, true, Bool, length, option_map, IfSome};
-ghost use Rattle.vsm_model.specs.Regions.{settings_valid};
+ghost use Rattle.std.specs.Prelude.{◌≡◌, ℕ, ◌*◌, ◌^◌, ◌<◌, ◌≤◌, ◌&&◌, ◌++◌, ◌∷◌, [], true, false, Bool, Option, Some};
+ghost use Rattle.std.specs.Prelude.{List, is_some, length, nat_le, option_map, IfSome, IfOk, IfErr, OnOk};
+ghost use Rattle.vsm_model.specs.declared.limits.Settings.{Settings};
+ghost use Rattle.vsm_model.specs.declared.replies.Reply.TheVariants.{Obtained};
+ghost use Rattle.vsm_model.specs.Causes.{first_cause};
+ghost use Rattle.vsm_model.specs.CellPools.{cell_pool_in};
+ghost use Rattle.vsm_model.specs.Cells.{are_cells, build_causes, secondary_count};
+ghost use Rattle.vsm_model.specs.Regions.{doublewords, settings_valid};
 ghost use Rattle.vsm_model.specs.Services.{build};
-ghost use Rattle.storage_exchange.specs.Storage.{state_of};
+ghost use Rattle.subpool_storage.specs.Subpools.{IsUnnamed};
+ghost use Rattle.storage_changes.specs.Meaning.{model_of};
+ghost use Rattle.storage_actions.specs.Actions.{own_records, register_records};
+ghost use Rattle.storage_exchange.specs.Storage.{state_of, Stand};
+ghost use Rattle.storage_plans.specs.ObtainPlans.{place_address, place_blanks, place_pages, place_records};
 ghost use Rattle.storage_plans.specs.Places.{StandsSound};
 ghost use Rattle.cell_plans.specs.CellPlans.{IsBuildPlanned};
 
@@ -11,7 +21,9 @@ use crate::sizes::extent_doublewords;
 use arrayvec::ArrayVec;
 use cell_actions::laws::building_leads;
 use cell_laws::laws::cell_pools_stay_well_formed;
+use cell_pool::laws::{pools_are_listed, pools_are_one};
 use cell_pool::{Header, Name, Settings as CellSettings};
+use cell_tables::laws::{others_are_not_found, pools_are_found, rows_are_counted};
 use run_set::Run;
 use storage_changes::Record;
 use storage_exchange::Storage;
@@ -46,32 +58,79 @@ pub struct BuildPlan {
     pub reply: Reply,
 }
 
-// The text of a header as an array of its own.
-fn header_of(text: &str) -> Header {
+// The text of a header as an array of its own, if there is one.
+fn header_of(text: Option<&str>) -> Option<Header>
+    requires { IfSome text (λ text. length text.now ≤ 24) }
+    ensures { option_map (λ h. h.items) result ≡ option_map (λ text. text.now) text.entry }
+{
+    let text = text?;
     let mut header = Header::new();
-    for byte in text.as_bytes() {
-        header.push(*byte);
-    }
-    header
+    let _ = header.try_extend_from_slice(text.as_bytes());
+    Some(header)
 }
 
 // Whether cells can have this size in bytes, and an extent so many of them.
-fn are_cells(size: u32, count: u32) -> bool {
+fn are_cells(size: u32, count: u32) -> bool
+    ensures { result ≡ are_cells size count }
+{
     size % 4 == 0 && 4 <= size && size <= CELLS && 1 <= count && count <= CELLS
+}
+
+// Whether the cell pool can have cells of its size, and extents of its numbers of them.
+fn has_cells(b: Build) -> bool
+    ensures { result ≡ (are_cells b.size b.primary && are_cells b.size (secondary_count b)) }
+{
+    are_cells(b.size, b.primary) && are_cells(b.size, b.secondary.unwrap_or(b.primary))
+}
+
+// Whether there is a cell pool of the name.
+fn is_built(storage: &Storage, name: &Name) -> bool
+    requires { Stand storage.now }
+    ensures there { result ≡ is_some (cell_pool_in (model_of (state_of storage.now)).cell_pools name.now.bytes) }
+    ensures unnamed { result ≡ false → IsUnnamed (state_of storage.now).subpools name.now.bytes }
+{
+    cell_pools_are_named();
+    pools_are_one();
+    pools_are_found();
+    others_are_not_found();
+    let pools = storage.subpools.cell_pools(&storage.elements);
+    pools.find(&storage.elements, name).is_some()
+}
+
+// How many cell pools there are.
+fn pool_count(storage: &Storage) -> u32
+    requires { Stand storage.now }
+    ensures { result ≡ length (model_of (state_of storage.now)).cell_pools }
+{
+    cell_pools_are_named();
+    pools_are_listed();
+    rows_are_counted();
+    let pools = storage.subpools.cell_pools(&storage.elements);
+    pools.count(&storage.elements)
 }
 
 // The number of the subpool of a cell pool that can come under the name, or the first cause that refuses it but for
 // want of storage.
-fn check_build(storage: &Storage, name: &Name, b: Build) -> Result<u8, Cause> {
+fn check_build(storage: &Storage, name: &Name, b: Build) -> Result<u8, Cause>
+    requires { Stand storage.now }
+    ensures number { IfOk result (λ number. number ≡ b.number) }
+    ensures allowed { OnOk result (b.number ≤ 127) }
+    ensures cells { OnOk result ((are_cells b.size b.primary && are_cells b.size (secondary_count b)) ≡ true) }
+    ensures unnamed { OnOk result (IsUnnamed (state_of storage.now).subpools name.now.bytes) }
+    ensures none { OnOk result
+        (is_some (cell_pool_in (model_of (state_of storage.now)).cell_pools name.now.bytes) ≡ false) }
+    ensures few { OnOk result (nat_le 256 (length (model_of (state_of storage.now)).cell_pools) ≡ false) }
+    ensures err { IfErr result (λ cause. (settings : Settings) (header : Option (List ℕ))
+        → first_cause (build_causes settings (model_of (state_of storage.now)) name.now.bytes header b) ≡ Some cause) }
+{
     let number = check_number(b.number)?;
-    if !are_cells(b.size, b.primary) || !are_cells(b.size, b.secondary.unwrap_or(b.primary)) {
+    if !has_cells(b) {
         return Err(Cause::BadCells);
     }
-    let pools = storage.subpools.cell_pools(&storage.elements);
-    if pools.find(&storage.elements, name).is_some() {
+    if is_built(storage, name) {
         return Err(Cause::CellPoolExists);
     }
-    if pools.count(&storage.elements) >= CELL_POOLS {
+    if pool_count(storage) >= CELL_POOLS {
         return Err(Cause::TooManyCellPools);
     }
     Ok(number)
@@ -85,7 +144,23 @@ fn plan_pool(
     settings: CellSettings,
     place: AreaPlace,
     is_new: bool,
-) -> BuildPlan {
+) -> BuildPlan
+    requires bytes { settings.primary * settings.size < 2 ^ 32 }
+    requires words { (place_address place < 2 ^ 32) × (0 < doublewords (settings.primary * settings.size))
+        × (doublewords (settings.primary * settings.size) < 2 ^ 29) }
+    ensures name { result.name ≡ name }
+    ensures header { result.header ≡ header }
+    ensures settings { result.settings ≡ settings }
+    ensures start { result.start ≡ place_address place }
+    ensures records { result.records.items
+        ≡ own_records settings.subpool is_new
+        ++ place_records settings.subpool (doublewords (settings.primary * settings.size)) place
+        ++ register_records (state_of storage.now) ((15, 0) ∷ []) }
+    ensures blanks { result.blanks ≡ place_blanks place }
+    ensures fresh { result.fresh ≡ place_pages (doublewords (settings.primary * settings.size)) place }
+    ensures reply { result.reply
+        ≡ Obtained (place_address place) (8 * doublewords (settings.primary * settings.size)) }
+{
     let count = extent_doublewords(settings.primary, settings.size);
     let mut records = ArrayVec::new();
     push_own(&mut records, settings.subpool, is_new);
@@ -128,7 +203,7 @@ pub fn plan_build(
     requires name { length name.now ≤ 63 }
     requires header { IfSome header (λ text. length text.now ≤ 24) }
     ensures { (names_full : Bool) → IsBuildPlanned settings names_full (state_of storage.now)
-        (build name.now (option_map (λ text. text.now) header) b) result }
+        (build name.now (option_map (λ text. text.now) header.entry) b) result }
 {
     building_leads();
     cell_pools_stay_well_formed();
@@ -148,6 +223,5 @@ pub fn plan_build(
         secondary: b.secondary.unwrap_or(b.primary),
         location,
     };
-    let header = header.map(header_of);
-    Ok(plan_pool(storage, name, header, cells, place, is_new))
+    Ok(plan_pool(storage, name, header_of(header), cells, place, is_new))
 }
