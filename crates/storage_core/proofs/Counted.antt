@@ -27,30 +27,26 @@ unassigned-length : (rs : List Run) → length (unassigned_records rs) ≡ lengt
 unassigned-length [] = refl
 unassigned-length (r ∷ rs) = ap suc (unassigned-length rs)
 
-abbrev records_in : Meaning → ℕ
-records_in d = length d.records
+-- a change that was reserved has the elements that it means
+pub reserved_count : (p t : Parts) (d : Meaning) (c : Change) → Reserves p d c t → c.records.count + c.blanks.count ≡ length d.records + d.blanks
+reserved_count p t d c made =
+    let same_records : length (records_of t.elements c.records) ≡ length d.records = ap (λ (x : Meaning). length x.records) made.meaning in
+    let same_blanks : c.blanks.count ≡ d.blanks = ap (λ (x : Meaning). x.blanks) made.meaning in
+    omega (arith, records-length t.elements c.records, same_records, same_blanks)
 
--- of a change with at most 17 records of its own and 7 blank elements
-few_from : (m : Subpools) (emptied : Option Subpool) (records : List Record) (blanks : ℕ) (fresh : Run) → length records ≤ 17 → blanks ≤ 7 →
-    records_in (change_from m emptied records blanks fresh) + (change_from m emptied records blanks fresh).blanks < 32 + 8 * extents_leaving m emptied
-few_from m None records blanks fresh few blank = let h : length records + blanks < 32 + 8 * 0 = omega (arith, few, blank) in h
-few_from m (Some p) records blanks fresh few blank =
+-- of a change with at most 17 records of its own
+few_from : (m : Subpools) (emptied : Option Subpool) (records : List Record) (blanks : ℕ) (fresh : Run) → length records ≤ 17 →
+    length (change_from m emptied records blanks fresh).records + (change_from m emptied records blanks fresh).blanks < 25 + blanks + 8 * extents_leaving m emptied
+few_from m None records blanks fresh few = let h : length records + blanks < 25 + blanks + 8 * 0 = omega (arith, few) in h
+few_from m (Some p) records blanks fresh few =
     let n = length (extents m p) in
-    let h : suc (length (unassigned_records (extents m p) ++ records)) + (n + blanks) < 32 + 8 * n =
-    omega (arith, few, blank, length-append (unassigned_records (extents m p)) records, unassigned-length (extents m p)) in
+    let h : suc (length (unassigned_records (extents m p) ++ records)) + (n + blanks) < 25 + blanks + 8 * n =
+    omega (arith, few, length-append (unassigned_records (extents m p)) records, unassigned-length (extents m p)) in
     h
 
-pub few_reserved : (p t : Parts) (m : Subpools) (emptied : Option Subpool) (records : List Record) (blanks : ℕ) (fresh : Run) (c : Change) →
-    Reserves p (change_from m emptied records blanks fresh) c t → length records ≤ 17 → blanks ≤ 7 →
-    c.records.count + c.blanks.count < 32 + 8 * extents_leaving m emptied
-few_reserved p t m emptied records blanks fresh c made few blank =
-    let d = change_from m emptied records blanks fresh in
-    let same_records : length (records_of t.elements c.records) ≡ records_in d = ap records_in made.meaning in
-    let same_blanks : c.blanks.count ≡ d.blanks = ap (λ (x : Meaning). x.blanks) made.meaning in
-    omega (arith, few_from m emptied records blanks fresh few blank, records-length t.elements c.records, same_records, same_blanks)
-
 pub few_answered : {E : Type 0} (p t : Parts) (m : Subpools) (emptied : Option Subpool) (records : List Record) (blanks : ℕ) (fresh : Run) (r : Result Change E) →
-    IfOk r (λ c. Reserves p (change_from m emptied records blanks fresh) c t) → length records ≤ 17 → blanks ≤ 7 →
-    IfOk r (λ c. c.records.count + c.blanks.count < 32 + 8 * extents_leaving m emptied)
-few_answered p t m emptied records blanks fresh (Ok c) made few blank = few_reserved p t m emptied records blanks fresh c made few blank
-few_answered p t m emptied records blanks fresh (Err e) made few blank = made
+    IfOk r (λ c. Reserves p (change_from m emptied records blanks fresh) c t) → length records ≤ 17 →
+    IfOk r (λ c. c.records.count + c.blanks.count < 25 + blanks + 8 * extents_leaving m emptied)
+few_answered p t m emptied records blanks fresh (Ok c) made few =
+    omega (arith, few_from m emptied records blanks fresh few, reserved_count p t (change_from m emptied records blanks fresh) c made)
+few_answered p t m emptied records blanks fresh (Err e) made few = made

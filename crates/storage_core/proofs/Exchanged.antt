@@ -1,6 +1,6 @@
 -- A plan that was made into a change, and the change once it was exchanged: it can be exchanged, and leads to a sound
 -- storage.
-use Rattle.std.proofs.Common.{◌≡◌, Bool, sym, ap, ◌∙◌, subst}
+use Rattle.std.proofs.Common.{◌≡◌, ℕ, Bool, sym, ap, ◌∙◌, subst}
 use Rattle.std.proofs.Props.{props}
 use mathlib.Core.Logic.{∥∥₁_elim, ∥∥₁_map}
 use Rattle.vsm_model.specs.declared.limits.Settings.{Settings}
@@ -12,8 +12,7 @@ use Rattle.storage_changes.specs.Props.{Fit-prop}
 use Rattle.storage_exchange.specs.declared.storage.Storage.{Storage as Parts}
 use Rattle.storage_exchange.specs.Storage.{state_of}
 use Rattle.storage_core.specs.declared.plans.Plan.{Plan}
-use Rattle.storage_core.specs.Planned.{change_for, reply_of}
-use Rattle.task_plans.specs.TaskPlans.{IsAccepted}
+use Rattle.storage_core.specs.Planned.{CanCarryOut, IsAccepted, IsIdFor, change_for, reply_of}
 use Rattle.storage_swap.specs.declared.change.Change.{Change}
 use Rattle.storage_swap.specs.Reserve.{Reserves}
 use Rattle.storage_swap.specs.Swap.{means, Swaps}
@@ -26,32 +25,35 @@ use Rattle.storage_history.specs.Steps.{storage_inverts}
 abbrev pub LeadsSound : Settings → StorageState → Meaning → Type 0
 LeadsSound settings m d = ∥ IsSound settings (overlay m d) ∥₁
 
-module _ (settings : Settings) (names_full : Bool) (m : StorageState) (x : Service) (plan : Plan)
-    (planned : ∥ IsAccepted settings names_full m x (change_for m plan) (reply_of plan) ∥₁)
+module _ (settings : Settings) (names_full : Bool) (m : StorageState) (x : Service) (id : ℕ) (plan : Plan)
+    (planned : ∥ IsAccepted settings names_full m x (change_for m id plan) (reply_of plan) ∥₁)
   where
-    plan_fits : Fit m (change_for m plan)
-    plan_fits = ∥∥₁_elim planned (Fit-prop m (change_for m plan)) (λ k. k.fits)
+    plan_fits : Fit m (change_for m id plan)
+    plan_fits = ∥∥₁_elim planned (Fit-prop m (change_for m id plan)) (λ k. k.fits)
 
-    plan_is_sound : LeadsSound settings m (change_for m plan)
+    plan_is_sound : LeadsSound settings m (change_for m id plan)
     plan_is_sound = ∥∥₁_map planned (λ k. k.sound)
 
 module _ (settings : Settings) (names_full : Bool) (p t : Parts) (x : Service) (plan : Plan)
-    (planned : ∥ IsAccepted settings names_full (state_of p) x (change_for (state_of p) plan) (reply_of plan) ∥₁)
+    (planned : CanCarryOut settings names_full (state_of p) x plan)
     (c : Change)
-    (made : Reserves p (change_for (state_of p) plan) c t)
+    (made : (id : ℕ) × IsIdFor (state_of p) plan id × Reserves p (change_for (state_of p) id plan) c t)
   where
+    accepted : ∥ IsAccepted settings names_full (state_of p) x (change_for (state_of p) made.0 plan) (reply_of plan) ∥₁
+    accepted = planned.accepted made.0 made.1
+
     pub reserved_can : CanSwap t c
     reserved_can = record {
-      ready = made.ready;
-      fits = (reserved-changes-fit p t (change_for (state_of p) plan) c made (plan_fits settings names_full (state_of p) x plan planned)).0;
+      ready = made.2.ready;
+      fits = (reserved-changes-fit p t (change_for (state_of p) made.0 plan) c made.2 (plan_fits settings names_full (state_of p) x made.0 plan accepted)).0;
     }
 
     pub reserved_sound : LeadsSound settings (state_of t) (means t.elements c)
     reserved_sound =
         let P : StorageState → Type 0 = λ m. LeadsSound settings m (means t.elements c) in
         let Q : Meaning → Type 0 = λ d. LeadsSound settings (state_of p) d in
-        subst P (sym made.shows)
-        (subst Q (sym made.meaning) (plan_is_sound settings names_full (state_of p) x plan planned))
+        subst P (sym made.2.shows)
+        (subst Q (sym made.2.meaning) (plan_is_sound settings names_full (state_of p) x made.0 plan accepted))
 
 module _ (settings : Settings) (p t : Parts) (c d : Change) (swapped : Swaps p c t d) (can : CanSwap p c) where
   pub swapped_can : CanSwap t d

@@ -111,15 +111,29 @@ kept_is_held settings p t held apart shows segments = record {
       subst P (sym shows) held.sound;
 }
 
--- a change was made of it, or could not be made
-pub reserved_is_held : {E : Type 0} (settings : Settings) (p t : Parts) (d : Meaning) → IsHeld settings p
-    → (r : Result Change E) → IfOk r (λ c. Reserves p d c t) → IfErr r (λ _. Grown p t) → IsHeld settings t
-reserved_is_held settings p t d held (Ok c) made grown =
+-- a change was made of it
+made_is_held : (settings : Settings) (p t : Parts) (d : Meaning) (c : Change) → IsHeld settings p → Reserves p d c t
+    → IsHeld settings t
+made_is_held settings p t d c held made =
     kept_is_held settings p t held (apart-rest [] c t (reserve-apart p t d c made [] (alone settings p held)))
     made.shows made.tables.segments
-reserved_is_held settings p t d held (Err e) made grown =
+
+-- or could not be made
+grown_is_held : (settings : Settings) (p t : Parts) → IsHeld settings p → Grown p t → IsHeld settings t
+grown_is_held settings p t held grown =
     let stays : Stays p t = grown_stays p t held.stands grown in
     kept_is_held settings p t held (stays.apart [] (alone settings p held)) stays.shows grown.tables.segments
+
+pub answered_is_held : {E R : Type 0} (settings : Settings) (p t : Parts) → IsHeld settings p → (r : Result R E)
+    (change : R → Change) (meaning : R → Meaning) → IfOk r (λ x. Reserves p (meaning x) (change x) t)
+    → IfErr r (λ _. Grown p t) → IsHeld settings t
+answered_is_held settings p t held (Ok x) change meaning made grown =
+    made_is_held settings p t (meaning x) (change x) held made
+answered_is_held settings p t held (Err e) change meaning made grown = grown_is_held settings p t held grown
+
+pub reserved_is_held : {E : Type 0} (settings : Settings) (p t : Parts) (d : Meaning) → IsHeld settings p
+    → (r : Result Change E) → IfOk r (λ c. Reserves p d c t) → IfErr r (λ _. Grown p t) → IsHeld settings t
+reserved_is_held settings p t d held r made grown = answered_is_held settings p t held r (λ c. c) (λ c. d) made grown
 
 pub discarded_is_held : (settings : Settings) (p t : Parts) (c : Change) → IsHeld settings p → Discards p c t
     → IsHeld settings t

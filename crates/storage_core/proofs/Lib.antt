@@ -5,5 +5,6 @@ pub mod Holding
 pub mod Soundness
 pub mod Staying
 mod Walking
+mod Made
 mod PlanCases
 mod TaskCounts

@@ -1,27 +1,61 @@
 -- Plans of each kind, as plans of a service.
-use Rattle.std.proofs.Common.{◌≡◌, Bool, Result, Ok, Err, sym, subst}
+use Rattle.std.proofs.Common.{◌≡◌, Bool, Result, Ok, Err, sym, subst, arith}
 use Rattle.std.proofs.Props.{props}
 use mathlib.Core.Logic.{∥∥₁_elim, ∥∥₁_map}
 use Rattle.vsm_model.specs.declared.causes.Cause.{Cause}
 use Rattle.vsm_model.specs.declared.limits.Settings.{Settings}
+use Rattle.vsm_model.specs.declared.replies.Reply.{Reply}
 use Rattle.vsm_model.specs.Services.{Service}
+use Rattle.vsm_model.specs.State.{State}
+use Rattle.vsm_model.specs.Standing as outcome
+use Rattle.vsm_model.specs.Standing.{Outcome, Accepted, Refused}
+use Rattle.vsm_model.specs.Step.{step}
 use Rattle.storage_changes.specs.State.{StorageState}
+use Rattle.storage_changes.specs.Changes.{Change}
+use Rattle.storage_changes.specs.Meaning.{model_of}
 use Rattle.storage_plans.specs.declared.plan.Plan.{Plan as StoragePlan}
 use Rattle.storage_plans.specs.Plans.{CarriesOut, IsPlanned as IsStoragePlanned}
 use Rattle.task_plans.specs.declared.attach.AttachPlan.{AttachPlan}
 use Rattle.task_plans.specs.declared.end.EndPlan.{EndPlan}
 use Rattle.task_plans.specs.TaskPlans.{IsAttachPlanned, IsEndPlanned}
-use Rattle.storage_core.specs.declared.plans.Plan.TheVariants.{Storage, Attach, End}
-use Rattle.storage_core.specs.Planned.{HasRecords, IsPlanned}
+use Rattle.cell_plans.specs.declared.build.BuildPlan.{BuildPlan}
+use Rattle.cell_plans.specs.declared.delete.DeletePlan.{DeletePlan}
+use Rattle.cell_plans.specs.CellPlans.{IsBuildPlanned, IsCellPlanned, IsDeletePlanned}
+use Rattle.storage_core.specs.declared.plans.Plan.{Plan}
+use Rattle.storage_core.specs.declared.plans.Plan.TheVariants.{Storage, Attach, End, Build, Delete}
+use Rattle.storage_core.specs.Planned.{CanBeReserved, CanCarryOut, HasRecords, IsAccepted, IsPlanned, change_for, reply_of}
+
+-- whether an outcome is an accepted one is a question with one answer
+accepted-prop : {S R C : Type 0} (o : Outcome S R C) → IsProp (outcome.IsAccepted o)
+accepted-prop (Accepted t r) = hlevel props
+accepted-prop (Refused cause) = hlevel props
 
 module _ (settings : Settings) (names_full : Bool) (m : StorageState) (x : Service) where
+  -- a service that is accepted by some change isn't refused
+  accepts_by : (d : Change) (reply : Reply) → ∥ IsAccepted settings names_full m x d reply ∥₁
+      → outcome.IsAccepted (step settings names_full (model_of m) x)
+  accepts_by d reply planned =
+      let o : Outcome State Reply Cause = step settings names_full (model_of m) x in
+      ∥∥₁_elim planned (accepted-prop o)
+      (λ k.
+      let P : Outcome State Reply Cause → Type 0 = λ z. outcome.IsAccepted z in
+      subst P (sym k.accepted) tt)
+
+  storage_accepted : (plan : StoragePlan) → ∥ IsAccepted settings names_full m x (change_for m 0 (Storage plan)) plan.reply ∥₁ → HasRecords m plan
+      → CanCarryOut settings names_full m x (Storage plan)
+  storage_accepted plan planned has = record {
+    accepts = accepts_by (change_for m 0 (Storage plan)) plan.reply planned;
+    accepted = λ id _. planned;
+    can = has;
+  }
+
   pub storage_ok : (r : Result StoragePlan Cause) (plan : StoragePlan) → r ≡ Ok plan → IsStoragePlanned settings names_full m x r
       → IsPlanned settings names_full m x (Ok (Storage plan))
   storage_ok r plan is h =
-      let planned : ∥ CarriesOut settings names_full m x plan ∥₁ = subst (IsStoragePlanned settings names_full m x) is h in (
-        ∥∥₁_map planned (λ k. record { accepted = k.accepted; fits = k.fits; sound = k.sound }),
-        (let has : HasRecords m plan = ∥∥₁_elim planned (hlevel props) (λ k. record { few = k.few; range = k.range; there = k.there; unassigned = k.unassigned }) in has),
-      )
+      let planned : ∥ CarriesOut settings names_full m x plan ∥₁ = subst (IsStoragePlanned settings names_full m x) is h in
+      storage_accepted plan
+      (∥∥₁_map planned (λ k. record { accepted = k.accepted; fits = k.fits; sound = k.sound }))
+      (let has : HasRecords m plan = ∥∥₁_elim planned (hlevel props) (λ k. record { few = omega (arith, k.few); range = k.range; there = k.there; unassigned = k.unassigned }) in has)
 
   pub storage_err : (r : Result StoragePlan Cause) (cause : Cause) → r ≡ Err cause → IsStoragePlanned settings names_full m x r
       → IsPlanned settings names_full m x (Err cause)
@@ -29,7 +63,13 @@ module _ (settings : Settings) (names_full : Bool) (m : StorageState) (x : Servi
 
   pub attach_ok : (r : Result AttachPlan Cause) (plan : AttachPlan) → r ≡ Ok plan → IsAttachPlanned settings names_full m x r
       → IsPlanned settings names_full m x (Ok (Attach plan))
-  attach_ok r plan is h = subst (IsAttachPlanned settings names_full m x) is h
+  attach_ok r plan is h =
+      let planned : IsAttachPlanned settings names_full m x (Ok plan) = subst (IsAttachPlanned settings names_full m x) is h in
+      record {
+        accepts = accepts_by (change_for m 0 (Attach plan)) (reply_of (Attach plan)) planned.0;
+        accepted = λ id _. planned.0;
+        can = planned.1;
+      }
 
   pub attach_err : (r : Result AttachPlan Cause) (cause : Cause) → r ≡ Err cause → IsAttachPlanned settings names_full m x r
       → IsPlanned settings names_full m x (Err cause)
@@ -37,8 +77,48 @@ module _ (settings : Settings) (names_full : Bool) (m : StorageState) (x : Servi
 
   pub end_ok : (r : Result EndPlan Cause) (plan : EndPlan) → r ≡ Ok plan → IsEndPlanned settings names_full m x r
       → IsPlanned settings names_full m x (Ok (End plan))
-  end_ok r plan is h = subst (IsEndPlanned settings names_full m x) is h
+  end_ok r plan is h =
+      let planned : IsEndPlanned settings names_full m x (Ok plan) = subst (IsEndPlanned settings names_full m x) is h in
+      record {
+        accepts = accepts_by (change_for m 0 (End plan)) plan.reply planned.0;
+        accepted = λ id _. planned.0;
+        can = planned.1;
+      }
 
   pub end_err : (r : Result EndPlan Cause) (cause : Cause) → r ≡ Err cause → IsEndPlanned settings names_full m x r
       → IsPlanned settings names_full m x (Err cause)
   end_err r cause is h = subst (IsEndPlanned settings names_full m x) is h
+
+  pub cell_ok : (r : Result StoragePlan Cause) (plan : StoragePlan) → r ≡ Ok plan → IsCellPlanned settings names_full m x r
+      → IsPlanned settings names_full m x (Ok (Storage plan))
+  cell_ok r plan is h =
+      let planned : IsCellPlanned settings names_full m x (Ok plan) = subst (IsCellPlanned settings names_full m x) is h in
+      storage_accepted plan planned.0 planned.1
+
+  pub cell_err : (r : Result StoragePlan Cause) (cause : Cause) → r ≡ Err cause → IsCellPlanned settings names_full m x r
+      → IsPlanned settings names_full m x (Err cause)
+  cell_err r cause is h = subst (IsCellPlanned settings names_full m x) is h
+
+  pub build_ok : (r : Result BuildPlan Cause) (plan : BuildPlan) → r ≡ Ok plan → IsBuildPlanned settings names_full m x r
+      → IsPlanned settings names_full m x (Ok (Build plan))
+  build_ok r plan is h =
+      let planned : IsBuildPlanned settings names_full m x (Ok plan) = subst (IsBuildPlanned settings names_full m x) is h in
+      record { accepts = planned.0; accepted = λ id free. planned.1 id free.0 free.1; can = planned.2 }
+
+  pub build_err : (r : Result BuildPlan Cause) (cause : Cause) → r ≡ Err cause → IsBuildPlanned settings names_full m x r
+      → IsPlanned settings names_full m x (Err cause)
+  build_err r cause is h = subst (IsBuildPlanned settings names_full m x) is h
+
+  pub delete_ok : (r : Result DeletePlan Cause) (plan : DeletePlan) → r ≡ Ok plan → IsDeletePlanned settings names_full m x r
+      → IsPlanned settings names_full m x (Ok (Delete plan))
+  delete_ok r plan is h =
+      let planned : IsDeletePlanned settings names_full m x (Ok plan) = subst (IsDeletePlanned settings names_full m x) is h in
+      record {
+        accepts = accepts_by (change_for m 0 (Delete plan)) (reply_of (Delete plan)) planned.0;
+        accepted = λ id _. planned.0;
+        can = planned.1;
+      }
+
+  pub delete_err : (r : Result DeletePlan Cause) (cause : Cause) → r ≡ Err cause → IsDeletePlanned settings names_full m x r
+      → IsPlanned settings names_full m x (Err cause)
+  delete_err r cause is h = subst (IsDeletePlanned settings names_full m x) is h

@@ -85,6 +85,10 @@ module _ (p t : Parts) (stands : Stand p) (grown : Grown p t) where
   }
 
 -- a change that could not be made left all as it was
+pub left_as_it_was : {R E : Type 0} (p t : Parts) → Stand p → (r : Result R E) → Grown p t → OnErr r (Stays p t)
+left_as_it_was p t stands (Ok c) grown = tt
+left_as_it_was p t stands (Err e) grown = grown_stays p t stands grown
+
 pub failed_stays : {E : Type 0} (p t : Parts) → Stand p → (r : Result Change E) → IfErr r (λ _. Grown p t)
     → OnErr r (Stays p t)
 failed_stays p t stands (Ok c) grown = tt

@@ -1,4 +1,4 @@
--- How many elements the change of a task that comes has, and that of tasks that end.
+-- How many elements the change of a task that comes has, that of tasks that end, and that of a cell pool that goes.
 use Rattle.std.proofs.Common.{◌≡◌, ℕ, zero, suc, ◌+◌, ◌*◌, ◌<◌, ◌≤◌, Bool, true, false, List, [], ◌∷◌, ◌++◌, length, Option, Some, None, Result, Ok, Err, IfOk, refl, ap, ◌∙◌, arith}
 use Rattle.std.specs.List.{flat_map}
 use Rattle.std.proofs.lemmas.List.{length-append}
@@ -10,27 +10,21 @@ use Rattle.storage_changes.specs.State.{StorageState}
 use Rattle.storage_actions.specs.Actions.{register_records}
 use Rattle.storage_exchange.specs.declared.storage.Storage.{Storage as Parts}
 use Rattle.storage_swap.specs.declared.change.Change.{Change}
-use Rattle.storage_swap.specs.Beside.{records_of}
 use Rattle.storage_swap.specs.Reserve.{Reserves}
 use Rattle.task_actions.specs.Attaching.{given_records, gift_records, sharing_records, share_records, zero_records, attach_records, attach_blanks}
 use Rattle.task_actions.specs.Ending.{ended_below, end_records, end_blanks, with_turn}
 use Rattle.task_plans.specs.declared.attach.AttachPlan.{AttachPlan}
 use Rattle.task_plans.specs.declared.end.EndPlan.{EndPlan}
 use Rattle.task_plans.specs.TaskPlans.{numbers, attach_change, end_change, end_registers}
-use Rattle.storage_core.specs.declared.plans.Plan.TheVariants.{Attach, End}
+use Rattle.cell_plans.specs.declared.delete.DeletePlan.{DeletePlan}
+use Rattle.cell_plans.specs.CellPlans.{delete_change}
+use Rattle.storage_core.specs.declared.plans.Plan.TheVariants.{Attach, End, Delete}
 use Rattle.storage_core.specs.Planned.{elements_below}
-use Rattle.storage_core.proofs.Counted.{records-length}
-
--- a change that was reserved has the elements that it means
-reserved-count : (p t : Parts) (d : Meaning) (c : Change) → Reserves p d c t → c.records.count + c.blanks.count ≡ length d.records + d.blanks
-reserved-count p t d c made =
-    let same_records : length (records_of t.elements c.records) ≡ length d.records = ap (λ (x : Meaning). length x.records) made.meaning in
-    let same_blanks : c.blanks.count ≡ d.blanks = ap (λ (x : Meaning). x.blanks) made.meaning in
-    omega (arith, records-length t.elements c.records, same_records, same_blanks)
+use Rattle.storage_core.proofs.Counted.{reserved_count}
 
 few-answered : {E : Type 0} (p t : Parts) (d : Meaning) (most : ℕ) (r : Result Change E) → IfOk r (λ c. Reserves p d c t) → length d.records + d.blanks < most →
     IfOk r (λ c. c.records.count + c.blanks.count < most)
-few-answered p t d most (Ok c) made few = omega (arith, reserved-count p t d c made, few)
+few-answered p t d most (Ok c) made few = omega (arith, reserved_count p t d c made, few)
 few-answered p t d most (Err e) made few = made
 
 -- a list of lists of which none is longer than two
@@ -89,3 +83,7 @@ end_few p t m plan r made =
     let registers = register_records (with_turn m plan.next) (end_registers plan.reply) in
     few-answered p t (end_change m plan) (elements_below m (End plan)) r made
     (omega (arith, length-append records registers, one-register (with_turn m plan.next) plan.reply))
+
+pub delete_few : {E : Type 0} (p t : Parts) (m : StorageState) (plan : DeletePlan) (r : Result Change E) → IfOk r (λ c. Reserves p (delete_change m plan) c t) →
+    IfOk r (λ c. c.records.count + c.blanks.count < elements_below m (Delete plan))
+delete_few p t m plan r made = few-answered p t (delete_change m plan) (elements_below m (Delete plan)) r made (omega arith)

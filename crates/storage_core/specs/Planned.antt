@@ -54,8 +54,8 @@ extents_leaving m (Some p) = length (extents m p)
 
 -- As many elements are spare as the change of a plan takes at most, and a frame for each page of the run; and these have
 -- tables.
-pub record IsSpareFor (p : Parts) (elements : ℕ) (fresh : Run) : Type 0 where
-  pub elements : elements ≤ p.elements.spare
+pub record IsSpareFor (p : Parts) (most : ℕ) (fresh : Run) : Type 0 where
+  pub elements : most ≤ p.elements.spare
   pub frames : fresh.len ≤ p.region.spare
   pub tables : HaveTables p.region fresh.start fresh.len
 

@@ -1,5 +1,5 @@
 //! Changes of a storage: made of a plan, exchanged with it, and discarded.
-ghost use Rattle.std.specs.Prelude.{◌≡◌, ◌+◌, ◌*◌, ◌^◌, ◌<◌, ◌≤◌, length, IsOk, OnErr, IfOk};
+ghost use Rattle.std.specs.Prelude.{◌≡◌, ℕ, ◌+◌, ◌*◌, ◌^◌, ◌<◌, ◌≤◌, length, IsOk, OnErr, IfOk};
 ghost use Rattle.storage_changes.specs.Changes.{Fit, overlay};
 ghost use Rattle.storage_changes.specs.Meaning.{IsSound};
 ghost use Rattle.storage_changes.specs.Changes.{change_parking};
@@ -7,18 +7,15 @@ ghost use Rattle.storage_plans.specs.Plans.{change_in};
 ghost use Rattle.storage_swap.specs.Reserve.{Reserves, AreNames};
 ghost use Rattle.storage_swap.specs.Swap.{means, Ready, Swaps, Discards};
 ghost use Rattle.storage_core.specs.Meaning.{state_in_place, settings_of};
-ghost use Rattle.cell_pool.specs.Pools.{mark_items};
-ghost use Rattle.cell_plans.specs.CellPlans.{build_change, CanBeBuilt};
 ghost use Rattle.storage_core.specs.Planned.{change_for, elements_below, pages_assigned, storage_elements};
 ghost use Rattle.storage_core.specs.Planned.{CanBeReserved, HasRecords, IsIdFor, IsSpare, IsSpareFor};
 ghost use Rattle.storage_core.specs.Stays.{Stays};
 
 use crate::plans::Plan;
 use crate::storage::Storage;
-use cell_plans::BuildPlan;
 use std::alloc::AllocError;
 use storage_plans::{Listed, Plan as StoragePlan};
-use storage_swap::{Change, NewPool};
+use storage_swap::Change;
 
 impl Storage {
     /// The change that carries out the plan, with all the memory that it needs: elements, and a frame and a place in a
@@ -83,37 +80,6 @@ impl Storage {
             plan.blanks,
             plan.fresh,
         )
-    }
-
-    // The change by which a cell pool comes, under an id that none has.
-    fn reserve_building(&mut self, plan: BuildPlan) -> Result<Change, AllocError>
-        requires { CanBeBuilt (state_in_place self.old) plan }
-        ensures ok { IfOk result (λ change. (id : ℕ)
-            × ((id < 2 ^ 32) × ((state_in_place self.old).subpools.cells id ≡ None))
-            × Reserves self.old.parts (build_change plan id) change self.new.parts) }
-        ensures frames { IfOk result (λ change. length change.frames ≡ plan.fresh.len) }
-        ensures few { IfOk result (λ change. change.records.count + change.blanks.count < 32) }
-        ensures err { OnErr result (Stays self.old.parts self.new.parts) }
-        ensures needless { IsSpareFor self.old.parts
-            (30 + (plan.settings.primary + mark_items plan.settings.primary)) plan.fresh → IsOk result }
-        ensures settings { settings_of self.new ≡ settings_of self.old }
-    {
-        let pool = NewPool {
-            name: &plan.name,
-            settings: plan.settings,
-            header: &plan.header,
-            start: plan.start,
-            count: plan.settings.primary,
-        };
-        let records = plan.records.as_slice();
-        let (change, _) = Change::reserve_building(
-            &mut self.parts,
-            &pool,
-            records,
-            plan.blanks,
-            plan.fresh,
-        )?;
-        Ok(change)
     }
 
     // The change of listed records.

@@ -5,6 +5,7 @@
 //! back.
 #![tactic(auto)]
 
+mod building;
 mod changes;
 mod plans;
 mod positions;
@@ -20,8 +21,8 @@ pub use storage_plans::STORE_MOST;
 pub use storage_swap::{Change, Released};
 pub use subpool_storage::{PoolPlace, SharerPlace};
 pub use vsm_model::{
-    Attach, Boundary, Cause, Code, Family, Lengths, Location, Obtain, Passed, Release, Reply,
-    Residence, Service, Settings, Subpool,
+    Attach, Boundary, Build, Cause, Code, Family, Get, Lengths, Location, Obtain, Passed, Release,
+    Reply, Residence, Service, Settings, Subpool,
 };
 pub use walks::{ExtentPlace, FreeAreaPlace};
 

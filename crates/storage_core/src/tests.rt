@@ -1,4 +1,5 @@
-//! An area on either side of the 16 MB line, obtained, stored into and released: each of them undone and done again.
+//! An area on either side of the 16 MB line, obtained, stored into and released, and a cell pool with its cells: each of
+//! them undone and done again.
 
 ghost use Rattle.std.specs.Prelude.{◌≡◌, true, IfOk};
 ghost use Rattle.vsm_model.specs.Meaning.{service_in};
@@ -145,6 +146,92 @@ fn requests_come_and_go(rt: HostRuntime) -> Result<(), Fail> {
     }
     assert_eq!(rt; storage.current(), 1);
     assert_eq!(rt; storage.settings(), SETTINGS);
+    Ok(())
+}
+
+// The cell pool that comes and goes.
+const NAME: &str = "CELLS";
+
+// What the next cell of the cell pool would be, or the cause that refuses it.
+fn next_cell(storage: &Storage) -> Result<Reply, Cause> {
+    let get = Service::Get {
+        name: NAME,
+        operands: Get {
+            register: Some(2),
+            conditional: false,
+        },
+    };
+    Ok(storage.plan(get, false)?.reply())
+}
+
+// The next cell once the service was done, once it was undone, and once it was done again.
+fn next_cells(
+    storage: &mut Storage,
+    service: Service<'_>,
+) -> Result<[Result<Reply, Cause>; 3], Fail>
+    requires { CanBePlanned (service_in service) }
+{
+    let mut change = carry_out(storage, service)?;
+    let done = next_cell(storage);
+    exchange(storage, &mut change);
+    let undone = next_cell(storage);
+    exchange(storage, &mut change);
+    let again = next_cell(storage);
+    storage.discard(change);
+    Ok([done, undone, again])
+}
+
+// Cells of 16 bytes in subpool 1: three in the first extent, two in each further one.
+fn small_cells() -> Service<'static>
+    ensures { CanBePlanned (service_in result) }
+{
+    Service::Build {
+        name: NAME,
+        header: Some("CELLS OF 16 BYTES"),
+        numbers: Build {
+            primary: 3,
+            secondary: Some(2),
+            size: 16,
+            number: 1,
+            location: Location::Low,
+        },
+    }
+}
+
+#[test]
+fn cells_come_and_go(rt: HostRuntime) -> Result<(), Fail> {
+    let mut storage = Storage::new(rt.alloc(), SETTINGS)?;
+    let (none, first) = (Err(Cause::NoCellPool), Ok(Reply::Cell(0x6000)));
+    let build = small_cells();
+    assert_eq!(rt;
+        storage.plan(build, false)?.reply(),
+        Reply::Obtained {
+            address: 0x6000,
+            length: 48
+        }
+    );
+    assert_eq!(rt; next_cells(&mut storage, build)?, [first, none, first]);
+    let get = Service::Get {
+        name: NAME,
+        operands: Get {
+            register: Some(2),
+            conditional: true,
+        },
+    };
+    for cell in [0x6010, 0x6020, 0x6030] {
+        let (next, before) = (Ok(Reply::Cell(cell)), Ok(Reply::Cell(cell - 16)));
+        assert_eq!(rt; next_cells(&mut storage, get)?, [next, before, next]);
+        assert_eq!(rt; storage.register(1, 2), cell - 16);
+    }
+    let free = Service::Free {
+        name: NAME,
+        cell: 0x6000,
+    };
+    let further = Ok(Reply::Cell(0x6030));
+    assert_eq!(rt; next_cells(&mut storage, free)?, [first, further, first]);
+    let delete = Service::Delete { name: NAME };
+    assert_eq!(rt; next_cells(&mut storage, delete)?, [none, first, none]);
+    assert_eq!(rt; byte_at(&storage, 0x6000), None);
     Ok(())
 }
 

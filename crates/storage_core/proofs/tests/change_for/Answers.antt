@@ -7,13 +7,13 @@ use Rattle.storage_core.proofs.Exchanged.{LeadsSound, reserved_can, reserved_sou
 use Rattle.storage_core.proofs.tests.change_for.Goals as goal
 
 pub reserve-requires : goal.reserve-requires
-reserve-requires c = c.in_ok-plan.ensures.1
+reserve-requires c = c.in_ok-plan.ensures.can
 
 pub returns-clause-can : goal.returns-clause-can
 returns-clause-can c =
     let s = c.args.storage.now in
     reserved_can (settings_of s) false s.parts c.reserve.new.self.parts (service_in c.args.service) c.in_ok-plan.plan
-    c.in_ok-plan.ensures.0 c.in_ok-change.change c.in_ok-change.ensures.ok
+    c.in_ok-plan.ensures c.in_ok-change.change c.in_ok-change.ensures.ok
 
 pub returns-clause-sound : goal.returns-clause-sound
 returns-clause-sound c =
@@ -23,4 +23,4 @@ returns-clause-sound c =
     LeadsSound settings (state_in_place t) (means t.parts.elements c.in_ok-change.change) in
     subst P (sym c.reserve.ensures.settings)
     (reserved_sound (settings_of s) false s.parts t.parts (service_in c.args.service) c.in_ok-plan.plan
-    c.in_ok-plan.ensures.0 c.in_ok-change.change c.in_ok-change.ensures.ok)
+    c.in_ok-plan.ensures c.in_ok-change.change c.in_ok-change.ensures.ok)

@@ -59,3 +59,31 @@ returns-in-Run c =
     subst (λ x. IsPlanned (settings_of s) c.args.names_full (state_in_place s) (service_in x) c.storage_planned-in-Run.result)
     (sym c.in-Run.is)
     (c.storage_planned-in-Run.ensures (settings_of s) c.args.names_full (state_in_place s) _ (c.plan_run.ensures s.settings c.args.names_full (record { stands = s.held.stands; sound = s.held.sound })))
+
+pub returns-in-Build : goal.returns-in-Build
+returns-in-Build c =
+    let s = c.args.self.now in
+    subst (λ x. IsPlanned (settings_of s) c.args.names_full (state_in_place s) (service_in x) c.build_planned.result)
+    (sym c.in-Build.is)
+    (c.build_planned.ensures (settings_of s) c.args.names_full (state_in_place s) _ (c.plan_build.ensures c.args.names_full))
+
+pub returns-in-Get : goal.returns-in-Get
+returns-in-Get c =
+    let s = c.args.self.now in
+    subst (λ x. IsPlanned (settings_of s) c.args.names_full (state_in_place s) (service_in x) c.cell_planned.result)
+    (sym c.in-Get.is)
+    (c.cell_planned.ensures (settings_of s) c.args.names_full (state_in_place s) _ (c.plan_get.ensures))
+
+pub returns-in-Free : goal.returns-in-Free
+returns-in-Free c =
+    let s = c.args.self.now in
+    subst (λ x. IsPlanned (settings_of s) c.args.names_full (state_in_place s) (service_in x) c.cell_planned-in-Free.result)
+    (sym c.in-Free.is)
+    (c.cell_planned-in-Free.ensures (settings_of s) c.args.names_full (state_in_place s) _ (c.plan_free.ensures s.settings c.args.names_full (record { stands = s.held.stands; sound = s.held.sound })))
+
+pub returns-in-Delete : goal.returns-in-Delete
+returns-in-Delete c =
+    let s = c.args.self.now in
+    subst (λ x. IsPlanned (settings_of s) c.args.names_full (state_in_place s) (service_in x) c.delete_planned.result)
+    (sym c.in-Delete.is)
+    (c.delete_planned.ensures (settings_of s) c.args.names_full (state_in_place s) _ (c.plan_delete.ensures s.settings c.args.names_full s.held.valid (record { stands = s.held.stands; sound = s.held.sound })))

@@ -2,8 +2,10 @@ use Rattle.std.proofs.Common.{◌≡◌, ◌+◌, ◌<◌, length, IfOk, IsOk, s
 use Rattle.storage_changes.specs.Changes.{Change as Meaning}
 use Rattle.storage_swap.specs.Reserve.{Reserves}
 use Rattle.storage_core.specs.declared.plans.Plan.{Plan}
+use Rattle.storage_core.specs.declared.plans.Plan.TheVariants.{End}
 use Rattle.storage_core.specs.Meaning.{state_in_place}
 use Rattle.storage_core.specs.Planned.{change_for, elements_below, pages_assigned, IsSpare}
+use Rattle.storage_core.proofs.Made.{IsMadeOf, made_of}
 use Rattle.storage_core.proofs.TaskCounts.{attach_few, end_few}
 use Rattle.storage_core.proofs.storage.Storage.reserve.Goals as goal
 
@@ -22,8 +24,11 @@ pub returns-in_ok-listed-in-End-clause-ok : goal.returns-in_ok-listed-in-End-cla
 returns-in_ok-listed-in-End-clause-ok c =
     let s = c.args.self.now in
     let m = state_in_place s in
-    let Q : Meaning → Type 0 = λ d. IfOk c.reserve_listed-in-End.result (λ change. Reserves s.parts d change c.reserve_listed-in-End.new.self.parts) in
-    subst Q (c.in_ok-listed-in-End.ensures.change ∙ ap (change_for m) (sym c.in-End.is)) c.reserve_listed-in-End.ensures.ok
+    let r = c.reserve_listed-in-End.result in
+    let t = c.reserve_listed-in-End.new.self.parts in
+    let P : Plan → Type 0 = λ plan. IsMadeOf s.parts m plan t r in
+    subst P (sym c.in-End.is)
+    (made_of s.parts t m (End c.in-End.plan) _ tt c.in_ok-listed-in-End.ensures.change r c.reserve_listed-in-End.ensures.ok)
 
 pub returns-in_ok-listed-in-End-clause-frames : goal.returns-in_ok-listed-in-End-clause-frames
 returns-in_ok-listed-in-End-clause-frames c =

@@ -27,4 +27,4 @@ returns-clause-few c =
     let s = c.args.self.now in
     let plan = c.args.plan in
     few_answered s.parts c.reserve.new.storage (state_in_place s).subpools plan.emptied c.as_slice.result.now plan.blanks plan.fresh
-    c.reserve.result c.reserve.ensures.ok c.as_slice.ensures.fits c.requires.few
+    c.reserve.result c.reserve.ensures.ok c.as_slice.ensures.fits

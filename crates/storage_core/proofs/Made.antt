@@ -1,0 +1,32 @@
+-- A change that was made, as that of a plan, under the id that a cell pool which comes has.
+use Rattle.std.proofs.Common.{◌≡◌, ℕ, suc, ◌+◌, ◌<◌, ◌≤◌, length, Option, Result, Ok, Err, IfOk, ap, subst, arith}
+use Rattle.storage_changes.specs.Changes.{Change as Meaning}
+use Rattle.storage_changes.specs.State.{StorageState}
+use Rattle.storage_exchange.specs.declared.storage.Storage.{Storage as Parts}
+use Rattle.storage_swap.specs.declared.change.Change.{Change}
+use Rattle.storage_swap.specs.Reserve.{Reserves}
+use Rattle.cell_plans.specs.declared.build.BuildPlan.{BuildPlan}
+use Rattle.cell_plans.specs.CellPlans.{build_change}
+use Rattle.storage_core.specs.declared.plans.Plan.{Plan}
+use Rattle.storage_core.specs.Planned.{IsIdFor, change_for}
+use Rattle.storage_core.proofs.Counted.{reserved_count}
+
+-- the change of a plan was made, under an id that it can have
+abbrev pub IsMadeOf : {E : Type 0} → Parts → StorageState → Plan → Parts → Result Change E → Type 0
+IsMadeOf p m plan t r = IfOk r (λ c. (id : ℕ) × IsIdFor m plan id × Reserves p (change_for m id plan) c t)
+
+-- that of a plan which can have any
+pub made_of : {E : Type 0} (p t : Parts) (m : StorageState) (plan : Plan) (d : Meaning) → IsIdFor m plan 0 → d ≡ change_for m 0 plan
+    → (r : Result Change E) → IfOk r (λ c. Reserves p d c t) → IsMadeOf p m plan t r
+made_of p t m plan d free same (Ok c) made =
+    let P : Meaning → Type 0 = λ x. Reserves p x c t in
+    (0, free, subst P same made)
+made_of p t m plan d free same (Err e) made = made
+
+-- that of a cell pool which comes has few elements
+pub building_few : (p t : Parts) (plan : BuildPlan) (id : ℕ) (c : Change) → Reserves p (build_change plan id) c t
+    → length plan.records.items ≤ 17 → plan.blanks ≤ 5 → c.records.count + c.blanks.count < 32
+building_few p t plan id c made few blank =
+    let n = length plan.records.items in
+    let count : c.records.count + c.blanks.count ≡ suc n + plan.blanks = reserved_count p t (build_change plan id) c made in
+    omega arith

@@ -1,0 +1,46 @@
+//! The change by which a cell pool comes.
+ghost use Rattle.std.specs.Prelude.{◌≡◌, ℕ, None, ◌+◌, ◌^◌, ◌<◌, length, IsOk, OnErr, IfOk};
+ghost use Rattle.cell_pool.specs.Pools.{mark_items};
+ghost use Rattle.storage_swap.specs.Reserve.{Reserves};
+ghost use Rattle.cell_plans.specs.CellPlans.{build_change, CanBeBuilt};
+ghost use Rattle.storage_core.specs.Meaning.{state_in_place, settings_of};
+ghost use Rattle.storage_core.specs.Planned.{IsSpareFor};
+ghost use Rattle.storage_core.specs.Stays.{Stays};
+
+use crate::storage::Storage;
+use cell_plans::BuildPlan;
+use std::alloc::AllocError;
+use storage_swap::{Change, NewPool};
+
+impl Storage {
+    // The change by which a cell pool comes, under an id that none has.
+    pub(crate) fn reserve_building(&mut self, plan: BuildPlan) -> Result<Change, AllocError>
+        requires { CanBeBuilt (state_in_place self.old) plan }
+        ensures ok { IfOk result (λ change. (id : ℕ)
+            × ((id < 2 ^ 32) × ((state_in_place self.old).subpools.cells id ≡ None))
+            × Reserves self.old.parts (build_change plan id) change self.new.parts) }
+        ensures frames { IfOk result (λ change. length change.frames ≡ plan.fresh.len) }
+        ensures few { IfOk result (λ change. change.records.count + change.blanks.count < 32) }
+        ensures err { OnErr result (Stays self.old.parts self.new.parts) }
+        ensures needless { IsSpareFor self.old.parts
+            (30 + (plan.settings.primary + mark_items plan.settings.primary)) plan.fresh → IsOk result }
+        ensures settings { settings_of self.new ≡ settings_of self.old }
+    {
+        let pool = NewPool {
+            name: &plan.name,
+            settings: plan.settings,
+            header: &plan.header,
+            start: plan.start,
+            count: plan.settings.primary,
+        };
+        let records = plan.records.as_slice();
+        let (change, _) = Change::reserve_building(
+            &mut self.parts,
+            &pool,
+            records,
+            plan.blanks,
+            plan.fresh,
+        )?;
+        Ok(change)
+    }
+}
