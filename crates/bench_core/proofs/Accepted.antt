@@ -17,9 +17,9 @@ use Rattle.storage_swap.specs.declared.change.Change.{Change as RawChange}
 use Rattle.storage_history.specs.Apart.{AreWhole}
 use Rattle.storage_history.specs.Kept.{apart-put, hold-append, frames-append}
 use Rattle.storage_history.specs.Reserved.{reserve-others, reserve-apart, reserve-whole}
-use Rattle.storage_core.specs.Meaning.{state_in_place, settings_of}
-use Rattle.storage_core.specs.Planned.{change_for, reply_of}
-use Rattle.storage_core.specs.Stays.{Stays}
+use Rattle.vsm_machine.specs.Meaning.{state_in_place, settings_of}
+use Rattle.vsm_machine.specs.Planned.{change_for, reply_of}
+use Rattle.vsm_machine.specs.Stays.{Stays}
 use Rattle.name_table.specs.Steps.{NameStep}
 use Rattle.name_table.specs.Table.{rows_of, knows}
 use Rattle.vsm_machine.specs.declared.machine.Machine.{Machine}

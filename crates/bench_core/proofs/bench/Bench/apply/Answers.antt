@@ -1,7 +1,7 @@
 use Rattle.std.proofs.Common.{◌≡◌, ◌-◌, ◌++◌, ◌∷◌, [], length, drop, take, sym, ◌∙◌, ap, subst}
 use Rattle.std.proofs.lemmas.List.{append-nil}
 use Rattle.macro_statements.specs.Requests.{act_in}
-use Rattle.storage_core.specs.Meaning.{settings_of}
+use Rattle.vsm_machine.specs.Meaning.{settings_of}
 use Rattle.vsm_model.specs.Names.{NamedState}
 use Rattle.vsm_model.specs.Standing.{Bench, Accepted}
 use Rattle.vsm_machine.specs.NameSteps.{undefines_none}
