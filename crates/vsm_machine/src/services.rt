@@ -226,13 +226,16 @@ fn cell_service_of<'a>(machine: &Machine, statement: &'a Statement) -> Option<Se
             pool,
             place,
             conditional,
-        } => Some(Service::Get {
-            name: pool.as_str(),
-            operands: Get {
-                register: register_of(place),
-                conditional: *conditional,
-            },
-        }),
+        } => {
+            let register = register_of(place);
+            Some(Service::Get {
+                name: pool.as_str(),
+                operands: Get {
+                    register,
+                    conditional: *conditional,
+                },
+            })
+        }
         Statement::Free { pool, cell } => Some(Service::Free {
             name: pool.as_str(),
             cell: look_up(machine, cell)?,
