@@ -5,7 +5,7 @@ use mathlib.Core.Bool.{Bool-set}
 use mathlib.Core.Logic.{∥∥₁_elim}
 use Rattle.vsm_model.specs.declared.limits.Settings.{Settings}
 use Rattle.vsm_model.specs.Names.{NamedState}
-use Rattle.vsm_model.specs.Standing.{Bench, Accepted, Refused, IsAccepted, Keeps, Apply}
+use Rattle.vsm_model.specs.Standing.{Bench, Accepted, Refused, Keeps, Apply}
 use Rattle.macro_statements.specs.Requests.{Act}
 use Rattle.storage_changes.specs.State.{StorageState}
 use Rattle.storage_changes.specs.Changes.{Change as StorageChange}
@@ -17,9 +17,9 @@ use Rattle.storage_swap.specs.declared.change.Change.{Change as RawChange}
 use Rattle.storage_history.specs.Apart.{AreWhole}
 use Rattle.storage_history.specs.Kept.{apart-put, hold-append, frames-append}
 use Rattle.storage_history.specs.Reserved.{reserve-others, reserve-apart, reserve-whole}
-use Rattle.storage_core.specs.Meaning.{state_in_place, settings_of}
-use Rattle.storage_core.specs.Planned.{change_for, reply_of}
-use Rattle.storage_core.specs.Stays.{Stays}
+use Rattle.vsm_machine.specs.Meaning.{state_in_place, settings_of}
+use Rattle.vsm_machine.specs.Planned.{IsIdFor, change_for, reply_of}
+use Rattle.vsm_machine.specs.Stays.{Stays}
 use Rattle.name_table.specs.Steps.{NameStep}
 use Rattle.name_table.specs.Table.{rows_of, knows}
 use Rattle.vsm_machine.specs.declared.machine.Machine.{Machine}
@@ -29,7 +29,7 @@ use Rattle.vsm_machine.specs.declared.refusals.Refusal.{Refusal}
 use Rattle.vsm_machine.specs.NameSteps.{CanStepBy, can_take_by, is_taken, takes, can_fit, stepped_by, undefines_none}
 use Rattle.vsm_machine.specs.Changes.{MachineState, named_of, shown, plain_of, means, step_of, storages, storages_at, storages_of, fit, overlay, StorageFits, Apart, Whole, machine_fits, machine_steps, DefineNone}
 use Rattle.vsm_machine.specs.Machine.{Why, unknown_name, abended, statement_step}
-use Rattle.vsm_machine.specs.Planned.{difference_in, step_planned, IsAcceptedBy, IsChangeOf}
+use Rattle.vsm_machine.specs.Planned.{difference_in, step_planned, CanCarryOut, IsChangeOf}
 use Rattle.vsm_machine.specs.Refusals.{refusal_for}
 use Rattle.bench_core.specs.Stands.{answer_to_apply}
 use Rattle.bench_core.proofs.Applied.{Readied, Reserved}
@@ -46,21 +46,18 @@ taken_step names (Some step) h = takes names true step h
 Why-set : IsSet Why
 Why-set = hlevel props
 
-module _ (m : MachineState) (x : Act) (p : Planned) (h : ∥ IsAcceptedBy m x p ∥₁) where
-  pub accepted_of : statement_step m.settings (named_of m) x ≡ Accepted (named_of (overlay m (difference_in m p))) (reply_of p.plan)
-  accepted_of = ∥∥₁_elim h (Outcome-set NamedState-set Reply-set Why-set _ _) (λ a. a.accepted)
+module _ (m : MachineState) (x : Act) (p : Planned) (h : CanCarryOut m x p) (id : ℕ) (free : IsIdFor m.storage p.plan id) where
+  pub accepted_of : statement_step m.settings (named_of m) x ≡ Accepted (named_of (overlay m (difference_in m id p))) (reply_of p.plan)
+  accepted_of = ∥∥₁_elim (h.accepted id free) (Outcome-set NamedState-set Reply-set Why-set _ _) (λ a. a.accepted)
 
-  pub is_accepted : IsAccepted (statement_step m.settings (named_of m) x)
-  is_accepted = subst (λ o. IsAccepted o) (sym accepted_of) tt
-
-  pub fits_of : StorageFits m.settings m.storage (change_for m.storage p.plan)
-  fits_of = ∥∥₁_elim h (hlevel (Fit-prop m.storage (change_for m.storage p.plan))) (λ a. a.fits)
+  pub fits_of : StorageFits m.settings m.storage (change_for m.storage id p.plan)
+  fits_of = ∥∥₁_elim (h.accepted id free) (hlevel (Fit-prop m.storage (change_for m.storage id p.plan))) (λ a. a.fits)
 
   pub can_of : CanStepBy m.names (λ name. true) (step_planned p)
-  can_of = taken_step m.names (step_planned p) (∥∥₁_elim h (Bool-set _ _) (λ a. step_taken m.names (step_planned p) a.can))
+  can_of = taken_step m.names (step_planned p) (∥∥₁_elim (h.accepted id free) (Bool-set _ _) (λ a. step_taken m.names (step_planned p) a.can))
 
   pub gives_of : undefines_none (step_planned p) ≡ true
-  gives_of = ∥∥₁_elim h (Bool-set _ _) (λ a. a.gives)
+  gives_of = ∥∥₁_elim (h.accepted id free) (Bool-set _ _) (λ a. a.gives)
 
 -- what is whole with a change before all is whole with it between the others
 whole_put : (xs ys : List RawChange) (c : RawChange) (p : Parts) → AreWhole p (c ∷ (xs ++ ys)) → AreWhole p (xs ++ c ∷ ys)
@@ -82,33 +79,33 @@ module _ (s r : Machine) (settings : settings_of r.storage ≡ settings_of s.sto
   -- a machine beside which a change was made
   module _ (p : Planned) (change : Change) (is : IsChangeOf s p r change) where
     made_apart : (xs : List Change) → Apart s xs → Apart r (change ∷ xs)
-    made_apart xs = reserve-apart s.storage.parts r.storage.parts (change_for (state_in_place s.storage) p.plan) change.storage is.storage (storages xs)
+    made_apart xs = reserve-apart s.storage.parts r.storage.parts (change_for (state_in_place s.storage) is.id p.plan) change.storage is.storage (storages xs)
 
     made_whole : (ks us : List Change) → Whole s (ks ++ us) → Whole r (ks ++ change ∷ us)
     made_whole ks us h =
         subst (AreWhole r.storage.parts) (sym (storages_at ks us change))
         (whole_put (storages ks) (storages us) change.storage r.storage.parts
-        (reserve-whole s.storage.parts r.storage.parts (change_for (state_in_place s.storage) p.plan) change.storage is.storage (storages ks ++ storages us)
+        (reserve-whole s.storage.parts r.storage.parts (change_for (state_in_place s.storage) is.id p.plan) change.storage is.storage (storages ks ++ storages us)
         (subst (AreWhole s.storage.parts) (storages_of ks us) h)))
 
     made_readied : Readied s r
     made_readied = record {
       shows = λ i. record { settings = settings i; storage = is.storage.shows i; names = rows i };
-      others = λ x. reserve-others s.storage.parts r.storage.parts (change_for (state_in_place s.storage) p.plan) change.storage is.storage x.storage;
+      others = λ x. reserve-others s.storage.parts r.storage.parts (change_for (state_in_place s.storage) is.id p.plan) change.storage is.storage x.storage;
       apart = λ xs h. machine_steps.rest xs change r (made_apart xs h);
     }
 
-    made_fits : StorageFits (settings_of s.storage) (state_in_place s.storage) (change_for (state_in_place s.storage) p.plan) → CanStepBy (rows_of r.names) (knows r.names) (step_of change) →
+    made_fits : StorageFits (settings_of s.storage) (state_in_place s.storage) (change_for (state_in_place s.storage) is.id p.plan) → CanStepBy (rows_of r.names) (knows r.names) (step_of change) →
         fit (shown r) (means r change)
     made_fits h can = (
       subst (λ (d : StorageChange). StorageFits (settings_of r.storage) (state_in_place r.storage) d) (sym is.storage.meaning)
-          (subst (λ (m : StorageState). StorageFits (settings_of r.storage) m (change_for (state_in_place s.storage) p.plan)) (sym is.storage.shows)
-          (subst (λ (c : Settings). StorageFits c (state_in_place s.storage) (change_for (state_in_place s.storage) p.plan)) (sym settings) h)),
+          (subst (λ (m : StorageState). StorageFits (settings_of r.storage) m (change_for (state_in_place s.storage) is.id p.plan)) (sym is.storage.shows)
+          (subst (λ (c : Settings). StorageFits c (state_in_place s.storage) (change_for (state_in_place s.storage) is.id p.plan)) (sym settings) h)),
       can_fit r.names (step_of change) can,
     )
 
     pub reserved_of : (x : Act) (ks us ls vs : List Change) → ls ≡ ks → vs ≡ us → machine_fits ks s us → Whole s (ks ++ us) → DefineNone ks →
-        ∥ IsAcceptedBy (shown s) x p ∥₁ →
+        CanCarryOut (shown s) x p →
         (CanStepBy (rows_of s.names) (λ name. true) (step_planned p) → CanStepBy (rows_of r.names) (knows r.names) (step_of change)) →
         Reserved ls vs s r change
     reserved_of x ks us ls vs l v f whole none a can =
@@ -118,13 +115,13 @@ module _ (s r : Machine) (settings : settings_of r.storage ≡ settings_of s.sto
           fits = fits;
           none = subst DefineNone (sym l) none;
           readied = made_readied;
-          can = made_fits (fits_of (shown s) x p a) (can (can_of (shown s) x p a));
+          can = made_fits (fits_of (shown s) x p a is.id is.free) (can (can_of (shown s) x p a is.id is.free));
           apart = made_apart (ls ++ vs) fits.1;
           whole = made_whole ls vs stands;
         }
 
 -- the statement is accepted with the state that its change leads to
-pub accepted_as : (s r : Machine) (x : Act) (p : Planned) (c : Change) → ∥ IsAcceptedBy (shown s) x p ∥₁ → IsChangeOf s p r c →
+pub accepted_as : (s r : Machine) (x : Act) (p : Planned) (c : Change) → CanCarryOut (shown s) x p → IsChangeOf s p r c →
     statement_step (settings_of s.storage) (plain_of s) x ≡ Accepted (named_of (overlay (shown s) (means r c))) (reply_of p.plan)
 accepted_as s r x p c a is =
     subst (λ (m : NamedState). statement_step (settings_of s.storage) (plain_of s) x ≡ Accepted m (reply_of p.plan))
@@ -132,7 +129,7 @@ accepted_as s r x p c a is =
       storage = model_of (storage.overlay (state_in_place s.storage) (sym is.storage.meaning i));
       names = stepped_by (rows_of s.names) (sym is.step i);
     })
-    (accepted_of (shown s) x p a)
+    (accepted_of (shown s) x p a is.id is.free)
 
 -- a refusal is answered as one
 pub refused_as : (settings : Settings) (limit : ℕ) (b : Bench NamedState) (x : Act) (e : Refusal) (why : Why) → statement_step settings b.present x ≡ Refused why → e ≡ refusal_for why →

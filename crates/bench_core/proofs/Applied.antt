@@ -3,7 +3,7 @@ use Rattle.std.proofs.Common.{◌≡◌, ℕ, suc, ◌-◌, true, true≢false, 
 use Rattle.std.proofs.lemmas.List.{append-nil, length_push}
 use Rattle.name_table.specs.Steps.{NameStep, define, undefine, reword}
 use Rattle.name_table.specs.Table.{knows}
-use Rattle.storage_core.specs.Meaning.{settings_of}
+use Rattle.vsm_machine.specs.Meaning.{settings_of}
 use Rattle.storage_swap.specs.Swap as swap
 use Rattle.step_history.specs.Chain.{FitsBefore, ChainFits, chain_states}
 use Rattle.step_history.specs.Log.{Log, latest}

@@ -5,7 +5,7 @@ use Rattle.std.proofs.lemmas.List.{length-map, length-reverse}
 use Rattle.vsm_model.specs.declared.limits.Settings.{Settings}
 use Rattle.std.specs.List.{AllByRecursion}
 use Rattle.vsm_model.specs.Standing.{Keeps, Back, Forward}
-use Rattle.storage_core.specs.Meaning.{settings_of}
+use Rattle.vsm_machine.specs.Meaning.{settings_of}
 use Rattle.name_table.specs.Steps.{NameStep, define, undefine, reword}
 use Rattle.name_table.specs.Table.{rows_of}
 use Rattle.step_history.specs.Log.{Log}

@@ -1,1 +1,5 @@
 pub mod Stands
+pub use Rattle.vsm_machine.specs.Machine
+pub use Rattle.vsm_machine.specs.Refusals
+pub use Rattle.vsm_machine.specs.declared.refusals.Refusal
+pub use Rattle.vsm_machine.specs.declared.refusals.NewFault

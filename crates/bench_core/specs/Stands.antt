@@ -5,7 +5,7 @@ use Rattle.vsm_model.specs.declared.replies.Reply.{Reply}
 use Rattle.vsm_model.specs.Regions.{settings_valid}
 use Rattle.vsm_model.specs.Names.{NamedState, first_named_state}
 use Rattle.vsm_model.specs.Standing as plain
-use Rattle.storage_core.specs.Meaning.{settings_of}
+use Rattle.vsm_machine.specs.Meaning.{settings_of}
 use Rattle.step_history.specs.Trail.{Trail, trail_of}
 use Rattle.step_history.specs.declared.too_far.TooFar.{TooFar}
 use Rattle.step_history.specs.declared.too_far.TooFarAhead.{TooFarAhead}

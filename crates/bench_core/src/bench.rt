@@ -1,6 +1,6 @@
 //! A bench: a machine, and the history that it moves along.
 ghost use Rattle.std.specs.Prelude.{◌≡◌, Ok, length, IfErr, OnErr, OnOk};
-ghost use Rattle.storage_core.specs.Meaning.{settings_of};
+ghost use Rattle.vsm_machine.specs.Meaning.{settings_of};
 ghost use Rattle.macro_statements.specs.Requests.{written_in, act_in, IsValue, IsValidAct};
 ghost use Rattle.std.proofs.Props.{props};
 ghost use Rattle.vsm_machine.specs.Changes.{machine_fits as fit, machine_fits_prop as fit_prop, DefineNone};
@@ -13,9 +13,10 @@ use name_table::NameTable;
 use operand_texts::Value;
 use std::alloc::Global;
 use step_history::{History, Reversible, TooFar, TooFarAhead};
-use storage_core::{Reply, Settings, Storage};
 use storage_swap::laws::first_is_first;
-use vsm_machine::{Machine, NewFault, Refusal, look_up, plan_of, reserve};
+use vsm_machine::{
+    Machine, NewFault, Refusal, Reply, Settings, Storage, look_up, plan_of, reserve,
+};
 
 /// A bench over one private region.
 ///

@@ -5,3 +5,4 @@ mod bench;
 mod maps;
 
 pub use bench::Bench;
+pub use vsm_machine::{NewFault, Refusal};

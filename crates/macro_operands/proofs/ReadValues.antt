@@ -7,7 +7,7 @@ use Rattle.operand_texts.specs.Written as written
 use Rattle.operand_texts.specs.Written.{Written, named, Target, in_name, in_register}
 use Rattle.operand_texts.specs.Values.{number_of, register_of, or_other, value_of, target_register, target_of}
 use Rattle.macro_operands.specs.Lengths.{name_of, is_register_0}
-use Rattle.macro_operands.specs.Said.{Said, number, register, name, pair, condition, content, size, count, boundary, location, anything, other_said, value_said, place_register_said, place_said, unless_register_0}
+use Rattle.macro_operands.specs.Said.{Said, number, register, name, pair, condition, content, size, count, boundary, location, header, anything, other_said, value_said, place_register_said, place_said, unless_register_0}
 use Rattle.macro_operands.specs.Slots.{as_value, as_pair, as_place}
 
 -- a name as it is kept
@@ -88,4 +88,5 @@ besides_kept (Some (size n)) v h e = refl
 besides_kept (Some (count n)) v h e = refl
 besides_kept (Some (boundary b)) v h e = refl
 besides_kept (Some (location l)) v h e = refl
+besides_kept (Some (header t)) v h e = refl
 besides_kept (Some anything) v h e = refl

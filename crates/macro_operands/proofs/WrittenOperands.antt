@@ -201,20 +201,20 @@ stand row before i (item key (Some t) ∷ items) h = (h.0.says.1.stands, stand r
 -- how long they are
 abbrev pub AllFew : List Item → Type 0
 AllFew [] = Unit {0}
-AllFew (item key text ∷ items) = IfSome text (λ t. length (operand_text key t) ≤ 70) × AllFew items
+AllFew (item key text ∷ items) = IfSome text (λ t. length (operand_text key t) ≤ 71) × AllFew items
 
-pub long : (o : List ℕ) (items : List Item) → AllFew items → length (joined o (written items)) ≤ length o + 71 * length items
+pub long : (o : List ℕ) (items : List Item) → AllFew items → length (joined o (written items)) ≤ length o + 72 * length items
 long o [] h = omega arith
 long o (item key None ∷ items) h = let rest = long o items h.1 in omega (arith, rest)
 long o (item key (Some t) ∷ items) h =
-    let few : length (operand_text key t) ≤ 70 = h.0 in
+    let few : length (operand_text key t) ≤ 71 = h.0 in
     let rest = long (operand_text key t) items h.1 in
     let all = length-append o (44 ∷ joined (operand_text key t) (written items)) in
     omega (arith, few, rest, all)
 
 -- so they are where the first is a pair
 pub long_first : (o : List ℕ) (key : Key) (text : Option (List ℕ)) (items : List Item) → IfSome text (λ t. length (operand_text key t) ≤ 140) → AllFew items
-    → length (joined o (written (item key text ∷ items))) ≤ length o + 141 + 71 * length items
+    → length (joined o (written (item key text ∷ items))) ≤ length o + 141 + 72 * length items
 long_first o key None items h few = let rest = long o items few in omega (arith, rest)
 long_first o key (Some t) items h few =
     let first : length (operand_text key t) ≤ 140 = h in

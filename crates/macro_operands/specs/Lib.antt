@@ -6,6 +6,7 @@ pub mod Rows
 pub mod Keywords
 pub mod Locations
 pub mod Lengths
+pub mod Headers
 pub mod Said
 pub mod Operands
 pub mod Slots

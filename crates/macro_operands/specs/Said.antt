@@ -6,6 +6,7 @@ use Rattle.operand_texts.specs.Words.{is_name, is_word}
 use Rattle.operand_texts.specs.Values.{number_of, register_of, content_of, size_of}
 use Rattle.macro_operands.specs.Locations.{boundary_of, location_of, is_explicit}
 use Rattle.macro_operands.specs.Lengths.{pair_of, spells_register_0}
+use Rattle.macro_operands.specs.Headers.{header_of}
 use Rattle.macro_operands.specs.declared.faults.FaultKind.{FaultKind}
 use Rattle.macro_operands.specs.declared.faults.FaultKind.TheVariants as fault
 use Rattle.macro_operands.specs.declared.rows.Kind.{Kind}
@@ -13,7 +14,7 @@ use Rattle.macro_operands.specs.declared.rows.Kind.TheVariants as kind
 use Rattle.vsm_model.specs.declared.services.Boundary.{Boundary}
 use Rattle.vsm_model.specs.declared.services.Location.{Location}
 
--- Of a name, of a pair, and of what is stored, that is the text that spells it.
+-- Of a name, of a pair, of what is stored, and of a header, that is the text that spells it.
 pub data Said : Type 0 where
   number : ℕ → Said
   register : ℕ → Said
@@ -25,6 +26,7 @@ pub data Said : Type 0 where
   count : ℕ → Said
   boundary : Boundary → Said
   location : Location → Said
+  header : List ℕ → Said
   anything : Said
 
 -- A condition is YES or NO, in either case.
@@ -94,6 +96,7 @@ said_of kind.Size text = option_map size (size_of text)
 said_of kind.Count text = option_map count (number_of text)
 said_of kind.Boundary text = option_map boundary (boundary_of text)
 said_of kind.Location text = option_map location (location_of text)
+said_of kind.Header text = if is_some (header_of text) then Some (header text) else None
 said_of kind.Any text = if length text == 0 then None else Some anything
 said_of kind.OtherForm text = None
 
@@ -114,6 +117,7 @@ is_unsupported kind.Size text = false
 is_unsupported kind.Count text = false
 is_unsupported kind.Boundary text = false
 is_unsupported kind.Location text = is_explicit text
+is_unsupported kind.Header text = false
 is_unsupported kind.Any text = false
 is_unsupported kind.OtherForm text = false
 
@@ -134,6 +138,7 @@ wrong_fault kind.Size = fault.Value
 wrong_fault kind.Count = fault.Value
 wrong_fault kind.Boundary = fault.Value
 wrong_fault kind.Location = fault.Value
+wrong_fault kind.Header = fault.Value
 wrong_fault kind.Any = fault.Value
 wrong_fault kind.OtherForm = fault.Operand
 

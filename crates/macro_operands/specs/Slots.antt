@@ -6,6 +6,7 @@ use Rattle.std.specs.Char.{to_ascii_uppercase}
 use Rattle.operand_texts.specs.Written.{Written, number, named, register, Target, in_name, in_register, Stored}
 use Rattle.operand_texts.specs.Values.{content_of}
 use Rattle.macro_operands.specs.Lengths.{pair_of, name_of}
+use Rattle.macro_operands.specs.Headers.{header_of}
 use Rattle.macro_operands.specs.Rows as rows
 use Rattle.macro_operands.specs.Rows.{position, keyword, same_key, is_among}
 use Rattle.macro_operands.specs.Operands.{unknown_fault, text_at}
@@ -56,6 +57,7 @@ said_in (code_said.Size n) = says.size n
 said_in (code_said.Count n) = says.count n
 said_in (code_said.Boundary b) = says.boundary b
 said_in (code_said.Location l) = says.location l
+said_in (code_said.Header text) = says.header text.now
 said_in code_said.Anything = says.anything
 
 -- For each entry of a row what was read of it, or nothing.
@@ -166,3 +168,11 @@ as_boundary _ = None
 abbrev pub as_location : Option says.Said → Option Location
 as_location (Some (says.location l)) = Some l
 as_location _ = None
+
+abbrev pub as_name : Option says.Said → Option (List ℕ)
+as_name (Some (says.name text)) = name_of text
+as_name _ = None
+
+abbrev pub as_header : Option says.Said → Option (List ℕ)
+as_header (Some (says.header text)) = header_of text
+as_header _ = None

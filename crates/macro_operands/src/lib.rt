@@ -2,6 +2,7 @@
 #![tactic(auto)]
 
 mod faults;
+mod headers;
 mod lengths;
 mod locations;
 pub mod operands;
@@ -9,3 +10,4 @@ pub mod rows;
 pub mod said;
 
 pub use faults::FaultKind;
+pub use headers::{Header, is_header};

@@ -31,6 +31,8 @@ pub enum Kind {
     Boundary,
     /// BELOW, 24, ANY, 31 or RES, or a pair that begins with one of these. EXPLICIT isn't supported.
     Location,
+    /// The header of a cell pool, between apostrophes.
+    Header,
     /// Any text that isn't empty.
     Any,
     /// What other forms of the macro have and this one hasn't: it's no operand of the statement, whatever it says.

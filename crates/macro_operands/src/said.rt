@@ -8,19 +8,21 @@ ghost use Rattle.macro_operands.specs.Said.{pair_said, value_or_pair, unless_reg
 ghost use Rattle.macro_operands.specs.Said.{is_unsupported, wrong_fault, unsaid_fault};
 ghost use Rattle.macro_operands.specs.Slots.{said_in, slots_in, slot, as_value, as_pair, as_place, as_condition};
 ghost use Rattle.macro_operands.specs.Slots.{as_content, as_size, as_count, as_boundary, as_location};
+ghost use Rattle.macro_operands.specs.Slots.{as_name, as_header};
 
 use crate::faults::FaultKind;
+use crate::headers::{Header, header_of};
 use crate::lengths::{name_of, pair_of, spells_register_0};
 use crate::locations::{boundary_of, is_explicit, location_of};
 use crate::rows::Kind;
 use operand_texts::contents::{Content, content_of, is_content, size_of};
 use operand_texts::numbers::number_of;
 use operand_texts::values::{Place, Value, register_of};
-use operand_texts::words::{is_name, is_word};
+use operand_texts::words::{Name, is_name, is_word};
 use vsm_model::{Boundary, Location};
 
-/// What an operand says, by the kind of its value. A name, a pair, and what is stored stay in their texts, which
-/// are lent.
+/// What an operand says, by the kind of its value. A name, a pair, what is stored, and a header stay in their texts,
+/// which are lent.
 #[derive(Clone, Copy)]
 pub enum Said<'a> {
     Number(u32),
@@ -33,6 +35,7 @@ pub enum Said<'a> {
     Count(u32),
     Boundary(Boundary),
     Location(Location),
+    Header(&'a [u8]),
     Anything,
 }
 
@@ -155,6 +158,8 @@ pub(crate) fn said_of(kind: Kind, text: &[u8]) -> Option<Said<'_>>
         Kind::Count => Some(Said::Count(number_of(text)?)),
         Kind::Boundary => Some(Said::Boundary(boundary_of(text)?)),
         Kind::Location => Some(Said::Location(location_of(text)?)),
+        Kind::Header if header_of(text).is_some() => Some(Said::Header(text)),
+        Kind::Header => None,
         Kind::Any if text.is_empty() => None,
         Kind::Any => Some(Said::Anything),
         Kind::OtherForm => None,
@@ -291,6 +296,28 @@ pub fn location_at(said: &[Option<Said>], i: usize) -> Option<Location>
 {
     match &said[i] {
         Some(Said::Location(location)) => Some(*location),
+        _ => None,
+    }
+}
+
+/// The name that was read at a place, in upper case.
+pub fn name_at(said: &[Option<Said>], i: usize) -> Option<Name>
+    requires { i < length said.now }
+    ensures { option_map (λ n. n.bytes) result ≡ as_name (slot (slots_in said.now) i) }
+{
+    match &said[i] {
+        Some(Said::Named(text)) => name_of(text),
+        _ => None,
+    }
+}
+
+/// The header that was read at a place.
+pub fn header_at(said: &[Option<Said>], i: usize) -> Option<Header>
+    requires { i < length said.now }
+    ensures { option_map (λ h. h.bytes) result ≡ as_header (slot (slots_in said.now) i) }
+{
+    match &said[i] {
+        Some(Said::Header(text)) => header_of(text),
         _ => None,
     }
 }

@@ -22,9 +22,9 @@ use Rattle.macro_operands.proofs.PairTexts.{pair_text_of}
 use Rattle.macro_operands.proofs.ReadValues.{value_kept, no_pair, some_kept, place_kept, some_place_kept, besides_kept}
 use Rattle.macro_operands.proofs.WrittenOperands.{keyed, Item, item, operand_text, Fits, AllFit, no_fault_from, lookup, stand, AllFew, long_first, read_back}
 use Rattle.macro_operands.proofs.WrittenOperands as operands
-use Rattle.macro_statements.specs.Requests.{WrittenLength, fixed, between, IsLength}
+use Rattle.macro_requests.specs.Requests.{WrittenLength, fixed, between, IsLength}
 use Rattle.macro_statements.specs.Forms.{storage_row, StorageForm, asked_by, form_with, as_length, either_length}
-use Rattle.macro_statements.specs.declared.requests.Form.{Form}
+use Rattle.macro_requests.specs.declared.requests.Form.{Form}
 use Rattle.vsm_model.specs.declared.services.Boundary.{Boundary}
 use Rattle.vsm_model.specs.declared.services.Boundary.TheVariants.{Doubleword, Page}
 use Rattle.vsm_model.specs.declared.services.Location.{Location}
@@ -246,7 +246,7 @@ pub record WrittenForm (f : StorageForm) (slots : Slots) : Type 0 where
   pub rest : List (List ℕ)
   pub stand : AllByRecursion IsOperand rest
   pub reads : form_with f rest ≡ asked_by f slots
-  pub few : (o : List ℕ) → length (joined o rest) ≤ length o + 496
+  pub few : (o : List ℕ) → length (joined o rest) ≤ length o + 501
 
 abbrev pub six_said : Option Said → Option Said → Option Said → Option Said → Option Said → Option Said → Slots
 six_said l s a b o c = l ∷ s ∷ a ∷ b ∷ o ∷ c ∷ None ∷ None ∷ None ∷ []
@@ -277,14 +277,14 @@ length_form word obtains form lk ak bk ok ck ls ss ps bs os cs l s a b o c =
       reads = form_reads (form_of word obtains (length_row lk ak bk ok ck) form) items (six_said ls ss ps bs os cs) fit
           (same_slots _ _ _ _ _ _ _ _ _ _ _ _ l.says s.says a.says b.says o.says c.says);
       few = λ w. (let all = long_first w (keyword (codes "LENGTH")) l.text (other_items (codes "ADDR") s.text a.text b.text o.text c.text) (keyed_few (codes "LENGTH") 129 140 l.text (omega arith) l.few) (
-        keyed_few (codes "SP") 63 70 s.text (omega arith) s.few,
+        keyed_few (codes "SP") 63 71 s.text (omega arith) s.few,
         (
-          keyed_few (codes "ADDR") 63 70 a.text (omega arith) a.few,
+          keyed_few (codes "ADDR") 63 71 a.text (omega arith) a.few,
           (
-            keyed_few (codes "BNDRY") 63 70 b.text (omega arith) b.few,
+            keyed_few (codes "BNDRY") 63 71 b.text (omega arith) b.few,
             (
-              keyed_few (codes "LOC") 63 70 o.text (omega arith) o.few,
-              (keyed_few (codes "COND") 63 70 c.text (omega arith) c.few, tt),
+              keyed_few (codes "LOC") 63 71 o.text (omega arith) o.few,
+              (keyed_few (codes "COND") 63 71 c.text (omega arith) c.few, tt),
             ),
           ),
         ),
@@ -303,14 +303,14 @@ lv_form word obtains form lk ak bk ok ck ls ss ps bs os cs l s a b o c =
       reads = form_reads (form_of word obtains (lv_row lk ak bk ok ck) form) items (six_said ls ss ps bs os cs) fit
           (same_slots _ _ _ _ _ _ _ _ _ _ _ _ l.says s.says a.says b.says o.says c.says);
       few = λ w. (let all = long_first w (keyword (codes "LV")) l.text (other_items (codes "A") s.text a.text b.text o.text c.text) (keyed_few (codes "LV") 129 140 l.text (omega arith) l.few) (
-        keyed_few (codes "SP") 63 70 s.text (omega arith) s.few,
+        keyed_few (codes "SP") 63 71 s.text (omega arith) s.few,
         (
-          keyed_few (codes "A") 63 70 a.text (omega arith) a.few,
+          keyed_few (codes "A") 63 71 a.text (omega arith) a.few,
           (
-            keyed_few (codes "BNDRY") 63 70 b.text (omega arith) b.few,
+            keyed_few (codes "BNDRY") 63 71 b.text (omega arith) b.few,
             (
-              keyed_few (codes "LOC") 63 70 o.text (omega arith) o.few,
-              (keyed_few (codes "COND") 63 70 c.text (omega arith) c.few, tt),
+              keyed_few (codes "LOC") 63 71 o.text (omega arith) o.few,
+              (keyed_few (codes "COND") 63 71 c.text (omega arith) c.few, tt),
             ),
           ),
         ),

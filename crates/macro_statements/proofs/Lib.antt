@@ -1,6 +1,5 @@
 mod FormRows
 mod ReadRequests
-pub mod ValidForms
 mod FormTexts
 mod ReadForms
 pub mod SpelledOperands

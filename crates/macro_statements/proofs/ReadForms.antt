@@ -10,16 +10,16 @@ use Rattle.operand_texts.proofs.Spelling.{spelled_is_valid, spelled_place_is_val
 use Rattle.macro_operands.specs.Rows.{keyword}
 use Rattle.macro_operands.specs.Operands.{first_fault, unless_fault, text_at}
 use Rattle.macro_operands.specs.Lengths.{both_of, pair_in, pair_of, is_register_0, is_named, name_of}
-use Rattle.macro_operands.specs.Said.{Said, number, register, name, pair, condition, content, size, count, boundary, location, anything, said_of, value_said, pair_said, value_or_pair, unless_register_0}
+use Rattle.macro_operands.specs.Said.{Said, number, register, name, pair, condition, content, size, count, boundary, location, header, anything, said_of, value_said, pair_said, value_or_pair, unless_register_0}
 use Rattle.macro_operands.specs.Slots.{Slots, slot, readings, as_value, as_pair, as_place, as_condition, as_boundary, as_location}
 use Rattle.macro_operands.proofs.ReadValues.{name_in, value_kept, no_pair, place_kept}
 use Rattle.macro_operands.specs.declared.rows.Kind.{Kind}
 use Rattle.macro_operands.specs.declared.rows.Kind.TheVariants as kind
 use Rattle.macro_operands.specs.declared.faults.FaultKind.{FaultKind}
 use Rattle.macro_operands.specs.declared.faults.FaultKind.TheVariants as fault
-use Rattle.macro_statements.specs.Requests.{WrittenLength, fixed, IsLength, is_fixed, obtain, release, whole, Asked, act, IsObtainForm, IsReleaseForm, IsWholeForm, IsValidAsked}
+use Rattle.macro_requests.specs.Requests.{WrittenLength, fixed, IsLength, is_fixed, obtain, release, whole, Asked, act, IsObtainForm, IsReleaseForm, IsWholeForm, IsValidAsked}
 use Rattle.macro_statements.specs.Forms.{storage_row, StorageForm, obtaining, releasing, StorageMacro, either_length, as_length, subpool_by, lacks_place, obtain_with, has_whole, release_with, asked_by, form_with, form_for, with_form, macro_of, boundary_by, condition_by, location_by, form_by}
-use Rattle.macro_statements.specs.declared.requests.Form.{Form}
+use Rattle.macro_requests.specs.declared.requests.Form.{Form}
 use Rattle.vsm_model.specs.declared.causes.Family.{Family}
 use Rattle.vsm_model.specs.declared.causes.Family.TheVariants as family
 use Rattle.vsm_model.specs.declared.services.Boundary.{Boundary}
@@ -66,6 +66,7 @@ pair_valid (Some (size n)) = tt
 pair_valid (Some (count n)) = tt
 pair_valid (Some (boundary b)) = tt
 pair_valid (Some (location l)) = tt
+pair_valid (Some (header t)) = tt
 pair_valid (Some anything) = tt
 
 either_valid : (v : Option Written) (p : Option (Written × Written)) → IfSome v IsValue → IfSome p AreValues → IfSome (either_length v p) IsLength
@@ -124,6 +125,7 @@ unless_besides (Some (size n)) h = tt
 unless_besides (Some (count n)) h = tt
 unless_besides (Some (boundary b)) h = tt
 unless_besides (Some (location l)) h = tt
+unless_besides (Some (header t)) h = tt
 unless_besides (Some anything) h = tt
 
 besides_valid : (t : Option (List ℕ)) → IfSome (as_value (read kind.RegisterLength t)) IsBesides
@@ -146,6 +148,7 @@ no_pair_unless (Some (size n)) h = refl
 no_pair_unless (Some (count n)) h = refl
 no_pair_unless (Some (boundary b)) h = refl
 no_pair_unless (Some (location l)) h = refl
+no_pair_unless (Some (header t)) h = refl
 no_pair_unless (Some anything) h = refl
 
 -- a length besides register 0

@@ -8,7 +8,7 @@ use Rattle.macro_operands.specs.Operands.{entry_for, is_excluded, first_fault, t
 use Rattle.macro_operands.specs.Said.{said_of, value_said}
 use Rattle.macro_operands.specs.declared.rows.Behind.TheVariants as behind
 use Rattle.macro_operands.specs.declared.rows.Kind.TheVariants as kind
-use Rattle.macro_statements.specs.Requests.{Asked, HasRoom}
+use Rattle.macro_requests.specs.Requests.{Asked, HasRoom}
 use Rattle.macro_statements.specs.Statements.{asked_of, behind_of}
 use Rattle.macro_statements.specs.declared.statements.Operation.{Operation}
 use Rattle.macro_statements.specs.declared.statements.Operation.TheVariants as operation
@@ -39,6 +39,7 @@ abbrev pub less : Operation → ℕ
 less operation.Storage = 61
 less operation.Getmain = 61
 less operation.Freemain = 60
+less operation.Cpool = 63
 less operation.Attach = 62
 less operation.Detach = 62
 less operation.Run = 65

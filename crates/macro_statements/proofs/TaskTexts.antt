@@ -13,7 +13,7 @@ use Rattle.macro_operands.specs.declared.rows.Behind.TheVariants as behind
 use Rattle.macro_operands.specs.declared.rows.Kind.TheVariants as kind
 use Rattle.macro_operands.proofs.WrittenOperands.{Item, item, operand_text, Fits, lookup, stand, long}
 use Rattle.macro_operands.proofs.WrittenOperands as operands
-use Rattle.macro_statements.specs.Requests.{WrittenSubpools, nothing, one, listed, IsSubpools, attach, detach, run, Asked, act}
+use Rattle.macro_requests.specs.Requests.{WrittenSubpools, nothing, one, listed, IsSubpools, attach, detach, run, Asked, act}
 use Rattle.macro_statements.specs.Attach.{attach_row, subpools_by, shares_zero_by, attach_of}
 use Rattle.macro_statements.specs.Detach.{detach_row, detach_of}
 use Rattle.macro_statements.specs.Run.{run_row, run_of}
@@ -172,13 +172,13 @@ zero_few : (z : Bool) → length (zero_text z) ≤ 3
 zero_few true = omega arith
 zero_few false = omega arith
 
-given_few : (l : Bool) (t : Option (List ℕ)) → IfSome t (λ t. length t ≤ 63) → IfSome t (λ t. length (operand_text (keyword (given_word l)) t) ≤ 70)
-given_few true t h = keyed_few (codes "GSPL") 63 70 t (omega arith) h
-given_few false t h = keyed_few (codes "GSPV") 63 70 t (omega arith) h
+given_few : (l : Bool) (t : Option (List ℕ)) → IfSome t (λ t. length t ≤ 63) → IfSome t (λ t. length (operand_text (keyword (given_word l)) t) ≤ 71)
+given_few true t h = keyed_few (codes "GSPL") 63 71 t (omega arith) h
+given_few false t h = keyed_few (codes "GSPV") 63 71 t (omega arith) h
 
-shared_few : (l : Bool) (t : Option (List ℕ)) → IfSome t (λ t. length t ≤ 63) → IfSome t (λ t. length (operand_text (keyword (shared_word l)) t) ≤ 70)
-shared_few true t h = keyed_few (codes "SHSPL") 63 70 t (omega arith) h
-shared_few false t h = keyed_few (codes "SHSPV") 63 70 t (omega arith) h
+shared_few : (l : Bool) (t : Option (List ℕ)) → IfSome t (λ t. length t ≤ 63) → IfSome t (λ t. length (operand_text (keyword (shared_word l)) t) ≤ 71)
+shared_few true t h = keyed_few (codes "SHSPL") 63 71 t (omega arith) h
+shared_few false t h = keyed_few (codes "SHSPV") 63 71 t (omega arith) h
 
 pub attach_operands : (g s : WrittenSubpools) (z : Bool) → IsSubpools g → IsSubpools s → Operands (act (attach g s z))
 attach_operands g s z h k =

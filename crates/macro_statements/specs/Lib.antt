@@ -6,11 +6,12 @@ pub use Rattle.macro_operands.specs.Rows
 pub use Rattle.macro_operands.specs.Keywords
 pub use Rattle.macro_operands.specs.Said
 pub use Rattle.macro_operands.specs.Operands
-pub mod Requests
+pub use Rattle.macro_requests.specs.Requests
 pub mod Forms
 pub mod Storage
 pub mod Getmain
 pub mod Freemain
+pub mod Cpool
 pub mod Poke
 pub mod Peek
 pub mod Steps
@@ -19,4 +20,4 @@ pub mod Detach
 pub mod Run
 pub mod Statements
 pub mod Slots
-pub mod Validity
+pub use Rattle.macro_requests.specs.Validity

@@ -3,11 +3,12 @@ use Rattle.std.specs.Prelude.{◌≡◌, ℕ, Bool, not, ◌&&◌, if◌then◌e
 use Rattle.std.specs.Prelude.{[], Result, Ok, Err, codes}
 use Rattle.operand_texts.specs.Words.{is_word, is_name, word, word_len, after_word, after_blanks}
 use Rattle.operand_texts.specs.Field.{outside, operands, is_balanced}
-use Rattle.macro_statements.specs.Requests.{Asked, act, end_task, map_asked, back, forward}
+use Rattle.macro_requests.specs.Requests.{Asked, act, end_task, map_asked, back, forward}
 use Rattle.macro_statements.specs.Forms.{macro_of}
 use Rattle.macro_statements.specs.Storage.{storage_macro}
 use Rattle.macro_statements.specs.Getmain.{getmain_macro}
 use Rattle.macro_statements.specs.Freemain.{freemain_macro}
+use Rattle.macro_statements.specs.Cpool.{cpool_of}
 use Rattle.macro_statements.specs.Poke.{poke_of}
 use Rattle.macro_statements.specs.Peek.{peek_of}
 use Rattle.macro_statements.specs.Steps.{count_in, step_with}
@@ -27,6 +28,7 @@ operation_of text =
     if is_word text (codes "STORAGE") then Some operation.Storage
     else if is_word text (codes "GETMAIN") then Some operation.Getmain
     else if is_word text (codes "FREEMAIN") then Some operation.Freemain
+    else if is_word text (codes "CPOOL") then Some operation.Cpool
     else if is_word text (codes "ATTACH") then Some operation.Attach
     else if is_word text (codes "DETACH") then Some operation.Detach
     else if is_word text (codes "RUN") then Some operation.Run
@@ -43,6 +45,7 @@ abbrev pub asked_of : Operation → List (List ℕ) → Result Asked FaultKind
 asked_of operation.Storage os = macro_of storage_macro os
 asked_of operation.Getmain os = macro_of getmain_macro os
 asked_of operation.Freemain os = macro_of freemain_macro os
+asked_of operation.Cpool os = cpool_of os
 asked_of operation.Attach os = attach_of os
 asked_of operation.Detach os = detach_of os
 asked_of operation.Run os = run_of os
@@ -72,6 +75,7 @@ behind_of None = behind.Operands
 behind_of (Some operation.Storage) = behind.Operands
 behind_of (Some operation.Getmain) = behind.Operands
 behind_of (Some operation.Freemain) = behind.Operands
+behind_of (Some operation.Cpool) = behind.Operands
 behind_of (Some operation.Attach) = behind.Operands
 behind_of (Some operation.Detach) = behind.Operands
 behind_of (Some operation.Run) = behind.Operands

@@ -2,12 +2,12 @@
 
 ghost use Rattle.std.specs.Prelude.{◌≡◌, ◌<◌, length};
 ghost use Rattle.operand_texts.specs.Field.{operands};
-ghost use Rattle.macro_statements.specs.Requests.{asked_in, seen, subpools_in};
+ghost use Rattle.macro_requests.specs.Requests.{asked_in, seen, subpools_in};
 ghost use Rattle.macro_operands.specs.Slots.{slots_in, slot, as_value};
 ghost use Rattle.macro_statements.specs.Slots.{attach_by};
 ghost use Rattle.macro_statements.specs.Attach.{subpools_by, attach_of};
 
-use crate::requests::{Request, Statement, Subpools};
+use macro_requests::{Request, Statement, Subpools};
 use macro_operands::operands::{read, some_field};
 use macro_operands::rows::Row;
 use macro_operands::said::{NOTHING, Said, condition_at, value_at};

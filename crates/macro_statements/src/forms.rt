@@ -7,14 +7,14 @@ ghost use Rattle.operand_texts.specs.Field.{operands, operands_behind};
 ghost use Rattle.operand_texts.specs.Words.{is_word};
 ghost use Rattle.operand_texts.specs.Written.{written_in};
 ghost use Rattle.macro_operands.specs.Slots.{slots_in, slot, row_in, as_value, as_place, as_condition};
-ghost use Rattle.macro_statements.specs.Requests.{seen, length_in};
+ghost use Rattle.macro_requests.specs.Requests.{seen, length_in};
 ghost use Rattle.macro_statements.specs.Forms.{as_length, subpool_by, usual_location, form_by};
 ghost use Rattle.macro_statements.specs.Forms.{lacks_place, has_whole, release_with, is_storage_row};
 ghost use Rattle.macro_statements.specs.Forms.{obtain_by, release_by, form_with, form_for, no_form_fault};
 ghost use Rattle.macro_statements.specs.Forms.{macro_of};
 ghost use Rattle.macro_statements.specs.Slots.{form_in, macro_in};
 
-use crate::requests::{Form, Length, Request, Statement};
+use macro_requests::{Form, Length, Request, Statement};
 use macro_operands::FaultKind;
 use macro_operands::operands::{operand_at, read, unknown_fault};
 use macro_operands::rows::Row;
@@ -135,7 +135,7 @@ fn length_at(said: &[Option<Said>], i: usize) -> Option<Length>
 }
 
 /// SP as it was read at a place, 0 where it is left out.
-fn subpool_at(said: &[Option<Said>], i: usize) -> Value
+pub(crate) fn subpool_at(said: &[Option<Said>], i: usize) -> Value
     requires { i < length said.now }
     ensures { written_in result ≡ subpool_by (as_value (slot (slots_in said.now) i)) }
 {
@@ -272,7 +272,7 @@ fn is_one_of(words: &[&[u8]], word: &[u8]) -> bool
 }
 
 /// What is wrong with a first operand that is no form's word, where these words are those of forms that are left out.
-fn no_form_fault(left_out: &[&[u8]], word: &[u8]) -> FaultKind
+pub(crate) fn no_form_fault(left_out: &[&[u8]], word: &[u8]) -> FaultKind
     ensures { result ≡ no_form_fault (map (λ w. w.now) left_out.now) word.now }
 {
     if is_one_of(left_out, word) {

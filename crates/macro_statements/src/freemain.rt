@@ -1,7 +1,7 @@
 //! FREEMAIN: its forms that release one area, or all of a subpool.
 
 use crate::forms::{LEFT_OUT_KEYWORDS, StorageForm, StorageMacro, releasing, storage_row};
-use crate::requests::Form;
+use macro_requests::Form;
 use macro_operands::keyword;
 use macro_operands::rows::Row;
 use vsm_model::Family;

@@ -1,7 +1,7 @@
 //! GETMAIN: its forms that obtain one area.
 
 use crate::forms::{LEFT_OUT_KEYWORDS, StorageForm, StorageMacro, obtaining, storage_row};
-use crate::requests::Form;
+use macro_requests::Form;
 use macro_operands::keyword;
 use macro_operands::rows::Row;
 use vsm_model::Family;

@@ -2,6 +2,7 @@
 #![tactic(auto)]
 
 mod attach;
+mod cpool;
 mod detach;
 mod forms;
 mod freemain;
@@ -9,7 +10,6 @@ mod getmain;
 mod laws;
 mod peek;
 mod poke;
-mod requests;
 mod run;
 mod statements;
 mod steps;
@@ -17,6 +17,6 @@ mod storage;
 
 pub use laws::valid_requests_are_spelled;
 pub use macro_operands::FaultKind;
-pub use requests::{Form, Length, Request, Statement, Subpools};
+pub use macro_requests::{Form, Header, Length, Request, Statement, Subpools};
 pub use statements::{from_operands, is_misplaced, statement_with};
 pub use vsm_model::{Boundary, Family, Location};

@@ -2,12 +2,12 @@
 
 ghost use Rattle.std.specs.Prelude.{◌≡◌, length};
 ghost use Rattle.operand_texts.specs.Field.{operands};
-ghost use Rattle.macro_statements.specs.Requests.{seen};
+ghost use Rattle.macro_requests.specs.Requests.{seen};
 ghost use Rattle.macro_operands.specs.Slots.{slots_in};
 ghost use Rattle.macro_statements.specs.Slots.{poke_by};
 ghost use Rattle.macro_statements.specs.Poke.{poke_of};
 
-use crate::requests::{Request, Statement};
+use macro_requests::{Request, Statement};
 use macro_operands::operands::{read, some_field};
 use macro_operands::rows::Row;
 use macro_operands::said::{NOTHING, Said, content_at, value_at};

@@ -2,19 +2,20 @@
 
 ghost use Rattle.std.specs.Prelude.{◌≡◌, ◌≤◌, length, IfOk};
 ghost use Rattle.operand_texts.specs.Field.{operands};
-ghost use Rattle.macro_statements.specs.Requests.{seen, asked_in, IsValidAsked};
+ghost use Rattle.macro_requests.specs.Requests.{seen, asked_in, IsValidAsked};
 ghost use Rattle.macro_statements.specs.Statements.{operation_of, asked_of, from_operation, from_operands};
 ghost use Rattle.macro_statements.specs.Statements.{behind_of, operands_in};
 ghost use Rattle.macro_statements.specs.Statements.{is_misplaced, statement_with};
 
 use crate::attach::attach;
+use crate::cpool::cpool;
 use crate::detach::detach;
 use crate::forms::request_of;
 use crate::freemain::FREEMAIN;
 use crate::getmain::GETMAIN;
 use crate::peek::peek;
 use crate::poke::poke;
-use crate::requests::{Request, Statement};
+use macro_requests::{Request, Statement};
 use crate::run::run;
 use crate::steps::count_in;
 use crate::storage::STORAGE;
@@ -29,6 +30,7 @@ pub enum Operation {
     Storage,
     Getmain,
     Freemain,
+    Cpool,
     Attach,
     Detach,
     Run,
@@ -50,6 +52,8 @@ fn operation_of(text: &[u8]) -> Option<Operation>
         Some(Operation::Getmain)
     } else if is_word(text, b"FREEMAIN") {
         Some(Operation::Freemain)
+    } else if is_word(text, b"CPOOL") {
+        Some(Operation::Cpool)
     } else if is_word(text, b"ATTACH") {
         Some(Operation::Attach)
     } else if is_word(text, b"DETACH") {
@@ -81,6 +85,7 @@ fn asked_of(operation: Operation, field: &[u8]) -> Result<Request, FaultKind>
         Operation::Storage => request_of(&STORAGE, field),
         Operation::Getmain => request_of(&GETMAIN, field),
         Operation::Freemain => request_of(&FREEMAIN, field),
+        Operation::Cpool => cpool(field),
         Operation::Attach => attach(field),
         Operation::Detach => detach(field),
         Operation::Run => run(field),
@@ -109,6 +114,7 @@ fn behind_of(operation: Option<Operation>) -> Behind
             Operation::Storage
             | Operation::Getmain
             | Operation::Freemain
+            | Operation::Cpool
             | Operation::Attach
             | Operation::Detach
             | Operation::Run

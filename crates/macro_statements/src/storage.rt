@@ -3,7 +3,7 @@
 use crate::forms::{
     LEFT_OUT_KEYWORDS, StorageForm, StorageMacro, obtaining, releasing, storage_row,
 };
-use crate::requests::Form;
+use macro_requests::Form;
 use macro_operands::keyword;
 use macro_operands::rows::Row;
 use vsm_model::Family;

@@ -10,7 +10,7 @@ use Rattle.vsm_model.specs.declared.replies.Reply.{Reply}
 use Rattle.vsm_model.specs.Names.{NamedState, first_named_state}
 use Rattle.vsm_model.specs.Standing.{Bench, Standing, Call, Apply, Back, Forward, Look, Answer, Replied, RefusedFor, NoMemory, Moved, TooFar, Shown, Heard, Keeps, Leads, IsAccepted, new_bench, nothing_stands, stand_all, outcome_answer}
 use Rattle.vsm_model.proofs.Alone.{stands_alone}
-use Rattle.vsm_machine.specs.Machine.{Why, statement_step, shown_at}
+use Rattle.bench_core.specs.Machine.{Why, statement_step, shown_at}
 use Rattle.script_run.specs.Responses.{response_to, reading_response, response_text, lines_behind, is_refused, numbered}
 use Rattle.script_run.specs.Output.{Marked, call_in, alone_now, answer_to, IsMet, stands_behind, stands_with, responded_to, responded, stands_after, stands_all, AllMet, lines_with, text_of, texts, refusals, heard_call, heard_with, heard_all}
 use Rattle.script_run.specs.Answers.{RespondsTo, Responds, Tells, told_text, told_count, told_refused}

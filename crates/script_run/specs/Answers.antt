@@ -7,7 +7,7 @@ use Rattle.vsm_model.specs.declared.limits.Settings.{Settings}
 use Rattle.vsm_model.specs.declared.replies.Reply.{Reply}
 use Rattle.vsm_model.specs.Names.{NamedState}
 use Rattle.vsm_model.specs.Standing.{Bench, Call, Apply, Back, Forward, Answer, Keeps}
-use Rattle.vsm_machine.specs.Machine.{Why, statement_step, shown_at}
+use Rattle.bench_core.specs.Machine.{Why, statement_step, shown_at}
 use Rattle.script_run.specs.Responses.{response_to, reading_response, response_text, lines_behind}
 use Rattle.script_run.specs.Responses.{is_refused, numbered}
 use Rattle.script_run.specs.declared.responses.Response.{Response}

@@ -4,3 +4,5 @@ pub mod Answers
 pub mod Script
 pub mod Taken
 pub mod Run
+pub use Rattle.bench_core.specs.Machine
+pub use Rattle.bench_core.specs.NewFault

@@ -9,7 +9,7 @@ use Rattle.vsm_model.specs.declared.replies.Reply.{Reply}
 use Rattle.vsm_model.specs.Names.{NamedState, first_named_state}
 use Rattle.vsm_model.specs.Standing.{Standing, Call, Apply, Back, Forward, Look, Answer, NoMemory, Moved, TooFar, Shown}
 use Rattle.vsm_model.specs.Standing.{Heard, IsAccepted, nothing_stands, stand, alone, outcome_answer}
-use Rattle.vsm_machine.specs.Machine.{Why, statement_step, shown_at}
+use Rattle.bench_core.specs.Machine.{Why, statement_step, shown_at}
 use Rattle.script_run.specs.Responses.{response_to, reading_response, response_text, lines_behind}
 use Rattle.script_run.specs.Responses.{is_refused, numbered}
 use Rattle.script_run.specs.declared.responses.Response.{Response}

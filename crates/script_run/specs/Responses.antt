@@ -12,10 +12,10 @@ use Rattle.vsm_model.specs.Map.{map_text}
 use Rattle.vsm_model.specs.Texts.{reply_text, code_text, hexadecimal, padded_decimal}
 use Rattle.vsm_model.specs.Standing.{Call, Apply, Back, Forward, Look, Answer, Replied, RefusedFor, NoMemory, Moved}
 use Rattle.vsm_model.specs.Standing.{TooFar, Shown}
-use Rattle.vsm_machine.specs.Machine.{Why}
-use Rattle.vsm_machine.specs.Refusals.{refusal_for}
-use Rattle.vsm_machine.specs.declared.refusals.Refusal.{Refusal}
-use Rattle.vsm_machine.specs.declared.refusals.Refusal.TheVariants as refusal
+use Rattle.bench_core.specs.Machine.{Why}
+use Rattle.bench_core.specs.Refusals.{refusal_for}
+use Rattle.bench_core.specs.Refusal.{Refusal}
+use Rattle.bench_core.specs.Refusal.TheVariants as refusal
 use Rattle.script_run.specs.declared.responses.Response.{Response}
 use Rattle.script_run.specs.declared.responses.Response.TheVariants as response
 

@@ -9,8 +9,8 @@ use Rattle.text_output.specs.Writing.{AppendsFront, Holds}
 use Rattle.script_run.specs.declared.faults.RunFault.{RunFault}
 use Rattle.script_run.specs.declared.faults.RunFault.TheVariants as fault
 use Rattle.script_run.specs.declared.faults.RunTotals.{RunTotals}
-use Rattle.vsm_machine.specs.declared.refusals.NewFault.{NewFault}
-use Rattle.vsm_machine.specs.declared.refusals.NewFault.TheVariants as new_fault
+use Rattle.bench_core.specs.NewFault.{NewFault}
+use Rattle.bench_core.specs.NewFault.TheVariants as new_fault
 use Rattle.script_run.specs.declared.session.Session.{Session}
 use Rattle.script_run.specs.declared.session.TooLong.{TooLong}
 use Rattle.text_output.specs.declared.writing.Gathered.{Gathered}

@@ -4,7 +4,7 @@ use Rattle.macro_reader.specs.Scripts as grammar
 use Rattle.vsm_model.specs.declared.limits.Settings.{Settings}
 use Rattle.vsm_model.specs.Names.{NamedState, first_named_state}
 use Rattle.vsm_model.specs.Standing.{Bench, Leads, new_bench, nothing_stands}
-use Rattle.vsm_machine.specs.Machine.{statement_step}
+use Rattle.bench_core.specs.Machine.{statement_step}
 use Rattle.script_run.specs.Output.{Marked, AllMet, heard_all, refusals, stands_all, texts}
 use Rattle.script_run.specs.Script.{columns, Within, IsPast, last_line}
 use Rattle.bench_core.specs.Stands.{bench_of, settings_in}

@@ -5,7 +5,7 @@ ghost use Rattle.macro_statements.specs.Requests.{IsValidAsked};
 ghost use Rattle.macro_reader.specs.Scripts.{told_by, told_at_end, IsValidFed};
 ghost use Rattle.bench_core.specs.Stands.{bench_of, settings_in};
 ghost use Rattle.script_run.specs.Answers.{Responds, Tells, told_count, told_refused, IsToldAlone};
-ghost use Rattle.vsm_machine.specs.Machine.{shown_at};
+ghost use Rattle.bench_core.specs.Machine.{shown_at};
 ghost use Rattle.script_run.specs.Responses.{reading_response};
 
 use crate::responses::Response;

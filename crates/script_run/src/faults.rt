@@ -1,9 +1,9 @@
 //! How a run ends.
 
 use crate::session::TooLong;
+use bench_core::NewFault;
 use text_output::WriteFault;
 use thiserror::Error;
-use vsm_machine::NewFault;
 
 /// What a run counted: the numbered lines of output, and those of them that are faults, refusals or abends.
 #[derive(Clone, Copy, Debug, PartialEq, Eq)]

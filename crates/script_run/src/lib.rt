@@ -9,5 +9,6 @@ mod runs;
 mod session;
 mod texts;
 
+pub use bench_core::{Bench, NewFault, Refusal};
 pub use faults::{RunFault, RunTotals};
 pub use runs::run;

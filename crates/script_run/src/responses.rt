@@ -3,8 +3,8 @@ ghost use Rattle.std.specs.Prelude.{◌≡◌};
 ghost use Rattle.script_run.specs.Responses.{is_refused};
 
 use arrayvec::ArrayVec;
+use bench_core::Refusal;
 use macro_reader::FaultKind;
-use vsm_machine::Refusal;
 use vsm_model::Reply;
 
 /// What a bench responds to a statement of a script.

@@ -5,10 +5,10 @@ ghost use Rattle.script_run.specs.Responses.{fault_word, refusal_text, shown_tex
 ghost use Rattle.text_output.specs.Writing.{Puts};
 
 use crate::responses::Response;
+use bench_core::Refusal;
 use macro_reader::FaultKind;
 use std::io::Write;
 use text_output::{Gathered, put_byte, put_decimal, put_hexadecimal, put_padded_decimal};
-use vsm_machine::Refusal;
 use vsm_model::{Code, Reply};
 
 fn fault_word(kind: FaultKind) -> &'static str

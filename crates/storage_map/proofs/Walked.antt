@@ -4,9 +4,9 @@ use Rattle.map_laws.specs.Lists.{SharersAreShown}
 use Rattle.subpool_set.specs.Pools as pools
 use Rattle.subpool_set.specs.declared.places.PoolPlace.{PoolPlace}
 use Rattle.subpool_set.specs.declared.places.SharerPlace.{SharerPlace}
-use Rattle.storage_core.specs.declared.storage.Storage.{Storage}
-use Rattle.storage_core.specs.Meaning.{state_in_place, state_of}
-use Rattle.storage_core.specs.Walks.{subpools_left, subpool_before, sharers_left}
+use Rattle.cell_readings.specs.Storage.{Storage}
+use Rattle.cell_readings.specs.Meaning.{state_in_place, state_of}
+use Rattle.cell_readings.specs.Walks.{subpools_left, subpool_before, sharers_left}
 use Rattle.vsm_model.specs.declared.Subpool.{Subpool}
 use Rattle.vsm_model.specs.Map.{sharers}
 

@@ -3,19 +3,18 @@ ghost use Rattle.std.specs.Prelude.{◌≡◌, ◌+◌, ◌*◌, ◌^◌, ◌<�
 ghost use Rattle.cell_pool.specs.Pools.{rounded};
 ghost use Rattle.cell_readings.specs.Cells.{cell_pool, IsExtentPlace, extents_left, IsCellPlace, cells_left};
 ghost use Rattle.cell_tables.specs.Table.{cell_pool_of};
-ghost use Rattle.storage_core.specs.Meaning.{state_of};
+ghost use Rattle.cell_readings.specs.Meaning.{state_of};
 ghost use Rattle.storage_map.specs.Lines.{cell_extent_line, cell_pool_line, free_cell_line};
 ghost use Rattle.vsm_model.specs.Map.{cell_pool_lines, header_text, location_text};
 ghost use Rattle.text_output.specs.Writing.{Puts};
 
 use crate::fields::{put_area, put_field, put_hex_field};
 use cell_readings::{
-    CellId, CellPlace, Extent, ExtentPlace, Header, Name, Settings, cell_pool_header,
-    cell_pool_name, cell_pool_settings, first_cell_extent, first_free_cell, next_cell_extent,
-    next_cell_pool, next_free_cell,
+    CellId, CellPlace, Extent, ExtentPlace, Header, Name, Residence, Settings, Storage,
+    cell_pool_header, cell_pool_name, cell_pool_settings, first_cell_extent, first_free_cell,
+    next_cell_extent, next_cell_pool, next_free_cell,
 };
 use std::io::Write;
-use storage_core::{Residence, Storage};
 use text_output::Gathered;
 
 /// Puts on which side of the 16 MB line extents may lie.

@@ -2,13 +2,15 @@
 
 use super::*;
 use crate::cells::{put_cell_extent, put_cell_pool_line, put_free_cell};
-use cell_readings::{Extent, Header, Name, Settings as CellSettings};
+use cell_readings::{
+    Extent, Header, Name, Residence, Settings as CellSettings, Storage, Subpool,
+};
 use std::alloc::Global;
 use std::io;
 use std::io::{ErrorKind, Write};
 use std::test::Fail;
-use storage_core::{Residence, Settings, Storage, Subpool};
 use text_output::Gathered;
+use vsm_model::Settings;
 
 const SETTINGS: Settings = Settings {
     low_k: 64,

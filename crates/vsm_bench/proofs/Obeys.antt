@@ -10,7 +10,7 @@ use Rattle.vsm_model.specs.declared.limits.Settings.{Settings}
 use Rattle.vsm_bench.specs.Command.{Answers, Commanded, Does, DoesBy, Obeys}
 use Rattle.vsm_bench.specs.Options.{Residences, AreResidences, command_line, settings_asked, file_asked}
 use Rattle.script_run.specs.declared.faults.RunFault.TheVariants as fault
-use Rattle.vsm_machine.specs.declared.refusals.NewFault.TheVariants as new_fault
+use Rattle.script_run.specs.NewFault.TheVariants as new_fault
 use Rattle.vsm_bench.proofs.Asked.{nothing_said, nothing_wrong}
 
 -- as many words as texts

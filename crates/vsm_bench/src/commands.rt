@@ -9,11 +9,10 @@ use crate::options::{file_asked, read_words, settings_asked};
 use crate::script_files::ScriptFiles;
 use clap::Error;
 use clap::error::ErrorKind;
-use script_run::{RunFault, run};
+use script_run::{NewFault, RunFault, run};
 use std::alloc::Global;
 use std::io;
 use std::io::{Read, Write};
-use vsm_machine::NewFault;
 use vsm_model::Settings;
 
 /// The exit status of a fault.

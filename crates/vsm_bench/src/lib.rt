@@ -6,12 +6,10 @@ pub mod laws;
 mod options;
 mod script_files;
 
-pub use bench_core::Bench;
 pub use commands::command;
 pub use macro_reader::{Content, Family, Form, Length, Name, Place, Statement, Value};
 pub use options::DEFAULT_SETTINGS;
 pub use script_files::ScriptFiles;
-pub use script_run::{RunFault, RunTotals, run};
+pub use script_run::{Bench, NewFault, Refusal, RunFault, RunTotals, run};
 pub use step_history::{TooFar, TooFarAhead};
-pub use vsm_machine::{NewFault, Refusal};
 pub use vsm_model::{Boundary, Code, Location, Reply, Residence, Settings};

@@ -1,18 +1,23 @@
 -- A plan of a service is a plan of the statement that asks for it.
+use mathlib.Core.Logic.{∥∥₁_map}
 use Rattle.std.proofs.Common.{◌≡◌, ℕ, Bool, true, false, ◌||◌, if◌then◌else◌, Option, Some, None, is_some, List, refl, sym, ap, ◌∙◌, subst}
 use Rattle.vsm_model.specs.declared.causes.Cause.{Cause}
+use Rattle.vsm_model.specs.declared.causes.Family.{Family}
 use Rattle.vsm_model.specs.declared.replies.Reply.{Reply}
 use Rattle.vsm_model.specs.declared.replies.Reply.TheVariants.{Obtained, Returned, Cell, Attached, Turn, Stored}
 use Rattle.vsm_model.specs.Codes.{completion_code}
 use Rattle.vsm_model.specs.Forms.{with_code}
 use Rattle.vsm_model.specs.Names.{named, names_after, is_one_too_many, same_name, word_of}
-use Rattle.vsm_model.specs.Standing.{Accepted, Refused}
+use Rattle.vsm_model.specs.Standing as outcome
+use Rattle.vsm_model.specs.Standing.{Outcome, Accepted, Refused}
+use Rattle.vsm_model.specs.State.{State}
 use Rattle.vsm_model.specs.Services.{Service}
 use Rattle.vsm_model.specs.Step.{step}
 use Rattle.macro_statements.specs.Requests.{Act}
 use Rattle.storage_changes.specs.Changes as storage
 use Rattle.storage_changes.specs.Meaning.{model_of, IsSound}
 use Rattle.storage_core.specs.Planned.{IsAccepted, change_for, reply_of}
+use Rattle.storage_core.specs.Planned as planned
 use Rattle.name_table.specs.Steps.{define, reword, step_to}
 use Rattle.name_table.proofs.StepsBack.{step_to_can, step_to_rows}
 use Rattle.name_table.proofs.SameName.{same_name-self}
@@ -22,7 +27,7 @@ use Rattle.vsm_machine.specs.declared.refusals.Refusal.TheVariants.{Abend}
 use Rattle.vsm_machine.specs.NameSteps.{stepped_by, CanStepBy, undefines_none}
 use Rattle.vsm_machine.specs.Changes.{MachineState, named_of}
 use Rattle.vsm_machine.specs.Machine.{Why, abended, or_abend, served, service_asked, name_asked, family_asked, statement_step}
-use Rattle.vsm_machine.specs.Planned.{step_for, step_planned, IsAcceptedBy}
+use Rattle.vsm_machine.specs.Planned.{step_for, step_planned, IsAcceptedBy, CanCarryOut}
 use Rattle.vsm_machine.specs.Refusals.{refusal_for}
 
 -- without a name no step is taken
@@ -83,10 +88,16 @@ gives names (Some name) (Attached task) = refl
 gives names (Some name) (Turn task) = refl
 gives names (Some name) Stored = refl
 
+-- a service that is accepted is so with its name and in its form
+formed_accepted : (family : Family) (service : Service) (names : List (List ℕ × ℕ)) (name : Option (List ℕ)) (o : Outcome State Reply Cause) → outcome.IsAccepted o →
+    outcome.IsAccepted (or_abend (with_code family service (named names name o)))
+formed_accepted family service names name (Accepted s reply) h = tt
+formed_accepted family service names name (Refused cause) h = absurd h
+
 module _ (m : MachineState) (x : Act) (service : Service) (is : Some service ≡ service_asked (named_of m) x) where
-  pub accepted_by : (p : Planned) → IsAccepted m.settings (is_one_too_many m.names (name_asked x)) m.storage service (change_for m.storage p.plan) (reply_of p.plan) →
-      ∥ IsSound m.settings m.storage ∥₁ → step_planned p ≡ step_for m.names (name_asked x) (reply_of p.plan) → IsAcceptedBy m x p
-  accepted_by p carried sound named_by =
+  accepted_by : (p : Planned) (id : ℕ) → IsAccepted m.settings (is_one_too_many m.names (name_asked x)) m.storage service (change_for m.storage id p.plan) (reply_of p.plan) →
+      ∥ IsSound m.settings m.storage ∥₁ → step_planned p ≡ step_for m.names (name_asked x) (reply_of p.plan) → IsAcceptedBy m x p id
+  accepted_by p id carried sound named_by =
       let reply = reply_of p.plan in
       let names : names_after m.names (name_asked x) reply ≡ stepped_by m.names (step_planned p) =
       sym (names_stepped m.names (name_asked x) reply) ∙ ap (stepped_by m.names) (sym named_by) in
@@ -94,11 +105,21 @@ module _ (m : MachineState) (x : Act) (service : Service) (is : Some service ≡
         accepted =
             ap (served m.settings (named_of m) x) (sym is)
             ∙ ap (λ o. or_abend (with_code (family_asked x) service (named m.names (name_asked x) o))) carried.accepted
-            ∙ (λ i. Accepted (record { storage = model_of (storage.overlay m.storage (change_for m.storage p.plan)); names = names i }) reply);
+            ∙ (λ i. Accepted (record { storage = model_of (storage.overlay m.storage (change_for m.storage id p.plan)); names = names i }) reply);
         fits = record { fits = carried.fits; before = sound; after = ∣ carried.sound ∣₁ };
         can = subst (CanStepBy m.names (λ name. true)) (sym named_by) (can_step m.names (name_asked x) reply);
         gives = ap undefines_none named_by ∙ gives m.names (name_asked x) reply;
       }
+
+  pub carried_by : (p : Planned) → planned.CanCarryOut m.settings (is_one_too_many m.names (name_asked x)) m.storage service p.plan →
+      ∥ IsSound m.settings m.storage ∥₁ → step_planned p ≡ step_for m.names (name_asked x) (reply_of p.plan) → CanCarryOut m x p
+  carried_by p carried sound named_by = record {
+    accepts =
+        subst (λ o. outcome.IsAccepted (served m.settings (named_of m) x o)) is
+        (formed_accepted (family_asked x) service m.names (name_asked x) (step m.settings (is_one_too_many m.names (name_asked x)) (model_of m.storage) service) carried.accepts);
+    accepted = λ id free. ∥∥₁_map (carried.accepted id free) (λ a. accepted_by p id a sound named_by);
+    can = carried.can;
+  }
 
   pub refused_by : (cause : Cause) (e : Refusal) →
       step m.settings (is_one_too_many m.names (name_asked x)) (model_of m.storage) service ≡ Refused cause →

@@ -3,3 +3,5 @@ pub mod Changes
 pub mod Machine
 pub mod Planned
 pub mod Refusals
+pub use Rattle.storage_core.specs.Meaning
+pub use Rattle.storage_core.specs.Stays

@@ -1,5 +1,5 @@
 -- What a written statement does to the plain machine: its values are looked up, and then it is a service.
-use Rattle.std.specs.Prelude.{ℕ, Bool, Option, Some, None, List, Result, Ok, Err}
+use Rattle.std.specs.Prelude.{ℕ, Bool, true, false, Option, Some, None, List, Result, Ok, Err}
 use Rattle.std.specs.Option.{option_map}
 use Rattle.vsm_model.specs.declared.limits.Settings.{Settings}
 use Rattle.vsm_model.specs.declared.causes.Code.{Code}
@@ -9,6 +9,7 @@ use Rattle.vsm_model.specs.declared.causes.Family.TheVariants.{S}
 use Rattle.vsm_model.specs.declared.replies.Reply.{Reply}
 use Rattle.vsm_model.specs.Bytes.{fullword, load}
 use Rattle.vsm_model.specs.declared.services.Boundary.{Boundary}
+use Rattle.vsm_model.specs.declared.services.Build.{Build}
 use Rattle.vsm_model.specs.declared.services.Lengths.{Lengths}
 use Rattle.vsm_model.specs.declared.services.Lengths.TheVariants.{Fixed, Variable}
 use Rattle.vsm_model.specs.declared.services.Location.{Location}
@@ -21,7 +22,8 @@ use Rattle.vsm_model.specs.Services.{Service}
 use Rattle.vsm_model.specs.Standing.{Outcome, Accepted, Refused}
 use Rattle.macro_statements.specs.Requests.{Written, number, named, register, Target, in_name, in_register, Stored}
 use Rattle.macro_statements.specs.Requests.{spelled, word, WrittenLength, fixed, between}
-use Rattle.macro_statements.specs.Requests.{Act, obtain, release, whole, attach, detach, run, end_task, poke}
+use Rattle.macro_statements.specs.Requests.{Act, obtain, release, whole, build, get, free, delete, attach, detach, run}
+use Rattle.macro_statements.specs.Requests.{end_task, poke}
 use Rattle.macro_statements.specs.Requests.{WrittenSubpools, nothing, one, listed}
 
 -- Why the plain machine refuses a statement: a name in a value isn't defined, or a service ends with a completion code.
@@ -40,7 +42,7 @@ abbrev pub bytes_in : NamedState → Stored → Option (List ℕ)
 bytes_in m (spelled bytes) = Some bytes
 bytes_in m (word value) = option_map fullword (looked_up m value)
 
--- the name that is given the address of the area, if one is
+-- the name that is given the address of the area or of the cell, if one is
 abbrev pub name_in : Option Target → Option (List ℕ)
 name_in (Some (in_name name)) = Some name
 name_in _ = None
@@ -91,6 +93,22 @@ area_back conditional bytes first subpool =
     services.release
     (record { length = bytes; address = first; number = subpool; conditional = conditional })
 
+-- a number that may be left out
+abbrev pub left_or_looked_up : NamedState → Option Written → Option (Option ℕ)
+left_or_looked_up m None = Some None
+left_or_looked_up m (Some value) = option_map Some (looked_up m value)
+
+-- the numbers of a new cell pool: of cells at first and of further ones, the size of a cell and the subpool
+abbrev pub with_cells : Location → Option ℕ → Option (Option ℕ) → Option ℕ → Option ℕ → Option Build
+with_cells location (Some primary) (Some secondary) (Some size) (Some subpool) =
+    Some
+    (record { primary = primary; secondary = secondary; size = size; number = subpool; location = location })
+with_cells location _ _ _ _ = None
+
+-- a cell of a cell pool
+abbrev pub cell_asked : List ℕ → Option ℕ → Bool → Service
+cell_asked pool r conditional = services.get pool (record { register = r; conditional = conditional })
+
 -- the subpools that a new task is given, or that it shares, with the word of their number or of their list's address
 abbrev pub passed_asked : NamedState → WrittenSubpools → Option Passed
 passed_asked m nothing = Some Nothing
@@ -113,6 +131,12 @@ service_asked m (release length address subpool form) =
     with_three (area_back form.conditional)
     (looked_up m length) (looked_up m address) (looked_up m subpool)
 service_asked m (whole subpool form) = option_map services.whole (looked_up m subpool)
+service_asked m (build pool header primary secondary size subpool location) =
+    option_map (services.build pool header)
+    (with_cells location (looked_up m primary) (left_or_looked_up m secondary) (looked_up m size) (looked_up m subpool))
+service_asked m (get pool target conditional) = Some (cell_asked pool (register_in target) conditional)
+service_asked m (free pool cell) = option_map (services.free pool) (looked_up m cell)
+service_asked m (delete pool) = Some (services.delete pool)
 service_asked m (attach given shared shares_zero) =
     with_passed shares_zero (passed_asked m given) (passed_asked m shared)
 service_asked m (detach task) = option_map services.detach (looked_up m task)
@@ -120,23 +144,39 @@ service_asked m (run task) = option_map services.run (looked_up m task)
 service_asked m end_task = Some services.end_task
 service_asked m (poke address content) = with_bytes (looked_up m address) (bytes_in m content)
 
--- the name that is given the address of the area that a statement obtains, if it names one
+-- a statement on a cell pool: CPOOL, in any of its forms
+abbrev pub is_on_cells : Act → Bool
+is_on_cells (build pool header primary secondary size subpool location) = true
+is_on_cells (get pool target conditional) = true
+is_on_cells (free pool cell) = true
+is_on_cells (delete pool) = true
+is_on_cells _ = false
+
+-- the name that is given the address of the area or of the cell that a statement obtains, if it names one
 abbrev pub name_asked : Act → Option (List ℕ)
 name_asked (obtain length subpool target boundary location form) = name_in target
 name_asked (release length address subpool form) = None
 name_asked (whole subpool form) = None
+name_asked (build pool header primary secondary size subpool location) = None
+name_asked (get pool target conditional) = name_in target
+name_asked (free pool cell) = None
+name_asked (delete pool) = None
 name_asked (attach given shared shares_zero) = None
 name_asked (detach task) = None
 name_asked (run task) = None
 name_asked end_task = None
 name_asked (poke address content) = None
 
--- The family of a statement's completion codes, by its form. A statement on tasks and one of the bench's own have no
--- form: their codes are the same in each.
+-- The family of a statement's completion codes, by its form. Those of CPOOL are the codes of STORAGE. A statement on
+-- tasks and one of the bench's own have no form: their codes are the same in each.
 abbrev pub family_asked : Act → Family
 family_asked (obtain length subpool target boundary location form) = form.family
 family_asked (release length address subpool form) = form.family
 family_asked (whole subpool form) = form.family
+family_asked (build pool header primary secondary size subpool location) = S
+family_asked (get pool target conditional) = S
+family_asked (free pool cell) = S
+family_asked (delete pool) = S
 family_asked (attach given shared shares_zero) = S
 family_asked (detach task) = S
 family_asked (run task) = S

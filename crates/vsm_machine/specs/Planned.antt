@@ -7,7 +7,7 @@ use Rattle.vsm_model.specs.Standing as outcome
 use Rattle.vsm_model.specs.Standing.{Accepted, Refused}
 use Rattle.macro_statements.specs.Requests.{Act}
 use Rattle.storage_core.specs.Meaning.{state_in_place}
-use Rattle.storage_core.specs.Planned.{CanBeReserved, IsIdFor, change_for, reply_of}
+pub use Rattle.storage_core.specs.Planned.{CanBeReserved, IsIdFor, change_for, reply_of}
 use Rattle.storage_swap.specs.Reserve.{Reserves}
 use Rattle.name_table.specs.Steps.{NameStep, define, step_in, step_to}
 use Rattle.vsm_machine.specs.declared.machine.Machine.{Machine}

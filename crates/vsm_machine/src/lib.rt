@@ -15,4 +15,5 @@ mod values;
 pub use machine::{Change, Machine};
 pub use plans::{Planned, plan_of, reserve};
 pub use refusals::{NewFault, Refusal};
+pub use storage_core::{Reply, Settings, Storage};
 pub use values::look_up;

@@ -1,20 +1,22 @@
 //! What a statement asks for, once its values are looked up.
-ghost use Rattle.std.specs.Prelude.{◌≡◌, IfSome};
+ghost use Rattle.std.specs.Prelude.{◌≡◌, ◌≤◌, IfSome, length, true};
 ghost use Rattle.std.specs.Option.{option_map};
 ghost use Rattle.vsm_model.specs.Meaning.{service_in};
 ghost use Rattle.storage_core.specs.Planned.{CanBePlanned};
 ghost use Rattle.macro_statements.specs.Requests.{act_in, length_in, subpools_in, target_in, written_in, stored_in};
 ghost use Rattle.macro_statements.specs.Requests.{IsLength, IsStored, IsSubpools, IsTarget, IsValidAct, IsValue};
 ghost use Rattle.vsm_machine.specs.Changes.{plain_of};
-ghost use Rattle.vsm_machine.specs.Machine.{service_asked, lengths_asked, passed_asked, name_asked};
+ghost use Rattle.vsm_machine.specs.Machine.{service_asked, lengths_asked, passed_asked, name_asked, is_on_cells};
 ghost use Rattle.vsm_machine.specs.Machine.{area_asked, area_back, family_asked, looked_up, register_in};
-ghost use Rattle.vsm_machine.specs.Machine.{bytes_in, with_bytes, with_lengths, with_passed, with_three};
+ghost use Rattle.vsm_machine.specs.Machine.{bytes_in, left_or_looked_up, with_bytes, with_cells, with_lengths};
+ghost use Rattle.vsm_machine.specs.Machine.{with_passed, with_three};
 
 use crate::machine::Machine;
 use crate::values::{bytes_of, look_up};
-use macro_statements::{Family, Length, Statement, Subpools};
+use macro_statements::{Family, Header, Length, Statement, Subpools};
 use operand_texts::{Content, Name, Place, Value};
 use storage_core::{Attach, Boundary, Lengths, Location, Obtain, Passed, Release, Service};
+use vsm_model::{Build, Get};
 
 /// The register that is set besides register 1, if the place is one.
 fn register_of(place: &Option<Place>) -> Option<u8>
@@ -149,6 +151,102 @@ fn store_of<'a>(
     })
 }
 
+/// The number of cells of a further extent, if it isn't left out; `None` where a name in its value isn't defined.
+fn secondary_of(machine: &Machine, secondary: &Option<Value>) -> Option<Option<u32>>
+    requires { IfSome (option_map written_in secondary.now) IsValue }
+    ensures { result ≡ left_or_looked_up (plain_of machine.now) (option_map written_in secondary.now) }
+{
+    match secondary {
+        Some(secondary) => Some(Some(look_up(machine, secondary)?)),
+        None => Some(None),
+    }
+}
+
+/// The numbers of a new cell pool, with the words of their values; `None` where a name in one of them isn't defined.
+fn build_of(
+    machine: &Machine,
+    primary: &Value,
+    secondary: &Option<Value>,
+    size: &Value,
+    subpool: &Value,
+    location: Location,
+) -> Option<Build>
+    requires primary { IsValue (written_in primary.now) }
+    requires secondary { IfSome (option_map written_in secondary.now) IsValue }
+    requires size { IsValue (written_in size.now) }
+    requires subpool { IsValue (written_in subpool.now) }
+    ensures { result ≡ with_cells location (looked_up (plain_of machine.now) (written_in primary.now))
+        (left_or_looked_up (plain_of machine.now) (option_map written_in secondary.now))
+        (looked_up (plain_of machine.now) (written_in size.now))
+        (looked_up (plain_of machine.now) (written_in subpool.now)) }
+{
+    Some(Build {
+        primary: look_up(machine, primary)?,
+        secondary: secondary_of(machine, secondary)?,
+        size: look_up(machine, size)?,
+        number: look_up(machine, subpool)?,
+        location,
+    })
+}
+
+/// The text of a header, if there is one.
+fn header_text(header: &Option<Header>) -> Option<&str>
+    ensures is { option_map (λ text. text.now) result ≡ option_map (λ h. h.bytes) header.now }
+    ensures few { IfSome result (λ text. length text.now ≤ 24) }
+{
+    match header {
+        Some(header) => Some(header.as_str()),
+        None => None,
+    }
+}
+
+/// The service on a cell pool that a statement asks for, with the words of its values; `None` where a name in one of
+/// them isn't defined.
+fn cell_service_of<'a>(machine: &Machine, statement: &'a Statement) -> Option<Service<'a>>
+    requires valid { IsValidAct (act_in statement.now) }
+    requires cells { is_on_cells (act_in statement.now) ≡ true }
+    ensures is { option_map service_in result ≡ service_asked (plain_of machine.now) (act_in statement.now) }
+    ensures bounds { IfSome result (λ service. CanBePlanned (service_in service)) }
+{
+    match statement {
+        Statement::Build {
+            pool,
+            header,
+            primary,
+            secondary,
+            size,
+            subpool,
+            location,
+        } => Some(Service::Build {
+            name: pool.as_str(),
+            header: header_text(header),
+            numbers: build_of(machine, primary, secondary, size, subpool, *location)?,
+        }),
+        Statement::Get {
+            pool,
+            place,
+            conditional,
+        } => {
+            let register = register_of(place);
+            Some(Service::Get {
+                name: pool.as_str(),
+                operands: Get {
+                    register,
+                    conditional: *conditional,
+                },
+            })
+        }
+        Statement::Free { pool, cell } => Some(Service::Free {
+            name: pool.as_str(),
+            cell: look_up(machine, cell)?,
+        }),
+        Statement::Delete { pool } => Some(Service::Delete {
+            name: pool.as_str(),
+        }),
+        _ => unreachable!(),
+    }
+}
+
 /// The service that a statement asks for, with the words of its values; `None` where a name in one of them isn't
 /// defined. A value that is stored is written into `room`.
 pub(crate) fn service_of<'a>(
@@ -186,6 +284,10 @@ pub(crate) fn service_of<'a>(
         Statement::Whole { subpool, .. } => Some(Service::Whole {
             number: look_up(machine, subpool)?,
         }),
+        Statement::Build { .. }
+        | Statement::Get { .. }
+        | Statement::Free { .. }
+        | Statement::Delete { .. } => cell_service_of(machine, statement),
         Statement::Attach {
             given,
             shared,
@@ -202,7 +304,7 @@ pub(crate) fn service_of<'a>(
     }
 }
 
-/// The name that is given the address of the area that a statement obtains, if it names one.
+/// The name that is given the address of the area or of the cell that a statement obtains, if it names one.
 pub(crate) fn name_of(statement: &Statement) -> Option<&Name>
     ensures { option_map (λ name. name.now.bytes) result ≡ name_asked (act_in statement.now) }
 {
@@ -210,12 +312,17 @@ pub(crate) fn name_of(statement: &Statement) -> Option<&Name>
         Statement::Obtain {
             place: Some(Place::Named(name)),
             ..
+        }
+        | Statement::Get {
+            place: Some(Place::Named(name)),
+            ..
         } => Some(name),
         _ => None,
     }
 }
 
-/// The family of a statement's completion codes; those of a statement without a form are the same in each.
+/// The family of a statement's completion codes. Those of CPOOL are the codes of STORAGE; those of the other statements
+/// without a form are the same in each.
 pub(crate) fn family_of(statement: &Statement) -> Family
     ensures { result ≡ family_asked (act_in statement.now) }
 {
@@ -223,7 +330,11 @@ pub(crate) fn family_of(statement: &Statement) -> Family
         Statement::Obtain { form, .. }
         | Statement::Release { form, .. }
         | Statement::Whole { form, .. } => form.family,
-        Statement::Attach { .. }
+        Statement::Build { .. }
+        | Statement::Get { .. }
+        | Statement::Free { .. }
+        | Statement::Delete { .. }
+        | Statement::Attach { .. }
         | Statement::Detach { .. }
         | Statement::Run { .. }
         | Statement::EndTask

@@ -3,8 +3,8 @@ use Rattle.run_set.specs.declared.run.Run.{Run}
 use Rattle.run_set.specs.RunSet.{place_index}
 use Rattle.subpool_storage.specs.Extents.{free_areas}
 use Rattle.map_laws.specs.Totals.{sum_of}
-use Rattle.storage_core.specs.Meaning.{state_in_place}
-use Rattle.storage_core.specs.Walks.{subpool_before, IsFreeAreaPlace}
+use Rattle.cell_readings.specs.Meaning.{state_in_place}
+use Rattle.cell_readings.specs.Walks.{subpool_before, IsFreeAreaPlace}
 use Rattle.storage_map.proofs.Remaining.{drop_next, drop_end, fewer}
 use Rattle.storage_map.proofs.sums.free_of.Goals as goal
 

@@ -10,23 +10,20 @@ use Rattle.vsm_machine.specs.declared.refusals.Refusal.TheVariants.{Abend}
 use Rattle.vsm_machine.specs.Changes.{shown}
 use Rattle.vsm_machine.specs.Machine.{family_asked, name_asked}
 use Rattle.vsm_machine.specs.Planned.{step_for}
-use Rattle.vsm_machine.proofs.Planning.{accepted_by, refused_by}
+use Rattle.vsm_machine.proofs.Planning.{carried_by, refused_by}
 use Rattle.vsm_machine.proofs.plans.plan_of.Goals as goal
-use mathlib.Core.Logic.{∥∥₁_elim, ∥∥₁_prop}
 
 pub returns-in-Ok : goal.returns-in-Ok
 returns-in-Ok c =
     let s = c.args.machine.now.storage in
     let m = shown c.args.machine.now in
     let service = service_in c.in-Some.service in
-    let planned = subst (λ (full : Bool). IsPlanned (settings_of s) full (state_in_place s) service (Ok c.in-Ok.plan))
-    (c.is_one_too_many-full.ensures ∙ ap (is_one_too_many m.names) c.name_of-name.ensures) c.in-Ok.ensures in (
-      ∥∥₁_elim planned.0 ∥∥₁_prop
-          (λ carried. ∣ accepted_by m (act_in c.args.statement.now) service c.in-Some.ensures.is
-          (record { plan = c.in-Ok.plan; name = c.name_change-name.result }) carried (is_sound s)
-          (c.name_change-name.ensures ∙ ap (λ n. step_for m.names n c.reply.result) c.name_of-name.ensures ∙ ap (step_for m.names (name_asked (act_in c.args.statement.now))) c.reply.ensures) ∣₁),
-      planned.1,
-    )
+    carried_by m (act_in c.args.statement.now) service c.in-Some.ensures.is
+    (record { plan = c.in-Ok.plan; name = c.name_change-name.result })
+    (subst (λ (full : Bool). IsPlanned (settings_of s) full (state_in_place s) service (Ok c.in-Ok.plan))
+    (c.is_one_too_many-full.ensures ∙ ap (is_one_too_many m.names) c.name_of-name.ensures) c.in-Ok.ensures)
+    (is_sound s)
+    (c.name_change-name.ensures ∙ ap (λ n. step_for m.names n c.reply.result) c.name_of-name.ensures ∙ ap (step_for m.names (name_asked (act_in c.args.statement.now))) c.reply.ensures)
 
 pub returns-in-Err : goal.returns-in-Err
 returns-in-Err c =

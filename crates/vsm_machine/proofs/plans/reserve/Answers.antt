@@ -3,4 +3,4 @@ use Rattle.vsm_machine.proofs.plans.reserve.Goals as goal
 
 pub returns-in-Err-make_ready-clause-stays : goal.returns-in-Err-make_ready-clause-stays
 returns-in-Err-make_ready-clause-stays c =
-    discard_stays c.args.machine.now.storage.parts c.reserve.new.self.parts c.discard.new.self.parts _ c.in-Ok.storage c.in-Ok.ensures.ok c.discard.ensures.discards
+    discard_stays c.args.machine.now.storage.parts c.reserve.new.self.parts c.discard.new.self.parts _ c.in-Ok.storage c.in-Ok.ensures.ok.2 c.discard.ensures.discards

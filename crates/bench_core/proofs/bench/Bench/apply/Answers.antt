@@ -1,13 +1,13 @@
 use Rattle.std.proofs.Common.{◌≡◌, ◌-◌, ◌++◌, ◌∷◌, [], length, drop, take, sym, ◌∙◌, ap, subst}
 use Rattle.std.proofs.lemmas.List.{append-nil}
 use Rattle.macro_statements.specs.Requests.{act_in}
-use Rattle.storage_core.specs.Meaning.{settings_of}
+use Rattle.vsm_machine.specs.Meaning.{settings_of}
 use Rattle.vsm_model.specs.Names.{NamedState}
 use Rattle.vsm_model.specs.Standing.{Bench, Accepted}
 use Rattle.vsm_machine.specs.NameSteps.{undefines_none}
 use Rattle.vsm_machine.specs.Changes.{Whole, DefineNone, UndefineNone, shown, plain_of, named_of, machine_fits, machine_states}
 use Rattle.bench_core.specs.Stands.{bench_of, bench_at}
-use Rattle.bench_core.proofs.Accepted.{reserved_of, accepted_as, refused_as, stays_readied, is_accepted, gives_of}
+use Rattle.bench_core.proofs.Accepted.{reserved_of, accepted_as, refused_as, stays_readied, gives_of}
 use Rattle.bench_core.proofs.Applied.{can_swap, applied_fits, applied_apart, applied_whole, applied_settings, kept_bench, kept_directed, next, unchanged_bench, unchanged_fits}
 use Rattle.bench_core.proofs.Moves.{discards_settings}
 use Rattle.bench_core.proofs.bench.Bench.apply.Goals as goal
@@ -20,7 +20,7 @@ returns-in-Err-clause-keeps c =
     c.in-Err.refusal is.0 is.1 is.2
 
 pub reserve-requires : goal.reserve-requires
-reserve-requires c = c.in-Ok.ensures.1
+reserve-requires c = c.in-Ok.ensures.can
 
 -- where no memory is there, all is as it was
 
@@ -48,7 +48,7 @@ returns-in-Err-reserve-clause-keeps c =
     let e = c.reserve_place.ensures in
     let left = c.in-Err-reserve.ensures in
     let same = stays_readied b.machine r left.settings left.rows left.stays in (
-      is_accepted (shown b.machine) (act_in c.args.statement.now) c.in-Ok.planned c.in-Ok.ensures.0,
+      c.in-Ok.ensures.accepts,
       (λ i. bench_at (e.kept i) r (e.undone i)) ∙ unchanged_bench b.machine r same left.same b.history.kept b.history.undone b.fits,
     )
 
@@ -64,7 +64,7 @@ swap-requires c =
     let made = c.in-Ok-reserve.ensures in
     can_swap h.kept h.undone b.machine r change
     (reserved_of b.machine r made.settings made.rows c.in-Ok.planned change made.is (act_in c.args.statement.now)
-    b.history.kept b.history.undone h.kept h.undone e.kept e.undone b.fits b.whole b.kept_define_none c.in-Ok.ensures.0 made.can)
+    b.history.kept b.history.undone h.kept h.undone e.kept e.undone b.fits b.whole b.kept_define_none c.in-Ok.ensures made.can)
 
 pub push_reserved-requires-clause-fits : goal.push_reserved-requires-clause-fits
 push_reserved-requires-clause-fits c =
@@ -76,7 +76,7 @@ push_reserved-requires-clause-fits c =
     let made = c.in-Ok-reserve.ensures in
     applied_fits h.kept h.undone b.machine r c.swap.new.self change c.swap.new.c
     (reserved_of b.machine r made.settings made.rows c.in-Ok.planned change made.is (act_in c.args.statement.now)
-    b.history.kept b.history.undone h.kept h.undone e.kept e.undone b.fits b.whole b.kept_define_none c.in-Ok.ensures.0 made.can)
+    b.history.kept b.history.undone h.kept h.undone e.kept e.undone b.fits b.whole b.kept_define_none c.in-Ok.ensures made.can)
     c.swap.ensures
 
 pub push_reserved-requires-clause-apart : goal.push_reserved-requires-clause-apart
@@ -89,7 +89,7 @@ push_reserved-requires-clause-apart c =
     let made = c.in-Ok-reserve.ensures in
     applied_apart h.kept h.undone b.machine r c.swap.new.self change c.swap.new.c
     (reserved_of b.machine r made.settings made.rows c.in-Ok.planned change made.is (act_in c.args.statement.now)
-    b.history.kept b.history.undone h.kept h.undone e.kept e.undone b.fits b.whole b.kept_define_none c.in-Ok.ensures.0 made.can)
+    b.history.kept b.history.undone h.kept h.undone e.kept e.undone b.fits b.whole b.kept_define_none c.in-Ok.ensures made.can)
     c.swap.ensures
 
 pub invariant_of-self-2 : goal.invariant_of-self-2
@@ -101,14 +101,14 @@ invariant_of-self-2 c =
     let change = c.in-Ok-reserve.change in
     let made = c.in-Ok-reserve.ensures in
     let reserved = reserved_of b.machine r made.settings made.rows c.in-Ok.planned change made.is (act_in c.args.statement.now)
-    b.history.kept b.history.undone h.kept h.undone e.kept e.undone b.fits b.whole b.kept_define_none c.in-Ok.ensures.0 made.can in
+    b.history.kept b.history.undone h.kept h.undone e.kept e.undone b.fits b.whole b.kept_define_none c.in-Ok.ensures made.can in
     let t = c.swap.new.self in
     let d = c.swap.new.c in
     let u = c.push_reserved.new.s in
     let n = c.push_reserved.new.self in
     let kept = c.push_reserved.ensures in
     let settings = discards_settings _ t u kept.discarded ∙ applied_settings h.kept h.undone b.machine r t change d reserved c.swap.ensures in
-    let gives : undefines_none _ ≡ _ = ap undefines_none made.is.step ∙ gives_of (shown b.machine) (act_in c.args.statement.now) c.in-Ok.planned c.in-Ok.ensures.0 in
+    let gives : undefines_none _ ≡ _ = ap undefines_none made.is.step ∙ gives_of (shown b.machine) (act_in c.args.statement.now) c.in-Ok.planned c.in-Ok.ensures made.is.id made.is.free in
     let directed = kept_directed h.kept h.undone b.machine r t change d reserved c.swap.ensures h.limit n gives kept.kept kept.undone in
     let whole : Whole u n.kept = kept.whole (applied_whole h.kept h.undone b.machine r t change d reserved c.swap.ensures) in
     record {
@@ -130,7 +130,7 @@ returns-clause-settings c =
     discards_settings _ c.swap.new.self c.push_reserved.new.s c.push_reserved.ensures.discarded
     ∙ applied_settings h.kept h.undone b.machine r c.swap.new.self change c.swap.new.c
     (reserved_of b.machine r made.settings made.rows c.in-Ok.planned change made.is (act_in c.args.statement.now)
-    b.history.kept b.history.undone h.kept h.undone e.kept e.undone b.fits b.whole b.kept_define_none c.in-Ok.ensures.0 made.can)
+    b.history.kept b.history.undone h.kept h.undone e.kept e.undone b.fits b.whole b.kept_define_none c.in-Ok.ensures made.can)
     c.swap.ensures
 
 pub returns-clause-keeps : goal.returns-clause-keeps
@@ -143,7 +143,7 @@ returns-clause-keeps c =
     let made = c.in-Ok-reserve.ensures in
     let x = act_in c.args.statement.now in
     let reserved = reserved_of b.machine r made.settings made.rows c.in-Ok.planned change made.is x
-    b.history.kept b.history.undone h.kept h.undone e.kept e.undone b.fits b.whole b.kept_define_none c.in-Ok.ensures.0 made.can in
+    b.history.kept b.history.undone h.kept h.undone e.kept e.undone b.fits b.whole b.kept_define_none c.in-Ok.ensures made.can in
     let t = c.swap.new.self in
     let d = c.swap.new.c in
     let u = c.push_reserved.new.s in
@@ -157,7 +157,7 @@ returns-clause-keeps c =
     let new : bench_at n.kept u n.undone ≡ record { past = take limit (plain_of b.machine ∷ (bench_of b).past); present = led; later = [] } =
     kept_bench h.kept h.undone b.machine r t change d reserved c.swap.ensures limit n u kept.undone kept.fits states
     ∙ (λ i. record { past = take limit (plain_of b.machine ∷ (bench_at (e.kept i) b.machine (e.undone i)).past); present = led; later = [] }) in
-    let accepted = accepted_as b.machine r x c.in-Ok.planned change c.in-Ok.ensures.0 made.is in (
+    let accepted = accepted_as b.machine r x c.in-Ok.planned change c.in-Ok.ensures made.is in (
       accepted ∙ (λ i. Accepted (sym (ap (λ (y : Bench NamedState). y.present) new) i) (sym c.reply-reply.ensures i)),
       ap (λ (y : Bench NamedState). y.past) new,
       ap (λ (y : Bench NamedState). y.later) new,

@@ -6,6 +6,7 @@ pub use Rattle.operand_texts.specs.Written.{Written, number, named, register, Ta
 pub use Rattle.operand_texts.specs.Written.{Stored, spelled, word, written_in, target_in, stored_in}
 pub use Rattle.operand_texts.specs.Written.{is_upper_name, IsValue, IsTarget, IsStored, HasBytes}
 pub use Rattle.macro_operands.specs.Lengths.{is_register_0, is_named}
+pub use Rattle.macro_operands.specs.Headers.{is_header}
 use Rattle.macro_operands.specs.declared.faults.FaultKind.{FaultKind}
 use Rattle.vsm_model.specs.declared.causes.Family.{Family}
 use Rattle.vsm_model.specs.declared.causes.Family.TheVariants as family
@@ -13,15 +14,15 @@ use Rattle.vsm_model.specs.declared.services.Boundary.{Boundary}
 use Rattle.vsm_model.specs.declared.services.Boundary.TheVariants.{Doubleword}
 use Rattle.vsm_model.specs.declared.services.Location.{Location}
 use Rattle.vsm_model.specs.declared.services.Location.TheVariants.{Low}
-use Rattle.macro_statements.specs.declared.requests.Form.{Form}
-use Rattle.macro_statements.specs.declared.requests.Length.{Length}
-use Rattle.macro_statements.specs.declared.requests.Length.TheVariants as code_length
-use Rattle.macro_statements.specs.declared.requests.Subpools.{Subpools}
-use Rattle.macro_statements.specs.declared.requests.Subpools.TheVariants as code_subpools
-use Rattle.macro_statements.specs.declared.requests.Statement.{Statement}
-use Rattle.macro_statements.specs.declared.requests.Statement.TheVariants as code_statement
-use Rattle.macro_statements.specs.declared.requests.Request.{Request}
-use Rattle.macro_statements.specs.declared.requests.Request.TheVariants as code_request
+use Rattle.macro_requests.specs.declared.requests.Form.{Form}
+use Rattle.macro_requests.specs.declared.requests.Length.{Length}
+use Rattle.macro_requests.specs.declared.requests.Length.TheVariants as code_length
+use Rattle.macro_requests.specs.declared.requests.Subpools.{Subpools}
+use Rattle.macro_requests.specs.declared.requests.Subpools.TheVariants as code_subpools
+use Rattle.macro_requests.specs.declared.requests.Statement.{Statement}
+use Rattle.macro_requests.specs.declared.requests.Statement.TheVariants as code_statement
+use Rattle.macro_requests.specs.declared.requests.Request.{Request}
+use Rattle.macro_requests.specs.declared.requests.Request.TheVariants as code_request
 
 -- The length of an area: one, or `between maximum minimum`.
 pub data WrittenLength : Type 0 where
@@ -35,13 +36,18 @@ pub data WrittenSubpools : Type 0 where
   one : Written → WrittenSubpools
   listed : Written → WrittenSubpools
 
--- A statement that changes storage, tasks or bytes: `obtain length subpool target boundary location form`, `release
--- length address subpool form`, `whole subpool form`, `attach given shared shares_zero`, `detach task`, `run task`,
--- `end_task`, `poke address content`.
+-- A statement that changes storage, cell pools, tasks or bytes: `obtain length subpool target boundary location form`,
+-- `release length address subpool form`, `whole subpool form`, `build pool header primary secondary size subpool
+-- location`, `get pool target conditional`, `free pool cell`, `delete pool`, `attach given shared shares_zero`, `detach
+-- task`, `run task`, `end_task`, `poke address content`.
 pub data Act : Type 0 where
   obtain : WrittenLength → Written → Option Target → Boundary → Location → Form → Act
   release : Written → Written → Written → Form → Act
   whole : Written → Form → Act
+  build : List ℕ → Option (List ℕ) → Written → Option Written → Written → Written → Location → Act
+  get : List ℕ → Option Target → Bool → Act
+  free : List ℕ → Written → Act
+  delete : List ℕ → Act
   attach : WrittenSubpools → WrittenSubpools → Bool → Act
   detach : Written → Act
   run : Written → Act
@@ -72,6 +78,12 @@ act_in (code_statement.Obtain length subpool place boundary location form) =
 act_in (code_statement.Release length address subpool form) =
     release (written_in length) (written_in address) (written_in subpool) form
 act_in (code_statement.Whole subpool form) = whole (written_in subpool) form
+act_in (code_statement.Build pool header primary secondary size subpool location) =
+    build pool.bytes (option_map (λ h. h.bytes) header) (written_in primary) (option_map written_in secondary)
+    (written_in size) (written_in subpool) location
+act_in (code_statement.Get pool place conditional) = get pool.bytes (option_map target_in place) conditional
+act_in (code_statement.Free pool cell) = free pool.bytes (written_in cell)
+act_in (code_statement.Delete pool) = delete pool.bytes
 act_in (code_statement.Attach given shared shares_zero) =
     attach (subpools_in given) (subpools_in shared) shares_zero
 act_in (code_statement.Detach task) = detach (written_in task)
@@ -98,6 +110,10 @@ AskedHasBytes (act (poke address content)) = HasBytes content
 AskedHasBytes (act (obtain length subpool target boundary location form)) = ⊤
 AskedHasBytes (act (release length address subpool form)) = ⊤
 AskedHasBytes (act (whole subpool form)) = ⊤
+AskedHasBytes (act (build pool header primary secondary size subpool location)) = ⊤
+AskedHasBytes (act (get pool target conditional)) = ⊤
+AskedHasBytes (act (free pool cell)) = ⊤
+AskedHasBytes (act (delete pool)) = ⊤
 AskedHasBytes (act (attach given shared shares_zero)) = ⊤
 AskedHasBytes (act (detach task)) = ⊤
 AskedHasBytes (act (run task)) = ⊤
@@ -117,6 +133,10 @@ HasRoom (act (poke (register n) content)) = ⊤
 HasRoom (act (obtain length subpool target boundary location form)) = ⊤
 HasRoom (act (release length address subpool form)) = ⊤
 HasRoom (act (whole subpool form)) = ⊤
+HasRoom (act (build pool header primary secondary size subpool location)) = ⊤
+HasRoom (act (get pool target conditional)) = ⊤
+HasRoom (act (free pool cell)) = ⊤
+HasRoom (act (delete pool)) = ⊤
 HasRoom (act (attach given shared shares_zero)) = ⊤
 HasRoom (act (detach task)) = ⊤
 HasRoom (act (run task)) = ⊤
@@ -134,6 +154,14 @@ abbrev pub IsSubpools : WrittenSubpools → Type 0
 IsSubpools nothing = ⊤
 IsSubpools (one n) = IsValue n
 IsSubpools (listed address) = IsValue address
+
+-- The name of a cell pool is a name in upper case.
+abbrev pub IsName : List ℕ → Type 0
+IsName name = is_upper_name name ≡ true
+
+-- The header of a cell pool has 1 to 24 characters from the blank to the tilde, none of them an apostrophe.
+abbrev pub IsHeader : List ℕ → Type 0
+IsHeader header = is_header header ≡ true
 
 abbrev pub is_fixed : WrittenLength → Bool
 is_fixed (fixed length) = true
@@ -182,6 +210,11 @@ IsValidAct (release length address subpool form) =
     IsValue length × IsValue address × IsValue subpool
     × IsReleaseForm form.family length address form.conditional
 IsValidAct (whole subpool form) = IsValue subpool × IsWholeForm form.family form.conditional
+IsValidAct (build pool header primary secondary size subpool location) =
+    IsName pool × IfSome header IsHeader × IsValue primary × IfSome secondary IsValue × IsValue size × IsValue subpool
+IsValidAct (get pool target conditional) = IsName pool × IfSome target IsTarget
+IsValidAct (free pool cell) = IsName pool × IsValue cell
+IsValidAct (delete pool) = IsName pool
 IsValidAct (attach given shared shares_zero) = IsSubpools given × IsSubpools shared
 IsValidAct (detach task) = IsValue task
 IsValidAct (run task) = IsValue task

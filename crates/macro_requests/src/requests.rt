@@ -2,14 +2,16 @@
 
 ghost use Rattle.std.specs.Prelude.{◌≡◌, ◌↔◌, IsTrue, IfSome};
 ghost use Rattle.std.specs.Option.{option_map};
-ghost use Rattle.operand_texts.specs.Written.{written_in, target_in, IsTarget};
-ghost use Rattle.macro_statements.specs.Requests.{length_in, subpools_in, act_in, is_register_0};
-ghost use Rattle.macro_statements.specs.Requests.{IsLength, IsSubpools, IsValidAct};
-ghost use Rattle.macro_statements.specs.Validity.{is_register_length, is_named_target, is_obtain_form};
-ghost use Rattle.macro_statements.specs.Validity.{is_release_form, is_whole_form};
+ghost use Rattle.operand_texts.specs.Written.{written_in, target_in, IsTarget, IsValue};
+ghost use Rattle.macro_requests.specs.Requests.{length_in, subpools_in, act_in, is_register_0};
+ghost use Rattle.macro_requests.specs.Requests.{IsLength, IsSubpools, IsName, IsHeader, IsValidAct};
+ghost use Rattle.macro_requests.specs.Validity.{is_register_length, is_named_target, is_obtain_form};
+ghost use Rattle.macro_requests.specs.Validity.{is_release_form, is_whole_form};
 
+use macro_operands::{Header, is_header};
 use operand_texts::contents::Content;
 use operand_texts::values::{Place, Value};
+use operand_texts::words::Name;
 use vsm_model::{Boundary, Family, Location};
 
 /// The form of a macro.
@@ -37,7 +39,7 @@ pub enum Subpools {
     Listed { address: Value },
 }
 
-/// A statement that changes storage, tasks or bytes.
+/// A statement that changes storage, cell pools, tasks or bytes.
 #[derive(Clone, Debug, PartialEq, Eq, Drop)]
 pub enum Statement {
     /// STORAGE OBTAIN and GETMAIN: so many bytes from a subpool, from such a boundary and on such a side of the 16 MB
@@ -61,6 +63,34 @@ pub enum Statement {
     Whole {
         subpool: Value,
         form: Form,
+    },
+    /// CPOOL BUILD: a cell pool of this name with a header, where it has one, of cells of so many bytes: so many at first
+    /// (`primary`), and so many more where a request for one finds none free (`secondary`; as many as at first where
+    /// it's left out), from a subpool and on such a side of the 16 MB line.
+    Build {
+        pool: Name,
+        header: Option<Header>,
+        primary: Value,
+        secondary: Option<Value>,
+        size: Value,
+        subpool: Value,
+        location: Location,
+    },
+    /// CPOOL GET: a cell of a cell pool. Its address is stored in `place`, where there is one. Want of a free cell is
+    /// answered by return code 4 where the request is conditional.
+    Get {
+        pool: Name,
+        place: Option<Place>,
+        conditional: bool,
+    },
+    /// CPOOL FREE: the cell at an address, back to its cell pool.
+    Free {
+        pool: Name,
+        cell: Value,
+    },
+    /// CPOOL DELETE: a cell pool ends.
+    Delete {
+        pool: Name,
     },
     /// ATTACH: a new task, which is given subpools, and shares others, and subpool 0 where `shares_zero` says so.
     Attach {
@@ -88,7 +118,7 @@ pub enum Statement {
 /// What a statement asks for.
 #[derive(Clone, Debug, PartialEq, Eq, Drop)]
 pub enum Request {
-    /// A change of storage, tasks or bytes.
+    /// A change of storage, cell pools, tasks or bytes.
     Act(Statement),
     /// PEEK: so many bytes at an address are shown, 1 to 256.
     Peek { addr: Value, len: u16 },
@@ -128,6 +158,33 @@ fn is_valid_subpools(subpools: &Subpools) -> bool
         Subpools::Nothing => true,
         Subpools::Number(number) => number.valid(),
         Subpools::Listed { address } => address.valid(),
+    }
+}
+
+/// Whether a statement can spell this name: it's one, in upper case.
+fn is_valid_name(name: &Name) -> bool
+    ensures { IsTrue result ↔ IsName name.now.bytes }
+{
+    Value::Named(*name).valid()
+}
+
+/// Whether a statement can spell this header, or there is none.
+fn is_valid_header(header: &Option<Header>) -> bool
+    ensures { IsTrue result ↔ IfSome (option_map (λ h. h.bytes) header.now) IsHeader }
+{
+    match header {
+        Some(header) => is_header(header.as_str().as_bytes()),
+        None => true,
+    }
+}
+
+/// Whether a statement can spell this number of cells, or there is none.
+fn is_valid_number(number: &Option<Value>) -> bool
+    ensures { IsTrue result ↔ IfSome (option_map written_in number.now) IsValue }
+{
+    match number {
+        Some(number) => number.valid(),
+        None => true,
     }
 }
 
@@ -244,6 +301,25 @@ impl Statement {
                     && is_release_form(*form, length, address)
             }
             Statement::Whole { subpool, form } => subpool.valid() && is_whole_form(*form),
+            Statement::Build {
+                pool,
+                header,
+                primary,
+                secondary,
+                size,
+                subpool,
+                ..
+            } => {
+                is_valid_name(pool)
+                    && is_valid_header(header)
+                    && primary.valid()
+                    && is_valid_number(secondary)
+                    && size.valid()
+                    && subpool.valid()
+            }
+            Statement::Get { pool, place, .. } => is_valid_name(pool) && is_valid_place(place),
+            Statement::Free { pool, cell } => is_valid_name(pool) && cell.valid(),
+            Statement::Delete { pool } => is_valid_name(pool),
             Statement::Attach { given, shared, .. } => {
                 is_valid_subpools(given) && is_valid_subpools(shared)
             }

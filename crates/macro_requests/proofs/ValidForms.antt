@@ -1,8 +1,8 @@
 -- The tests of what can be written say what the definitions say.
 use Rattle.std.proofs.Common.{◌≡◌, ◌↔◌, ℕ, Bool, true, false, not, ◌&&◌, List, Option, Some, None, is_some, refl, ap, sym, ◌∙◌}
 use Rattle.operand_texts.specs.Written.{Written, Target, in_name, in_register}
-use Rattle.macro_statements.specs.Requests.{WrittenLength, fixed, between, is_fixed, is_register_0, IsRegisterObtain, IsNamedObtain, IsObtainForm, IsReleaseForm, IsWholeForm}
-use Rattle.macro_statements.specs.Validity.{is_register_length, is_doubleword, is_low, is_named_target, is_register_obtain, is_named_obtain, is_obtain_form, is_release_form, is_whole_form}
+use Rattle.macro_requests.specs.Requests.{WrittenLength, fixed, between, is_fixed, is_register_0, IsRegisterObtain, IsNamedObtain, IsObtainForm, IsReleaseForm, IsWholeForm}
+use Rattle.macro_requests.specs.Validity.{is_register_length, is_doubleword, is_low, is_named_target, is_register_obtain, is_named_obtain, is_obtain_form, is_release_form, is_whole_form}
 use Rattle.vsm_model.specs.declared.causes.Family.{Family}
 use Rattle.vsm_model.specs.declared.causes.Family.TheVariants as family
 use Rattle.vsm_model.specs.declared.services.Boundary.{Boundary}

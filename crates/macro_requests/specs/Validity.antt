@@ -1,7 +1,7 @@
 -- Which forms can be written, as the code tests it.
 use Rattle.std.specs.Prelude.{Bool, true, false, not, ◌&&◌, Option, Some, None, is_some}
 use Rattle.operand_texts.specs.Written.{Written, Target, in_name, in_register}
-use Rattle.macro_statements.specs.Requests.{WrittenLength, fixed, between, is_fixed, is_register_0, is_named}
+use Rattle.macro_requests.specs.Requests.{WrittenLength, fixed, between, is_fixed, is_register_0, is_named}
 use Rattle.vsm_model.specs.declared.causes.Family.{Family}
 use Rattle.vsm_model.specs.declared.causes.Family.TheVariants as family
 use Rattle.vsm_model.specs.declared.services.Boundary.{Boundary}

@@ -1,0 +1,2 @@
+pub mod ValidForms
+pub mod ValidNames

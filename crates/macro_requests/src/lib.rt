@@ -1,0 +1,7 @@
+//! What statements of storage macros ask for, and which of these requests can be written.
+#![tactic(auto)]
+
+mod requests;
+
+pub use macro_operands::Header;
+pub use requests::{Form, Length, Request, Statement, Subpools};

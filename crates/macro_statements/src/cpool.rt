@@ -1,0 +1,182 @@
+//! CPOOL: its forms that make a cell pool, hand out a cell, take one back, and end a cell pool.
+
+ghost use Rattle.std.specs.Prelude.{◌≡◌, length};
+ghost use Rattle.operand_texts.specs.Field.{operands};
+ghost use Rattle.macro_operands.specs.Slots.{row_in, slots_in};
+ghost use Rattle.macro_requests.specs.Requests.{seen};
+ghost use Rattle.macro_statements.specs.Cpool.{pool_form_of, pool_form_row, pool_by, cpool_of};
+ghost use Rattle.macro_statements.specs.declared.cpool.PoolForm.TheVariants.{Build, Get, Free, Delete};
+
+use crate::forms::{LEFT_OUT_KEYWORDS, no_form_fault, subpool_at};
+use macro_operands::operands::read;
+use macro_operands::rows::Row;
+use macro_operands::said::{
+    NOTHING, Said, condition_at, header_at, location_at, name_at, place_at, value_at,
+};
+use macro_operands::{FaultKind, keyword, position};
+use macro_requests::{Request, Statement};
+use operand_texts::nesting::split;
+use operand_texts::words::is_word;
+use vsm_model::Location;
+
+/// A form of CPOOL.
+#[derive(Clone, Copy)]
+pub enum PoolForm {
+    Build,
+    Get,
+    Free,
+    Delete,
+}
+
+/// The operands of a form: CPID; numbers, LOC, HDR, the word in the position behind the form, and CELL, of these kinds.
+macro_rules! pool_row {
+    ($number:ident, $location:ident, $header:ident, $word:ident, $cell:ident) => {
+        Row {
+            entries: &[
+                keyword!(b"CPID", Name),
+                keyword!(b"PCELLCT", $number),
+                keyword!(b"SCELLCT", $number),
+                keyword!(b"CSIZE", $number),
+                keyword!(b"SP", $number),
+                keyword!(b"LOC", $location),
+                keyword!(b"HDR", $header),
+                position!(0, $word),
+                keyword!(b"CELL", $cell),
+                keyword!(b"RELATED", Any),
+                keyword!(b"LINKAGE", Any),
+                keyword!(b"REGS", Any),
+            ],
+            left_out: &LEFT_OUT_KEYWORDS,
+        }
+    };
+}
+
+/// CPOOL BUILD.
+const BUILD: Row = pool_row!(Value, Location, Header, OtherForm, OtherForm);
+
+/// CPOOL GET.
+const GET: Row = pool_row!(OtherForm, OtherForm, OtherForm, ConditionWord, Place);
+
+/// CPOOL FREE.
+const FREE: Row = pool_row!(OtherForm, OtherForm, OtherForm, OtherForm, Value);
+
+/// CPOOL DELETE.
+const DELETE: Row = pool_row!(OtherForm, OtherForm, OtherForm, OtherForm, OtherForm);
+
+/// The form of a word, in either case.
+fn pool_form_of(word: &[u8]) -> Option<PoolForm>
+    ensures { result ≡ pool_form_of word.now }
+{
+    if is_word(word, b"BUILD") {
+        Some(PoolForm::Build)
+    } else if is_word(word, b"GET") {
+        Some(PoolForm::Get)
+    } else if is_word(word, b"FREE") {
+        Some(PoolForm::Free)
+    } else if is_word(word, b"DELETE") {
+        Some(PoolForm::Delete)
+    } else {
+        None
+    }
+}
+
+/// The operands that a form has.
+fn row_of(form: PoolForm) -> Row
+    ensures { row_in result ≡ pool_form_row form }
+{
+    match form {
+        PoolForm::Build => BUILD,
+        PoolForm::Get => GET,
+        PoolForm::Free => FREE,
+        PoolForm::Delete => DELETE,
+    }
+}
+
+/// What BUILD asks for by what was read.
+fn build_by(said: &[Option<Said>]) -> Result<Request, FaultKind>
+    requires { length said.now ≡ 12 }
+    ensures { seen result ≡ pool_by Build (slots_in said.now) }
+{
+    let Some(pool) = name_at(said, 0) else {
+        return Err(FaultKind::Missing);
+    };
+    let Some(primary) = value_at(said, 1) else {
+        return Err(FaultKind::Missing);
+    };
+    let Some(size) = value_at(said, 3) else {
+        return Err(FaultKind::Missing);
+    };
+    Ok(Request::Act(Statement::Build {
+        pool,
+        header: header_at(said, 6),
+        primary,
+        secondary: value_at(said, 2),
+        size,
+        subpool: subpool_at(said, 4),
+        location: location_at(said, 5).unwrap_or(Location::Caller),
+    }))
+}
+
+/// What GET asks for by what was read.
+fn get_by(said: &[Option<Said>]) -> Result<Request, FaultKind>
+    requires { length said.now ≡ 12 }
+    ensures { seen result ≡ pool_by Get (slots_in said.now) }
+{
+    let Some(pool) = name_at(said, 0) else {
+        return Err(FaultKind::Missing);
+    };
+    Ok(Request::Act(Statement::Get {
+        pool,
+        place: place_at(said, 8),
+        conditional: condition_at(said, 7).unwrap_or(false),
+    }))
+}
+
+/// What FREE asks for by what was read.
+fn free_by(said: &[Option<Said>]) -> Result<Request, FaultKind>
+    requires { length said.now ≡ 12 }
+    ensures { seen result ≡ pool_by Free (slots_in said.now) }
+{
+    let Some(pool) = name_at(said, 0) else {
+        return Err(FaultKind::Missing);
+    };
+    match value_at(said, 8) {
+        Some(cell) => Ok(Request::Act(Statement::Free { pool, cell })),
+        None => Err(FaultKind::Missing),
+    }
+}
+
+/// What DELETE asks for by what was read.
+fn delete_by(said: &[Option<Said>]) -> Result<Request, FaultKind>
+    requires { length said.now ≡ 12 }
+    ensures { seen result ≡ pool_by Delete (slots_in said.now) }
+{
+    match name_at(said, 0) {
+        Some(pool) => Ok(Request::Act(Statement::Delete { pool })),
+        None => Err(FaultKind::Missing),
+    }
+}
+
+/// CPOOL with its operand field, whose first operand is a form's word.
+pub(crate) fn cpool(field: &[u8]) -> Result<Request, FaultKind>
+    ensures { seen result ≡ cpool_of (operands field.now) }
+{
+    if field.is_empty() {
+        return Err(FaultKind::Missing);
+    }
+    let (word, behind) = split(field);
+    let Some(form) = pool_form_of(word) else {
+        return Err(no_form_fault(&[b"LIST"], word));
+    };
+    let mut said = [
+        NOTHING, NOTHING, NOTHING, NOTHING, NOTHING, NOTHING, NOTHING, NOTHING, NOTHING, NOTHING,
+        NOTHING, NOTHING,
+    ];
+    let said = read(&row_of(form), behind, &mut said)?;
+    match form {
+        PoolForm::Build => build_by(said),
+        PoolForm::Get => get_by(said),
+        PoolForm::Free => free_by(said),
+        PoolForm::Delete => delete_by(said),
+    }
+}
