@@ -1,1 +1,7 @@
 -- Lemmas of the plans of cell pools.
+mod PoolCells
+mod SeenPools
+mod CellsCarried
+mod GivenCells
+mod ExtentPlaces
+mod HandedOut
