@@ -1,5 +1,5 @@
 -- The place of a further extent: it has room in the subpool.
-use Rattle.std.proofs.Common.{◌≡◌, ℕ, ◌+◌, ◌-◌, ◌*◌, ◌/◌, ◌%◌, ◌<◌, ◌≤◌, ◌^◌, Bool, true, not, ◌&&◌, ◌==◌, is_some, Option, Some, refl, sym, ◌∙◌, subst, arith}
+use Rattle.std.proofs.Common.{◌≡◌, ℕ, ◌+◌, ◌-◌, ◌/◌, ◌%◌, ◌<◌, ◌≤◌, ◌^◌, Bool, true, not, ◌&&◌, ◌==◌, is_some, Some, refl, sym, ◌∙◌, subst, arith}
 use Rattle.std.proofs.Math.Bool.{Bool-set}
 use Rattle.std.proofs.Math.Logic.{∥∥₁_elim}
 use Rattle.std.proofs.lemmas.Bool.{and_parts, and_from, eq-eqb}
@@ -7,7 +7,7 @@ use Rattle.run_set.specs.Runs.{inside}
 use Rattle.vsm_model.specs.declared.Subpool.{Subpool}
 use Rattle.vsm_model.specs.declared.limits.Residence.{Residence}
 use Rattle.vsm_model.specs.declared.limits.Settings.{Settings}
-use Rattle.vsm_model.specs.Areas.{Place, Inside, Fresh, address_of, fits, is_free, is_nowhere, place}
+use Rattle.vsm_model.specs.Areas.{Place, Inside, Fresh, fits, is_free, place}
 use Rattle.vsm_model.specs.Regions.{among, pages_for, regions_for, settings_valid, within}
 use Rattle.vsm_model.specs.Search.{all_pass}
 use Rattle.vsm_model.specs.State.{State}

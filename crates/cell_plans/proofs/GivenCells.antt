@@ -1,5 +1,5 @@
 -- A cell that is given back, and why it isn't.
-use Rattle.std.proofs.Common.{◌≡◌, ℕ, ◌≤◌, ◌^◌, Bool, true, false, not, Some, None, Ok, List, [], ◌∷◌, ◌++◌, sym, ap, ◌∙◌, subst, arith}
+use Rattle.std.proofs.Common.{◌≡◌, ℕ, Bool, true, false, not, Some, None, Ok, List, [], ◌∷◌, ◌++◌, sym, ap, ◌∙◌, arith}
 use Rattle.std.proofs.Math.Logic.{∥∥₁_map}
 use Rattle.vsm_model.specs.declared.causes.Cause.{Cause}
 use Rattle.vsm_model.specs.declared.causes.Cause.TheVariants.{NoCellPool, NotInUse}
@@ -18,7 +18,6 @@ use Rattle.vsm_model.proofs.Chosen.{Stepped}
 use Rattle.cell_laws.specs.Kept.{FreeLeavesWellFormed}
 use Rattle.cell_pool.specs.Pools.{Pool, uses}
 use Rattle.cell_tables.specs.Named.{AreNamed}
-use Rattle.cell_tables.specs.Table.{cell_pool_of}
 use Rattle.storage_changes.specs.Meaning.{model_of, IsSound}
 use Rattle.storage_changes.specs.State.{StorageState}
 use Rattle.storage_actions.specs.Actions.{register_records, run_of}
@@ -43,10 +42,6 @@ module _ (settings : Settings) (names_full : Bool) (m : StorageState) (name : Li
 
   refused_by : (cause : Cause) → first_cause (free_causes s name cell) ≡ Some cause → step settings names_full s (free name cell) ≡ Refused cause
   refused_by cause first = ap (answered settings s (free name cell)) first
-
-  pub free_unseen : (cause : Cause) → (cause ≡ NoCellPool) × (sees_pool s name ≡ false) → step settings names_full s (free name cell) ≡ Refused cause
-  free_unseen cause is =
-      refused_by cause (stop (not (sees_pool s name)) NoCellPool (used_rows (pool_of s name)) (ap not is.1) ∙ ap Some (sym is.0))
 
   module _ (id : ℕ) (p : Pool) (seen : IsSeen m name id p) where
     use_is : is_in_use (pool_of s name) cell ≡ uses p cell

@@ -16,8 +16,8 @@ use Rattle.vsm_model.specs.Causes.{Causes, answers_four, first_cause}
 use Rattle.vsm_model.specs.Cells.{extent_at, extent_place, get_causes, got, handed_out, has_no_cell, pool_of, sees_pool, with_extent_area, with_pool}
 use Rattle.vsm_model.specs.CellPools.{CellPool, with_extent}
 use Rattle.vsm_model.specs.Regions.{doublewords, regions_for, settings_valid}
-use Rattle.vsm_model.specs.Registers.{named_register, with_registers}
-use Rattle.vsm_model.specs.Services.{Service, get, is_conditional}
+use Rattle.vsm_model.specs.Registers.{with_registers}
+use Rattle.vsm_model.specs.Services.{Service, get}
 use Rattle.vsm_model.specs.Standing.{Accepted, Refused}
 use Rattle.vsm_model.specs.State.{State}
 use Rattle.vsm_model.specs.Step.{answered, replied, step}
@@ -25,7 +25,7 @@ use Rattle.vsm_model.proofs.Chosen.{Stepped}
 use Rattle.cell_laws.specs.Kept.{GetLeavesWellFormed}
 use Rattle.cell_laws.proofs.CellLists.{some_doublewords}
 use Rattle.cell_extents.specs.declared.settings.Settings.{Settings as CellSettings}
-use Rattle.cell_pool.specs.Pools.{Pool, cells_from, extended}
+use Rattle.cell_pool.specs.Pools.{Pool, extended}
 use Rattle.cell_tables.specs.Named.{AreNamed}
 use Rattle.cell_tables.specs.Table.{cell_pool_of}
 use Rattle.storage_changes.specs.Meaning.{model_of, IsSound}
@@ -123,11 +123,6 @@ module _ (settings : Settings) (names_full : Bool) (m : StorageState) (name : Li
       ap (answered settings s x) first
       ∙ ap (λ (b : Bool). if g.conditional && b then replied x (s, Returned 4) else Refused cause) four
       ∙ not_four g.conditional (replied x (s, Returned 4)) (Refused cause)
-
-  pub get_unseen : (cause : Cause) → (cause ≡ NoCellPool) × (sees_pool s name ≡ false) → step settings names_full s x ≡ Refused cause
-  get_unseen cause is =
-      by_cause cause (ap answers_four is.0)
-      (stop (not (sees_pool s name)) NoCellPool (name_rows (pool_of s name)) (ap not is.1) ∙ ap Some (sym is.0))
 
   module _ (id : ℕ) (p : Pool) (seen : IsSeen m name id p) where
     abbrev q : CellPool

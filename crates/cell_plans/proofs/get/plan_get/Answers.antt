@@ -1,4 +1,4 @@
-use Rattle.std.proofs.Common.{◌≡◌, ◌<◌, sym, ap, ◌∙◌, slice_get, arith}
+use Rattle.std.proofs.Common.{◌≡◌, sym, ap, ◌∙◌, slice_get, arith}
 use Rattle.std.specs.Prelude.{drop}
 use Rattle.vsm_model.specs.Areas.{is_nowhere}
 use Rattle.cell_pool.specs.CellPools.{by_id}
