@@ -2,3 +2,9 @@
 pub mod NamedPools
 pub mod BuiltExtents
 pub mod BuildPlans
+mod PoolCells
+mod SeenPools
+mod CellsCarried
+mod GivenCells
+mod ExtentPlaces
+mod HandedOut

@@ -1,3 +1,4 @@
 pub mod CellPlans
 pub mod Emptied
 pub mod Seen
+pub mod Handing

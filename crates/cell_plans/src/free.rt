@@ -1,9 +1,12 @@
 //! Plans of CPOOL FREE.
-ghost use Rattle.std.specs.Prelude.{◌≤◌, Bool, length};
+ghost use Rattle.std.specs.Prelude.{◌≡◌, ◌≤◌, [], ◌∷◌, ◌++◌, Bool, None, length};
 ghost use Rattle.vsm_model.specs.declared.limits.Settings.{Settings};
+ghost use Rattle.vsm_model.specs.declared.replies.Reply.TheVariants.{Returned};
 ghost use Rattle.vsm_model.specs.Services.{free};
+ghost use Rattle.storage_actions.specs.Actions.{register_records, run_of};
 ghost use Rattle.storage_exchange.specs.Storage.{state_of, Stand};
 ghost use Rattle.storage_plans.specs.Places.{StandsSound};
+ghost use Rattle.cell_actions.specs.Actions.{given_back_records};
 ghost use Rattle.cell_plans.specs.CellPlans.{IsCellPlanned};
 
 use crate::seen::find_seen;
@@ -19,7 +22,14 @@ use subpool_storage::laws::cell_pools_are_named;
 use vsm_model::{Cause, Reply};
 
 // The plan by which a cell in use is the first free one.
-fn plan_given_back(storage: &Storage, pool: CellId, cell: u32) -> Plan {
+fn plan_given_back(storage: &Storage, pool: CellId, cell: u32) -> Plan
+    ensures emptied { result.emptied ≡ None }
+    ensures records { result.records.items
+        ≡ given_back_records pool cell ++ register_records (state_of storage.now) ((15, 0) ∷ []) }
+    ensures blanks { result.blanks ≡ 1 }
+    ensures fresh { result.fresh ≡ run_of 0 0 }
+    ensures reply { result.reply ≡ Returned 0 }
+{
     let mut records = ArrayVec::new();
     records.push(Record::Cell(CellRecord {
         pool,

@@ -1,10 +1,16 @@
 //! Plans of CPOOL GET.
-ghost use Rattle.std.specs.Prelude.{◌≡◌, ◌<◌, ◌≤◌, true, Bool, length, IfSome};
-ghost use Rattle.vsm_model.specs.Regions.{settings_valid};
+ghost use Rattle.std.specs.Prelude.{◌≡◌, ◌+◌, ◌*◌, ◌^◌, ◌<◌, ◌≤◌, ◌++◌, true, length, IfSome, None};
+ghost use Rattle.arrayvec.specs.ArrayVec.{array_vec_len};
+ghost use Rattle.vsm_model.specs.declared.replies.Reply.TheVariants.{Cell};
+ghost use Rattle.vsm_model.specs.Regions.{doublewords, settings_valid};
 ghost use Rattle.vsm_model.specs.Services.{get};
+ghost use Rattle.storage_actions.specs.Actions.{run_of};
 ghost use Rattle.storage_exchange.specs.Storage.{state_of};
+ghost use Rattle.storage_plans.specs.ObtainPlans.{place_address, place_blanks, place_pages};
 ghost use Rattle.storage_plans.specs.Places.{StandsSound};
+ghost use Rattle.cell_actions.specs.Actions.{extent_blanks as blanks_for};
 ghost use Rattle.cell_plans.specs.CellPlans.{IsCellPlanned};
+ghost use Rattle.cell_plans.specs.Handing.{cell_records, further_records};
 
 use crate::seen::find_seen;
 use crate::sizes::extent_doublewords;
@@ -28,7 +34,10 @@ fn push_handed_out(
     pool: CellId,
     cell: u32,
     register: Option<u8>,
-) {
+)
+    requires { array_vec_len records.old ≤ 8 }
+    ensures { records.new.items ≡ records.old.items ++ cell_records (state_of storage.now) pool cell register }
+{
     records.push(Record::Cell(CellRecord {
         pool,
         cell,
@@ -43,7 +52,13 @@ fn push_handed_out(
 }
 
 // The plan by which the first free cell is handed out.
-fn plan_cell(storage: &Storage, pool: CellId, cell: u32, register: Option<u8>) -> Plan {
+fn plan_cell(storage: &Storage, pool: CellId, cell: u32, register: Option<u8>) -> Plan
+    ensures emptied { result.emptied ≡ None }
+    ensures records { result.records.items ≡ cell_records (state_of storage.now) pool cell register }
+    ensures blanks { result.blanks ≡ 0 }
+    ensures fresh { result.fresh ≡ run_of 0 0 }
+    ensures reply { result.reply ≡ Cell cell }
+{
     let mut records = ArrayVec::new();
     push_handed_out(&mut records, storage, pool, cell, register);
     Plan {
@@ -56,7 +71,10 @@ fn plan_cell(storage: &Storage, pool: CellId, cell: u32, register: Option<u8>) -
 }
 
 // The elements that a further extent of so many cells takes: one for each cell, those of its marks, and its own.
-fn extent_blanks(count: u32) -> u32 {
+fn extent_blanks(count: u32) -> u32
+    requires { count ≤ 2 ^ 12 }
+    ensures { result ≡ blanks_for count }
+{
     count + (count / 224 + 1) + 1
 }
 
@@ -67,11 +85,20 @@ fn plan_further(
     cells: CellSettings,
     place: AreaPlace,
     register: Option<u8>,
-) -> Plan {
+) -> Plan
+    requires count { cells.secondary ≤ 2 ^ 12 }
+    requires size { (0 < cells.secondary * cells.size) × (cells.secondary * cells.size ≤ 2 ^ 24) }
+    requires place { place_address place < 2 ^ 32 }
+    ensures emptied { result.emptied ≡ None }
+    ensures records { result.records.items ≡ further_records (state_of storage.now) pool cells place register }
+    ensures blanks { result.blanks ≡ place_blanks place + blanks_for cells.secondary }
+    ensures fresh { result.fresh ≡ place_pages (doublewords (cells.secondary * cells.size)) place }
+    ensures reply { result.reply ≡ Cell (place_address place) }
+{
     let start = address_of(place);
-    let doublewords = extent_doublewords(cells.secondary, cells.size);
+    let count = extent_doublewords(cells.secondary, cells.size);
     let mut records = ArrayVec::new();
-    push_place(&mut records, cells.subpool, place, doublewords);
+    push_place(&mut records, cells.subpool, place, count);
     records.push(Record::CellExtent(CellExtentRecord {
         pool,
         start,
@@ -79,7 +106,7 @@ fn plan_further(
         present: true,
     }));
     push_handed_out(&mut records, storage, pool, start, register);
-    let (blanks, fresh) = needs_of(place, doublewords);
+    let (blanks, fresh) = needs_of(place, count);
     Plan {
         emptied: None,
         records,

@@ -1,17 +1,19 @@
 //! Cell pools that the current task finds by name.
-ghost use Rattle.std.specs.Prelude.{◌≡◌, ◌≤◌, false, length, IfErr, IfOk, IsSome};
+ghost use Rattle.std.specs.Prelude.{◌≡◌, ◌≤◌, Some, false, length, IfErr, IfOk, IsSome};
 ghost use Rattle.cell_pool.specs.Pools.{Pool};
 ghost use Rattle.vsm_model.specs.Cells.{sees_pool};
+ghost use Rattle.vsm_model.specs.Subpools.{sees};
 ghost use Rattle.vsm_model.specs.declared.causes.Cause.TheVariants.{NoCellPool};
 ghost use Rattle.storage_changes.specs.Meaning.{model_of};
 ghost use Rattle.storage_exchange.specs.Storage.{state_of, Stand};
 ghost use Rattle.cell_plans.specs.Seen.{IsSeen};
 
+use cell_pool::laws::pools_are_one;
 use cell_pool::{CellId, Name};
 use cell_tables::laws::{others_are_not_found, pools_are_found};
 use storage_exchange::Storage;
 use subpool_storage::laws::cell_pools_are_named;
-use vsm_model::Cause;
+use vsm_model::{Cause, Subpool};
 
 /// The name as an array of its own.
 pub(crate) fn name_of(text: &str) -> Name
@@ -21,6 +23,21 @@ pub(crate) fn name_of(text: &str) -> Name
     let mut name = Name::new();
     let _ = name.try_push_str(text);
     name
+}
+
+// Whether the current task sees this very subpool.
+fn sees_subpool(storage: &Storage, subpool: Subpool) -> bool
+    requires { Stand storage.now }
+    ensures { result ≡ sees (model_of (state_of storage.now)) subpool }
+{
+    let current = storage.tasks.current();
+    let seen = storage
+        .subpools
+        .owner_seen(&storage.elements, current, subpool.number);
+    match seen {
+        Some(owner) => owner == subpool.owner,
+        None => false,
+    }
 }
 
 /// The cell pool of the name, if there is one and the current task sees its subpool; else the cause `NoCellPool`.
@@ -34,6 +51,7 @@ pub(crate) fn find_seen(storage: &Storage, name: &str) -> Result<CellId, Cause>
         × (sees_pool (model_of (state_of storage.now)) name.now ≡ false)) }
 {
     cell_pools_are_named();
+    pools_are_one();
     pools_are_found();
     others_are_not_found();
     let pools = storage.subpools.cell_pools(&storage.elements);
@@ -41,11 +59,7 @@ pub(crate) fn find_seen(storage: &Storage, name: &str) -> Result<CellId, Cause>
         return Err(Cause::NoCellPool);
     };
     let subpool = pools.settings(&storage.elements, id).subpool;
-    let current = storage.tasks.current();
-    let owner = storage
-        .subpools
-        .owner_seen(&storage.elements, current, subpool.number);
-    if owner == Some(subpool.owner) {
+    if sees_subpool(storage, subpool) {
         Ok(id)
     } else {
         Err(Cause::NoCellPool)

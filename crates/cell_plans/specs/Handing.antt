@@ -1,0 +1,26 @@
+-- The records by which a cell is handed out. Assembler Services Reference, CPOOL GET.
+use Rattle.std.specs.Prelude.{ℕ, ◌*◌, List, ◌∷◌, ◌++◌, Option}
+use Rattle.vsm_model.specs.Regions.{doublewords}
+use Rattle.vsm_model.specs.Registers.{named_register}
+use Rattle.cell_extents.specs.declared.settings.Settings.{Settings as CellSettings}
+use Rattle.cell_actions.specs.Actions.{extent_records, handed_out_records}
+use Rattle.storage_actions.specs.Actions.{register_records}
+use Rattle.storage_changes.specs.State.{StorageState}
+use Rattle.storage_changes.specs.declared.record.Record.{Record}
+use Rattle.storage_plans.specs.ObtainPlans.{place_address, place_records}
+use Rattle.storage_plans.specs.declared.places.AreaPlace.{AreaPlace}
+
+-- The registers that are set: the return code, and the cell's address in register 1 and in the one that is named.
+abbrev pub cell_registers : Option ℕ → ℕ → List (ℕ × ℕ)
+cell_registers named cell = (15, 0) ∷ (1, cell) ∷ named_register named cell
+
+-- The first free cell is handed out, and the registers are set,
+abbrev pub cell_records : StorageState → ℕ → ℕ → Option ℕ → List Record
+cell_records m id cell named = handed_out_records id cell ++ register_records m (cell_registers named cell)
+
+-- behind a further extent at its place, whose first cell it is.
+abbrev pub further_records : StorageState → ℕ → CellSettings → AreaPlace → Option ℕ → List Record
+further_records m id cells place named =
+    place_records cells.subpool (doublewords (cells.secondary * cells.size)) place
+    ++ extent_records id (place_address place) cells.secondary
+    ++ cell_records m id (place_address place) named
