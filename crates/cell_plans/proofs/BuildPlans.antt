@@ -53,7 +53,8 @@ use Rattle.storage_plans.proofs.AskedLengths.{is_somewhere, number_allowed, skip
 use Rattle.storage_plans.proofs.Carried.{no_registers, register_and}
 use Rattle.cell_plans.specs.declared.build.BuildPlan.{BuildPlan}
 use Rattle.cell_plans.specs.CellPlans.{IsBuildPlanned, CanBeBuilt, build_change}
-use Rattle.cell_plans.proofs.BuiltExtents.{cells_are, GoesTo, goes_to, ends_in_storage, has_room, in_words, pages_in_range, pages_unassigned}
+use Rattle.cell_plans.proofs.ExtentPlaces.{are_unassigned, ends_in_storage, few_blanks, has_room, in_range, in_words}
+use Rattle.cell_plans.proofs.PoolCells.{cells_same}
 
 -- The causes of a BUILD.
 module _ (settings : Settings) (s : State) (name : List ℕ) (header : Option (List ℕ)) (b : Build) where
@@ -148,9 +149,6 @@ module _ (settings : Settings) (names_full : Bool) (m : StorageState) (name : Li
     abbrev stands : Place
     stands = place_of (Some x)
 
-    goes_there : GoesTo settings m own count can.valid some x
-    goes_there = goes_to settings m own count can.valid some (side settings b.location) x at
-
     -- the cell pool under an id
     abbrev pool : ℕ → Pool
     pool id = built_pool id name built_with header (place_address x) b.primary
@@ -162,7 +160,7 @@ module _ (settings : Settings) (names_full : Bool) (m : StorageState) (name : Li
     after = with_registers (with_pool (with_area (with_new t own is_new) own count stands) name (cell_pool_of (pool 0))) rows
 
     pool_is : with_extent asked (extent_at stands b.primary) ≡ cell_pool_of (pool 0)
-    pool_is = λ i. record (cell_pool_of (pool 0)) { free = cells_are b.size (place_address x) b.primary i }
+    pool_is = λ i. record (cell_pool_of (pool 0)) { free = sym (cells_same b.size (place_address x) b.primary) i }
 
     owner_new : sees_one t b.number ≡ false → own.owner ≡ t.current
     owner_new e = ap (λ seen. unwrap_or seen t.current) (none_from (t.sight t.current b.number) e)
@@ -183,11 +181,11 @@ module _ (settings : Settings) (names_full : Bool) (m : StorageState) (name : Li
         ∙ ap (λ (u : State). with u stands (cell_pool_of (pool 0))) (made is_new new)
 
     pub place_in_words : (place_address x < 2 ^ 32) × (0 < count) × (count < 2 ^ 29)
-    place_in_words = in_words settings m own count can.valid some x goes_there
+    place_in_words = in_words settings m own (side settings b.location) count can.valid some x at
 
     -- the extent ends in storage
     high : place_address x + b.primary * b.size ≤ 2 ^ 32
-    high = let end = ends_in_storage settings m own count can.valid some x goes_there in omega (arith, end)
+    high = let end = ends_in_storage settings m own (side settings b.location) count can.valid some x at in omega (arith, end)
 
     module _ (sound : IsSound settings m) where
       can_own : (new : Bool) → new ≡ not (sees_one t b.number) → CanOwn m own new
@@ -217,7 +215,7 @@ module _ (settings : Settings) (names_full : Bool) (m : StorageState) (name : Li
             let to : Change → Type 0 = λ d. Leads settings m (change_building (pool id) d) after in
             subst to (same_change x)
             (leads settings m (pool id) is_new b.primary stands rows sound named absent low can.unnamed (can_own is_new new) (omega (arith, few)) (omega (arith, size)) refl refl
-            (has_room settings m own count can.valid some sound x goes_there) (register_and 15 0 [] (omega arith) no_registers)
+            (has_room settings m own (side settings b.location) count can.valid some x at sound) (register_and 15 0 [] (omega arith) no_registers)
             (kept settings names_full t after name header b (Obtained (place_address x) (8 * count)) sound.well_formed accepted))
 
         carried : IsAccepted settings names_full m (build name header b) change (Obtained (place_address x) (8 * count))
@@ -252,10 +250,6 @@ module _ (settings : Settings) (names_full : Bool) (m : StorageState) (name : Li
           ≡ change_building (pool id) (change_of (own_records own is_new ++ place_records own count x ++ register_records m rows) (place_blanks x) (place_pages count x))
       change_is id = λ i. change_building (built_pool id (is_name i) (with_these i) (is_header i) (is_start i) (with_these i).primary) (change_of (records_are i) (is_blanks i) (fresh_is i))
 
-      few_blanks : (x : AreaPlace) → place_blanks x ≤ 5
-      few_blanks (areas.Inside d) = omega arith
-      few_blanks (areas.Fresh page) = omega arith
-
       can_be_built : ∥ IsSound settings m ∥₁ → CanBeBuilt m plan
       can_be_built sound =
           let bounds = cell_bounds b.size b.primary (and_parts (are_cells b.size b.primary) (are_cells b.size (secondary_count b)) can.cells).0 in
@@ -267,9 +261,9 @@ module _ (settings : Settings) (names_full : Bool) (m : StorageState) (name : Li
             high = subst (λ (n : ℕ). n + plan.settings.primary * plan.settings.size ≤ 2 ^ 32) (sym is_start)
                 (subst (λ (g : CellSettings). place_address x + g.primary * g.size ≤ 2 ^ 32) (sym with_these) high);
             few = subst (λ (n : ℕ). n ≤ 5) (sym is_blanks) (few_blanks x);
-            range = subst (λ (r : Run). r.start + r.len ≤ 2 ^ 20) (sym fresh_is) (pages_in_range settings m own count can.valid some x goes_there);
+            range = subst (λ (r : Run). r.start + r.len ≤ 2 ^ 20) (sym fresh_is) (in_range settings m own (side settings b.location) count can.valid some x at);
             unassigned = subst (λ (r : Run). (page : ℕ) → inside page r ≡ true → m.unassigned page ≡ true) (sym fresh_is)
-                (λ page own_page. ∥∥₁_elim sound (Bool-set _ _) (λ h. pages_unassigned settings m own count can.valid some h x goes_there page own_page));
+                (are_unassigned settings m own (side settings b.location) count can.valid some x at sound);
           }
 
       its_accepted : outcome.IsAccepted (step settings names_full t (build name header b))

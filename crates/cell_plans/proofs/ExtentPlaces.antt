@@ -1,5 +1,5 @@
--- The place of a further extent: it has room in the subpool.
-use Rattle.std.proofs.Common.{◌≡◌, ℕ, ◌+◌, ◌-◌, ◌/◌, ◌%◌, ◌<◌, ◌≤◌, ◌^◌, Bool, true, not, ◌&&◌, ◌==◌, is_some, Some, refl, sym, ◌∙◌, subst, arith}
+-- The place of an extent: it has room in the subpool, and ends in storage.
+use Rattle.std.proofs.Common.{◌≡◌, ℕ, ◌+◌, ◌-◌, ◌*◌, ◌/◌, ◌%◌, ◌<◌, ◌≤◌, ◌^◌, Bool, true, not, ◌&&◌, ◌==◌, is_some, Some, refl, sym, ◌∙◌, subst, arith}
 use Rattle.std.proofs.Math.Bool.{Bool-set}
 use Rattle.std.proofs.Math.Logic.{∥∥₁_elim}
 use Rattle.std.proofs.lemmas.Bool.{and_parts, and_from, eq-eqb}
@@ -105,6 +105,10 @@ module _ (settings : Settings) (m : StorageState) (p : Subpool) (side : Residenc
   unassigned_at sound (areas.Inside d) goes k own = none_fresh m k own
   unassigned_at sound (areas.Fresh page) goes k own = fresh_unassigned sound page goes k own
 
+  end_at : (x : AreaPlace) → GoesHere (place_of (Some x)) → place_address x + 8 * count ≤ 2 ^ 32
+  end_at (areas.Inside d) goes = let end = inside_ends d goes in omega (arith, end)
+  end_at (areas.Fresh page) goes = let end = fresh_ends page goes in omega (arith, end)
+
   -- What an area that has a place has there.
   module _ (x : AreaPlace) (e : place_of (Some x) ≡ place s (regions_for settings side) p count 1) where
     pub has_room : IsSound settings m → HasRoom m p count (place_of (Some x))
@@ -117,5 +121,12 @@ module _ (settings : Settings) (m : StorageState) (p : Subpool) (side : Residenc
     are_unassigned sound k own =
         ∥∥₁_elim sound (Bool-set _ _) (λ h. unassigned_at h x (goes_at (place_of (Some x)) e) k own)
 
-    pub is_word : place_address x < 2 ^ 32
-    is_word = (place_in_words settings s p count 1 (place_of (Some x)) valid some (goes_at (place_of (Some x)) e) (is_somewhere x)).0
+    pub ends_in_storage : place_address x + 8 * count ≤ 2 ^ 32
+    ends_in_storage = end_at x (goes_at (place_of (Some x)) e)
+
+    -- its address and its length are words
+    pub in_words : (place_address x < 2 ^ 32) × (0 < count) × (count < 2 ^ 29)
+    in_words =
+        let words = place_in_words settings s p count 1 (place_of (Some x)) valid some (goes_at (place_of (Some x)) e) (is_somewhere x) in
+        let length = words.1 in
+        (words.0, some, omega (arith, length))

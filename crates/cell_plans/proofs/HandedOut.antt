@@ -47,7 +47,7 @@ use Rattle.cell_plans.specs.CellPlans.{IsCellPlanned}
 use Rattle.cell_plans.specs.Handing.{cell_records, cell_registers, further_records}
 use Rattle.cell_plans.specs.Seen.{IsSeen}
 use Rattle.cell_plans.proofs.CellsCarried.{accepts, as_accepted, has_records}
-use Rattle.cell_plans.proofs.ExtentPlaces.{are_unassigned, few_blanks, has_room, in_range, is_word, same_blanks, same_pages, same_records}
+use Rattle.cell_plans.proofs.ExtentPlaces.{are_unassigned, few_blanks, has_room, in_range, in_words, same_blanks, same_pages, same_records}
 use Rattle.cell_plans.proofs.PoolCells.{extended_same}
 use Rattle.cell_plans.proofs.SeenPools.{bounds, is_sound, pool_is, under_its_id}
 
@@ -173,7 +173,7 @@ module _ (settings : Settings) (names_full : Bool) (m : StorageState) (name : Li
     pub address_is_word : settings_valid settings ≡ true → ∥ IsSound settings m ∥₁ → (to : AreaPlace) → place_of (Some to) ≡ goes_for q → place_address to < 2 ^ 32
     address_is_word valid sound to at =
         let its = bounds m name id p seen settings sound in
-        is_word settings m p.settings.subpool p.settings.location (doublewords_for p p.settings.secondary) valid (some_doublewords q p.settings.secondary its.2 its.0) to at
+        (in_words settings m p.settings.subpool p.settings.location (doublewords_for p p.settings.secondary) valid (some_doublewords q p.settings.secondary its.2 its.0) to at).0
 
     -- what it does, by the cell pool
     abbrev further : CellPool → Place → State × Reply

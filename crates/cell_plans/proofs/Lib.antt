@@ -1,10 +1,9 @@
 -- Lemmas of the plans of cell pools.
-pub mod NamedPools
-pub mod BuiltExtents
-pub mod BuildPlans
+mod NamedPools
 mod PoolCells
 mod SeenPools
 mod CellsCarried
 mod GivenCells
 mod ExtentPlaces
 mod HandedOut
+mod BuildPlans
