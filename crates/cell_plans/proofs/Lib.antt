@@ -1,1 +1,3 @@
 -- Lemmas of the plans of cell pools.
+mod FreeEnds
+mod GivenAreas

@@ -8,6 +8,7 @@ use Rattle.vsm_model.specs.declared.limits.Settings.{Settings}
 use Rattle.vsm_model.specs.declared.replies.Reply.TheVariants.{Obtained, Returned}
 use Rattle.vsm_model.specs.Regions.{doublewords}
 use Rattle.vsm_model.specs.Services.{Service}
+use Rattle.vsm_model.specs.Standing as outcome
 use Rattle.vsm_model.specs.Standing.{Refused}
 use Rattle.vsm_model.specs.Step.{step}
 use Rattle.cell_pool.specs.Pools.{Pool}
@@ -55,10 +56,12 @@ pub record CanBeBuilt (m : StorageState) (plan : BuildPlan) : Type 0 where
   pub range : plan.fresh.start + plan.fresh.len ≤ 2 ^ 20
   pub unassigned : (page : ℕ) → inside page plan.fresh ≡ true → m.unassigned page ≡ true
 
--- A cell pool's coming was planned, under whatever id that none has; or it's refused for this cause.
+-- A cell pool's coming was planned, under whatever id that none has; or it's refused for this cause. That it's accepted
+-- stands by itself, as it doesn't need such an id.
 abbrev pub IsBuildPlanned : Settings → Bool → StorageState → Service → Result BuildPlan Cause → Type 0
 IsBuildPlanned settings names_full m x (Ok plan) =
-    ((id : ℕ) → id < 2 ^ 32 → m.subpools.cells id ≡ None
+    outcome.IsAccepted (step settings names_full (model_of m) x)
+    × ((id : ℕ) → id < 2 ^ 32 → m.subpools.cells id ≡ None
     → ∥ IsAccepted settings names_full m x (build_change plan id) plan.reply ∥₁)
     × CanBeBuilt m plan
 IsBuildPlanned settings names_full m x (Err cause) = step settings names_full (model_of m) x ≡ Refused cause
