@@ -1,11 +1,12 @@
 -- The free storage of a subpool once areas are given back, and the records by which they are.
-use Rattle.std.proofs.Common.{◌≡◌, ℕ, ◌+◌, ◌*◌, ◌/◌, Bool, true, false, ◌&&◌, ◌||◌, if◌then◌else◌, List, [], ◌∷◌, ◌++◌, length, refl, sym, ap, ◌∙◌, subst, arith, append_assoc}
+use Rattle.std.proofs.Common.{◌≡◌, ℕ, ◌+◌, ◌*◌, ◌/◌, ◌^◌, ◌<◌, ◌≤◌, Bool, true, false, ◌&&◌, ◌||◌, if◌then◌else◌, List, [], ◌∷◌, ◌++◌, length, refl, sym, ap, ◌∙◌, subst, arith, append_assoc}
 use Rattle.std.specs.Prelude.{All}
 use Rattle.std.proofs.lemmas.List.{append-nil}
 use Rattle.std.proofs.lemmas.List.Elements.{All-head, All-tail, All-cons, All-nil}
 use Rattle.run_set.specs.declared.run.Run.{Run}
 use Rattle.run_set.specs.Runs.{inside, contains}
 use Rattle.vsm_model.specs.declared.Subpool.{Subpool}
+use Rattle.vsm_model.specs.Regions.{doublewords}
 use Rattle.vsm_model.specs.Subpools.{same_subpool}
 use Rattle.cell_extents.specs.declared.settings.Extent.{Extent}
 use Rattle.subpool_storage.specs.Subpools.{Subpools, with_free}
@@ -37,6 +38,18 @@ freed_more m p (one ∷ areas) area = freed_more (with_free m p one true) p area
 pub all_and : (P : Run → Type 0) (areas : List Run) (area : Run) → All P areas → P area → All P (areas ++ area ∷ [])
 all_and P [] area h its = All-cons P area [] its (All-nil P)
 all_and P (one ∷ areas) area h its = All-cons P one (areas ++ area ∷ []) (All-head P one areas h) (all_and P areas area (All-tail P one areas h) its)
+
+-- what holds of all that are left holds of the first of them, and of the others
+pub first_has : {A : Type 0} (P : A → Type 0) (x : A) (rest left : List A) → left ≡ x ∷ rest → All P left → P x
+first_has P x rest left is h = All-head P x rest (subst (All P) is h)
+
+pub rest_have : {A : Type 0} (P : A → Type 0) (x : A) (rest left : List A) → left ≡ x ∷ rest → All P left → All P rest
+rest_have P x rest left is h = All-tail P x rest (subst (All P) is h)
+
+-- an extent has a doubleword, and ends in storage
+abbrev pub EndsLow : ℕ → Extent → Type 0
+EndsLow size x =
+    (0 < doublewords (x.count * size)) × (x.count * size < 2 ^ 32) × (x.start / 8 + doublewords (x.count * size) ≤ 2 ^ 29)
 
 -- The records of the next extent go over, and those of the others are left.
 module _ (m : Subpools) (p : Subpool) (size : ℕ) (given : List Run) (x : Extent) (rest left : List Extent) (is : left ≡ x ∷ rest) where
