@@ -65,6 +65,7 @@ impl DeletePlan {
         ensures names { IfOk result (λ l. l.names.items ≡ []) }
         ensures size { IfOk result (λ l. length l.names.items + (length l.records.items + l.blanks) ≤ 2 ^ 24) }
     {
+        cell_pools_are_named();
         let mut records = Vec::new(alloc);
         records.push(Record::CellPool(CellPoolRecord {
             pool: self.pool,
