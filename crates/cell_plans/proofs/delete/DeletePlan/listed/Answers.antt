@@ -1,4 +1,4 @@
-use Rattle.std.proofs.Common.{List, [], ◌∷◌, ◌++◌, refl, ap, ◌∙◌}
+use Rattle.std.proofs.Common.{false, List, [], ◌∷◌, ◌++◌, refl, ap, ◌∙◌}
 use Rattle.storage_changes.specs.declared.record.Record.{Record}
 use Rattle.storage_changes.specs.declared.record.Record.TheVariants.{CellPool}
 use Rattle.storage_exchange.specs.Storage.{state_of}
