@@ -7,3 +7,6 @@ mod GivenCells
 mod ExtentPlaces
 mod HandedOut
 mod BuildPlans
+mod FreeEnds
+mod GivenAreas
+mod DeletePlans

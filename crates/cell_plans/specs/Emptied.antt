@@ -1,13 +1,24 @@
--- The storage of a subpool once some extents of a cell pool are given back. Assembler Services Reference, CPOOL DELETE.
-use Rattle.std.specs.Prelude.{ℕ, ◌*◌, ◌/◌, true, List, [], ◌∷◌}
+-- The free storage of a subpool once some areas are given back, from doubleword to doubleword. Assembler Services
+-- Reference, CPOOL DELETE.
+use Rattle.std.specs.Prelude.{◌≡◌, ℕ, ◌*◌, ◌/◌, ◌<◌, ◌≤◌, Bool, true, false, List, [], ◌∷◌}
+use Rattle.run_set.specs.declared.run.Run.{Run}
 use Rattle.vsm_model.specs.declared.Subpool.{Subpool}
 use Rattle.vsm_model.specs.Regions.{doublewords}
 use Rattle.cell_extents.specs.declared.settings.Extent.{Extent}
 use Rattle.subpool_storage.specs.Subpools.{Subpools, with_free}
 use Rattle.storage_actions.specs.Actions.{run_of}
 
--- the subpools once the doublewords of these extents are free, the first of them first
-abbrev pub freed_extents : Subpools → Subpool → ℕ → List Extent → Subpools
-freed_extents m p size [] = m
-freed_extents m p size (x ∷ xs) =
-    freed_extents (with_free m p (run_of (x.start / 8) (doublewords (x.count * size))) true) p size xs
+-- the doublewords of an extent whose cells have this size in bytes
+abbrev pub area_of : ℕ → Extent → Run
+area_of size x = run_of (x.start / 8) (doublewords (x.count * size))
+
+-- the subpools once these areas are free storage of one of them, the first of them first
+abbrev pub freed : Subpools → Subpool → List Run → Subpools
+freed m p [] = m
+freed m p (area ∷ areas) = freed (with_free m p area true) p areas
+
+-- From a doubleword up to another each is free, which is the first one itself where that isn't free.
+pub record IsFreeUpTo (free : ℕ → Bool) (first end : ℕ) : Type 0 where
+  pub from : first ≤ end
+  pub each : (d : ℕ) → first ≤ d → d < end → free d ≡ true
+  pub none : end ≡ first → free first ≡ false

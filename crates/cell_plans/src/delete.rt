@@ -27,8 +27,11 @@ pub struct DeletePlan {
     pub pool: CellId,
 }
 
-/// The most elements of a change: a longer one is refused as if there were no memory for it.
-const ELEMENTS_MOST: usize = 1 << 22;
+/// The most records of a change, and the most extents: where there are more, it's refused as if there were no memory for
+/// it.
+const RECORDS_MOST: usize = 1 << 22;
+
+const EXTENTS_MOST: usize = 1 << 20;
 
 /// A plan for the end of a cell pool (*Assembler Services Reference*, CPOOL DELETE): each of its extents is given back,
 /// cells in use among them, and the pages that are left without a taken doubleword leave the subpool. Register 15 gets
@@ -63,20 +66,21 @@ impl DeletePlan {
         ensures names { IfOk result (λ l. l.names.items ≡ []) }
         ensures size { IfOk result (λ l. length l.names.items + (length l.records.items + l.blanks) ≤ 2 ^ 24) }
     {
+        cell_pools_are_named();
         let mut records = Vec::new(alloc);
         records.push(Record::CellPool(CellPoolRecord {
             pool: self.pool,
             present: false,
         }))?;
-        let extents = push_extents(storage, &mut records, self.pool)?;
+        let extents = push_extents(alloc, storage, &mut records, self.pool)?;
         push_register(&mut records, storage.tasks.current(), 15, 0)?;
-        if records.len() >= ELEMENTS_MOST || extents >= 1 << 20 {
+        if records.len() >= RECORDS_MOST || extents >= EXTENTS_MOST {
             return Err(AllocError);
         }
         Ok(Listed {
             names: Vec::new(alloc),
             records,
-            blanks: 7 * extents,
+            blanks: 7 * extents as u32,
         })
     }
 }

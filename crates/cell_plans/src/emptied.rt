@@ -1,6 +1,139 @@
 //! Which pages an extent of a cell pool empties, once those before it are given back.
-use crate::sizes::extent_doublewords;
-use cell_pool::{CellId, CellPools, Settings as CellSettings};
+ghost use Rattle.std.specs.Prelude.{◌≡◌, ◌+◌, ◌/◌, ◌^◌, ◌<◌, ◌≤◌, All};
+ghost use Rattle.run_set.specs.Runs.{contains, inside};
+ghost use Rattle.vsm_model.specs.Regions.{pages_for};
+ghost use Rattle.vsm_model.specs.Search.{all_pass};
+ghost use Rattle.storage_actions.specs.Actions.{emptied_pages};
+ghost use Rattle.storage_exchange.specs.Storage.{state_of, Stand};
+ghost use Rattle.cell_plans.specs.Emptied.{freed, IsFreeUpTo};
+
+use free_queue::FreeQueue;
+use free_queue::laws::queues_stand;
 use run_set::Run;
 use storage_exchange::Storage;
 use vsm_model::Subpool;
+
+/// The doublewords of a page.
+pub(crate) const PAGE_DOUBLEWORDS: u32 = 512;
+
+// Whether the area has the doubleword.
+fn has(area: Run, doubleword: u32) -> bool
+    requires { area.start + area.len ≤ 2 ^ 29 }
+    ensures { result ≡ inside doubleword area }
+{
+    area.start <= doubleword && doubleword < area.start + area.len
+}
+
+// The end of the free area of the subpool that has the doubleword, or the doubleword itself where it isn't free.
+fn free_end(storage: &Storage, subpool: Subpool, doubleword: u32) -> u32
+    requires { Stand storage.now }
+    ensures { IsFreeUpTo ((state_of storage.now).subpools.free subpool) doubleword result }
+{
+    queues_stand();
+    let queue = storage.subpools.free_areas(&storage.elements, subpool);
+    let mut place = FreeQueue::first_place();
+    while let Some((area, next)) = queue.next_area(&storage.elements, place) {
+        if has(area, doubleword) {
+            return area.start + area.len;
+        }
+        place = next;
+    }
+    doubleword
+}
+
+// The end of the first of these areas that has the doubleword, or the doubleword itself where none has it.
+fn given_end(given: &[Run], doubleword: u32) -> u32
+    requires { All (λ area. area.start + area.len ≤ 2 ^ 29) given.now }
+    ensures { IsFreeUpTo (λ d. contains d given.now) doubleword result }
+{
+    for area in given {
+        if has(*area, doubleword) {
+            return area.start + area.len;
+        }
+    }
+    doubleword
+}
+
+// The end of free doublewords of the subpool, with the areas that were given back, that begin with this one; the
+// doubleword itself where it isn't free.
+fn end_of_free(storage: &Storage, subpool: Subpool, given: &[Run], doubleword: u32) -> u32
+    requires stands { Stand storage.now }
+    requires given { All (λ area. area.start + area.len ≤ 2 ^ 29) given.now }
+    ensures { IsFreeUpTo ((freed (state_of storage.now).subpools subpool given.now).free subpool) doubleword result }
+{
+    let end = given_end(given, doubleword);
+    if doubleword < end {
+        end
+    } else {
+        free_end(storage, subpool, doubleword)
+    }
+}
+
+// Whether each doubleword of the area, if it has any, is free storage of the subpool, with the areas that were given
+// back.
+fn is_free(storage: &Storage, subpool: Subpool, given: &[Run], area: Run) -> bool
+    requires stands { Stand storage.now }
+    requires given { All (λ area. area.start + area.len ≤ 2 ^ 29) given.now }
+    requires range { area.start + area.len ≤ 2 ^ 29 }
+    ensures { result ≡ all_pass ((freed (state_of storage.now).subpools subpool given.now).free subpool)
+        area.start area.len }
+{
+    let past = area.start + area.len;
+    let mut doubleword = area.start;
+    while doubleword < past {
+        let end = end_of_free(storage, subpool, given, doubleword);
+        if end == doubleword {
+            return false;
+        }
+        doubleword = end;
+    }
+    true
+}
+
+// The pages that an area in doublewords touches.
+fn pages_of(area: Run) -> Run
+    requires some { 0 < area.len }
+    requires range { area.start + area.len ≤ 2 ^ 29 }
+    ensures start { result.start ≡ area.start / 512 }
+    ensures end { result.start + result.len ≡ pages_for (area.start + area.len) }
+    ensures some { 0 < result.len }
+{
+    let start = area.start / PAGE_DOUBLEWORDS;
+    let end = (area.start + area.len).div_ceil(PAGE_DOUBLEWORDS);
+    Run {
+        start,
+        len: end - start,
+    }
+}
+
+/// The pages that the area, in doublewords, empties when it's given back to the subpool, once these other areas are.
+/// Reads alone.
+pub(crate) fn emptied(storage: &Storage, subpool: Subpool, given: &[Run], area: Run) -> Run
+    requires stands { Stand storage.now }
+    requires given { All (λ area. area.start + area.len ≤ 2 ^ 29) given.now }
+    requires some { 0 < area.len }
+    requires range { area.start + area.len ≤ 2 ^ 29 }
+    ensures value { result ≡ emptied_pages (freed (state_of storage.now).subpools subpool given.now) subpool
+        area.start area.len }
+    ensures range { result.start + result.len ≤ 2 ^ 20 }
+{
+    let pages = pages_of(area);
+    let start = PAGE_DOUBLEWORDS * pages.start;
+    let front = Run {
+        start,
+        len: area.start - start,
+    };
+    let end = area.start + area.len;
+    let back = Run {
+        start: end,
+        len: PAGE_DOUBLEWORDS * (pages.start + pages.len) - end,
+    };
+    let keeps_first = !is_free(storage, subpool, given, front);
+    let keeps_last = !is_free(storage, subpool, given, back);
+    let first = pages.start + u32::from(keeps_first);
+    let past = pages.start + pages.len - u32::from(keeps_last);
+    Run {
+        start: first,
+        len: past.saturating_sub(first),
+    }
+}

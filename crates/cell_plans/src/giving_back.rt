@@ -1,9 +1,17 @@
 //! The records by which the extents of a cell pool are given back.
-use crate::emptied::emptied_by;
+ghost use Rattle.std.specs.Prelude.{◌≡◌, ◌+◌, ◌-◌, ◌^◌, ◌<◌, ◌≤◌, ◌++◌, All, length, Some, IfOk, OnOk};
+ghost use Rattle.cell_pool.specs.Pools.{Pool};
+ghost use Rattle.storage_actions.specs.Actions.{area_records, emptied_pages, give_back_records, returned_records};
+ghost use Rattle.storage_exchange.specs.Storage.{state_of, Stand};
+ghost use Rattle.cell_actions.specs.Actions.{extents_given_back};
+ghost use Rattle.cell_plans.specs.CellPlans.{CanBeDeleted};
+ghost use Rattle.cell_plans.specs.Emptied.{freed};
+
+use crate::emptied::{PAGE_DOUBLEWORDS, emptied};
 use crate::sizes::extent_doublewords;
 use cell_pool::{CellId, CellPools};
 use run_set::Run;
-use std::alloc::AllocError;
+use std::alloc::{AllocError, Global};
 use storage_changes::{AreaRecord, ExtentRecord, PagesRecord, Record};
 use storage_exchange::Storage;
 use vsm_model::Subpool;
@@ -16,7 +24,9 @@ fn push_between(
     from: u32,
     to: u32,
     free: bool,
-) -> Result<(), AllocError> {
+) -> Result<(), AllocError>
+    ensures { OnOk result (records.new.items ≡ records.old.items ++ area_records subpool from (to - from) free) }
+{
     if from < to {
         records.push(Record::Area(AreaRecord {
             subpool,
@@ -30,54 +40,99 @@ fn push_between(
     Ok(())
 }
 
-// The area, in doublewords, is given back with the pages that it empties.
-fn push_given_back(
-    records: &mut Vec<Record>,
-    subpool: Subpool,
-    area: Run,
-    pages: Run,
-) -> Result<(), AllocError> {
-    let past = area.start + area.len;
-    if pages.len == 0 {
-        return push_between(records, subpool, area.start, past, true);
-    }
-    let begin = 512 * pages.start;
-    let end = 512 * (pages.start + pages.len);
-    push_between(records, subpool, area.start, begin, true)?;
-    push_between(records, subpool, begin, area.start, false)?;
-    push_between(records, subpool, end, past, true)?;
-    push_between(records, subpool, past, end, false)?;
+// The pages, which are the subpool's, leave it and become unassigned.
+fn push_returned(records: &mut Vec<Record>, subpool: Subpool, run: Run) -> Result<(), AllocError>
+    requires { 0 < run.len }
+    ensures { OnOk result (records.new.items ≡ records.old.items ++ returned_records subpool run.start run.len) }
+{
     records.push(Record::Extent(ExtentRecord {
         subpool,
-        run: pages,
+        run,
         present: false,
     }))?;
     records.push(Record::Pages(PagesRecord {
-        run: pages,
+        run,
         assigned: false,
     }))?;
     Ok(())
 }
 
+// The area, in doublewords, is given back with the pages that it empties: what of either lies beside the other becomes
+// free, or taken.
+fn push_given_back(
+    records: &mut Vec<Record>,
+    subpool: Subpool,
+    area: Run,
+    pages: Run,
+) -> Result<(), AllocError>
+    requires range { area.start + area.len ≤ 2 ^ 29 }
+    requires high { pages.start + pages.len ≤ 2 ^ 20 }
+    ensures { OnOk result (records.new.items
+        ≡ records.old.items ++ give_back_records subpool area.start area.len pages.start pages.len) }
+{
+    let past = area.start + area.len;
+    if pages.len == 0 {
+        return push_between(records, subpool, area.start, past, true);
+    }
+    let begin = PAGE_DOUBLEWORDS * pages.start;
+    let end = PAGE_DOUBLEWORDS * (pages.start + pages.len);
+    push_between(records, subpool, area.start, begin, true)?;
+    push_between(records, subpool, begin, area.start, false)?;
+    push_between(records, subpool, end, past, true)?;
+    push_between(records, subpool, past, end, false)?;
+    push_returned(records, subpool, pages)
+}
+
+// The area is given back with the pages that it empties, once these other areas are given back.
+fn push_area(
+    storage: &Storage,
+    records: &mut Vec<Record>,
+    subpool: Subpool,
+    given: &Vec<Run>,
+    area: Run,
+) -> Result<(), AllocError>
+    requires stands { Stand storage.now }
+    requires given { All (λ area. area.start + area.len ≤ 2 ^ 29) given.now.items }
+    requires some { 0 < area.len }
+    requires range { area.start + area.len ≤ 2 ^ 29 }
+    ensures { OnOk result (
+        let pages = emptied_pages (freed (state_of storage.now).subpools subpool given.now.items) subpool
+        area.start area.len in
+        records.new.items
+        ≡ records.old.items ++ give_back_records subpool area.start area.len pages.start pages.len) }
+{
+    let pages = emptied(storage, subpool, given, area);
+    push_given_back(records, subpool, area, pages)
+}
+
 /// The records by which each extent of the cell pool is given back, the first one first, and how many extents it has.
+/// `AllocError` where there is no memory for them.
 pub(crate) fn push_extents(
+    alloc: Global,
     storage: &Storage,
     records: &mut Vec<Record>,
     pool: CellId,
-) -> Result<u32, AllocError> {
+) -> Result<usize, AllocError>
+    requires stands { Stand storage.now }
+    requires can { CanBeDeleted (state_of storage.now) (record { pool = pool }) }
+    ensures records { IfOk result (λ count. (p : Pool) → (state_of storage.now).subpools.cells pool ≡ Some p
+        → records.new.items ≡ records.old.items ++ extents_given_back (state_of storage.now).subpools
+        p.settings.subpool p.settings.size p.extents) }
+    ensures count { IfOk result (λ count. (p : Pool) → (state_of storage.now).subpools.cells pool ≡ Some p
+        → count ≡ length p.extents) }
+{
     let pools = storage.subpools.cell_pools(&storage.elements);
     let cells = pools.settings(&storage.elements, pool);
-    let mut count = 0;
+    let mut given = Vec::new(alloc);
     let mut place = pools.first_extent(&storage.elements, pool);
     while let Some((extent, next)) = CellPools::next_extent(&storage.elements, place) {
         let area = Run {
             start: extent.start / 8,
             len: extent_doublewords(extent.count, cells.size),
         };
-        let pages = emptied_by(storage, pool, cells, count, area);
-        push_given_back(records, cells.subpool, area, pages)?;
-        count += 1;
+        push_area(storage, records, cells.subpool, &given, area)?;
+        given.push(area)?;
         place = next;
     }
-    Ok(count)
+    Ok(given.len())
 }

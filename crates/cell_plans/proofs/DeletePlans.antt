@@ -1,0 +1,130 @@
+-- CPOOL DELETE, and its plan on the plain machine.
+use Rattle.std.proofs.Common.{◌≡◌, ℕ, ◌+◌, ◌-◌, ◌*◌, ◌/◌, ◌<◌, ◌≤◌, ◌^◌, Bool, true, false, not, Option, Some, None, IsSome, IfSome, is_some, List, [], ◌∷◌, ◌++◌, length, All, refl, sym, ◌∙◌, ap, subst, arith}
+use Rattle.std.specs.Prelude.{Ok}
+use Rattle.std.proofs.Math.Logic.{∥∥₁_elim, ∥∥₁_map}
+use Rattle.std.proofs.Math.Nat.{mul-pos}
+use Rattle.std.proofs.Props.{props}
+use Rattle.std.proofs.lemmas.List.{append_assoc}
+use Rattle.vsm_model.specs.declared.Subpool.{Subpool}
+use Rattle.vsm_model.specs.declared.causes.Cause.TheVariants.{NoCellPool}
+use Rattle.vsm_model.specs.declared.limits.Settings.{Settings}
+use Rattle.vsm_model.specs.declared.replies.Reply.TheVariants.{Returned}
+use Rattle.vsm_model.specs.Causes.{first_cause}
+use Rattle.vsm_model.specs.CellPools.{CellPool, extent_doublewords}
+use Rattle.vsm_model.specs.Cells.{deleted, sees_pool}
+use Rattle.vsm_model.specs.Regions.{doublewords, settings_valid}
+use Rattle.vsm_model.specs.Registers.{with_registers}
+use Rattle.vsm_model.specs.Services.{delete}
+use Rattle.vsm_model.specs.Standing.{Accepted, Refused}
+use Rattle.vsm_model.specs.State.{State}
+use Rattle.vsm_model.specs.Step.{step, answered}
+use Rattle.vsm_model.specs.WellFormed.{IsWellFormed, IsInSubpool, PoolIsSound}
+use Rattle.vsm_model.proofs.Chosen.{Stepped}
+use Rattle.cell_laws.specs.Kept.{DeleteLeavesWellFormed}
+use Rattle.cell_laws.proofs.CellLists.{cell_bounds}
+use Rattle.cell_laws.proofs.Pools.{sound_of}
+use Rattle.cell_laws.proofs.Spans.{all_unmapped, in-among}
+use Rattle.cell_laws.proofs.Words.{low_page}
+use Rattle.cell_extents.specs.declared.settings.Extent.{Extent}
+use Rattle.cell_pool.specs.Pools.{Pool}
+use Rattle.cell_tables.specs.Named.{AreNamed}
+use Rattle.cell_tables.specs.Table.{cell_pool_of, extent_of}
+use Rattle.storage_changes.specs.declared.record.Record.{Record}
+use Rattle.storage_changes.specs.declared.record.Record.TheVariants.{CellPool as CellPoolRow, Register}
+use Rattle.storage_changes.specs.Changes.{Change, change_of, change_parking, no_pages}
+use Rattle.storage_changes.specs.Meaning.{model_of, IsSound}
+use Rattle.storage_changes.specs.State.{StorageState}
+use Rattle.storage_actions.specs.Actions.{register_records}
+use Rattle.storage_plans.specs.Plans.{IsAccepted}
+use Rattle.storage_plans.proofs.Carried.{no_registers, register_and}
+use Rattle.cell_actions.specs.Actions.{extents_given_back}
+use Rattle.cell_actions.specs.Laws.{DeletingLeads}
+use Rattle.cell_plans.specs.declared.delete.DeletePlan.{DeletePlan}
+use Rattle.cell_plans.specs.CellPlans.{deleting_change, delete_change, CanBeDeleted, IsDeletePlanned}
+use Rattle.cell_plans.specs.Seen.{IsSeen}
+use Rattle.cell_plans.proofs.GivenAreas.{EndsLow}
+
+-- what is there
+pub found_pool : (o : Option Pool) → IsSome o → (p : Pool) × (o ≡ Some p)
+found_pool (Some p) there = (p, refl)
+found_pool None there = cc
+
+-- an extent lies in pages of the regions
+module _ (settings : Settings) (m : StorageState) (p : Pool) (valid : settings_valid settings ≡ true) (sound : IsSound settings m) (size : 0 < p.settings.size) where
+  pub extent_ends_low : (x : Extent) → IsInSubpool (model_of m) (cell_pool_of p) (extent_of x) → EndsLow p.settings.size x
+  extent_ends_low x its =
+      let count : ℕ = doublewords (x.count * p.settings.size) in
+      let bytes : 0 < x.count * p.settings.size = mul-pos its.has_cells size in
+      let some : 0 < count = omega (arith, bytes) in
+      let last : ℕ = x.start / 8 + count - 1 in
+      let page = low_page settings (last / 512) valid (sound.well_formed.pages.in_region (last / 512) p.settings.subpool
+      (its.in_pages last (in-among (x.start / 8) count last (omega (arith, some)) (omega (arith, some))))) in
+      (some, omega (arith, page, some), omega (arith, page, some))
+
+module _ (settings : Settings) (names_full : Bool) (m : StorageState) (name : List ℕ) where
+  abbrev s : State
+  s = model_of m
+
+  pub not_seen : sees_pool s name ≡ false → step settings names_full s (delete name) ≡ Refused NoCellPool
+  not_seen none = ap (λ b. answered settings s (delete name) (first_cause ((not b, NoCellPool) ∷ []))) none
+
+  module _ (law : DeletingLeads) (stays : DeleteLeavesWellFormed) (named : AreNamed m.subpools.cells) (id : ℕ) (p : Pool) (its : IsSeen m name id p) where
+    abbrev rows : List (ℕ × ℕ)
+    rows = (15, 0) ∷ []
+
+    abbrev after : List ℕ → State
+    after n = with_registers (deleted s n).0 rows
+
+    accepted : step settings names_full s (delete name) ≡ Accepted (after name) (Returned 0)
+    accepted = ap (λ b. answered settings s (delete name) (first_cause ((not b, NoCellPool) ∷ []))) its.seen
+
+    is_accepted : settings_valid settings ≡ true → IsSound settings m → IsAccepted settings names_full m (delete name) (deleting_change m (Some p)) (Returned 0)
+    is_accepted valid sound =
+        let formed = stays settings names_full s (after name) name (Returned 0) sound.well_formed accepted in
+        let leads = law settings m p rows valid sound named (ap m.subpools.cells its.id_is ∙ its.there) (register_and 15 0 [] (omega arith) no_registers)
+        (subst (λ n. IsWellFormed settings (after n)) (sym its.named) formed) in
+        let outcome : State → Stepped = λ t. Accepted t (Returned 0) in
+        record {
+          accepted = accepted ∙ ap outcome (sym (leads.leads ∙ ap after its.named));
+          fits = leads.fits;
+          sound = leads.sound;
+        }
+
+    extents_end_low : settings_valid settings ≡ true → IsSound settings m → All (EndsLow p.settings.size) p.extents
+    extents_end_low valid sound =
+        let pool : PoolIsSound s (cell_pool_of p) = sound_of s name (cell_pool_of p) sound.well_formed.cell_pools its.row in
+        let bounds = (cell_bounds p.settings.size p.settings.primary pool.bounds.0).0 in
+        let all = all_unmapped (IsInSubpool s (cell_pool_of p)) extent_of p.extents pool.in_subpool in
+        λ k d below. extent_ends_low settings m p valid sound (omega (arith, bounds)) _ (all k d below)
+
+    can : settings_valid settings ≡ true → ∥ IsSound settings m ∥₁ → CanBeDeleted m (record { pool = id })
+    can valid sound =
+        let all : All (EndsLow p.settings.size) p.extents = ∥∥₁_elim sound (hlevel props) (λ h. extents_end_low valid h) in
+        let P : Option Pool → Type 0 = λ o. IfSome o (λ q. All (EndsLow q.settings.size) q.extents) in
+        record { there = ap is_some its.there; extents = subst P (sym its.there) all }
+
+    pub delete_planned : settings_valid settings ≡ true → ∥ IsSound settings m ∥₁ → IsDeletePlanned settings names_full m (delete name) (Ok (record { pool = id }))
+    delete_planned valid sound =
+        let P : Option Pool → Type 0 = λ o. IsAccepted settings names_full m (delete name) (deleting_change m o) (Returned 0) in
+        (∥∥₁_map sound (λ h. subst P (sym its.there) (is_accepted valid h)), can valid sound)
+
+-- the records of the list
+module _ (m : StorageState) (id : ℕ) (p : Pool) (there : m.subpools.cells id ≡ Some p) (own : p.id ≡ id) where
+  abbrev row : ℕ → Record
+  row i = CellPoolRow (record { pool = i; present = false })
+
+  abbrev back : List Record
+  back = extents_given_back m.subpools p.settings.subpool p.settings.size p.extents
+
+  abbrev last : ℕ → Record
+  last current = Register (record { task = current; register = 15; word = 0 })
+
+  pub listed_is :
+      (current : ℕ) (names : List Subpool) (first then_back records : List Record) (blanks count : ℕ) → current ≡ m.tasks.current → names ≡ []
+      → first ≡ [] ++ row id ∷ [] → then_back ≡ first ++ back → records ≡ then_back ++ last current ∷ [] → blanks ≡ 7 * count → count ≡ length p.extents
+      → change_parking names records blanks ≡ delete_change m (record { pool = id })
+  listed_is current names first then_back records blanks count now none e f g many so_many =
+      let whole : records ≡ row p.id ∷ (back ++ register_records m ((15, 0) ∷ [])) =
+      g ∙ ap (λ rs. rs ++ last current ∷ []) (f ∙ ap (λ rs. rs ++ back) e) ∙ (λ i. row (sym own i) ∷ (back ++ last (now i) ∷ [])) in
+      let blanks_are : blanks ≡ 7 * length p.extents = many ∙ ap (λ n. 7 * n) so_many in
+      (λ i. change_parking (none i) (whole i) (blanks_are i)) ∙ ap (deleting_change m) (sym there)
