@@ -46,6 +46,10 @@ fn free(cell: Value) -> Request {
     })
 }
 
+fn delete() -> Request {
+    Request::Act(Statement::Delete { pool: name("P") })
+}
+
 #[test]
 fn reads_build(rt: HostRuntime) {
     let lines: [(&[u8], Request); 8] = [
@@ -100,25 +104,28 @@ fn reads_build(rt: HostRuntime) {
 #[test]
 fn reads_a_header_over_a_line_end(rt: HostRuntime) {
     let mut reader = Reader::new();
-    let first = card(2, b"CPOOL BUILD,PCELLCT=2,CSIZE=16,CPID=P,HDR='a header of two li", true);
-    assert_eq!(rt; reader.next(&first), more());
-    let request = build(
-        header("a header of two li        "),
+    let operands = b"CPOOL BUILD,PCELLCT=2,CSIZE=16,CPID=P,HDR='a header of two li";
+    assert_eq!(rt; reader.next(&card(11, operands, true)), more());
+    let wanted = build(
+        header("a header of two lines"),
         None,
         Value::Number(0),
         Location::Caller,
     );
-    let _longer = request;
-    assert_eq!(rt; reader.next(&card(16, b"nes'", false)), fault(FaultKind::Value, 1));
-    let first = card(31, b"CPOOL BUILD,PCELLCT=2,CSIZE=16,CPID=P,HDR", true);
-    assert_eq!(rt; reader.next(&first), more());
-    let wanted = build(header("Own"), None, Value::Number(0), Location::Caller);
-    assert_eq!(rt; reader.next(&card(16, b"='Own'", false)), Ok(Fed::Ready(wanted, 3)));
+    assert_eq!(rt;
+        reader.next(&card(16, b"nes'", false)),
+        Ok(Fed::Ready(wanted, 1))
+    );
+    // Blanks up to column 71 are the header's, which is too long then.
+    assert_eq!(rt; reader.next(&card(2, operands, true)), more());
+    assert_eq!(rt;
+        reader.next(&card(16, b"nes'", false)),
+        fault(FaultKind::Value, 3)
+    );
 }
 
 #[test]
 fn reads_the_other_forms(rt: HostRuntime) {
-    let delete = Request::Act(Statement::Delete { pool: name("P") });
     let lines: [(&[u8], Request); 11] = [
         (b" CPOOL GET,CPID=P", get(None, false)),
         (b" CPOOL GET,U,CPID=P", get(None, false)),
@@ -138,8 +145,8 @@ fn reads_the_other_forms(rt: HostRuntime) {
         ),
         (b" CPOOL FREE,CELL=(0),CPID=P", free(Value::Register(0))),
         (b" CPOOL FREE,CELL=q,CPID=p,REGS=X", free(named("Q"))),
-        (b" CPOOL DELETE,CPID=P", delete.clone()),
-        (b"NAME cpool delete,RELATED=X,cpid=p", delete),
+        (b" CPOOL DELETE,CPID=P", delete()),
+        (b"NAME cpool delete,RELATED=X,cpid=p", delete()),
     ];
     for (line, want) in lines {
         feed(&rt, line, Ok(want));
@@ -213,7 +220,8 @@ fn refuses_values_of_cpool(rt: HostRuntime) {
         (b" CPOOL BUILD,CSIZE=8K", FaultKind::Value),
         (b" CPOOL BUILD,LOC=(64,31)", FaultKind::Value),
         (b" CPOOL BUILD,HDR=''", FaultKind::Value),
-        (b" CPOOL BUILD,HDR='''x'", FaultKind::Operand),
+        (b" CPOOL BUILD,HDR='''x'", FaultKind::Value),
+        (b" CPOOL BUILD,HDR='x", FaultKind::Operand),
         (b" CPOOL BUILD,HDR=''''", FaultKind::Value),
         (b" CPOOL BUILD,HDR='x''y'", FaultKind::Value),
         (b" CPOOL BUILD,HDR=x", FaultKind::Value),
@@ -227,7 +235,10 @@ fn refuses_values_of_cpool(rt: HostRuntime) {
         (b" CPOOL GET,CPID=P,CPID=5", FaultKind::Repeated),
         (b" CPOOL BUILD,PCELLCT=2,CSIZE=16", FaultKind::Missing),
         (b" CPOOL BUILD,PCELLCT=2,CPID=P", FaultKind::Missing),
-        (b" CPOOL BUILD,SCELLCT=2,CSIZE=16,CPID=P", FaultKind::Missing),
+        (
+            b" CPOOL BUILD,SCELLCT=2,CSIZE=16,CPID=P",
+            FaultKind::Missing,
+        ),
         (b" CPOOL GET", FaultKind::Missing),
         (b" CPOOL GET,C", FaultKind::Missing),
         (b" CPOOL FREE,CPID=P", FaultKind::Missing),
@@ -235,5 +246,25 @@ fn refuses_values_of_cpool(rt: HostRuntime) {
         (b" CPOOL DELETE", FaultKind::Missing),
     ] {
         feed(&rt, line, Err(fault));
+    }
+}
+
+#[test]
+fn tells_cell_pools_that_can_be_spelled(rt: HostRuntime) {
+    for (pool, can_be_spelled) in [("P", true), ("p", false), ("", false), ("P Q", false)] {
+        let end = Statement::Delete { pool: name(pool) };
+        assert_eq!(rt; end.valid(), can_be_spelled, "{pool}");
+    }
+    for (text, can_be_spelled) in [("Own ~", true), ("", false), ("it's", false), ("\t", false)] {
+        let built = Statement::Build {
+            pool: name("P"),
+            header: header(text),
+            primary: Value::Number(0),
+            secondary: None,
+            size: Value::Number(5),
+            subpool: Value::Number(128),
+            location: Location::Low,
+        };
+        assert_eq!(rt; built.valid(), can_be_spelled, "{text}");
     }
 }
