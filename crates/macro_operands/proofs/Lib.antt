@@ -1,4 +1,5 @@
 pub mod ReadSlots
 pub mod WrittenOperands
 pub mod PairTexts
+pub mod HeaderTexts
 pub mod ReadValues

@@ -162,6 +162,7 @@ abbrev pub front_of : Operation → List ℕ
 front_of operation.Storage = 32 ∷ (codes "STORAGE" ++ 32 ∷ [])
 front_of operation.Getmain = 32 ∷ (codes "GETMAIN" ++ 32 ∷ [])
 front_of operation.Freemain = 32 ∷ (codes "FREEMAIN" ++ 32 ∷ [])
+front_of operation.Cpool = 32 ∷ (codes "CPOOL" ++ 32 ∷ [])
 front_of operation.Attach = 32 ∷ (codes "ATTACH" ++ 32 ∷ [])
 front_of operation.Detach = 32 ∷ (codes "DETACH" ++ 32 ∷ [])
 front_of operation.Run = 32 ∷ (codes "RUN" ++ 32 ∷ [])

@@ -20,6 +20,7 @@ front_fits : (o : Operation) → length (front_of o) + room o ≡ 71
 front_fits operation.Storage = refl
 front_fits operation.Getmain = refl
 front_fits operation.Freemain = refl
+front_fits operation.Cpool = refl
 front_fits operation.Attach = refl
 front_fits operation.Detach = refl
 front_fits operation.Run = refl
@@ -34,6 +35,7 @@ in_place : (o : Operation) (t : List ℕ) → is_misplaced (front_of o ++ t) ≡
 in_place operation.Storage t = refl
 in_place operation.Getmain t = refl
 in_place operation.Freemain t = refl
+in_place operation.Cpool t = refl
 in_place operation.Attach t = refl
 in_place operation.Detach t = refl
 in_place operation.Run t = refl
@@ -48,6 +50,7 @@ no_comment : (o : Operation) (t : List ℕ) → (is_blank (front_of o ++ t) || i
 no_comment operation.Storage t = refl
 no_comment operation.Getmain t = refl
 no_comment operation.Freemain t = refl
+no_comment operation.Cpool t = refl
 no_comment operation.Attach t = refl
 no_comment operation.Detach t = refl
 no_comment operation.Run t = refl
@@ -62,6 +65,7 @@ says : (o : Operation) (t text : List ℕ) → statement_with (front_of o ++ t) 
 says operation.Storage t text = refl
 says operation.Getmain t text = refl
 says operation.Freemain t text = refl
+says operation.Cpool t text = refl
 says operation.Attach t text = refl
 says operation.Detach t text = refl
 says operation.Run t text = refl
@@ -76,6 +80,7 @@ operands_behind_front : (o : Operation) (c : ℕ) (cs : List ℕ) → behind_of 
 operands_behind_front operation.Storage c cs has h = rw h refl
 operands_behind_front operation.Getmain c cs has h = rw h refl
 operands_behind_front operation.Freemain c cs has h = rw h refl
+operands_behind_front operation.Cpool c cs has h = rw h refl
 operands_behind_front operation.Attach c cs has h = rw h refl
 operands_behind_front operation.Detach c cs has h = rw h refl
 operands_behind_front operation.Run c cs has h = rw h refl

@@ -9,7 +9,7 @@ mod reading;
 
 pub use laws::{every_script_is_read, one_reading, valid_requests_are_read};
 pub use macro_statements::{
-    Boundary, Family, FaultKind, Form, Length, Location, Request, Statement, Subpools,
+    Boundary, Family, FaultKind, Form, Header, Length, Location, Request, Statement, Subpools,
     valid_requests_are_spelled,
 };
 pub use operand_texts::{
@@ -24,6 +24,8 @@ mod edge_tests;
 mod form_tests;
 #[cfg(test)]
 mod map_tests;
+#[cfg(test)]
+mod pool_tests;
 #[cfg(test)]
 mod task_tests;
 #[cfg(test)]

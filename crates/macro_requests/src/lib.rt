@@ -5,3 +5,4 @@ mod requests;
 
 pub use macro_operands::Header;
 pub use requests::{Form, Length, Request, Statement, Subpools};
+pub use vsm_model::{Boundary, Family, Location};

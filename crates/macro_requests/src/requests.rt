@@ -64,9 +64,9 @@ pub enum Statement {
         subpool: Value,
         form: Form,
     },
-    /// CPOOL BUILD: a cell pool of this name with a header, where it has one, of cells of so many bytes: so many at first
-    /// (`primary`), and so many more where a request for one finds none free (`secondary`; as many as at first where
-    /// it's left out), from a subpool and on such a side of the 16 MB line.
+    /// CPOOL BUILD (*Assembler Services Reference*, CPOOL): a cell pool of this name, with a header where there is one,
+    /// of cells of `size` bytes: `primary` of them at first, and `secondary` more where a request finds none free (as
+    /// many as at first where that's left out), from a subpool and on such a side of the 16 MB line.
     Build {
         pool: Name,
         header: Option<Header>,
@@ -270,7 +270,8 @@ fn is_whole_form(form: Form) -> bool
 }
 
 impl Statement {
-    /// Whether a line can spell this statement: whether it can spell each of its values, and some macro has its form.
+    /// Whether a line can spell this statement: whether it can spell each of its values, names and headers, and some
+    /// macro has its form.
     #[tactic(auto, using(crate::proofs::ValidForms::obtain_form))]
     pub fn valid(&self) -> bool
         ensures { IsTrue result ↔ IsValidAct (act_in self.now) }

@@ -37,7 +37,7 @@ pub record Spelled (most : ℕ) (k : Kind) (said : Option Said) : Type 0 where
   pub stands : IfSome text (λ t. (is_some (said_of k t) ≡ true) × IsOperand t)
   pub few : IfSome text (λ t. length t ≤ most)
 
-spelled_as : (most : ℕ) (k : Kind) (s : Said) (t : List ℕ) → said_of k t ≡ Some s → IsOperand t → length t ≤ most → Spelled most k (Some s)
+pub spelled_as : (most : ℕ) (k : Kind) (s : Said) (t : List ℕ) → said_of k t ≡ Some s → IsOperand t → length t ≤ most → Spelled most k (Some s)
 spelled_as most k s t e o f = record { text = Some t; says = e; stands = (ap is_some e, o); few = f }
 
 pub unsaid : (most : ℕ) (k : Kind) → Spelled most k None
@@ -127,18 +127,18 @@ both : (x y : Bool) → (x && y) ≡ true → (x ≡ true) × (y ≡ true)
 both true y h = (refl, h)
 both false y h = cc
 
-name_is : (n : List ℕ) → is_upper_name n ≡ true → name_of n ≡ Some n
+pub name_is : (n : List ℕ) → is_upper_name n ≡ true → name_of n ≡ Some n
 name_is n h =
     let b = both (is_name n) (is_word n n) h in
     ap (λ x. if x then Some (map to_ascii_uppercase n) else None) b.0 ∙ ap (λ x. Some x) ((bytes_eq-Decides (map to_ascii_uppercase n) n).0 b.1)
 
-name_few : (n : List ℕ) → is_name n ≡ true → length n ≤ 63
+pub name_few : (n : List ℕ) → is_name n ≡ true → length n ≤ 63
 name_few n h = let t = (both (nat_le 1 (length n)) (nat_le (length n) 63) (both _ (is_letter (slice_index n 0)) (both _ (list_all is_name_byte n) h).0).0).1 in grind (arith, nat_tests, t)
 
 pub name_stands : (n : List ℕ) → is_name n ≡ true → IsOperand n
 name_stands n h = goes_plain outside n (plain_name n h)
 
-name_kept : (n : List ℕ) → is_name n ≡ true → name_said n ≡ Some (name n)
+pub name_kept : (n : List ℕ) → is_name n ≡ true → name_said n ≡ Some (name n)
 name_kept n h = ap (λ b. if b then Some (name n) else None) h
 
 pub named_value_spelled : (n : List ℕ) → is_upper_name n ≡ true → SpelledValue 63 kind.NamedValue (named n)

@@ -1,8 +1,11 @@
 mod FormRows
 mod ReadRequests
+pub use Rattle.macro_requests.proofs.ValidNames
 mod FormTexts
 mod ReadForms
 pub mod SpelledOperands
 mod StorageTexts
+mod ReadPools
+mod PoolTexts
 mod TaskTexts
 pub mod RequestTexts

@@ -245,7 +245,7 @@ no_condition : (t : Option (List ℕ)) → condition_by (as_condition (read kind
 no_condition None = refl
 no_condition (Some t) = refl
 
-or_zero : (o : Option Written) → IfSome o IsValue → IsValue (unwrap_or o (written.number 0))
+pub or_zero : (o : Option Written) → IfSome o IsValue → IsValue (unwrap_or o (written.number 0))
 or_zero None h = omega arith
 or_zero (Some v) h = h
 
@@ -286,7 +286,7 @@ release_valid None None (Some s) form asked u v w d e h =
 abbrev pub ReadsValid : StorageForm → Type 0
 ReadsValid f = (os : List (List ℕ)) (asked : Asked) → form_with f os ≡ Ok asked → IsValidAsked asked
 
-no_fault_is : (f : Option FaultKind) (r : Result Asked FaultKind) (asked : Asked) → unless_fault f r ≡ Ok asked → r ≡ Ok asked
+pub no_fault_is : (f : Option FaultKind) (r : Result Asked FaultKind) (asked : Asked) → unless_fault f r ≡ Ok asked → r ≡ Ok asked
 no_fault_is (Some f) r asked h = cc
 no_fault_is None r asked h = h
 

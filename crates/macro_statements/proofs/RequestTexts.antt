@@ -14,7 +14,7 @@ use Rattle.macro_operands.specs.declared.faults.FaultKind.{FaultKind}
 use Rattle.macro_operands.specs.declared.faults.FaultKind.TheVariants as fault
 use Rattle.macro_operands.specs.declared.rows.Behind.TheVariants as behind
 use Rattle.macro_operands.specs.declared.rows.Kind.TheVariants as kind
-use Rattle.macro_requests.specs.Requests.{obtain, release, whole, WrittenSubpools, IsSubpools, attach, detach, run, end_task, poke, Asked, act, peek, map_asked, back, forward, IsValidAsked, AskedHasBytes, HasRoom, seen, asked_in}
+use Rattle.macro_requests.specs.Requests.{obtain, release, whole, build, get, free, delete, WrittenSubpools, IsSubpools, attach, detach, run, end_task, poke, Asked, act, peek, map_asked, back, forward, IsValidAsked, AskedHasBytes, HasRoom, seen, asked_in}
 use Rattle.macro_statements.specs.Forms.{obtaining, releasing}
 use Rattle.macro_statements.specs.Storage.{storage_macro}
 use Rattle.macro_statements.specs.Getmain as getmain
@@ -41,6 +41,8 @@ use Rattle.macro_operands.proofs.WrittenOperands as operands
 use Rattle.macro_statements.proofs.ReadForms.{some_value, ReadsValid, AllReadValid, macro_valid, obtains_s, releases_s, obtains_r, releases_r, obtains_e, releases_e, any_length, values_length, pairs_length, places, no_places}
 use Rattle.macro_statements.proofs.SpelledOperands.{Good, no_fault, text, in_position, Operands, Remarks, value_says}
 use Rattle.macro_statements.proofs.StorageTexts.{obtain_operands, release_operands, whole_operands}
+use Rattle.macro_statements.proofs.ReadPools.{cpool_valid}
+use Rattle.macro_statements.proofs.PoolTexts.{build_operands, get_operands, free_operands, delete_operands}
 use Rattle.macro_statements.proofs.TaskTexts.{attach_operands, detach_operands, run_operands}
 
 poke_is : (os : List (List ℕ)) (a : Written) (c : Stored) → first_fault poke_row os ≡ None
@@ -144,6 +146,10 @@ pub operands_of : (asked : Asked) → AskedHasBytes asked → IsValidAsked asked
 operands_of (act (obtain l s p y o form)) b h = inr (obtain_operands l s p y o form.family form.conditional h.0 h.1 h.2 h.3)
 operands_of (act (release l a s form)) b h = inr (release_operands l a s form.family form.conditional h.0 h.1 h.2 h.3)
 operands_of (act (whole s form)) b h = inr (whole_operands s form.family form.conditional h.0 h.1)
+operands_of (act (build n d p s z u o)) b h = inr (build_operands n d p s z u o h.0 h.1 h.2 h.3 h.4 h.5)
+operands_of (act (get n p c)) b h = inr (get_operands n p c h.0 h.1)
+operands_of (act (free n c)) b h = inr (free_operands n c h.0 h.1)
+operands_of (act (delete n)) b h = inr (delete_operands n h)
 operands_of (act (attach g s z)) b h = inr (attach_operands g s z h.0 h.1)
 operands_of (act (detach t)) b h = inr (detach_operands t h)
 operands_of (act (run t)) b h = inr (run_operands t h)
@@ -304,6 +310,7 @@ asked_valid : (o : Operation) (os : List (List ℕ)) (asked : Asked) → asked_o
 asked_valid operation.Storage os asked h = macro_valid storage_macro storage_forms os asked h
 asked_valid operation.Getmain os asked h = macro_valid getmain_macro getmain_forms os asked h
 asked_valid operation.Freemain os asked h = macro_valid freemain_macro freemain_forms os asked h
+asked_valid operation.Cpool os asked h = cpool_valid os asked h
 asked_valid operation.Attach os asked h =
     attach_valid (first_fault attach_row os) _ _ _ asked (subpools_valid _ _ (value_valid (text_at (keyword (codes "GSPV")) os)) (value_valid (text_at (keyword (codes "GSPL")) os)))
     (subpools_valid _ _ (value_valid (text_at (keyword (codes "SHSPV")) os)) (value_valid (text_at (keyword (codes "SHSPL")) os))) h

@@ -14,13 +14,13 @@ ghost use Rattle.macro_statements.specs.Forms.{obtain_by, release_by, form_with,
 ghost use Rattle.macro_statements.specs.Forms.{macro_of};
 ghost use Rattle.macro_statements.specs.Slots.{form_in, macro_in};
 
-use macro_requests::{Form, Length, Request, Statement};
 use macro_operands::FaultKind;
 use macro_operands::operands::{operand_at, read, unknown_fault};
 use macro_operands::rows::Row;
 use macro_operands::said::{
     NOTHING, Said, boundary_at, condition_at, location_at, pair_at, place_at, value_at,
 };
+use macro_requests::{Form, Length, Request, Statement};
 use operand_texts::nesting::split;
 use operand_texts::values::Value;
 use operand_texts::words::is_word;

@@ -1,9 +1,9 @@
 //! FREEMAIN: its forms that release one area, or all of a subpool.
 
 use crate::forms::{LEFT_OUT_KEYWORDS, StorageForm, StorageMacro, releasing, storage_row};
-use macro_requests::Form;
 use macro_operands::keyword;
 use macro_operands::rows::Row;
+use macro_requests::Form;
 use vsm_model::Family;
 
 /// The operands of a form: LV and A of these kinds, and SP.

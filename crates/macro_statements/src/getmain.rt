@@ -1,9 +1,9 @@
 //! GETMAIN: its forms that obtain one area.
 
 use crate::forms::{LEFT_OUT_KEYWORDS, StorageForm, StorageMacro, obtaining, storage_row};
-use macro_requests::Form;
 use macro_operands::keyword;
 use macro_operands::rows::Row;
+use macro_requests::Form;
 use vsm_model::Family;
 
 /// The operands of a form: LV, A, BNDRY and LOC of these kinds, and SP.

@@ -17,6 +17,7 @@ mod storage;
 
 pub use laws::valid_requests_are_spelled;
 pub use macro_operands::FaultKind;
-pub use macro_requests::{Form, Header, Length, Request, Statement, Subpools};
+pub use macro_requests::{
+    Boundary, Family, Form, Header, Length, Location, Request, Statement, Subpools,
+};
 pub use statements::{from_operands, is_misplaced, statement_with};
-pub use vsm_model::{Boundary, Family, Location};

@@ -7,11 +7,11 @@ ghost use Rattle.macro_operands.specs.Slots.{slots_in};
 ghost use Rattle.macro_statements.specs.Slots.{peek_by};
 ghost use Rattle.macro_statements.specs.Peek.{peek_of};
 
-use macro_requests::Request;
 use macro_operands::operands::{read, some_field};
 use macro_operands::rows::Row;
 use macro_operands::said::{NOTHING, Said, size_at, value_at};
 use macro_operands::{FaultKind, position};
+use macro_requests::Request;
 
 /// PEEK.
 pub const PEEK: Row = Row {

@@ -15,12 +15,12 @@ use crate::freemain::FREEMAIN;
 use crate::getmain::GETMAIN;
 use crate::peek::peek;
 use crate::poke::poke;
-use macro_requests::{Request, Statement};
 use crate::run::run;
 use crate::steps::count_in;
 use crate::storage::STORAGE;
 use macro_operands::FaultKind;
 use macro_operands::rows::Behind;
+use macro_requests::{Request, Statement};
 use operand_texts::nesting::is_balanced;
 use operand_texts::words::{after_blanks, after_word, is_name, is_word, word, word_len};
 

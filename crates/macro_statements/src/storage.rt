@@ -3,9 +3,9 @@
 use crate::forms::{
     LEFT_OUT_KEYWORDS, StorageForm, StorageMacro, obtaining, releasing, storage_row,
 };
-use macro_requests::Form;
 use macro_operands::keyword;
 use macro_operands::rows::Row;
+use macro_requests::Form;
 use vsm_model::Family;
 
 /// STORAGE OBTAIN.
