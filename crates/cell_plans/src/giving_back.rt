@@ -102,7 +102,7 @@ fn push_area(
     requires range { area.start + area.len ≤ 2 ^ 29 }
     ensures { OnOk result (
         let pages = emptied_pages (freed (state_of storage.now).subpools subpool given.now.items) subpool
-            area.start area.len in
+        area.start area.len in
         records.new.items
         ≡ records.old.items ++ give_back_records subpool area.start area.len pages.start pages.len) }
 {
