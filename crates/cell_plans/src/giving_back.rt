@@ -3,11 +3,11 @@ ghost use Rattle.std.specs.Prelude.{◌≡◌, ◌+◌, ◌-◌, ◌^◌, ◌<�
 ghost use Rattle.vsm_model.specs.declared.Subpool.{Subpool as Named};
 ghost use Rattle.cell_pool.specs.Pools.{Pool};
 ghost use Rattle.subpool_storage.specs.Subpools.{Subpools, with_free};
-ghost use Rattle.storage_actions.specs.Actions.{area_records, emptied_pages, give_back_records, returned_records};
+ghost use Rattle.storage_actions.specs.Actions.{area_records, give_back_records, returned_records};
 ghost use Rattle.storage_exchange.specs.Storage.{state_of, Stand};
 ghost use Rattle.cell_actions.specs.Actions.{extents_given_back};
 ghost use Rattle.cell_plans.specs.CellPlans.{CanBeDeleted};
-ghost use Rattle.cell_plans.specs.Emptied.{freed};
+ghost use Rattle.cell_plans.specs.Emptied.{area_given_back, freed};
 
 use crate::emptied::{PAGE_DOUBLEWORDS, emptied};
 use crate::sizes::extent_doublewords;
@@ -100,11 +100,8 @@ fn push_area(
     requires given { All (λ area. area.start + area.len ≤ 2 ^ 29) given.now.items }
     requires some { 0 < area.len }
     requires range { area.start + area.len ≤ 2 ^ 29 }
-    ensures { OnOk result (
-        let pages = emptied_pages (freed (state_of storage.now).subpools subpool given.now.items) subpool
-        area.start area.len in
-        records.new.items
-        ≡ records.old.items ++ give_back_records subpool area.start area.len pages.start pages.len) }
+    ensures { OnOk result (records.new.items ≡ records.old.items
+        ++ area_given_back (freed (state_of storage.now).subpools subpool given.now.items) subpool area) }
 {
     let pages = emptied(storage, subpool, given, area);
     push_given_back(records, subpool, area, pages)
