@@ -1,16 +1,14 @@
 -- CPOOL DELETE, and its plan on the plain machine.
-use Rattle.std.proofs.Common.{◌≡◌, ℕ, ◌+◌, ◌-◌, ◌*◌, ◌/◌, ◌<◌, ◌≤◌, ◌^◌, Bool, true, false, not, Option, Some, None, IsSome, IfSome, is_some, List, [], ◌∷◌, ◌++◌, length, All, refl, sym, ◌∙◌, ap, subst, arith}
+use Rattle.std.proofs.Common.{◌≡◌, ℕ, ◌+◌, ◌-◌, ◌*◌, ◌/◌, ◌<◌, Bool, true, false, not, Option, Some, None, IsSome, IfSome, is_some, List, [], ◌∷◌, ◌++◌, length, All, refl, sym, ◌∙◌, ap, subst, arith}
 use Rattle.std.specs.Prelude.{Ok}
 use Rattle.std.proofs.Math.Logic.{∥∥₁_elim, ∥∥₁_map}
 use Rattle.std.proofs.Math.Nat.{mul-pos}
 use Rattle.std.proofs.Props.{props}
-use Rattle.std.proofs.lemmas.List.{append_assoc}
 use Rattle.vsm_model.specs.declared.Subpool.{Subpool}
 use Rattle.vsm_model.specs.declared.causes.Cause.TheVariants.{NoCellPool}
 use Rattle.vsm_model.specs.declared.limits.Settings.{Settings}
 use Rattle.vsm_model.specs.declared.replies.Reply.TheVariants.{Returned}
 use Rattle.vsm_model.specs.Causes.{first_cause}
-use Rattle.vsm_model.specs.CellPools.{CellPool, extent_doublewords}
 use Rattle.vsm_model.specs.Cells.{deleted, sees_pool}
 use Rattle.vsm_model.specs.Regions.{doublewords, settings_valid}
 use Rattle.vsm_model.specs.Registers.{with_registers}
@@ -31,7 +29,7 @@ use Rattle.cell_tables.specs.Named.{AreNamed}
 use Rattle.cell_tables.specs.Table.{cell_pool_of, extent_of}
 use Rattle.storage_changes.specs.declared.record.Record.{Record}
 use Rattle.storage_changes.specs.declared.record.Record.TheVariants.{CellPool as CellPoolRow, Register}
-use Rattle.storage_changes.specs.Changes.{Change, change_of, change_parking, no_pages}
+use Rattle.storage_changes.specs.Changes.{change_parking}
 use Rattle.storage_changes.specs.Meaning.{model_of, IsSound}
 use Rattle.storage_changes.specs.State.{StorageState}
 use Rattle.storage_actions.specs.Actions.{register_records}
@@ -39,7 +37,6 @@ use Rattle.storage_plans.specs.Plans.{IsAccepted}
 use Rattle.storage_plans.proofs.Carried.{no_registers, register_and}
 use Rattle.cell_actions.specs.Actions.{extents_given_back}
 use Rattle.cell_actions.specs.Laws.{DeletingLeads}
-use Rattle.cell_plans.specs.declared.delete.DeletePlan.{DeletePlan}
 use Rattle.cell_plans.specs.CellPlans.{deleting_change, delete_change, CanBeDeleted, IsDeletePlanned}
 use Rattle.cell_plans.specs.Seen.{IsSeen}
 use Rattle.cell_plans.proofs.GivenAreas.{EndsLow}

@@ -1,5 +1,5 @@
 -- Where free doublewords end that begin with one, and areas that have it.
-use Rattle.std.proofs.Common.{◌≡◌, ℕ, zero, suc, ◌+◌, ◌-◌, ◌^◌, ◌<◌, ◌≤◌, Bool, true, false, ◌||◌, List, [], ◌∷◌, length, drop, Some, None, refl, sym, ap, ◌∙◌, arith, inl, inr}
+use Rattle.std.proofs.Common.{◌≡◌, ℕ, zero, suc, ◌+◌, ◌^◌, ◌<◌, ◌≤◌, Bool, true, false, ◌||◌, List, [], ◌∷◌, drop, Some, None, refl, sym, ap, ◌∙◌, arith, inl, inr}
 use Rattle.std.specs.Prelude.{slice_get, nat_le, nat_lt}
 use Rattle.std.proofs.lemmas.Bool.{and_parts, and_from, leb-true, ltb-true, le-leb, lt-ltb, cases_lt}
 use Rattle.std.proofs.lemmas.Option.{slice_get_within, get_or_from_slice_get}
@@ -26,11 +26,11 @@ inside_from r d low high = and_from (nat_le r.start d) (nat_lt d (r.start + r.le
 pub in_inside : (r : Run) (d : ℕ) → inside d r ≡ true → (r.start ≤ d) × (d < r.start + r.len)
 in_inside r d e = let parts = and_parts (nat_le r.start d) (nat_lt d (r.start + r.len)) e in (leb-true r.start d parts.0, ltb-true d (r.start + r.len) parts.1)
 
-or_here : (a b : Bool) → a ≡ true → (a || b) ≡ true
+pub or_here : (a b : Bool) → a ≡ true → (a || b) ≡ true
 or_here true b e = refl
 or_here false b e = cc
 
-or_there : (a b : Bool) → b ≡ true → (a || b) ≡ true
+pub or_there : (a b : Bool) → b ≡ true → (a || b) ≡ true
 or_there true b e = refl
 or_there false b e = e
 

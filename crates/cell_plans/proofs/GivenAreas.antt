@@ -1,5 +1,6 @@
 -- The free storage of a subpool once areas are given back, and the records by which they are.
-use Rattle.std.proofs.Common.{◌≡◌, ℕ, ◌+◌, ◌*◌, ◌/◌, ◌^◌, ◌<◌, ◌≤◌, Bool, true, false, ◌&&◌, ◌||◌, if◌then◌else◌, List, [], ◌∷◌, ◌++◌, length, refl, sym, ap, ◌∙◌, subst, arith, append_assoc}
+use Rattle.std.proofs.Common.{◌≡◌, ℕ, ◌+◌, ◌*◌, ◌/◌, ◌^◌, ◌<◌, ◌≤◌, Bool, true, false, ◌&&◌, ◌||◌, if◌then◌else◌, List, [], ◌∷◌, ◌++◌, refl, sym, ap, ◌∙◌, subst, arith, append_assoc, inl, inr}
+use Rattle.std.proofs.lemmas.Bool.{cases_lt, or_cases}
 use Rattle.std.specs.Prelude.{All}
 use Rattle.std.proofs.lemmas.List.{append-nil}
 use Rattle.std.proofs.lemmas.List.Elements.{All-head, All-tail, All-cons, All-nil}
@@ -12,9 +13,11 @@ use Rattle.cell_extents.specs.declared.settings.Extent.{Extent}
 use Rattle.subpool_storage.specs.Subpools.{Subpools, with_free}
 use Rattle.storage_changes.specs.declared.record.Record.{Record}
 use Rattle.storage_changes.proofs.Cases.{same-self}
-use Rattle.storage_actions.specs.Actions.{emptied_pages, give_back_records}
+use Rattle.storage_actions.specs.Actions.{emptied_pages, give_back_records, run_of}
+use Rattle.storage_actions.proofs.Cases.{same_answers}
 use Rattle.cell_actions.specs.Actions.{extents_given_back}
 use Rattle.cell_plans.specs.Emptied.{area_of, freed}
+use Rattle.cell_plans.proofs.FreeEnds.{inside_from, in_inside, or_here, or_there}
 
 -- a doubleword is free where it was, or where an area has it
 freed_or : (same own later was : Bool) → same ≡ true → (later || (if same && own then true else was)) ≡ ((own || later) || was)
@@ -38,6 +41,46 @@ freed_more m p (one ∷ areas) area = freed_more (with_free m p one true) p area
 pub all_and : (P : Run → Type 0) (areas : List Run) (area : Run) → All P areas → P area → All P (areas ++ area ∷ [])
 all_and P [] area h its = All-cons P area [] its (All-nil P)
 all_and P (one ∷ areas) area h its = All-cons P one (areas ++ area ∷ []) (All-head P one areas h) (all_and P areas area (All-tail P one areas h) its)
+
+-- two areas, where the second begins at the end of the first, have the doublewords of one
+abbrev pub joined : Run → Run → Run
+joined a b = run_of a.start (a.len + b.len)
+
+inside_joined : (a b : Run) (d : ℕ) → a.start + a.len ≡ b.start → inside d (joined a b) ≡ (inside d a || inside d b)
+inside_joined a b d e =
+    same_answers (inside d (joined a b)) (inside d a || inside d b)
+    (λ h. let at = in_inside (joined a b) d h in elim (cases_lt d b.start) [
+      | inl less ↦ or_here (inside d a) (inside d b) (inside_from a d at.0 (omega (arith, less, e)))
+      | inr more ↦ or_there (inside d a) (inside d b) (inside_from b d more (omega (arith, at.1, e)))
+    ])
+    (λ h. elim (or_cases (inside d a) (inside d b) h) [
+      | inl own ↦ let at = in_inside a d own in inside_from (joined a b) d at.0 (omega (arith, at.1))
+      | inr own ↦ let at = in_inside b d own in inside_from (joined a b) d (omega (arith, at.0, e)) (omega (arith, at.1, e))
+    ])
+
+free_in_both : (same one two was : Bool) → (if same && (one || two) then true else was) ≡ (if same && two then true else if same && one then true else was)
+free_in_both true true true was = refl
+free_in_both true true false was = refl
+free_in_both true false true was = refl
+free_in_both true false false was = refl
+free_in_both false one two was = refl
+
+freed_joined : (u : Subpools) (p : Subpool) (a b : Run) → a.start + a.len ≡ b.start → with_free u p (joined a b) true ≡ with_free (with_free u p a true) p b true
+freed_joined u p a b e =
+    λ i. record u {
+      free = λ q d. (ap (λ c. if same_subpool q p && c then true else u.free q d) (inside_joined a b d e)
+          ∙ free_in_both (same_subpool q p) (inside d a) (inside d b) (u.free q d)) i;
+    }
+
+-- one area more, which may be joined to the last one
+module _ (m : Subpools) (p : Subpool) (old front now : List Run) (last area : Run) (was : old ≡ front ++ last ∷ []) where
+  pub freed_as_one : last.start + last.len ≡ area.start → now ≡ front ++ joined last area ∷ [] → freed m p now ≡ with_free (freed m p old) p area true
+  freed_as_one e is =
+      ap (freed m p) is ∙ freed_more m p front (joined last area) ∙ freed_joined (freed m p front) p last area e
+      ∙ sym (ap (λ u. with_free u p area true) (ap (freed m p) was ∙ freed_more m p front last))
+
+pub freed_apart : (m : Subpools) (p : Subpool) (old now : List Run) (area : Run) → now ≡ old ++ area ∷ [] → freed m p now ≡ with_free (freed m p old) p area true
+freed_apart m p old now area is = ap (freed m p) is ∙ freed_more m p old area
 
 -- what holds of all that are left holds of the first of them, and of the others
 pub first_has : {A : Type 0} (P : A → Type 0) (x : A) (rest left : List A) → left ≡ x ∷ rest → All P left → P x
@@ -64,12 +107,12 @@ module _ (m : Subpools) (p : Subpool) (size : ℕ) (given : List Run) (x : Exten
 
   pub records_go_over :
       (records then_records whole : List Record) (now : List Run) → records ++ extents_given_back (freed m p given) p size left ≡ whole
-      → then_records ≡ records ++ its → now ≡ given ++ area ∷ [] → then_records ++ extents_given_back (freed m p now) p size rest ≡ whole
+      → then_records ≡ records ++ its → freed m p now ≡ with_free (freed m p given) p area true → then_records ++ extents_given_back (freed m p now) p size rest ≡ whole
   records_go_over records then_records whole now e at more =
       let behind : Subpools → List Record = λ u. extents_given_back u p size rest in
       ap (λ zs. zs ++ behind (freed m p now)) at
       ∙ append_assoc records its (behind (freed m p now))
-      ∙ ap (λ u. records ++ (its ++ behind u)) (ap (freed m p) more ∙ freed_more m p given area)
+      ∙ ap (λ u. records ++ (its ++ behind u)) more
       ∙ ap (λ xs. records ++ extents_given_back (freed m p given) p size xs) (sym is)
       ∙ e
 

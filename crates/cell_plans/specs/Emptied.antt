@@ -6,7 +6,8 @@ use Rattle.vsm_model.specs.declared.Subpool.{Subpool}
 use Rattle.vsm_model.specs.Regions.{doublewords}
 use Rattle.cell_extents.specs.declared.settings.Extent.{Extent}
 use Rattle.subpool_storage.specs.Subpools.{Subpools, with_free}
-use Rattle.storage_actions.specs.Actions.{run_of}
+use Rattle.storage_changes.specs.declared.record.Record.{Record}
+use Rattle.storage_actions.specs.Actions.{run_of, emptied_pages, give_back_records}
 
 -- the doublewords of an extent whose cells have this size in bytes
 abbrev pub area_of : ℕ → Extent → Run
@@ -16,6 +17,12 @@ area_of size x = run_of (x.start / 8) (doublewords (x.count * size))
 abbrev pub freed : Subpools → Subpool → List Run → Subpools
 freed m p [] = m
 freed m p (area ∷ areas) = freed (with_free m p area true) p areas
+
+-- the records by which an area is given back with the pages that it empties
+abbrev pub area_given_back : Subpools → Subpool → Run → List Record
+area_given_back m p area =
+    let pages = emptied_pages m p area.start area.len in
+    give_back_records p area.start area.len pages.start pages.len
 
 -- From a doubleword up to another each is free, which is the first one itself where that isn't free.
 pub record IsFreeUpTo (free : ℕ → Bool) (first end : ℕ) : Type 0 where

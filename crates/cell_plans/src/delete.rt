@@ -27,11 +27,8 @@ pub struct DeletePlan {
     pub pool: CellId,
 }
 
-/// The most records of a change, and the most extents: where there are more, it's refused as if there were no memory for
-/// it.
+/// The most records of a change: with more, it's refused as if there were no memory for them.
 const RECORDS_MOST: usize = 1 << 22;
-
-const EXTENTS_MOST: usize = 1 << 20;
 
 /// A plan for the end of a cell pool (*Assembler Services Reference*, CPOOL DELETE): each of its extents is given back,
 /// cells in use among them, and the pages that are left without a taken doubleword leave the subpool. Register 15 gets
@@ -57,7 +54,8 @@ pub fn plan_delete(storage: &Storage, name: &str) -> Result<DeletePlan, Cause>
 impl DeletePlan {
     /// What the change is made of: a record for the cell pool, and up to six for each of its extents, which is given
     /// back with the pages that it empties once those before it are given back. `AllocError` where there is no memory
-    /// for the list, or it would be longer than four million.
+    /// for the list, it would be longer than four million (2^22), or the cell pool has more than a million extents
+    /// (2^20).
     pub fn listed(self, alloc: Global, storage: &Storage) -> Result<Listed, AllocError>
         requires stands { Stand storage.now }
         requires can { CanBeDeleted (state_of storage.now) self }
@@ -74,13 +72,13 @@ impl DeletePlan {
         }))?;
         let extents = push_extents(alloc, storage, &mut records, self.pool)?;
         push_register(&mut records, storage.tasks.current(), 15, 0)?;
-        if records.len() >= RECORDS_MOST || extents >= EXTENTS_MOST {
+        if records.len() >= RECORDS_MOST {
             return Err(AllocError);
         }
         Ok(Listed {
             names: Vec::new(alloc),
             records,
-            blanks: 7 * extents as u32,
+            blanks: 7 * extents,
         })
     }
 }

@@ -1,11 +1,13 @@
 //! The records by which the extents of a cell pool are given back.
-ghost use Rattle.std.specs.Prelude.{◌≡◌, ◌+◌, ◌-◌, ◌^◌, ◌<◌, ◌≤◌, ◌++◌, All, length, Some, IfOk, OnOk};
+ghost use Rattle.std.specs.Prelude.{◌≡◌, ◌+◌, ◌-◌, ◌^◌, ◌<◌, ◌≤◌, ◌++◌, true, All, length, Some, IfOk, OnOk};
+ghost use Rattle.vsm_model.specs.declared.Subpool.{Subpool as Named};
 ghost use Rattle.cell_pool.specs.Pools.{Pool};
-ghost use Rattle.storage_actions.specs.Actions.{area_records, emptied_pages, give_back_records, returned_records};
+ghost use Rattle.subpool_storage.specs.Subpools.{Subpools, with_free};
+ghost use Rattle.storage_actions.specs.Actions.{area_records, give_back_records, returned_records};
 ghost use Rattle.storage_exchange.specs.Storage.{state_of, Stand};
 ghost use Rattle.cell_actions.specs.Actions.{extents_given_back};
 ghost use Rattle.cell_plans.specs.CellPlans.{CanBeDeleted};
-ghost use Rattle.cell_plans.specs.Emptied.{freed};
+ghost use Rattle.cell_plans.specs.Emptied.{area_given_back, freed};
 
 use crate::emptied::{PAGE_DOUBLEWORDS, emptied};
 use crate::sizes::extent_doublewords;
@@ -15,6 +17,9 @@ use std::alloc::{AllocError, Global};
 use storage_changes::{AreaRecord, ExtentRecord, PagesRecord, Record};
 use storage_exchange::Storage;
 use vsm_model::Subpool;
+
+/// The most extents of a cell pool that goes: with more, it's refused as if there were no memory for its records.
+const EXTENTS_MOST: u32 = 1 << 20;
 
 // One more record: the doublewords from one up to another, if there are any, become free storage of the subpool, or
 // taken.
@@ -95,24 +100,45 @@ fn push_area(
     requires given { All (λ area. area.start + area.len ≤ 2 ^ 29) given.now.items }
     requires some { 0 < area.len }
     requires range { area.start + area.len ≤ 2 ^ 29 }
-    ensures { OnOk result (
-        let pages = emptied_pages (freed (state_of storage.now).subpools subpool given.now.items) subpool
-        area.start area.len in
-        records.new.items
-        ≡ records.old.items ++ give_back_records subpool area.start area.len pages.start pages.len) }
+    ensures { OnOk result (records.new.items ≡ records.old.items
+        ++ area_given_back (freed (state_of storage.now).subpools subpool given.now.items) subpool area) }
 {
     let pages = emptied(storage, subpool, given, area);
     push_given_back(records, subpool, area, pages)
 }
 
+// One more area that is given back: where it begins at the end of the last one, they are one.
+fn add_given(given: &mut Vec<Run>, area: Run) -> Result<(), AllocError>
+    requires given { All (λ area. area.start + area.len ≤ 2 ^ 29) given.old.items }
+    requires range { area.start + area.len ≤ 2 ^ 29 }
+    ensures freed { OnOk result ((m : Subpools) (p : Named) → freed m p given.new.items
+        ≡ with_free (freed m p given.old.items) p area true) }
+    ensures low { OnOk result (All (λ area. area.start + area.len ≤ 2 ^ 29) given.new.items) }
+{
+    let Some(last) = given.pop() else {
+        given.push(area)?;
+        return Ok(());
+    };
+    if last.start + last.len == area.start {
+        given.push(Run {
+            start: last.start,
+            len: last.len + area.len,
+        })?;
+        return Ok(());
+    }
+    given.push(last)?;
+    given.push(area)?;
+    Ok(())
+}
+
 /// The records by which each extent of the cell pool is given back, the first one first, and how many extents it has.
-/// `AllocError` where there is no memory for them.
+/// `AllocError` where there is no memory for them, or it has more than a million extents (2^20).
 pub(crate) fn push_extents(
     alloc: Global,
     storage: &Storage,
     records: &mut Vec<Record>,
     pool: CellId,
-) -> Result<usize, AllocError>
+) -> Result<u32, AllocError>
     requires stands { Stand storage.now }
     requires can { CanBeDeleted (state_of storage.now) (record { pool = pool }) }
     ensures records { IfOk result (λ count. (p : Pool) → (state_of storage.now).subpools.cells pool ≡ Some p
@@ -120,19 +146,25 @@ pub(crate) fn push_extents(
         p.settings.subpool p.settings.size p.extents) }
     ensures count { IfOk result (λ count. (p : Pool) → (state_of storage.now).subpools.cells pool ≡ Some p
         → count ≡ length p.extents) }
+    ensures few { IfOk result (λ count. count ≤ 2 ^ 20) }
 {
     let pools = storage.subpools.cell_pools(&storage.elements);
     let cells = pools.settings(&storage.elements, pool);
     let mut given = Vec::new(alloc);
+    let mut count = 0;
     let mut place = pools.first_extent(&storage.elements, pool);
     while let Some((extent, next)) = CellPools::next_extent(&storage.elements, place) {
+        if count == EXTENTS_MOST {
+            return Err(AllocError);
+        }
         let area = Run {
             start: extent.start / 8,
             len: extent_doublewords(extent.count, cells.size),
         };
         push_area(storage, records, cells.subpool, &given, area)?;
-        given.push(area)?;
+        add_given(&mut given, area)?;
+        count += 1;
         place = next;
     }
-    Ok(given.len())
+    Ok(count)
 }

@@ -1,4 +1,4 @@
-use Rattle.std.proofs.Common.{◌+◌, ◌≤◌, refl, arith}
+use Rattle.std.proofs.Common.{arith}
 use Rattle.storage_exchange.specs.Storage.{state_of}
 use Rattle.cell_plans.specs.Emptied.{freed}
 use Rattle.cell_plans.proofs.FreeEnds.{goes_on, all_free, not_all_free}

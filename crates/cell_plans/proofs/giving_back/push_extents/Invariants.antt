@@ -16,7 +16,8 @@ invariant-loop-extent l =
       low : All (λ x. (0 < doublewords (x.count * l.cells.size)) × (x.count * l.cells.size < 2 ^ 32)
           × (x.start / 8 + doublewords (x.count * l.cells.size) ≤ 2 ^ 29)) left;
       given_low : All (λ area. area.start + area.len ≤ 2 ^ 29) l.given.items;
-      count : length l.given.items + length left ≡ length all;
+      count : l.count + length left ≡ length all;
+      few : l.count ≤ 2 ^ 20;
       records : l.records.items ++ extents_given_back (freed m l.cells.subpool l.given.items) l.cells.subpool l.cells.size left
           ≡ l.initial.records.items ++ extents_given_back m l.cells.subpool l.cells.size all;
     }
