@@ -22,11 +22,3 @@ made_of p t m plan d free same (Ok c) made =
     let P : Meaning → Type 0 = λ x. Reserves p x c t in
     (0, free, subst P same made)
 made_of p t m plan d free same (Err e) made = made
-
--- that of a cell pool which comes has few elements
-pub building_few : (p t : Parts) (plan : BuildPlan) (id : ℕ) (c : Change) → Reserves p (build_change plan id) c t
-    → length plan.records.items ≤ 17 → plan.blanks ≤ 5 → c.records.count + c.blanks.count < 32
-building_few p t plan id c made few blank =
-    let n = length plan.records.items in
-    let count : c.records.count + c.blanks.count ≡ suc n + plan.blanks = reserved_count p t (build_change plan id) c made in
-    omega arith

@@ -1,4 +1,4 @@
--- How many elements the change of a task that comes has, that of tasks that end, and that of a cell pool that goes.
+-- How many elements the change of a task that comes has, and that of tasks that end.
 use Rattle.std.proofs.Common.{◌≡◌, ℕ, zero, suc, ◌+◌, ◌*◌, ◌<◌, ◌≤◌, Bool, true, false, List, [], ◌∷◌, ◌++◌, length, Option, Some, None, Result, Ok, Err, IfOk, refl, ap, ◌∙◌, arith}
 use Rattle.std.specs.List.{flat_map}
 use Rattle.std.proofs.lemmas.List.{length-append}
@@ -83,7 +83,3 @@ end_few p t m plan r made =
     let registers = register_records (with_turn m plan.next) (end_registers plan.reply) in
     few-answered p t (end_change m plan) (elements_below m (End plan)) r made
     (omega (arith, length-append records registers, one-register (with_turn m plan.next) plan.reply))
-
-pub delete_few : {E : Type 0} (p t : Parts) (m : StorageState) (plan : DeletePlan) (r : Result Change E) → IfOk r (λ c. Reserves p (delete_change m plan) c t) →
-    IfOk r (λ c. c.records.count + c.blanks.count < elements_below m (Delete plan))
-delete_few p t m plan r made = few-answered p t (delete_change m plan) (elements_below m (Delete plan)) r made (omega arith)

@@ -1,10 +1,10 @@
-use Rattle.std.proofs.Common.{◌≡◌, ◌+◌, ◌<◌, length, IfOk, IsOk, sym, ap, ◌∙◌, subst}
+use Rattle.std.proofs.Common.{◌≡◌, ◌+◌, ◌<◌, length, IfOk, IsOk, sym, subst}
 use Rattle.storage_changes.specs.Changes.{Change as Meaning}
 use Rattle.storage_swap.specs.Reserve.{Reserves}
 use Rattle.storage_core.specs.declared.plans.Plan.{Plan}
 use Rattle.storage_core.specs.declared.plans.Plan.TheVariants.{End}
 use Rattle.storage_core.specs.Meaning.{state_in_place}
-use Rattle.storage_core.specs.Planned.{change_for, elements_below, pages_assigned, IsSpare}
+use Rattle.storage_core.specs.Planned.{elements_below, pages_assigned, IsSpare}
 use Rattle.storage_core.proofs.Made.{IsMadeOf, made_of}
 use Rattle.storage_core.proofs.TaskCounts.{attach_few, end_few}
 use Rattle.storage_core.proofs.storage.Storage.reserve.Goals as goal

@@ -1,5 +1,3 @@
-use Rattle.storage_changes.specs.Changes.{change_of, change_building}
-use Rattle.storage_swap.specs.Building.{pool_as}
 use Rattle.storage_core.proofs.Holding.{answered_is_held, unassigned_in_region}
 use Rattle.storage_core.proofs.Staying.{left_as_it_was}
 use Rattle.storage_core.proofs.storage.Storage.reserve_building.Goals as goal
