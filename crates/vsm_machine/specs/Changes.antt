@@ -1,6 +1,6 @@
 -- The changes of a machine: a change of its storage, and at most one name with its other word. A swap exchanges them
 -- with those of the machine.
-use Rattle.std.specs.Prelude.{◌≡◌, ℕ, Bool, true, ◌&&◌, Option, None, List, [], ◌∷◌, ◌++◌, map, refl}
+use Rattle.std.specs.Prelude.{◌≡◌, ℕ, Bool, true, ◌&&◌, Option, List, [], ◌∷◌, ◌++◌, map, refl}
 use Rattle.std.specs.Option.{option_map}
 use Rattle.std.specs.List.{AllByRecursion}
 use Rattle.std.proofs.Common.{sym, subst, ap}

@@ -1,6 +1,5 @@
-use Rattle.std.proofs.Common.{◌≡◌, ◌∷◌, ◌<◌, ℕ, List, [], Option, Some, None, length, flat_map, sym, ap, ◌∙◌, subst}
+use Rattle.std.proofs.Common.{◌≡◌, ◌∷◌, ◌<◌, ℕ, List, [], Option, Some, None, length, flat_map, ap, subst}
 use Rattle.std.specs.Prelude.{IfSome, option_map}
-use Rattle.cell_pool.specs.Pools.{Pool}
 use Rattle.cell_readings.specs.Cells.{cell_pool}
 use Rattle.cell_tables.specs.Order.{rows_behind}
 use Rattle.cell_tables.specs.Table.{cell_pool_of}

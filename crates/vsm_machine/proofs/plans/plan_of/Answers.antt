@@ -1,4 +1,4 @@
-use Rattle.std.proofs.Common.{◌≡◌, Bool, Ok, Err, ap, ◌∙◌, subst}
+use Rattle.std.proofs.Common.{Bool, Ok, Err, ap, ◌∙◌, subst}
 use Rattle.vsm_model.specs.Codes.{code_of, suffix}
 use Rattle.vsm_model.specs.Meaning.{service_in}
 use Rattle.vsm_model.specs.Names.{is_one_too_many}
