@@ -1,15 +1,12 @@
 -- A change that was made, as that of a plan, under the id that a cell pool which comes has.
-use Rattle.std.proofs.Common.{◌≡◌, ℕ, suc, ◌+◌, ◌<◌, ◌≤◌, length, Option, Result, Ok, Err, IfOk, ap, subst, arith}
+use Rattle.std.proofs.Common.{◌≡◌, ℕ, Result, Ok, Err, IfOk, subst}
 use Rattle.storage_changes.specs.Changes.{Change as Meaning}
 use Rattle.storage_changes.specs.State.{StorageState}
 use Rattle.storage_exchange.specs.declared.storage.Storage.{Storage as Parts}
 use Rattle.storage_swap.specs.declared.change.Change.{Change}
 use Rattle.storage_swap.specs.Reserve.{Reserves}
-use Rattle.cell_plans.specs.declared.build.BuildPlan.{BuildPlan}
-use Rattle.cell_plans.specs.CellPlans.{build_change}
 use Rattle.storage_core.specs.declared.plans.Plan.{Plan}
 use Rattle.storage_core.specs.Planned.{IsIdFor, change_for}
-use Rattle.storage_core.proofs.Counted.{reserved_count}
 
 -- the change of a plan was made, under an id that it can have
 abbrev pub IsMadeOf : {E : Type 0} → Parts → StorageState → Plan → Parts → Result Change E → Type 0

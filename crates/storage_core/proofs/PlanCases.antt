@@ -21,9 +21,8 @@ use Rattle.task_plans.specs.TaskPlans.{IsAttachPlanned, IsEndPlanned}
 use Rattle.cell_plans.specs.declared.build.BuildPlan.{BuildPlan}
 use Rattle.cell_plans.specs.declared.delete.DeletePlan.{DeletePlan}
 use Rattle.cell_plans.specs.CellPlans.{IsBuildPlanned, IsCellPlanned, IsDeletePlanned}
-use Rattle.storage_core.specs.declared.plans.Plan.{Plan}
 use Rattle.storage_core.specs.declared.plans.Plan.TheVariants.{Storage, Attach, End, Build, Delete}
-use Rattle.storage_core.specs.Planned.{CanBeReserved, CanCarryOut, HasRecords, IsAccepted, IsPlanned, change_for, reply_of}
+use Rattle.storage_core.specs.Planned.{CanCarryOut, HasRecords, IsAccepted, IsPlanned, change_for, reply_of}
 
 -- whether an outcome is an accepted one is a question with one answer
 accepted-prop : {S R C : Type 0} (o : Outcome S R C) → IsProp (outcome.IsAccepted o)

@@ -1,5 +1,5 @@
 -- How many elements the change of a task that comes has, and that of tasks that end.
-use Rattle.std.proofs.Common.{◌≡◌, ℕ, zero, suc, ◌+◌, ◌*◌, ◌<◌, ◌≤◌, Bool, true, false, List, [], ◌∷◌, ◌++◌, length, Option, Some, None, Result, Ok, Err, IfOk, refl, ap, ◌∙◌, arith}
+use Rattle.std.proofs.Common.{◌≡◌, ℕ, ◌+◌, ◌*◌, ◌<◌, ◌≤◌, Bool, true, false, List, [], ◌∷◌, ◌++◌, length, Option, Some, None, Result, Ok, Err, IfOk, refl, arith}
 use Rattle.std.specs.List.{flat_map}
 use Rattle.std.proofs.lemmas.List.{length-append}
 use Rattle.vsm_model.specs.declared.replies.Reply.{Reply}
@@ -12,13 +12,11 @@ use Rattle.storage_exchange.specs.declared.storage.Storage.{Storage as Parts}
 use Rattle.storage_swap.specs.declared.change.Change.{Change}
 use Rattle.storage_swap.specs.Reserve.{Reserves}
 use Rattle.task_actions.specs.Attaching.{given_records, gift_records, sharing_records, share_records, zero_records, attach_records, attach_blanks}
-use Rattle.task_actions.specs.Ending.{ended_below, end_records, end_blanks, with_turn}
+use Rattle.task_actions.specs.Ending.{ended_below, end_records, with_turn}
 use Rattle.task_plans.specs.declared.attach.AttachPlan.{AttachPlan}
 use Rattle.task_plans.specs.declared.end.EndPlan.{EndPlan}
 use Rattle.task_plans.specs.TaskPlans.{numbers, attach_change, end_change, end_registers}
-use Rattle.cell_plans.specs.declared.delete.DeletePlan.{DeletePlan}
-use Rattle.cell_plans.specs.CellPlans.{delete_change}
-use Rattle.storage_core.specs.declared.plans.Plan.TheVariants.{Attach, End, Delete}
+use Rattle.storage_core.specs.declared.plans.Plan.TheVariants.{Attach, End}
 use Rattle.storage_core.specs.Planned.{elements_below}
 use Rattle.storage_core.proofs.Counted.{reserved_count}
 

@@ -31,8 +31,8 @@ use Rattle.storage_core.specs.declared.plans.Plan.{Plan}
 use Rattle.storage_core.specs.declared.plans.Plan.TheVariants.{Storage, Attach, End, Build, Delete}
 
 -- An obtain, with a register of the sixteen where one is named; a release of an area or of a whole subpool; a store of
--- at most 256 bytes; a service on tasks; or one on a cell pool, whose name has at most 63 bytes and whose header at most
--- 24.
+-- at most 256 bytes; a service on tasks; or one on a cell pool, whose name has at most 63 bytes and whose header at
+-- most 24.
 abbrev pub CanBePlanned : Service → Type 0
 CanBePlanned (obtain o) = IfSome o.register (λ r. r < 16)
 CanBePlanned (release r) = ⊤
@@ -52,8 +52,8 @@ abbrev pub extents_leaving : Subpools → Option Subpool → ℕ
 extents_leaving m None = 0
 extents_leaving m (Some p) = length (extents m p)
 
--- As many elements are spare as the change of a plan takes at most, and a frame for each page of the run; and these have
--- tables.
+-- As many elements are spare as the change of a plan takes at most, and a frame for each page of the run; and these
+-- have tables.
 pub record IsSpareFor (p : Parts) (most : ℕ) (fresh : Run) : Type 0 where
   pub elements : most ≤ p.elements.spare
   pub frames : fresh.len ≤ p.region.spare

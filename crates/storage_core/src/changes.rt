@@ -1,5 +1,5 @@
 //! Changes of a storage: made of a plan, exchanged with it, and discarded.
-ghost use Rattle.std.specs.Prelude.{◌≡◌, ℕ, ◌+◌, ◌*◌, ◌^◌, ◌<◌, ◌≤◌, length, IsOk, OnErr, IfOk};
+ghost use Rattle.std.specs.Prelude.{◌≡◌, ℕ, ◌+◌, ◌^◌, ◌<◌, ◌≤◌, length, IsOk, OnErr, IfOk};
 ghost use Rattle.storage_changes.specs.Changes.{Fit, overlay};
 ghost use Rattle.storage_changes.specs.Meaning.{IsSound};
 ghost use Rattle.storage_changes.specs.Changes.{change_parking};
@@ -21,16 +21,16 @@ impl Storage {
     /// The change that carries out the plan, with all the memory that it needs: elements, and a frame and a place in a
     /// table for each page that comes to be assigned. The storage stays as it is, whatever the answer.
     ///
-    /// The change has fewer records and blank elements than 25, those that its plan asks for, and 8 for each extent that
-    /// leaves with a whole subpool that is emptied; that of a new task has fewer than 32, and 4 for each number that it
-    /// is given or shares; that of tasks that end, or of a cell pool that goes, has one for each of its records, and its
-    /// blank ones; and that of a cell pool that comes has fewer than 32. Besides it has one element for each subpool
-    /// that it has parked, and those of what these hold, which were the storage's, and those of a cell pool that comes.
-    /// It has just as many frames as pages come to be assigned.
+    /// The change has fewer records and blank elements than 25 and its plan's blank ones, and 8 more for each extent
+    /// that leaves with a whole subpool that is emptied. That of a new task has fewer than 32, and 4 for each number
+    /// that it is given or shares; that of tasks that end, or of a cell pool that goes, has one for each of its
+    /// records, and its blank ones; and that of a cell pool that comes has fewer than 32. Besides it has one element
+    /// for each subpool that it has parked, and those of what these hold, which were the storage's, and those of a cell
+    /// pool that comes. It has just as many frames as pages come to be assigned.
     ///
-    /// `AllocError` where memory is refused. Of requests for storage or for a cell and of a cell pool that comes that
-    /// can be only where fewer elements or frames are spare, or a table isn't there. What was made before that stays, as
-    /// spare elements and frames.
+    /// `AllocError` where memory is refused. Of requests for storage or for a cell, and of a cell pool that comes, that
+    /// can be only where fewer elements or frames are spare, or a table isn't there. What was made before that stays,
+    /// as spare elements and frames.
     pub fn reserve(&mut self, plan: Plan) -> Result<Change, AllocError>
         requires { CanBeReserved (state_in_place self.old) plan }
         ensures ok { IfOk result (λ change. (id : ℕ) × IsIdFor (state_in_place self.old) plan id

@@ -118,8 +118,8 @@ impl Storage {
     /// its header 24.
     ///
     /// The causes of each service and their order are those of `plan_obtain`, `plan_release`, `plan_whole`,
-    /// `plan_store`, `plan_attach`, `plan_detach`, `plan_end_task`, `plan_run`, `plan_build`, `plan_get`, `plan_free` and
-    /// `plan_delete`.
+    /// `plan_store`, `plan_attach`, `plan_detach`, `plan_end_task`, `plan_run`, `plan_build`, `plan_get`, `plan_free`
+    /// and `plan_delete`.
     pub fn plan(&self, service: Service<'_>, names_full: bool) -> Result<Plan, Cause>
         requires { CanBePlanned (service_in service) }
         ensures { IsPlanned (settings_of self.now) names_full (state_in_place self.now) (service_in service.entry)

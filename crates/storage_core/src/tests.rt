@@ -1,5 +1,5 @@
-//! An area on either side of the 16 MB line, obtained, stored into and released, and a cell pool with its cells: each of
-//! them undone and done again.
+//! An area on either side of the 16 MB line, obtained, stored into and released, and a cell pool with its cells: each
+//! of them undone and done again.
 
 ghost use Rattle.std.specs.Prelude.{◌≡◌, true, IfOk};
 ghost use Rattle.vsm_model.specs.Meaning.{service_in};
