@@ -37,8 +37,11 @@ use vsm_model::{Build, Cause, Reply, Settings, Subpool};
 /// The most cell pools at one time.
 const CELL_POOLS: u32 = 256;
 
-/// The most bytes of a cell, and the most cells of an extent.
-const CELLS: u32 = 4096;
+/// The most bytes of a cell.
+const CELL_BYTES: u32 = 4096;
+
+/// The most cells of an extent.
+const EXTENT_CELLS: u32 = 4096;
 
 /// A cell pool that comes, with its first extent. Nothing is changed yet.
 #[derive(Drop)]
@@ -73,7 +76,7 @@ fn header_of(text: Option<&str>) -> Option<Header>
 fn are_cells(size: u32, count: u32) -> bool
     ensures { result ≡ are_cells size count }
 {
-    size % 4 == 0 && 4 <= size && size <= CELLS && 1 <= count && count <= CELLS
+    size % 4 == 0 && 4 <= size && size <= CELL_BYTES && 1 <= count && count <= EXTENT_CELLS
 }
 
 // Whether the cell pool can have cells of its size, and extents of its numbers of them.

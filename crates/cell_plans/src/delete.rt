@@ -52,10 +52,10 @@ pub fn plan_delete(storage: &Storage, name: &str) -> Result<DeletePlan, Cause>
 }
 
 impl DeletePlan {
-    /// What the change is made of: a record for the cell pool, and up to six for each of its extents, which is given
+    /// What the change is made of: a record for the cell pool, and up to four for each of its extents, which is given
     /// back with the pages that it empties once those before it are given back. `AllocError` where there is no memory
-    /// for the list, it would be longer than four million (2^22), or the cell pool has more than a million extents
-    /// (2^20).
+    /// for the list, it would have four million records (2^22) or more, or the cell pool has more than a million
+    /// extents (2^20).
     pub fn listed(self, alloc: Global, storage: &Storage) -> Result<Listed, AllocError>
         requires stands { Stand storage.now }
         requires can { CanBeDeleted (state_of storage.now) self }

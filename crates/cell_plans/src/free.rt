@@ -46,8 +46,8 @@ fn plan_given_back(storage: &Storage, pool: CellId, cell: u32) -> Plan
     }
 }
 
-/// A plan for a cell that is given back to its cell pool (*Assembler Services Reference*, CPOOL FREE): it's the next
-/// that is handed out. Register 15 gets 0. Reads alone, and takes no memory.
+/// A plan for a cell that is given back to its cell pool, by the address of its first byte (*Assembler Services
+/// Reference*, CPOOL FREE): it's the next that is handed out. Register 15 gets 0. Reads alone, and takes no memory.
 ///
 /// The causes that refuse it, in order: `NoCellPool` where there is no cell pool of the name or the current task
 /// doesn't see its subpool, and `NotInUse` where the address isn't that of a cell that was handed out.

@@ -2,7 +2,9 @@
 
 use crate::form_tests::{feed, named};
 use crate::tests::{card, fault, more, name};
-use crate::{FaultKind, Fed, Header, Location, Place, Reader, Request, Statement, Value};
+use crate::{
+    FaultKind, Fed, Header, Location, NewCellPool, Place, Reader, Request, Statement, Value,
+};
 
 fn header(text: &str) -> Option<Header> {
     Some(Header::from(text).unwrap_or_default())
@@ -15,15 +17,15 @@ fn build(
     subpool: Value,
     location: Location,
 ) -> Request {
-    Request::Act(Statement::Build {
-        pool: name("P"),
+    Request::Act(Statement::Build(NewCellPool {
+        name: name("P"),
         header,
         primary: Value::Number(2),
         secondary,
         size: Value::Number(16),
         subpool,
         location,
-    })
+    }))
 }
 
 /// A cell pool that has nothing besides what BUILD requires.
@@ -32,7 +34,7 @@ fn plain() -> Request {
 }
 
 fn get(place: Option<Place>, conditional: bool) -> Request {
-    Request::Act(Statement::Get {
+    Request::Act(Statement::GetCell {
         pool: name("P"),
         place,
         conditional,
@@ -40,14 +42,14 @@ fn get(place: Option<Place>, conditional: bool) -> Request {
 }
 
 fn free(cell: Value) -> Request {
-    Request::Act(Statement::Free {
+    Request::Act(Statement::FreeCell {
         pool: name("P"),
         cell,
     })
 }
 
 fn delete() -> Request {
-    Request::Act(Statement::Delete { pool: name("P") })
+    Request::Act(Statement::DeletePool { pool: name("P") })
 }
 
 #[test]
@@ -252,19 +254,19 @@ fn refuses_values_of_cpool(rt: HostRuntime) {
 #[test]
 fn tells_cell_pools_that_can_be_spelled(rt: HostRuntime) {
     for (pool, can_be_spelled) in [("P", true), ("p", false), ("", false), ("P Q", false)] {
-        let end = Statement::Delete { pool: name(pool) };
+        let end = Statement::DeletePool { pool: name(pool) };
         assert_eq!(rt; end.valid(), can_be_spelled, "{pool}");
     }
     for (text, can_be_spelled) in [("Own ~", true), ("", false), ("it's", false), ("\t", false)] {
-        let built = Statement::Build {
-            pool: name("P"),
+        let built = Statement::Build(NewCellPool {
+            name: name("P"),
             header: header(text),
             primary: Value::Number(0),
             secondary: None,
             size: Value::Number(5),
             subpool: Value::Number(128),
             location: Location::Low,
-        };
+        });
         assert_eq!(rt; built.valid(), can_be_spelled, "{text}");
     }
 }

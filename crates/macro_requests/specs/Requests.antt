@@ -19,6 +19,7 @@ use Rattle.macro_requests.specs.declared.requests.Length.{Length}
 use Rattle.macro_requests.specs.declared.requests.Length.TheVariants as code_length
 use Rattle.macro_requests.specs.declared.requests.Subpools.{Subpools}
 use Rattle.macro_requests.specs.declared.requests.Subpools.TheVariants as code_subpools
+use Rattle.macro_requests.specs.declared.requests.NewCellPool.{NewCellPool}
 use Rattle.macro_requests.specs.declared.requests.Statement.{Statement}
 use Rattle.macro_requests.specs.declared.requests.Statement.TheVariants as code_statement
 use Rattle.macro_requests.specs.declared.requests.Request.{Request}
@@ -72,18 +73,21 @@ subpools_in code_subpools.Nothing = nothing
 subpools_in (code_subpools.Number n) = one (written_in n)
 subpools_in (code_subpools.Listed address) = listed (written_in address)
 
+abbrev pub build_in : NewCellPool → Act
+build_in p =
+    build p.name.bytes (option_map (λ h. h.bytes) p.header) (written_in p.primary) (option_map written_in p.secondary)
+    (written_in p.size) (written_in p.subpool) p.location
+
 abbrev pub act_in : Statement → Act
 act_in (code_statement.Obtain length subpool place boundary location form) =
     obtain (length_in length) (written_in subpool) (option_map target_in place) boundary location form
 act_in (code_statement.Release length address subpool form) =
     release (written_in length) (written_in address) (written_in subpool) form
 act_in (code_statement.Whole subpool form) = whole (written_in subpool) form
-act_in (code_statement.Build pool header primary secondary size subpool location) =
-    build pool.bytes (option_map (λ h. h.bytes) header) (written_in primary) (option_map written_in secondary)
-    (written_in size) (written_in subpool) location
-act_in (code_statement.Get pool place conditional) = get pool.bytes (option_map target_in place) conditional
-act_in (code_statement.Free pool cell) = free pool.bytes (written_in cell)
-act_in (code_statement.Delete pool) = delete pool.bytes
+act_in (code_statement.Build pool) = build_in pool
+act_in (code_statement.GetCell pool place conditional) = get pool.bytes (option_map target_in place) conditional
+act_in (code_statement.FreeCell pool cell) = free pool.bytes (written_in cell)
+act_in (code_statement.DeletePool pool) = delete pool.bytes
 act_in (code_statement.Attach given shared shares_zero) =
     attach (subpools_in given) (subpools_in shared) shares_zero
 act_in (code_statement.Detach task) = detach (written_in task)

@@ -4,5 +4,5 @@
 mod requests;
 
 pub use macro_operands::Header;
-pub use requests::{Form, Length, Request, Statement, Subpools};
+pub use requests::{Form, Length, NewCellPool, Request, Statement, Subpools};
 pub use vsm_model::{Boundary, Family, Location};

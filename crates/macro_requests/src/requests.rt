@@ -3,7 +3,7 @@
 ghost use Rattle.std.specs.Prelude.{◌≡◌, ◌↔◌, IsTrue, IfSome};
 ghost use Rattle.std.specs.Option.{option_map};
 ghost use Rattle.operand_texts.specs.Written.{written_in, target_in, IsTarget, IsValue};
-ghost use Rattle.macro_requests.specs.Requests.{length_in, subpools_in, act_in, is_register_0};
+ghost use Rattle.macro_requests.specs.Requests.{length_in, subpools_in, act_in, build_in, is_register_0};
 ghost use Rattle.macro_requests.specs.Requests.{IsLength, IsSubpools, IsName, IsHeader, IsValidAct};
 ghost use Rattle.macro_requests.specs.Validity.{is_register_length, is_named_target, is_obtain_form};
 ghost use Rattle.macro_requests.specs.Validity.{is_release_form, is_whole_form};
@@ -39,6 +39,21 @@ pub enum Subpools {
     Listed { address: Value },
 }
 
+/// What CPOOL BUILD makes (*Assembler Services Reference*, CPOOL): a cell pool of this name, with a header where there is
+/// one, of cells of `size` bytes, from a subpool and on such a side of the 16 MB line.
+#[derive(Clone, Debug, PartialEq, Eq, Drop)]
+pub struct NewCellPool {
+    pub name: Name,
+    pub header: Option<Header>,
+    /// The number of cells at first.
+    pub primary: Value,
+    /// How many more come where a request finds none free: as many as at first where that's left out.
+    pub secondary: Option<Value>,
+    pub size: Value,
+    pub subpool: Value,
+    pub location: Location,
+}
+
 /// A statement that changes storage, cell pools, tasks or bytes.
 #[derive(Clone, Debug, PartialEq, Eq, Drop)]
 pub enum Statement {
@@ -64,32 +79,22 @@ pub enum Statement {
         subpool: Value,
         form: Form,
     },
-    /// CPOOL BUILD (*Assembler Services Reference*, CPOOL): a cell pool of this name, with a header where there is one,
-    /// of cells of `size` bytes: `primary` of them at first, and `secondary` more where a request finds none free (as
-    /// many as at first where that's left out), from a subpool and on such a side of the 16 MB line.
-    Build {
-        pool: Name,
-        header: Option<Header>,
-        primary: Value,
-        secondary: Option<Value>,
-        size: Value,
-        subpool: Value,
-        location: Location,
-    },
+    /// CPOOL BUILD: a cell pool comes.
+    Build(NewCellPool),
     /// CPOOL GET: a cell of a cell pool. Its address is stored in `place`, where there is one. Want of a free cell is
     /// answered by return code 4 where the request is conditional.
-    Get {
+    GetCell {
         pool: Name,
         place: Option<Place>,
         conditional: bool,
     },
     /// CPOOL FREE: the cell at an address, back to its cell pool.
-    Free {
+    FreeCell {
         pool: Name,
         cell: Value,
     },
     /// CPOOL DELETE: a cell pool ends.
-    Delete {
+    DeletePool {
         pool: Name,
     },
     /// ATTACH: a new task, which is given subpools, and shares others, and subpool 0 where `shares_zero` says so.
@@ -269,6 +274,20 @@ fn is_whole_form(form: Form) -> bool
     }
 }
 
+impl NewCellPool {
+    /// Whether a line can spell this cell pool: its name, its header and each of its values.
+    fn valid(&self) -> bool
+        ensures { IsTrue result ↔ IsValidAct (build_in self.now) }
+    {
+        is_valid_name(&self.name)
+            && is_valid_header(&self.header)
+            && self.primary.valid()
+            && is_valid_number(&self.secondary)
+            && self.size.valid()
+            && self.subpool.valid()
+    }
+}
+
 impl Statement {
     /// Whether a line can spell this statement: whether it can spell each of its values, names and headers, and some
     /// macro has its form.
@@ -302,25 +321,10 @@ impl Statement {
                     && is_release_form(*form, length, address)
             }
             Statement::Whole { subpool, form } => subpool.valid() && is_whole_form(*form),
-            Statement::Build {
-                pool,
-                header,
-                primary,
-                secondary,
-                size,
-                subpool,
-                ..
-            } => {
-                is_valid_name(pool)
-                    && is_valid_header(header)
-                    && primary.valid()
-                    && is_valid_number(secondary)
-                    && size.valid()
-                    && subpool.valid()
-            }
-            Statement::Get { pool, place, .. } => is_valid_name(pool) && is_valid_place(place),
-            Statement::Free { pool, cell } => is_valid_name(pool) && cell.valid(),
-            Statement::Delete { pool } => is_valid_name(pool),
+            Statement::Build(cells) => cells.valid(),
+            Statement::GetCell { pool, place, .. } => is_valid_name(pool) && is_valid_place(place),
+            Statement::FreeCell { pool, cell } => is_valid_name(pool) && cell.valid(),
+            Statement::DeletePool { pool } => is_valid_name(pool),
             Statement::Attach { given, shared, .. } => {
                 is_valid_subpools(given) && is_valid_subpools(shared)
             }

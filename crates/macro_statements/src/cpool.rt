@@ -14,7 +14,7 @@ use macro_operands::said::{
     NOTHING, Said, condition_at, header_at, location_at, name_at, place_at, value_at,
 };
 use macro_operands::{FaultKind, keyword, position};
-use macro_requests::{Request, Statement};
+use macro_requests::{NewCellPool, Request, Statement};
 use operand_texts::nesting::split;
 use operand_texts::words::is_word;
 use vsm_model::Location;
@@ -97,7 +97,7 @@ fn build_by(said: &[Option<Said>]) -> Result<Request, FaultKind>
     requires { length said.now ≡ 12 }
     ensures { seen result ≡ pool_by Build (slots_in said.now) }
 {
-    let Some(pool) = name_at(said, 0) else {
+    let Some(name) = name_at(said, 0) else {
         return Err(FaultKind::Missing);
     };
     let Some(primary) = value_at(said, 1) else {
@@ -106,15 +106,15 @@ fn build_by(said: &[Option<Said>]) -> Result<Request, FaultKind>
     let Some(size) = value_at(said, 3) else {
         return Err(FaultKind::Missing);
     };
-    Ok(Request::Act(Statement::Build {
-        pool,
+    Ok(Request::Act(Statement::Build(NewCellPool {
+        name,
         header: header_at(said, 6),
         primary,
         secondary: value_at(said, 2),
         size,
         subpool: subpool_at(said, 4),
         location: location_at(said, 5).unwrap_or(Location::Caller),
-    }))
+    })))
 }
 
 /// What GET asks for by what was read.
@@ -125,7 +125,7 @@ fn get_by(said: &[Option<Said>]) -> Result<Request, FaultKind>
     let Some(pool) = name_at(said, 0) else {
         return Err(FaultKind::Missing);
     };
-    Ok(Request::Act(Statement::Get {
+    Ok(Request::Act(Statement::GetCell {
         pool,
         place: place_at(said, 8),
         conditional: condition_at(said, 7).unwrap_or(false),
@@ -141,7 +141,7 @@ fn free_by(said: &[Option<Said>]) -> Result<Request, FaultKind>
         return Err(FaultKind::Missing);
     };
     match value_at(said, 8) {
-        Some(cell) => Ok(Request::Act(Statement::Free { pool, cell })),
+        Some(cell) => Ok(Request::Act(Statement::FreeCell { pool, cell })),
         None => Err(FaultKind::Missing),
     }
 }
@@ -152,7 +152,7 @@ fn delete_by(said: &[Option<Said>]) -> Result<Request, FaultKind>
     ensures { seen result ≡ pool_by Delete (slots_in said.now) }
 {
     match name_at(said, 0) {
-        Some(pool) => Ok(Request::Act(Statement::Delete { pool })),
+        Some(pool) => Ok(Request::Act(Statement::DeletePool { pool })),
         None => Err(FaultKind::Missing),
     }
 }

@@ -7,7 +7,9 @@ mod options;
 mod script_files;
 
 pub use commands::command;
-pub use macro_reader::{Content, Family, Form, Length, Name, Place, Statement, Value};
+pub use macro_reader::{
+    Content, Family, Form, Header, Length, Name, NewCellPool, Place, Statement, Subpools, Value,
+};
 pub use options::DEFAULT_SETTINGS;
 pub use script_files::ScriptFiles;
 pub use script_run::{Bench, NewFault, Refusal, RunFault, RunTotals, run};

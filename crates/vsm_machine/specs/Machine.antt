@@ -144,14 +144,6 @@ service_asked m (run task) = option_map services.run (looked_up m task)
 service_asked m end_task = Some services.end_task
 service_asked m (poke address content) = with_bytes (looked_up m address) (bytes_in m content)
 
--- a statement on a cell pool: CPOOL, in any of its forms
-abbrev pub is_on_cells : Act → Bool
-is_on_cells (build pool header primary secondary size subpool location) = true
-is_on_cells (get pool target conditional) = true
-is_on_cells (free pool cell) = true
-is_on_cells (delete pool) = true
-is_on_cells _ = false
-
 -- the name that is given the address of the area or of the cell that a statement obtains, if it names one
 abbrev pub name_asked : Act → Option (List ℕ)
 name_asked (obtain length subpool target boundary location form) = name_in target

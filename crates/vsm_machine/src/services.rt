@@ -3,17 +3,17 @@ ghost use Rattle.std.specs.Prelude.{◌≡◌, ◌≤◌, IfSome, length, true};
 ghost use Rattle.std.specs.Option.{option_map};
 ghost use Rattle.vsm_model.specs.Meaning.{service_in};
 ghost use Rattle.storage_core.specs.Planned.{CanBePlanned};
-ghost use Rattle.macro_statements.specs.Requests.{act_in, length_in, subpools_in, target_in, written_in, stored_in};
+ghost use Rattle.macro_statements.specs.Requests.{act_in, build_in, length_in, subpools_in, target_in, written_in, stored_in};
 ghost use Rattle.macro_statements.specs.Requests.{IsLength, IsStored, IsSubpools, IsTarget, IsValidAct, IsValue};
 ghost use Rattle.vsm_machine.specs.Changes.{plain_of};
-ghost use Rattle.vsm_machine.specs.Machine.{service_asked, lengths_asked, passed_asked, name_asked, is_on_cells};
-ghost use Rattle.vsm_machine.specs.Machine.{area_asked, area_back, family_asked, looked_up, register_in};
+ghost use Rattle.vsm_machine.specs.Machine.{service_asked, lengths_asked, passed_asked, name_asked};
+ghost use Rattle.vsm_machine.specs.Machine.{area_asked, area_back, cell_asked, family_asked, looked_up, register_in};
 ghost use Rattle.vsm_machine.specs.Machine.{bytes_in, left_or_looked_up, with_bytes, with_cells, with_lengths};
 ghost use Rattle.vsm_machine.specs.Machine.{with_passed, with_three};
 
 use crate::machine::Machine;
 use crate::values::{bytes_of, look_up};
-use macro_statements::{Family, Header, Length, Statement, Subpools};
+use macro_statements::{Family, Header, Length, NewCellPool, Statement, Subpools};
 use operand_texts::{Content, Name, Place, Value};
 use storage_core::{Attach, Boundary, Lengths, Location, Obtain, Passed, Release, Service};
 use vsm_model::{Build, Get};
@@ -163,29 +163,22 @@ fn secondary_of(machine: &Machine, secondary: &Option<Value>) -> Option<Option<u
 }
 
 /// The numbers of a new cell pool, with the words of their values; `None` where a name in one of them isn't defined.
-fn build_of(
-    machine: &Machine,
-    primary: &Value,
-    secondary: &Option<Value>,
-    size: &Value,
-    subpool: &Value,
-    location: Location,
-) -> Option<Build>
-    requires primary { IsValue (written_in primary.now) }
-    requires secondary { IfSome (option_map written_in secondary.now) IsValue }
-    requires size { IsValue (written_in size.now) }
-    requires subpool { IsValue (written_in subpool.now) }
-    ensures { result ≡ with_cells location (looked_up (plain_of machine.now) (written_in primary.now))
-        (left_or_looked_up (plain_of machine.now) (option_map written_in secondary.now))
-        (looked_up (plain_of machine.now) (written_in size.now))
-        (looked_up (plain_of machine.now) (written_in subpool.now)) }
+fn numbers_of(machine: &Machine, cells: &NewCellPool) -> Option<Build>
+    requires primary { IsValue (written_in cells.now.primary) }
+    requires secondary { IfSome (option_map written_in cells.now.secondary) IsValue }
+    requires size { IsValue (written_in cells.now.size) }
+    requires subpool { IsValue (written_in cells.now.subpool) }
+    ensures { result ≡ with_cells cells.now.location (looked_up (plain_of machine.now) (written_in cells.now.primary))
+        (left_or_looked_up (plain_of machine.now) (option_map written_in cells.now.secondary))
+        (looked_up (plain_of machine.now) (written_in cells.now.size))
+        (looked_up (plain_of machine.now) (written_in cells.now.subpool)) }
 {
     Some(Build {
-        primary: look_up(machine, primary)?,
-        secondary: secondary_of(machine, secondary)?,
-        size: look_up(machine, size)?,
-        number: look_up(machine, subpool)?,
-        location,
+        primary: look_up(machine, &cells.primary)?,
+        secondary: secondary_of(machine, &cells.secondary)?,
+        size: look_up(machine, &cells.size)?,
+        number: look_up(machine, &cells.subpool)?,
+        location: cells.location,
     })
 }
 
@@ -200,50 +193,30 @@ fn header_text(header: &Option<Header>) -> Option<&str>
     }
 }
 
-/// The service on a cell pool that a statement asks for, with the words of its values; `None` where a name in one of
-/// them isn't defined.
-fn cell_service_of<'a>(machine: &Machine, statement: &'a Statement) -> Option<Service<'a>>
-    requires valid { IsValidAct (act_in statement.now) }
-    requires cells { is_on_cells (act_in statement.now) ≡ true }
-    ensures is { option_map service_in result ≡ service_asked (plain_of machine.now) (act_in statement.now) }
+/// The cell pool that a statement asks for; `None` where a name in one of its values isn't defined.
+fn build_of<'a>(machine: &Machine, cells: &'a NewCellPool) -> Option<Service<'a>>
+    requires valid { IsValidAct (build_in cells.now) }
+    ensures is { option_map service_in result ≡ service_asked (plain_of machine.now) (build_in cells.now) }
     ensures bounds { IfSome result (λ service. CanBePlanned (service_in service)) }
 {
-    match statement {
-        Statement::Build {
-            pool,
-            header,
-            primary,
-            secondary,
-            size,
-            subpool,
-            location,
-        } => Some(Service::Build {
-            name: pool.as_str(),
-            header: header_text(header),
-            numbers: build_of(machine, primary, secondary, size, subpool, *location)?,
-        }),
-        Statement::Get {
-            pool,
-            place,
+    Some(Service::Build {
+        name: cells.name.as_str(),
+        header: header_text(&cells.header),
+        numbers: numbers_of(machine, cells)?,
+    })
+}
+
+/// The request for a cell of a cell pool, whose address is stored in the place, if there is one.
+fn get_of<'a>(pool: &'a Name, place: &Option<Place>, conditional: bool) -> Service<'a>
+    ensures { service_in result
+        ≡ cell_asked pool.now.bytes (register_in (option_map target_in place.now)) conditional }
+{
+    Service::Get {
+        name: pool.as_str(),
+        operands: Get {
+            register: register_of(place),
             conditional,
-        } => {
-            let register = register_of(place);
-            Some(Service::Get {
-                name: pool.as_str(),
-                operands: Get {
-                    register,
-                    conditional: *conditional,
-                },
-            })
-        }
-        Statement::Free { pool, cell } => Some(Service::Free {
-            name: pool.as_str(),
-            cell: look_up(machine, cell)?,
-        }),
-        Statement::Delete { pool } => Some(Service::Delete {
-            name: pool.as_str(),
-        }),
-        _ => unreachable!(),
+        },
     }
 }
 
@@ -284,10 +257,19 @@ pub(crate) fn service_of<'a>(
         Statement::Whole { subpool, .. } => Some(Service::Whole {
             number: look_up(machine, subpool)?,
         }),
-        Statement::Build { .. }
-        | Statement::Get { .. }
-        | Statement::Free { .. }
-        | Statement::Delete { .. } => cell_service_of(machine, statement),
+        Statement::Build(cells) => build_of(machine, cells),
+        Statement::GetCell {
+            pool,
+            place,
+            conditional,
+        } => Some(get_of(pool, place, *conditional)),
+        Statement::FreeCell { pool, cell } => Some(Service::Free {
+            name: pool.as_str(),
+            cell: look_up(machine, cell)?,
+        }),
+        Statement::DeletePool { pool } => Some(Service::Delete {
+            name: pool.as_str(),
+        }),
         Statement::Attach {
             given,
             shared,
@@ -313,7 +295,7 @@ pub(crate) fn name_of(statement: &Statement) -> Option<&Name>
             place: Some(Place::Named(name)),
             ..
         }
-        | Statement::Get {
+        | Statement::GetCell {
             place: Some(Place::Named(name)),
             ..
         } => Some(name),
@@ -330,10 +312,10 @@ pub(crate) fn family_of(statement: &Statement) -> Family
         Statement::Obtain { form, .. }
         | Statement::Release { form, .. }
         | Statement::Whole { form, .. } => form.family,
-        Statement::Build { .. }
-        | Statement::Get { .. }
-        | Statement::Free { .. }
-        | Statement::Delete { .. }
+        Statement::Build(_)
+        | Statement::GetCell { .. }
+        | Statement::FreeCell { .. }
+        | Statement::DeletePool { .. }
         | Statement::Attach { .. }
         | Statement::Detach { .. }
         | Statement::Run { .. }
