@@ -18,7 +18,6 @@ mod storage;
 pub use laws::valid_requests_are_spelled;
 pub use macro_operands::FaultKind;
 pub use macro_requests::{
-    Boundary, Family, Form, Header, Length, Location, NewCellPool, Request, Statement,
-    Subpools,
+    Boundary, Family, Form, Header, Length, Location, NewCellPool, Request, Statement, Subpools,
 };
 pub use statements::{from_operands, is_misplaced, statement_with};

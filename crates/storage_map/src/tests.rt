@@ -2,9 +2,7 @@
 
 use super::*;
 use crate::cells::{put_cell_extent, put_cell_pool_line, put_free_cell};
-use cell_readings::{
-    Extent, Header, Name, Residence, Settings as CellSettings, Storage, Subpool,
-};
+use cell_readings::{Extent, Header, Name, Residence, Settings as CellSettings, Storage, Subpool};
 use std::alloc::Global;
 use std::io;
 use std::io::{ErrorKind, Write};

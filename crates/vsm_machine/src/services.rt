@@ -3,7 +3,8 @@ ghost use Rattle.std.specs.Prelude.{◌≡◌, ◌≤◌, IfSome, length, true};
 ghost use Rattle.std.specs.Option.{option_map};
 ghost use Rattle.vsm_model.specs.Meaning.{service_in};
 ghost use Rattle.storage_core.specs.Planned.{CanBePlanned};
-ghost use Rattle.macro_statements.specs.Requests.{act_in, build_in, length_in, subpools_in, target_in, written_in, stored_in};
+ghost use Rattle.macro_statements.specs.Requests.{act_in, build_in, length_in, subpools_in, target_in};
+ghost use Rattle.macro_statements.specs.Requests.{written_in, stored_in};
 ghost use Rattle.macro_statements.specs.Requests.{IsLength, IsStored, IsSubpools, IsTarget, IsValidAct, IsValue};
 ghost use Rattle.vsm_machine.specs.Changes.{plain_of};
 ghost use Rattle.vsm_machine.specs.Machine.{service_asked, lengths_asked, passed_asked, name_asked};
@@ -211,10 +212,11 @@ fn get_of<'a>(pool: &'a Name, place: &Option<Place>, conditional: bool) -> Servi
     ensures { service_in result
         ≡ cell_asked pool.now.bytes (register_in (option_map target_in place.now)) conditional }
 {
+    let register = register_of(place);
     Service::Get {
         name: pool.as_str(),
         operands: Get {
-            register: register_of(place),
+            register,
             conditional,
         },
     }
