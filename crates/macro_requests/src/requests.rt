@@ -39,8 +39,8 @@ pub enum Subpools {
     Listed { address: Value },
 }
 
-/// What CPOOL BUILD makes (*Assembler Services Reference*, CPOOL): a cell pool of this name, with a header where there is
-/// one, of cells of `size` bytes, from a subpool and on such a side of the 16 MB line.
+/// What CPOOL BUILD makes (*Assembler Services Reference*, CPOOL): a cell pool of this name, with a header where there
+/// is one, of cells of `size` bytes, from a subpool and on such a side of the 16 MB line.
 #[derive(Clone, Debug, PartialEq, Eq, Drop)]
 pub struct NewCellPool {
     pub name: Name,
