@@ -194,6 +194,7 @@ fn plan_pool(
 /// `SubpoolNotAllowed`), `BadCells` for a size that isn't a multiple of 4 from 4 to 4,096 bytes or a number of cells
 /// that isn't one from 1 to 4,096, `CellPoolExists`, `TooManyCellPools` where there are 256, and `NoStorage` where its
 /// first extent has no place.
+#[inline(never)]
 pub fn plan_build(
     storage: &Storage,
     settings: Settings,

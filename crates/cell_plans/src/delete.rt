@@ -36,6 +36,7 @@ const RECORDS_MOST: usize = 1 << 22;
 ///
 /// The cause that refuses it: `NoCellPool` where there is no cell pool of the name or the current task doesn't see its
 /// subpool.
+#[inline(never)]
 pub fn plan_delete(storage: &Storage, name: &str) -> Result<DeletePlan, Cause>
     requires stands { Stand storage.now }
     requires name { length name.now ≤ 63 }

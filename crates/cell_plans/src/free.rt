@@ -51,6 +51,7 @@ fn plan_given_back(storage: &Storage, pool: CellId, cell: u32) -> Plan
 ///
 /// The causes that refuse it, in order: `NoCellPool` where there is no cell pool of the name or the current task
 /// doesn't see its subpool, and `NotInUse` where the address isn't that of a cell that was handed out.
+#[inline(never)]
 pub fn plan_free(storage: &Storage, name: &str, cell: u32) -> Result<Plan, Cause>
     requires stands { Stand storage.now }
     requires name { length name.now ≤ 63 }

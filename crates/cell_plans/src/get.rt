@@ -124,6 +124,7 @@ fn plan_further(
 ///
 /// The causes that refuse it, in order: `NoCellPool` where there is no cell pool of the name or the current task
 /// doesn't see its subpool, `TooManyNames`, and `NoStorage` where a further extent has no place.
+#[inline(never)]
 pub fn plan_get(
     storage: &Storage,
     settings: Settings,

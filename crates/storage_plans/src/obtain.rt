@@ -185,6 +185,7 @@ fn plan_area(storage: &Storage, found: FoundArea, o: Obtain) -> Plan
 /// `SubpoolNotAllowed`), `BadLength` for a minimum of zero bytes or one above the maximum, `TooManyNames`, and
 /// `NoStorage` where not even the minimum has a place. A conditional form has in place of `NoStorage` a plan that sets
 /// register 15 to 4, and nothing else.
+#[inline(never)]
 pub fn plan_obtain(
     storage: &Storage,
     settings: Settings,

@@ -348,6 +348,7 @@ fn give_back(storage: &Storage, found: GivenBack) -> Plan
 /// one is free in the subpool or lies in a page that isn't assigned, and `OverlapsCells` where the area has a byte in
 /// common with an extent of a cell pool. A conditional form has in place of the last three a plan that sets register 15
 /// to 4, and nothing else.
+#[inline(never)]
 pub fn plan_release(storage: &Storage, settings: Settings, r: Release) -> Result<Plan, Cause>
     requires sound { StandsSound settings storage.now }
     requires frameless { IsFrameless storage.now }

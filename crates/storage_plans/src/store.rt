@@ -74,6 +74,7 @@ fn block_records(storage: &Storage, address: u32, bytes: &[u8]) -> ArrayVec<Reco
 /// no memory.
 ///
 /// Refused with `NotAssigned` where one of the bytes doesn't lie in an assigned page.
+#[inline(never)]
 pub fn plan_store(storage: &Storage, address: u32, bytes: &[u8]) -> Result<Plan, Cause>
     requires frameless { IsFrameless storage.now }
     requires room { length bytes.now ≤ 256 }

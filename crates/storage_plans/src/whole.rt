@@ -76,6 +76,7 @@ fn empty(storage: &Storage, subpool: Subpool) -> Plan
 /// The causes that refuse it, in order: a number above 127 (`UnsupportedSubpool` for 131 and 132, else
 /// `SubpoolNotAllowed`), `WholeOfZero` for subpool 0, `NotInSubpool` where the task doesn't see the subpool, and
 /// `NotOwner` where it doesn't own it.
+#[inline(never)]
 pub fn plan_whole(storage: &Storage, number: u32) -> Result<Plan, Cause>
     requires { Stand storage.now }
     ensures { (settings : Settings) (names_full : Bool) → settings_valid settings ≡ true

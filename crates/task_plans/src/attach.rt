@@ -36,6 +36,7 @@ pub struct AttachPlan {
 /// The causes that refuse it, in order: `NotAssigned` where a byte of a list doesn't lie in an assigned page, that of
 /// the subpools that are given first; `BadList` where a number is 0, above 127 or named twice; `NotOwner` where a
 /// subpool that is given is another task's; and `TooManyTasks`.
+#[inline(never)]
 pub fn plan_attach(storage: &Storage, request: Attach) -> Result<AttachPlan, Cause>
     requires stands { Stand storage.now }
     requires frameless { IsFrameless storage.now }

@@ -51,6 +51,7 @@ const ELEMENTS_MOST: usize = 1 << 23;
 ///
 /// The causes that refuse it, in order: `NoTask` where there is no such task, and `NotParent` where the current task
 /// isn't its parent.
+#[inline(never)]
 pub fn plan_detach(storage: &Storage, task: u32) -> Result<EndPlan, Cause>
     requires stands { Stand storage.now }
     ensures { (settings : Settings) (names_full : Bool) → settings_valid settings ≡ true
@@ -81,6 +82,7 @@ pub fn plan_detach(storage: &Storage, task: u32) -> Result<EndPlan, Cause>
 /// gone, those that it shares stay, and its parent makes the requests. Reads alone, and takes no memory.
 ///
 /// The causes that refuse it, in order: `HasSubtask`, and `NotParent` for task 1, which has no parent.
+#[inline(never)]
 pub fn plan_end_task(storage: &Storage) -> Result<EndPlan, Cause>
     requires stands { Stand storage.now }
     ensures { (settings : Settings) (names_full : Bool) → settings_valid settings ≡ true

@@ -39,6 +39,7 @@ fn turn_to(task: u8) -> Plan
 
 /// A plan by which another task makes the requests, the bench's own RUN. No register is set. Reads alone, and takes no
 /// memory. Refused with `NoTask` where there is no such task.
+#[inline(never)]
 pub fn plan_run(storage: &Storage, task: u32) -> Result<Plan, Cause>
     requires stands { Stand storage.now }
     ensures { (settings : Settings) (names_full : Bool) → StandsSound settings storage.now
