@@ -15,6 +15,7 @@ use crate::responses::Response;
 use crate::session::{LINES, Session, TooLong};
 use crate::texts::put_numbered;
 use bench_core::Bench;
+use memchr::memchr;
 use std::alloc::Global;
 use std::io::{Read, Write};
 use text_output::Gathered;
@@ -54,12 +55,10 @@ fn before_feed(bytes: &[u8]) -> usize
     ensures plain { NoFeed (take result bytes.now) }
     ensures feed { result < length bytes.now → slice_index bytes.now result ≡ 10 }
 {
-    for (i, byte) in bytes.iter().enumerate() {
-        if *byte == b'\n' {
-            return i;
-        }
+    match memchr(b'\n', bytes) {
+        Some(place) => place,
+        None => bytes.len(),
     }
-    bytes.len()
 }
 
 /// Takes a line feed, and puts the response to the line that it ends.
