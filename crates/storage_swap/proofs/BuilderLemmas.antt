@@ -1,5 +1,5 @@
 -- A change is made record by record beside the storage.
-use Rattle.std.proofs.Common.{◌≡◌, ℕ, ◌+◌, ◌/◌, ◌<◌, ◌≤◌, if◌then◌else◌, List, [], ◌∷◌, ◌++◌, length, length-append, map, Some, None, Result, Ok, Err, IfErr, IsSome, IsTrue, inl, inr, refl, sym, ap, ◌∙◌, arith, subst}
+use Rattle.std.proofs.Common.{◌≡◌, ℕ, ◌+◌, ◌/◌, ◌<◌, ◌≤◌, if◌then◌else◌, List, [], ◌∷◌, ◌++◌, length, length-append, map, Some, None, Result, Ok, Err, IfOk, IfErr, IsSome, IsTrue, inl, inr, refl, sym, ap, ◌∙◌, arith, subst}
 use Rattle.std.proofs.lemmas.List.{append_assoc, append-nil}
 use Rattle.vsm_elements.specs.Store.{Store, SameElements, at}
 use Rattle.vsm_elements.specs.Chain.{Link, last_or, links, owned, ids, IsChain}
@@ -370,6 +370,10 @@ module _ (p t u : Storage) (a b : ChangeBuilder) (none : (i : ℕ) → builder_h
         tables = same-tables (change_holds u.elements c) k;
         out = omega (arith, ap (λ (z : Tables). z.out) (same-region (change_holds u.elements c) k), ap length f.no_frame);
       }
+
+  pub made-reserves : {E : Type 0} (blanks : ℕ) (d : Change) (r : Result TheChange E) → IfOk r (λ c. Finishes t b blanks u c) → meaning_with t b blanks ≡ d → IfOk r (λ c. Reserves p d c u)
+  made-reserves blanks d (Ok c) f is = begun-reserves blanks d c f is
+  made-reserves blanks d (Err e) f is = tt
 
   -- or all was given back
   pub begun-grown : Keeps t u (builder_holds t b) no_ids → Grown p u

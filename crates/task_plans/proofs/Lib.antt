@@ -4,6 +4,6 @@ mod RecordCounts
 mod RunPlans
 mod Rests
 mod Climbs
-mod Registers
+mod Zeroed
 mod OwnedNames
 mod EndPlans

@@ -1,8 +1,13 @@
 -- How many records a task's coming takes.
-use Rattle.std.proofs.Common.{ℕ, ◌*◌, ◌≤◌, Bool, true, false, Option, Some, None, List, [], ◌∷◌, length, length-append, arith}
+use Rattle.std.proofs.Common.{◌≡◌, ℕ, ◌+◌, ◌*◌, ◌≤◌, Bool, true, false, Option, Some, None, List, [], ◌∷◌, ◌++◌, length, length-append, arith}
 use Rattle.std.specs.List.{flat_map}
+use Rattle.storage_changes.specs.declared.record.Record.{Record}
 use Rattle.storage_changes.specs.State.{StorageState}
 use Rattle.task_actions.specs.Attaching.{given_records, gift_records, sharing_records, share_records, zero_records}
+
+-- four lists behind one another
+pub four_together : (a b c d : List Record) → length (a ++ b ++ c ++ d) ≡ length a + length b + length c + length d
+four_together a b c d = omega (arith, length-append (a ++ b ++ c) d, length-append (a ++ b) c, length-append a b)
 
 of_gift : (task number : ℕ) (seen : Option ℕ) → length (given_records task number seen) ≤ 1
 of_gift task number (Some owner) = omega arith
