@@ -16,3 +16,4 @@ pub mod BackLemmas
 mod ObtainLemmas
 mod TakenLemmas
 mod ComeLemmas
+pub mod BuilderLemmas

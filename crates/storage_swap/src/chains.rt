@@ -73,7 +73,7 @@ pub(crate) fn building_records(elements: &mut Elements, pool: CellId, records: &
 }
 
 // One record more behind the last one, which has the id `last`. Answers the id of its own element.
-fn append(elements: &mut Elements, chain: &mut Chain, last: Id, added: Record) -> Id
+pub(crate) fn append(elements: &mut Elements, chain: &mut Chain, last: Id, added: Record) -> Id
     requires chain { IsChain elements.old chain.old }
     requires last { last ≡ last_or 0 (links elements.old chain.old) }
     requires room { 0 < elements.old.spare }

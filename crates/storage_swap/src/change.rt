@@ -69,7 +69,12 @@ impl Change {
 }
 
 // The elements of both chains and of the parked subpools are spare.
-fn discard_elements(elements: &mut Elements, records: Chain, blanks: Chain, parked: SubpoolStorage)
+pub(crate) fn discard_elements(
+    elements: &mut Elements,
+    records: Chain,
+    blanks: Chain,
+    parked: SubpoolStorage,
+)
     requires records { IsChain elements.old records }
     requires blanks { IsChain elements.old blanks }
     requires parked { Stands elements.old parked }

@@ -3,6 +3,7 @@
 #![tactic(auto)]
 
 mod beginning;
+mod builder;
 mod building;
 mod chains;
 mod change;
@@ -13,6 +14,7 @@ mod records;
 mod reserve;
 
 pub use beginning::fresh;
+pub use builder::ChangeBuilder;
 pub use building::NewPool;
 pub use change::Change;
 pub use ending::{Released, release};

@@ -13,3 +13,4 @@ pub mod BuildLemmas
 pub mod ExtentLemmas
 pub mod OrderLemmas
 pub mod PlaceLemmas
+pub mod PlaceStays

@@ -5,3 +5,4 @@ pub mod SubpoolStorage
 pub mod Held
 pub mod Laws
 pub mod Props
+pub mod PlaceLaws

@@ -3,6 +3,7 @@
 ghost use Rattle.subpool_storage.specs.Extents.{ExtentsAreRuns, ExtentsAreFew, FreeAreasAreRuns};
 ghost use Rattle.subpool_storage.specs.Laws.{StorageOwns, SubpoolsAreThere, StorageStays, CellPoolsAreNamed};
 ghost use Rattle.subpool_storage.specs.Laws.{PoolsAreHeld};
+ghost use Rattle.subpool_storage.specs.PlaceLaws.{PlacesStay};
 
 /// No element has two owners among the subpools and their queues, and each is live.
 pub fn storage_owns()
@@ -42,4 +43,10 @@ pub fn cell_pools_are_named()
 /// The id of a cell pool is that of an element that is held.
 pub fn pools_are_held()
     ensures { PoolsAreHeld }
+{}
+
+/// A place among the subpools, or among the tasks that share one, stays one where the elements of the storage are as
+/// they were, with what is left behind it.
+pub fn places_stay()
+    ensures { PlacesStay }
 {}

@@ -4,6 +4,8 @@ mod RecordCounts
 mod RunPlans
 mod Rests
 mod Climbs
-mod Registers
+mod Zeroed
 mod OwnedNames
+mod Walks
+mod Parks
 mod EndPlans

@@ -1,21 +1,22 @@
 //! Plans of tasks that come.
 
-ghost use Rattle.std.specs.Prelude.{◌≡◌, ◌+◌, ◌^◌, ◌≤◌, Bool, length, IfOk};
+ghost use Rattle.std.specs.Prelude.{◌≡◌, ℕ, ◌+◌, ◌≤◌, [], ◌∷◌, Bool, List, length, All, IsOk, OnOk, IfOk, IfErr};
 ghost use Rattle.vsm_model.specs.declared.limits.Settings.{Settings};
 ghost use Rattle.vsm_model.specs.Services.{attach};
-ghost use Rattle.storage_changes.specs.Changes.{change_parking};
-ghost use Rattle.storage_exchange.specs.Storage.{state_of, Stand, IsFrameless};
+ghost use Rattle.storage_exchange.specs.Storage.{hold, state_of, Stand, IsFrameless};
+ghost use Rattle.storage_actions.specs.Actions.{register_records};
 ghost use Rattle.storage_plans.specs.Places.{StandsSound};
-ghost use Rattle.storage_changes.specs.Names.{AreNames};
-ghost use Rattle.task_plans.specs.TaskPlans.{attach_change, CanBeAttached, IsAttachPlanned};
+ghost use Rattle.storage_swap.specs.Builder.{IsBuilding, Builds, Pushes};
+ghost use Rattle.storage_swap.specs.Reserve.{Grown, Reserves};
+ghost use Rattle.task_plans.specs.TaskPlans.{attach_change, numbers, CanBeAttached, IsAttachPlanned};
 
 use crate::numbers::{has_bad_number, numbers_of, numbers_or_none, some_is_anothers};
 use crate::passing::{push_gifts, push_shares, push_zero};
-use std::alloc::{AllocError, Global};
+use crate::registers::push_register;
+use std::alloc::AllocError;
 use storage_changes::{Record, TaskRecord};
 use storage_exchange::Storage;
-use storage_plans::Listed;
-use storage_plans::listed::push_register;
+use storage_swap::{Change, ChangeBuilder};
 use subpool_storage::laws::cell_pools_are_named;
 use task_actions::laws::attaching_leads;
 use vsm_model::{Attach, Cause};
@@ -63,36 +64,63 @@ pub fn plan_attach(storage: &Storage, request: Attach) -> Result<AttachPlan, Cau
 }
 
 impl AttachPlan {
-    /// What the change is made of: a record for the task, one or two for each number that is given or shared, and for
-    /// subpool 0. `AllocError` where there is no memory for the list.
-    pub fn listed(self, alloc: Global, storage: &Storage) -> Result<Listed, AllocError>
-        requires stands { Stand storage.now }
-        requires frameless { IsFrameless storage.now }
-        requires can { CanBeAttached (state_of storage.now) self }
-        ensures change { IfOk result (λ l. change_parking l.names.items l.records.items l.blanks
-            ≡ attach_change (state_of storage.now) self) }
-        ensures names { IfOk result (λ l. AreNames l.names.items) }
-        ensures size { IfOk result (λ l. length l.names.items + (length l.records.items + l.blanks) ≤ 2 ^ 24) }
+    /// The change: a record for the task, one or two for each number that is given or shared, and for subpool 0, and
+    /// one for each of two registers. The state of the storage stays as it is.
+    ///
+    /// `AllocError` where memory is refused: what was made before that stays, as spare elements. Where so many elements
+    /// are spare as it has records and blank elements, it takes no memory.
+    pub fn reserve(self, storage: &mut Storage) -> Result<Change, AllocError>
+        requires stands { Stand storage.old }
+        requires once { (i : ℕ) → hold storage.old i ≤ 1 }
+        requires frameless { IsFrameless storage.old }
+        requires can { CanBeAttached (state_of storage.old) self }
+        ensures ok { IfOk result (λ change.
+            Reserves storage.old (attach_change (state_of storage.old) self) change storage.new) }
+        ensures frames { IfOk result (λ change. length change.frames ≡ 0) }
+        ensures grown { IfErr result (λ _. Grown storage.old storage.new) }
+        ensures needless { let d = attach_change (state_of storage.old) self in
+            length d.records + d.blanks ≤ storage.old.elements.spare → IsOk result }
+    {
+        let mut builder = ChangeBuilder::new();
+        match self.push_records(storage, &mut builder) {
+            Ok(blanks) => builder.finish(storage, blanks),
+            Err(refused) => {
+                builder.discard(storage);
+                Err(refused)
+            }
+        }
+    }
+
+    // The records of the change, in their order. Answers how many blank elements it has.
+    fn push_records(
+        self,
+        storage: &mut Storage,
+        builder: &mut ChangeBuilder,
+    ) -> Result<u32, AllocError>
+        requires building { IsBuilding storage.old builder.old }
+        requires can { CanBeAttached (state_of storage.old) self }
+        ensures builds { Builds storage.old builder.old storage.new builder.new }
+        ensures ok { OnOk result (Pushes storage.old builder.old
+            (attach_change (state_of storage.old) self).records storage.new builder.new) }
+        ensures blanks { IfOk result (λ n. n ≡ (attach_change (state_of storage.old) self).blanks) }
+        ensures needless { length (attach_change (state_of storage.old) self).records ≤ storage.old.elements.spare
+            → IsOk result }
     {
         let current = storage.tasks.current();
         let given = numbers_or_none(storage, self.attach.given);
         let shared = numbers_or_none(storage, self.attach.shared);
-        let mut records = Vec::new(alloc);
-        records.push(Record::Task(TaskRecord {
+        let count = (given.len() + shared.len()) as u32;
+        let comes = Record::Task(TaskRecord {
             task: self.task,
             parent: current,
             present: true,
-        }))?;
-        push_zero(storage, &mut records, self.task, self.attach.shares_zero)?;
-        push_gifts(storage, &mut records, self.task, &given)?;
-        push_shares(storage, &mut records, self.task, &shared)?;
-        push_register(&mut records, current, 15, 0)?;
-        push_register(&mut records, current, 1, u32::from(self.task))?;
-        let count = (given.len() + shared.len()) as u32;
-        Ok(Listed {
-            names: Vec::new(alloc),
-            records,
-            blanks: 7 + 2 * count,
-        })
+        });
+        builder.push(storage, comes)?;
+        push_zero(storage, builder, self.task, self.attach.shares_zero)?;
+        push_gifts(storage, builder, self.task, &given)?;
+        push_shares(storage, builder, self.task, &shared)?;
+        push_register(storage, builder, current, 15, 0)?;
+        push_register(storage, builder, current, 1, u32::from(self.task))?;
+        Ok(7 + 2 * count)
     }
 }

@@ -6,6 +6,7 @@ mod end;
 mod ended;
 mod numbers;
 mod passing;
+mod registers;
 mod run;
 
 pub use attach::{AttachPlan, plan_attach};

@@ -1,14 +1,16 @@
 //! The records of subpools that a new task is given, and of those that it shares.
 
-ghost use Rattle.std.specs.Prelude.{◌≡◌, ◌≤◌, ◌++◌, All, OnOk};
+ghost use Rattle.std.specs.Prelude.{◌≡◌, ◌≤◌, ◌++◌, length, All, IsOk, OnOk};
 ghost use Rattle.std.specs.List.{flat_map};
-ghost use Rattle.storage_exchange.specs.Storage.{state_of, Stand};
+ghost use Rattle.storage_exchange.specs.Storage.{state_of};
+ghost use Rattle.storage_swap.specs.Builder.{IsBuilding, Builds, Pushes};
 ghost use Rattle.task_actions.specs.Attaching.{made, shared, gift_records, share_records, zero_records};
 
 use crate::numbers::Numbers;
 use std::alloc::AllocError;
 use storage_changes::{OwnRecord, PassRecord, Record, SharerRecord};
 use storage_exchange::Storage;
+use storage_swap::ChangeBuilder;
 use vsm_model::Subpool;
 
 // A subpool that is made.
@@ -34,107 +36,120 @@ fn shared(number: u8, owner: u8, task: u8) -> Record
 
 // A number that is given to the task.
 fn push_gift(
-    storage: &Storage,
-    records: &mut Vec<Record>,
+    storage: &mut Storage,
+    builder: &mut ChangeBuilder,
     task: u8,
     number: u8,
 ) -> Result<(), AllocError>
-    requires stands { Stand storage.now }
-    ensures ok { OnOk result (records.new.items
-        ≡ records.old.items ++ gift_records (state_of storage.now) task number) }
+    requires { IsBuilding storage.old builder.old }
+    ensures builds { Builds storage.old builder.old storage.new builder.new }
+    ensures ok { OnOk result (Pushes storage.old builder.old
+        (gift_records (state_of storage.old) task number) storage.new builder.new) }
+    ensures needless { length (gift_records (state_of storage.old) task number) ≤ storage.old.elements.spare
+        → IsOk result }
 {
     let current = storage.tasks.current();
     let seen = storage
         .subpools
         .owner_seen(&storage.elements, current, number);
-    let record = match seen {
-        Some(owner) => Record::Pass(PassRecord {
-            subpool: Subpool { number, owner },
-            to: task,
-        }),
-        None => made(number, task),
-    };
-    records.push(record)?;
-    Ok(())
+    match seen {
+        Some(owner) => {
+            let passes = Record::Pass(PassRecord {
+                subpool: Subpool { number, owner },
+                to: task,
+            });
+            builder.push(storage, passes)
+        }
+        None => builder.push(storage, made(number, task)),
+    }
 }
 
 // A number that is shared with the task.
 fn push_share(
-    storage: &Storage,
-    records: &mut Vec<Record>,
+    storage: &mut Storage,
+    builder: &mut ChangeBuilder,
     task: u8,
     number: u8,
 ) -> Result<(), AllocError>
-    requires stands { Stand storage.now }
-    ensures ok { OnOk result (records.new.items
-        ≡ records.old.items ++ share_records (state_of storage.now) task number) }
+    requires { IsBuilding storage.old builder.old }
+    ensures builds { Builds storage.old builder.old storage.new builder.new }
+    ensures ok { OnOk result (Pushes storage.old builder.old
+        (share_records (state_of storage.old) task number) storage.new builder.new) }
+    ensures needless { length (share_records (state_of storage.old) task number) ≤ storage.old.elements.spare
+        → IsOk result }
 {
     let current = storage.tasks.current();
     let seen = storage
         .subpools
         .owner_seen(&storage.elements, current, number);
-    let owner = match seen {
-        Some(owner) => owner,
+    match seen {
+        Some(owner) => builder.push(storage, shared(number, owner, task)),
         None => {
-            records.push(made(number, current))?;
-            current
+            builder.push(storage, made(number, current))?;
+            builder.push(storage, shared(number, current, task))
         }
-    };
-    records.push(shared(number, owner, task))?;
-    Ok(())
+    }
 }
 
 /// Subpool 0 is shared with the task, or it's one of its own.
 pub(crate) fn push_zero(
-    storage: &Storage,
-    records: &mut Vec<Record>,
+    storage: &mut Storage,
+    builder: &mut ChangeBuilder,
     task: u8,
     shares_zero: bool,
 ) -> Result<(), AllocError>
-    requires stands { Stand storage.now }
-    ensures ok { OnOk result (records.new.items
-        ≡ records.old.items ++ zero_records (state_of storage.now) task shares_zero) }
+    requires { IsBuilding storage.old builder.old }
+    ensures builds { Builds storage.old builder.old storage.new builder.new }
+    ensures ok { OnOk result (Pushes storage.old builder.old
+        (zero_records (state_of storage.old) task shares_zero) storage.new builder.new) }
+    ensures needless { length (zero_records (state_of storage.old) task shares_zero) ≤ storage.old.elements.spare
+        → IsOk result }
 {
     if shares_zero {
-        push_share(storage, records, task, 0)
+        push_share(storage, builder, task, 0)
     } else {
-        records.push(made(0, task))?;
-        Ok(())
+        builder.push(storage, made(0, task))
     }
 }
 
 /// The numbers are given to the task, in their order.
 pub(crate) fn push_gifts(
-    storage: &Storage,
-    records: &mut Vec<Record>,
+    storage: &mut Storage,
+    builder: &mut ChangeBuilder,
     task: u8,
     numbers: &Numbers,
 ) -> Result<(), AllocError>
-    requires stands { Stand storage.now }
+    requires building { IsBuilding storage.old builder.old }
     requires range { All (λ number. number ≤ 127) numbers.now.items }
-    ensures ok { OnOk result (records.new.items
-        ≡ records.old.items ++ flat_map (gift_records (state_of storage.now) task) numbers.now.items) }
+    ensures builds { Builds storage.old builder.old storage.new builder.new }
+    ensures ok { OnOk result (Pushes storage.old builder.old
+        (flat_map (gift_records (state_of storage.old) task) numbers.now.items) storage.new builder.new) }
+    ensures needless { length (flat_map (gift_records (state_of storage.old) task) numbers.now.items)
+        ≤ storage.old.elements.spare → IsOk result }
 {
     for k in 0..numbers.len() {
-        push_gift(storage, records, task, numbers[k] as u8)?;
+        push_gift(storage, builder, task, numbers[k] as u8)?;
     }
     Ok(())
 }
 
 /// The numbers are shared with the task, in their order.
 pub(crate) fn push_shares(
-    storage: &Storage,
-    records: &mut Vec<Record>,
+    storage: &mut Storage,
+    builder: &mut ChangeBuilder,
     task: u8,
     numbers: &Numbers,
 ) -> Result<(), AllocError>
-    requires stands { Stand storage.now }
+    requires building { IsBuilding storage.old builder.old }
     requires range { All (λ number. number ≤ 127) numbers.now.items }
-    ensures ok { OnOk result (records.new.items
-        ≡ records.old.items ++ flat_map (share_records (state_of storage.now) task) numbers.now.items) }
+    ensures builds { Builds storage.old builder.old storage.new builder.new }
+    ensures ok { OnOk result (Pushes storage.old builder.old
+        (flat_map (share_records (state_of storage.old) task) numbers.now.items) storage.new builder.new) }
+    ensures needless { length (flat_map (share_records (state_of storage.old) task) numbers.now.items)
+        ≤ storage.old.elements.spare → IsOk result }
 {
     for k in 0..numbers.len() {
-        push_share(storage, records, task, numbers[k] as u8)?;
+        push_share(storage, builder, task, numbers[k] as u8)?;
     }
     Ok(())
 }

@@ -1,7 +1,7 @@
 use Rattle.std.proofs.Common.{◌≡◌, ◌+◌, ◌*◌, ◌^◌, ◌≤◌, false, refl, arith}
 use Rattle.std.specs.Prelude.{option_map}
 use Rattle.vsm_elements.proofs.ChainFrame.{Leaves-trans}
-use Rattle.cell_pool.specs.Pools.{Pool, meets}
+use Rattle.cell_pool.specs.Pools.{meets}
 use Rattle.cell_pool.specs.CellPools.{by_id, owned}
 use Rattle.subpool_storage.specs.Subpools.{with_new_pool, built_pool}
 use Rattle.subpool_storage.specs.SubpoolStorage.{subpools_of}

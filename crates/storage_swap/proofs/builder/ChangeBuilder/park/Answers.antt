@@ -1,0 +1,38 @@
+use Rattle.std.proofs.Common.{[], ap, ◌∙◌, arith, true}
+use Rattle.subpool_storage.specs.Subpools.{Subpools, with_own}
+use Rattle.storage_swap.specs.Builder.{Pushes}
+use Rattle.storage_swap.proofs.KeptLemmas.{over}
+use Rattle.storage_swap.proofs.BuilderLemmas.{if-refused, grown-builds, grown-parked, grown-pushes, park-builds, park-records}
+use Rattle.storage_swap.proofs.builder.ChangeBuilder.park.Goals as goal
+
+pub returns-in_err-reserve-clause-builds : goal.returns-in_err-reserve-clause-builds
+returns-in_err-reserve-clause-builds c = grown-builds c.args.storage.now c.args.self.now c.requires.building c.reserve.new.self c.reserve.ensures.kept
+
+pub returns-in_err-reserve-clause-err : goal.returns-in_err-reserve-clause-err
+returns-in_err-reserve-clause-err c =
+    let p = c.args.storage.now in
+    let b = c.args.self.now in
+    if-refused (Pushes p b [] (over p c.reserve.new.self) b) c.from_residual.result (grown-pushes p b c.requires.building c.reserve.new.self c.reserve.ensures.kept c.reserve.ensures.grows)
+
+pub create-requires-clause-stands : goal.create-requires-clause-stands
+create-requires-clause-stands c = (grown-builds c.args.storage.now c.args.self.now c.requires.building c.reserve.new.self c.reserve.ensures.kept).building.ready.stands.parked
+
+pub create-requires-clause-unseen : goal.create-requires-clause-unseen
+create-requires-clause-unseen c =
+    ap (λ (m : Subpools). m.sight c.args.subpool.owner c.args.subpool.number) (grown-parked c.args.storage.now c.args.self.now c.requires.building c.reserve.new.self c.reserve.ensures.kept)
+    ∙ c.requires.unseen
+
+pub returns-clause-builds : goal.returns-clause-builds
+returns-clause-builds c =
+    let made = c.create.ensures.becomes in
+    park-builds c.args.storage.now c.args.self.now c.requires.building c.reserve.new.self c.reserve.ensures.kept
+    c.create.new.elements c.create.new.self made.stands made.moves
+
+pub returns-clause-ok : goal.returns-clause-ok
+returns-clause-ok c =
+    let made = c.create.ensures.becomes in
+    record {
+      records = park-records c.args.storage.now c.args.self.now c.requires.building c.reserve.new.self c.reserve.ensures.kept c.create.new.elements c.create.new.self made.stands made.moves;
+      parked = made.subpools ∙ ap (λ (m : Subpools). with_own m c.args.subpool true) (grown-parked c.args.storage.now c.args.self.now c.requires.building c.reserve.new.self c.reserve.ensures.kept);
+      spare = omega (arith, c.reserve.ensures.grows, c.create.ensures.spares);
+    }

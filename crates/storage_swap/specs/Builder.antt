@@ -1,0 +1,74 @@
+-- A change that is being made: records behind one another, and the subpools that it has parked.
+use Rattle.std.specs.Prelude.{◌≡◌, ℕ, ◌+◌, ◌<◌, ◌≤◌, true, List, [], ◌++◌, length}
+use Rattle.vsm_elements.specs.Store.{at}
+use Rattle.vsm_elements.specs.Owners.{Moves}
+use Rattle.vsm_elements.specs.Chain.{last_or, links}
+use Rattle.vsm_model.specs.declared.Subpool.{Subpool}
+use Rattle.subpool_storage.specs.Subpools.{Subpools, with_own}
+use Rattle.subpool_storage.specs.SubpoolStorage.{subpools_of}
+use Rattle.storage_changes.specs.declared.record.Record.{Record}
+use Rattle.storage_changes.specs.Changes.{Change, change_of, no_pages}
+use Rattle.storage_exchange.specs.declared.storage.Storage.{Storage}
+use Rattle.storage_exchange.specs.Storage.{hold, state_of}
+use Rattle.storage_swap.specs.declared.builder.ChangeBuilder.{ChangeBuilder}
+use Rattle.storage_swap.specs.declared.change.Change.{Change as TheChange}
+use Rattle.storage_swap.specs.Beside.{records_of}
+use Rattle.storage_swap.specs.Swap.{means, change_holds, Ready}
+
+-- the change so far: without a blank element, and without a frame
+abbrev pub so_far : ChangeBuilder → TheChange
+so_far b = record { records = b.records; blanks = record { first = 0; count = 0 }; frames = []; parked = b.parked }
+
+-- its records, in their order
+abbrev pub records_in : Storage → ChangeBuilder → List Record
+records_in p b = records_of p.elements b.records
+
+-- the subpools that it has parked
+abbrev pub parked_in : Storage → ChangeBuilder → Subpools
+parked_in p b = subpools_of p.elements b.parked
+
+-- what it means with so many blank elements and no frame
+abbrev pub meaning_with : Storage → ChangeBuilder → ℕ → Change
+meaning_with p b blanks = record (change_of (records_in p b) blanks no_pages) { parked = parked_in p b }
+
+-- how often it holds an element
+abbrev pub builder_holds : Storage → ChangeBuilder → ℕ → ℕ
+builder_holds p b = change_holds p.elements (so_far b)
+
+-- The change so far stands beside the storage, and its last record is known.
+pub record IsBuilding (p : Storage) (b : ChangeBuilder) : Type 0 where
+  pub ready : Ready p (so_far b)
+  pub last : b.last ≡ last_or 0 (links p.elements b.records)
+
+-- The storage is as it was. Beside it elements came and went: those that something had held, and those that it holds.
+pub record Keeps (s t : Storage) (had has : ℕ → ℕ) : Type 0 where
+  pub same : t ≡ record s { elements = t.elements }
+  pub shows : state_of t ≡ state_of s
+  pub held : (i : ℕ) → hold t i ≡ hold s i
+  pub kept : (i : ℕ) → 0 < hold s i → at t.elements i ≡ at s.elements i
+  pub moves : Moves s.elements t.elements had has
+
+-- The one change so far became the other, and the storage is as it was.
+pub record Builds (s : Storage) (a : ChangeBuilder) (t : Storage) (b : ChangeBuilder) : Type 0 where
+  pub building : IsBuilding t b
+  pub keeps : Keeps s t (builder_holds s a) (builder_holds t b)
+
+-- These records came behind those that were there, each in one element.
+pub record Pushes (s : Storage) (a : ChangeBuilder) (added : List Record) (t : Storage) (b : ChangeBuilder)
+    : Type 0 where
+  pub records : records_in t b ≡ records_in s a ++ added
+  pub parked : parked_in t b ≡ parked_in s a
+  pub spare : s.elements.spare ≤ t.elements.spare + length added
+
+-- An empty subpool of this name was parked, in one element.
+pub record Parks (s : Storage) (a : ChangeBuilder) (subpool : Subpool) (t : Storage) (b : ChangeBuilder) : Type 0 where
+  pub records : records_in t b ≡ records_in s a
+  pub parked : parked_in t b ≡ with_own (parked_in s a) subpool true
+  pub spare : s.elements.spare ≤ t.elements.spare + 1
+
+-- The change is made, with so many blank elements and no frame, and the storage is as it was.
+pub record Finishes (s : Storage) (b : ChangeBuilder) (blanks : ℕ) (t : Storage) (c : TheChange) : Type 0 where
+  pub ready : Ready t c
+  pub keeps : Keeps s t (builder_holds s b) (change_holds t.elements c)
+  pub meaning : means t.elements c ≡ meaning_with s b blanks
+  pub no_frame : c.frames ≡ []

@@ -1,0 +1,130 @@
+//! Changes that are made record by record, while the storage is read.
+
+ghost use Rattle.std.specs.Prelude.{◌≡◌, ℕ, ◌<◌, ◌≤◌, [], ◌∷◌, None, length, IsOk, OnOk, IfOk, IfErr};
+ghost use Rattle.subpool_storage.specs.Held.{GivenBack};
+ghost use Rattle.subpool_storage.specs.Subpools.{no_subpools};
+ghost use Rattle.storage_exchange.specs.declared.storage.Storage.{Storage as TheStorage};
+ghost use Rattle.storage_exchange.specs.Storage.{hold, Stand, IsFrameless};
+ghost use Rattle.storage_swap.specs.Builder.{builder_holds, records_in, parked_in};
+ghost use Rattle.storage_swap.specs.Builder.{IsBuilding, Keeps, Builds, Pushes, Parks, Finishes};
+
+use crate::chains::append;
+use crate::change::{Change, discard_elements};
+use crate::reserve::take_blanks;
+use raw_region::Parked;
+use std::alloc::AllocError;
+use storage_changes::Record;
+use storage_exchange::Storage;
+use subpool_storage::SubpoolStorage;
+use vsm_elements::{Chain, Id};
+use vsm_model::Subpool;
+
+/// A change that is being made: records behind one another, and the subpools that it has parked. Between two records
+/// the storage can be read: its state stays as it is.
+///
+/// It ends by [`ChangeBuilder::finish`] or by [`ChangeBuilder::discard`] alone: its elements stay live until then.
+pub struct ChangeBuilder {
+    records: Chain,
+    // The id of the last record's element, or 0.
+    last: Id,
+    parked: SubpoolStorage,
+}
+
+impl ChangeBuilder {
+    /// No record, and nothing parked. It has no element.
+    pub fn new() -> ChangeBuilder
+        ensures building { (p : TheStorage) → Stand p → ((i : ℕ) → hold p i ≤ 1) → IsFrameless p → IsBuilding p result }
+        ensures records { (p : TheStorage) → records_in p result ≡ [] }
+        ensures parked { (p : TheStorage) → parked_in p result ≡ no_subpools }
+        ensures none { (p : TheStorage) (i : ℕ) → builder_holds p result i ≡ 0 }
+    {
+        ChangeBuilder {
+            records: Chain::new(),
+            last: 0,
+            parked: SubpoolStorage::new(),
+        }
+    }
+
+    /// How many records it has.
+    pub fn count(&self) -> u32
+        ensures { (p : TheStorage) → IsBuilding p self.now → result ≡ length (records_in p self.now) }
+    {
+        self.records.count
+    }
+
+    /// One record more, behind the last one. It takes one element.
+    ///
+    /// `AllocError` where none is spare and memory is refused: the records then stay as they are.
+    pub fn push(&mut self, storage: &mut Storage, added: Record) -> Result<(), AllocError>
+        requires { IsBuilding storage.old self.old }
+        ensures builds { Builds storage.old self.old storage.new self.new }
+        ensures ok { OnOk result (Pushes storage.old self.old (added ∷ []) storage.new self.new) }
+        ensures err { IfErr result (λ _. Pushes storage.old self.old [] storage.new self.new) }
+        ensures needless { 0 < storage.old.elements.spare → IsOk result }
+    {
+        storage.elements.reserve(1)?;
+        self.last = append(&mut storage.elements, &mut self.records, self.last, added);
+        Ok(())
+    }
+
+    /// Parks an empty subpool of this name, whose storage a record of the change can take over. None of this name may
+    /// be parked already. It takes one element.
+    ///
+    /// `AllocError` where none is spare and memory is refused: nothing more is parked then.
+    pub fn park(&mut self, storage: &mut Storage, subpool: Subpool) -> Result<(), AllocError>
+        requires building { IsBuilding storage.old self.old }
+        requires range { (1 ≤ subpool.owner) × (subpool.owner ≤ 64) × (subpool.number ≤ 127) }
+        requires unseen { (parked_in storage.old self.old).sight subpool.owner subpool.number ≡ None }
+        ensures builds { Builds storage.old self.old storage.new self.new }
+        ensures ok { OnOk result (Parks storage.old self.old subpool storage.new self.new) }
+        ensures err { IfErr result (λ _. Pushes storage.old self.old [] storage.new self.new) }
+        ensures needless { 0 < storage.old.elements.spare → IsOk result }
+    {
+        storage.elements.reserve(1)?;
+        self.parked.create(&mut storage.elements, subpool);
+        Ok(())
+    }
+
+    /// The change, with so many blank elements and no frame. The state of the storage stays as it is.
+    ///
+    /// Each call on a queue takes one blank element at most, and one has to be left.
+    ///
+    /// `AllocError` where fewer are spare and memory is refused: all that it had is spare then.
+    pub fn finish(self, storage: &mut Storage, blanks: u32) -> Result<Change, AllocError>
+        requires { IsBuilding storage.old self }
+        ensures ok { IfOk result (λ change. Finishes storage.old self blanks storage.new change) }
+        ensures err { IfErr result (λ _. Keeps storage.old storage.new (builder_holds storage.old self) (λ i. 0)) }
+        ensures needless { blanks ≤ storage.old.elements.spare → IsOk result }
+    {
+        if let Err(refused) = storage.elements.reserve(blanks) {
+            self.discard(storage);
+            return Err(refused);
+        }
+        let ChangeBuilder {
+            records,
+            last: _,
+            parked,
+        } = self;
+        let blanks = take_blanks(&mut storage.elements, blanks);
+        Ok(Change {
+            records,
+            blanks,
+            frames: Parked::empty(),
+            parked,
+        })
+    }
+
+    /// Gives back every element, those of the subpools that it has parked among them. The storage stays as it is.
+    pub fn discard(self, storage: &mut Storage)
+        requires { IsBuilding storage.old self }
+        ensures keeps { Keeps storage.old storage.new (builder_holds storage.old self) (λ i. 0) }
+        ensures spares { GivenBack (builder_holds storage.old self) storage.old.elements storage.new.elements }
+    {
+        let ChangeBuilder {
+            records,
+            last: _,
+            parked,
+        } = self;
+        discard_elements(&mut storage.elements, records, Chain::new(), parked);
+    }
+}
