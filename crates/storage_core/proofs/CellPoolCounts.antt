@@ -1,11 +1,11 @@
 -- How many elements the change of a cell pool that goes has.
-use Rattle.std.proofs.Common.{◌≡◌, ℕ, ◌+◌, ◌*◌, ◌<◌, length, Result, Ok, Err, IfOk, arith}
+use Rattle.std.proofs.Common.{◌+◌, ◌<◌, Result, Ok, Err, IfOk, arith}
 use Rattle.storage_changes.specs.State.{StorageState}
 use Rattle.storage_exchange.specs.declared.storage.Storage.{Storage as Parts}
 use Rattle.storage_swap.specs.declared.change.Change.{Change}
 use Rattle.storage_swap.specs.Reserve.{Reserves}
 use Rattle.cell_plans.specs.declared.delete.DeletePlan.{DeletePlan}
-use Rattle.cell_plans.specs.CellPlans.{delete_change, extents_of_pool}
+use Rattle.cell_plans.specs.CellPlans.{delete_change}
 use Rattle.cell_plans.proofs.DeleteCounts.{delete-short}
 use Rattle.storage_core.specs.declared.plans.Plan.TheVariants.{Delete}
 use Rattle.storage_core.specs.Planned.{elements_below}
