@@ -4,6 +4,5 @@ mod RecordCounts
 mod RunPlans
 mod Rests
 mod Climbs
-mod Registers
 mod OwnedNames
 mod EndPlans

@@ -115,7 +115,7 @@ pub fn plan_end_task(storage: &Storage) -> Result<EndPlan, Cause>
 
 impl EndPlan {
     /// What the change is made of: for each subpool of the subtree's tasks two records, one more for each of its
-    /// extents and of its sharers; one for each subpool that they share; and seventeen for each task. `AllocError`
+    /// extents and of its sharers; one for each subpool that they share; and five for each task. `AllocError`
     /// where there is no memory for the list, or it would be longer than eight million.
     pub fn listed(self, alloc: Global, storage: &Storage) -> Result<Listed, AllocError>
         requires stands { Stand storage.now }

@@ -7,9 +7,8 @@ ghost use Rattle.task_actions.specs.Ending.{is_below_by, ended_below, ended_leve
 ghost use Rattle.std.specs.List.{flat_map};
 
 use std::alloc::AllocError;
-use storage_changes::{Record, TaskRecord};
+use storage_changes::{Record, RegistersRecord, TaskRecord};
 use storage_exchange::Storage;
-use storage_plans::listed::push_register;
 
 /// The most steps from a task of the 64 to the first.
 const MOST_STEPS: u8 = 63;
@@ -58,8 +57,12 @@ fn push_ended_task(storage: &Storage, records: &mut Vec<Record>, task: u8) -> Re
     requires { Stand storage.now }
     ensures ok { OnOk result (records.new.items ≡ records.old.items ++ ended_records (state_of storage.now) task) }
 {
-    for register in 0..16 {
-        push_register(records, task, register, 0)?;
+    for quarter in 0..4 {
+        records.push(Record::Registers(RegistersRecord {
+            task,
+            first: 4 * quarter,
+            words: [0; 4],
+        }))?;
     }
     records.push(Record::Task(TaskRecord {
         task,
