@@ -1,7 +1,8 @@
 -- Four registers of a task get their words one after the other.
 use Rattle.std.proofs.Common.{◌≡◌, ℕ, ◌+◌, ◌-◌, ◌<◌, ◌≤◌, Bool, true, false, ◌&&◌, ◌||◌, ◌==◌, if◌then◌else◌, List, [], ◌∷◌, slice_index_or, refl, ap, sym, ◌∙◌, arith}
-use Rattle.std.specs.Prelude.{nat_le, nat_lt}
+use Rattle.std.specs.Prelude.{nat_lt}
 use Rattle.std.proofs.lemmas.Bool.{eqb-true, lt-ltb}
+use Rattle.std.proofs.lemmas.Bool.Decides.{nat_tests}
 use Rattle.run_set.specs.Runs.{inside}
 use Rattle.vsm_elements.specs.Store.{Store}
 use Rattle.vsm_elements.specs.Ownership.{Leaves}
@@ -32,14 +33,19 @@ chosen true j true i v x o is same = same refl ∙ sym (cond-in j x o (is ∙ or
 chosen true j false i v x o is same = ap (λ (b : Bool). if b then x else o) (sym (is ∙ or-false i))
 
 inside-next : (first count k : ℕ) → inside k (record { start = first; len = count + 1 }) ≡ (inside k (record { start = first; len = count }) || (k == first + count))
-inside-next first count k = ?
+inside-next first count k = grind (arith, nat_tests)
 
 inside-none : (first count k : ℕ) → first + count ≤ k → inside k (record { start = first; len = count }) ≡ false
-inside-none first count k past = ?
+inside-none first count k past = grind (arith, nat_tests)
+
+inside-empty : (first k : ℕ) → inside k (record { start = first; len = 0 }) ≡ false
+inside-empty first k = grind (arith, nat_tests)
 
 module _ (old : ℕ → ℕ → ℕ) (task first : ℕ) (ws : List ℕ) where
   none-written : FirstWritten old old task first ws 0
-  none-written t k low = ?
+  none-written t k low =
+      sym (cond-out ((t == task) && inside k (record { start = first; len = 0 })) (slice_index_or ws (k - first) 0) (old t k)
+      (and-false (t == task) (inside k (record { start = first; len = 0 })) (inside-empty first k)))
 
   next-written : (one two : ℕ → ℕ → ℕ) (count register v : ℕ) → register ≡ first + count → v ≡ slice_index_or ws count 0
       → FirstWritten old one task first ws count → ((t k : ℕ) → k < 16 → two t k ≡ (if (t == task) && (k == register) then v else one t k))
@@ -94,11 +100,11 @@ module _ (q : Tree) (s e f g t : Store) (task first : ℕ) (ws : List ℕ)
     words-answered a b c d at bt ct dt =
         let first-is : a ≡ register-had first = at ∙ was-there first (omega (arith, high)) in
         let second-is : b ≡ register-had (first + 1) =
-            bt ∙ not-written (words-of s) task first ws (words-of e) 1 (first + 1) refl (omega (arith, high)) behind-one ∙ was-there (first + 1) (omega (arith, high)) in
+        bt ∙ not-written (words-of s) task first ws (words-of e) 1 (first + 1) refl (omega (arith, high)) behind-one ∙ was-there (first + 1) (omega (arith, high)) in
         let third-is : c ≡ register-had (first + 2) =
-            ct ∙ not-written (words-of s) task first ws (words-of f) 2 (first + 2) refl (omega (arith, high)) behind-two ∙ was-there (first + 2) (omega (arith, high)) in
+        ct ∙ not-written (words-of s) task first ws (words-of f) 2 (first + 2) refl (omega (arith, high)) behind-two ∙ was-there (first + 2) (omega (arith, high)) in
         let fourth-is : d ≡ register-had (first + 3) =
-            dt ∙ not-written (words-of s) task first ws (words-of g) 3 (first + 3) refl (omega (arith, high)) behind-three ∙ was-there (first + 3) (omega (arith, high)) in
+        dt ∙ not-written (words-of s) task first ws (words-of g) 3 (first + 3) refl (omega (arith, high)) behind-three ∙ was-there (first + 3) (omega (arith, high)) in
         λ i. first-is i ∷ second-is i ∷ third-is i ∷ fourth-is i ∷ []
 
 -- what they leave alone

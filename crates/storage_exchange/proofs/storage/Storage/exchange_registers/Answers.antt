@@ -1,5 +1,4 @@
-use Rattle.std.proofs.Common.{List, ℕ, ◌≡◌, ◌∙◌, ap, subst, IsSome, Option, sym, arith}
-use Rattle.task_tree.specs.TaskTree.{parent}
+use Rattle.std.proofs.Common.{List, ℕ, ◌∙◌, ap}
 use Rattle.storage_exchange.proofs.FourWords.{all-written, words-answered, four-leave}
 use Rattle.storage_exchange.proofs.TaskLemmas.{registers-exchanged}
 use Rattle.storage_exchange.proofs.storage.Storage.exchange_registers.Goals as goal
