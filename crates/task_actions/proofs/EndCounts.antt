@@ -1,5 +1,5 @@
 -- How many records tasks that end take.
-use Rattle.std.proofs.Common.{◌≡◌, ℕ, ◌+◌, ◌*◌, List, [], ◌∷◌, ◌++◌, length, refl, ◌∙◌, arith}
+use Rattle.std.proofs.Common.{◌≡◌, ℕ, ◌+◌, ◌*◌, List, [], ◌∷◌, ◌++◌, length, refl, arith}
 use Rattle.std.specs.Prelude.{map}
 use Rattle.std.specs.List.{flat_map}
 use Rattle.std.proofs.lemmas.List.{length-append, length-map}
@@ -49,12 +49,15 @@ module _ (m : StorageState) (ended : List ℕ) (next : ℕ) where
   abbrev owned : List Subpool
   owned = owned_by_these m.subpools ended
 
+  abbrev seen_no_more : List Record
+  seen_no_more = released_records m.subpools ended ++ (Turn (record { task = next }) ∷ unshared_records m.subpools ended)
+
   all-length : length (end_records m ended next) ≡ 1 + 5 * length ended + 2 * length owned + extents_ended m.subpools ended + sights_ended m.subpools ended
   all-length = omega (
     arith,
-    length-append (released_records m.subpools ended) (Turn (record { task = next }) ∷ unshared_records m.subpools ended ++ removed_records m.subpools ended ++ flat_map (ended_records m) ended),
-    length-append (unshared_records m.subpools ended) (removed_records m.subpools ended ++ flat_map (ended_records m) ended),
-    length-append (removed_records m.subpools ended) (flat_map (ended_records m) ended),
+    length-append (seen_no_more ++ removed_records m.subpools ended) (flat_map (ended_records m) ended),
+    length-append seen_no_more (removed_records m.subpools ended),
+    length-append (released_records m.subpools ended) (Turn (record { task = next }) ∷ unshared_records m.subpools ended),
     released-length m.subpools owned,
     unshared-length m.subpools ended (subpools_in_order m.subpools),
     length-map owned removed,

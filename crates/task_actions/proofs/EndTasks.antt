@@ -7,7 +7,6 @@ use Rattle.run_set.specs.Runs.{inside}
 use Rattle.vsm_model.specs.Search.{holds, is_in}
 use Rattle.vsm_model.specs.Ending.{climbs}
 use Rattle.vsm_model.specs.WellFormed.{TasksAreSound}
-use Rattle.storage_changes.specs.declared.record.Record.{Record}
 use Rattle.storage_changes.specs.declared.record.Record.TheVariants.{Task}
 use Rattle.storage_changes.specs.Meaning.{model_of}
 use Rattle.storage_changes.specs.State.{StorageState}
@@ -33,15 +32,18 @@ abbrev pub in_quarter : ℕ → ℕ → Bool
 in_quarter quarter register = inside register (record { start = 4 * quarter; len = 4 })
 
 -- the word of a register of a quarter whose words are zeros
+abbrev pub four_zeros : List ℕ
+four_zeros = 0 ∷ 0 ∷ 0 ∷ 0 ∷ []
+
 abbrev pub zero_word : ℕ → ℕ → ℕ
-zero_word quarter register = slice_index_or (0 ∷ 0 ∷ 0 ∷ 0 ∷ []) (register - 4 * quarter) 0
+zero_word quarter register = slice_index_or four_zeros (register - 4 * quarter) 0
 
 -- quarters of a task's registers become zeros
 abbrev pub cleared : Words → ℕ → List ℕ → Words
 cleared words task [] = words
 cleared words task (q ∷ qs) = cleared (λ t k. if (t == task) && in_quarter q k then zero_word q k else words t k) task qs
 
-all_zeros : (i : ℕ) → slice_index_or (0 ∷ 0 ∷ 0 ∷ 0 ∷ []) i 0 ≡ 0
+all_zeros : (i : ℕ) → slice_index_or four_zeros i 0 ≡ 0
 all_zeros zero = refl
 all_zeros (suc zero) = refl
 all_zeros (suc (suc zero)) = refl
