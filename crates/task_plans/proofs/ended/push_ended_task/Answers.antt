@@ -12,4 +12,4 @@ loop-quarter-preserved c =
     goes_over c.loop-quarter.records.items c.push.new.self.items (zeros quarter ∷ [])
     (map zeros (range_with_len (quarter + 1) (4 - (quarter + 1)))) (map zeros (range_with_len quarter (4 - quarter)))
     (c.args.records.now.items ++ map zeros (range_with_len 0 4)) c.loop-quarter.invariant
-    (ap (map zeros) (run_next quarter 4 c.loop-quarter-test.true)) c.in_ok-push.ensures.ok
+    (ap (map zeros) (run_next quarter 4 c.loop-quarter-test.true)) c.in_ok-push.ensures.items
