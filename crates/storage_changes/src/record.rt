@@ -59,7 +59,7 @@ pub struct RegisterRecord {
 #[derive(Clone, Copy, Debug, PartialEq, Eq)]
 pub struct RegistersRecord {
     pub task: u8,
-    /// The first of the four: 0, 4, 8 or 12.
+    /// The first of the four, at most 12.
     pub first: u8,
     pub words: [u32; 4],
 }
