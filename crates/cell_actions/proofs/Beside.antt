@@ -11,7 +11,7 @@ use Rattle.storage_changes.specs.declared.record.ExtentRecord.{ExtentRecord}
 use Rattle.storage_changes.specs.declared.record.PagesRecord.{PagesRecord}
 use Rattle.storage_changes.specs.declared.record.Record.{Record}
 use Rattle.storage_changes.specs.declared.record.Record.TheVariants.{Area, Extent, Pages, Own, Queues, Register, Bytes}
-use Rattle.storage_changes.specs.declared.record.Record.TheVariants.{Task, Turn, Sharer, Pass, CellPool, CellExtent, Cell}
+use Rattle.storage_changes.specs.declared.record.Record.TheVariants.{Registers, Task, Turn, Sharer, Pass, CellPool, CellExtent, Cell}
 use Rattle.storage_changes.specs.Fits.{Fits, FitInTurn}
 use Rattle.storage_changes.specs.State.{StorageState}
 use Rattle.storage_changes.specs.Steps.{step, walk, area_spare, extent_spare, pages_spare}
@@ -32,6 +32,7 @@ IsReturn (Extent r) = Unit {0}
 IsReturn (Pages r) = r.assigned ≡ false
 IsReturn (Own r) = ⊥
 IsReturn (Register r) = ⊥
+IsReturn (Registers r) = ⊥
 IsReturn (Queues r) = ⊥
 IsReturn (Task r) = ⊥
 IsReturn (Turn r) = ⊥
@@ -187,6 +188,7 @@ module _ (w : Walk) (given : ℕ → Option ℕ) (parked : Subpools) (more : ℕ
   one_beside (Pages r) h f = pages_beside r h f
   one_beside (Own r) h f = absurd h
   one_beside (Register r) h f = absurd h
+  one_beside (Registers r) h f = absurd h
   one_beside (Queues r) h f = absurd h
   one_beside (Task r) h f = absurd h
   one_beside (Turn r) h f = absurd h

@@ -6,7 +6,7 @@ use Rattle.vsm_model.specs.Regions.{pages_for}
 use Rattle.cell_pool.specs.Pools.{Pool}
 use Rattle.storage_changes.specs.declared.record.Record.{Record}
 use Rattle.storage_changes.specs.declared.record.Record.TheVariants.{Area, Extent, Pages, Own, Queues, Register, Bytes}
-use Rattle.storage_changes.specs.declared.record.Record.TheVariants.{Task, Turn, Sharer, Pass, CellPool, CellExtent, Cell}
+use Rattle.storage_changes.specs.declared.record.Record.TheVariants.{Registers, Task, Turn, Sharer, Pass, CellPool, CellExtent, Cell}
 use Rattle.storage_changes.specs.Fits.{Fits, FitInTurn}
 use Rattle.storage_changes.specs.State.{StorageState}
 use Rattle.storage_changes.specs.Steps.{step, walk}
@@ -29,6 +29,7 @@ IsElsewhere (Extent r) = Unit {0}
 IsElsewhere (Pages r) = Unit {0}
 IsElsewhere (Own r) = Unit {0}
 IsElsewhere (Register r) = Unit {0}
+IsElsewhere (Registers r) = ⊥
 IsElsewhere (Queues r) = ⊥
 IsElsewhere (Task r) = ⊥
 IsElsewhere (Turn r) = ⊥
@@ -65,6 +66,7 @@ fits_with w cells (Own r) h f = record {
   room_after = f.room_after;
 }
 fits_with w cells (Register r) h f = record { task = f.task; register = f.register }
+fits_with w cells (Registers r) h f = absurd h
 fits_with w cells (Queues r) h f = absurd h
 fits_with w cells (Task r) h f = absurd h
 fits_with w cells (Turn r) h f = absurd h
@@ -81,6 +83,7 @@ step_with w cells (Extent r) h = refl
 step_with w cells (Pages r) h = refl
 step_with w cells (Own r) h = refl
 step_with w cells (Register r) h = refl
+step_with w cells (Registers r) h = absurd h
 step_with w cells (Queues r) h = absurd h
 step_with w cells (Task r) h = absurd h
 step_with w cells (Turn r) h = absurd h

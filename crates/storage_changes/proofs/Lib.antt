@@ -7,6 +7,7 @@ pub mod TaskSteps
 pub mod SharingSteps
 pub mod CellSteps
 pub mod ByteSteps
+pub mod RegistersSteps
 pub mod WalkLemmas
 pub mod FirstLemmas
 pub mod MeaningLemmas

@@ -5,7 +5,7 @@ use Rattle.run_set.specs.Runs.{inside}
 use Rattle.storage_changes.specs.declared.record.PagesRecord.{PagesRecord}
 use Rattle.storage_changes.specs.declared.record.Record.{Record}
 use Rattle.storage_changes.specs.declared.record.Record.TheVariants.{Area, Extent, Pages, Own, Queues, Register, Bytes}
-use Rattle.storage_changes.specs.declared.record.Record.TheVariants.{Task, Turn, Sharer, Pass}
+use Rattle.storage_changes.specs.declared.record.Record.TheVariants.{Registers, Task, Turn, Sharer, Pass}
 use Rattle.storage_changes.specs.declared.record.Record.TheVariants.{CellPool, CellExtent, Cell}
 use Rattle.storage_changes.specs.State.{StorageState}
 use Rattle.storage_changes.specs.Walk.{Walk, flip}
@@ -23,6 +23,7 @@ use Rattle.storage_changes.proofs.SharingSteps.{sharer-back, sharer-fits, pass-b
 use Rattle.storage_changes.proofs.CellSteps.{queues-back, queues-fits, cell_pool-back, cell_pool-fits}
 use Rattle.storage_changes.proofs.CellSteps.{cell_extent-back, cell_extent-fits, cell-back, cell-fits}
 use Rattle.storage_changes.proofs.ByteSteps.{bytes-back, bytes-fits, bytes-again, register-back, register-again}
+use Rattle.storage_changes.proofs.RegistersSteps.{registers-back, registers-fits, registers-again}
 
 -- one record of each kind
 
@@ -33,6 +34,7 @@ step-back w (Pages r) h = pages-back w r h
 step-back w (Own r) h = own-back w r h
 step-back w (Queues r) h = queues-back w r h
 step-back w (Register r) h = register-back w r
+step-back w (Registers r) h = registers-back w r
 step-back w (Task r) h = task-back w r h
 step-back w (Turn r) h = turn-back w r
 step-back w (Sharer r) h = sharer-back w r h
@@ -49,6 +51,7 @@ step-fits w (Pages r) h = pages-fits w r h
 step-fits w (Own r) h = own-fits w r h
 step-fits w (Queues r) h = queues-fits w r h
 step-fits w (Register r) h = record { task = h.task; register = h.register }
+step-fits w (Registers r) h = registers-fits w r h
 step-fits w (Task r) h = task-fits w r h
 step-fits w (Turn r) h = turn-fits w r h
 step-fits w (Sharer r) h = sharer-fits w r h
@@ -65,6 +68,7 @@ step-turned w (Pages r) h = λ i. Pages (record r { assigned = not-not r.assigne
 step-turned w (Own r) h = λ i. Own (record r { present = not-not r.present i })
 step-turned w (Queues r) h = refl
 step-turned w (Register r) h = λ i. Register (record r { word = register-again w r i })
+step-turned w (Registers r) h = λ i. Registers (record r { words = registers-again w r h i })
 step-turned w (Task r) h = λ i. Task (record r { present = not-not r.present i })
 step-turned w (Turn r) h = refl
 step-turned w (Sharer r) h = λ i. Sharer (record r { present = not-not r.present i })
@@ -114,6 +118,7 @@ step-out w (Pages r) h = pages-out w r h
 step-out w (Own r) h = h
 step-out w (Queues r) h = h
 step-out w (Register r) h = h
+step-out w (Registers r) h = h
 step-out w (Task r) h = h
 step-out w (Turn r) h = h
 step-out w (Sharer r) h = h

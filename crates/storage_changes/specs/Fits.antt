@@ -12,6 +12,7 @@ use Rattle.storage_changes.specs.declared.record.PagesRecord.{PagesRecord}
 use Rattle.storage_changes.specs.declared.record.OwnRecord.{OwnRecord}
 use Rattle.storage_changes.specs.declared.record.QueuesRecord.{QueuesRecord}
 use Rattle.storage_changes.specs.declared.record.RegisterRecord.{RegisterRecord}
+use Rattle.storage_changes.specs.declared.record.RegistersRecord.{RegistersRecord}
 use Rattle.storage_changes.specs.declared.record.BytesRecord.{BytesRecord}
 use Rattle.storage_changes.specs.declared.record.TaskRecord.{TaskRecord}
 use Rattle.storage_changes.specs.declared.record.TurnRecord.{TurnRecord}
@@ -22,7 +23,7 @@ use Rattle.storage_changes.specs.declared.record.CellExtentRecord.{CellExtentRec
 use Rattle.storage_changes.specs.declared.record.CellRecord.{CellRecord}
 use Rattle.storage_changes.specs.declared.record.Record.{Record}
 use Rattle.storage_changes.specs.declared.record.Record.TheVariants.{Area, Extent, Pages, Own, Queues, Register, Bytes}
-use Rattle.storage_changes.specs.declared.record.Record.TheVariants.{Task, Turn, Sharer, Pass}
+use Rattle.storage_changes.specs.declared.record.Record.TheVariants.{Registers, Task, Turn, Sharer, Pass}
 use Rattle.storage_changes.specs.declared.record.Record.TheVariants.{CellPool, CellExtent, Cell}
 use Rattle.storage_changes.specs.Walk.{Walk}
 use Rattle.storage_changes.specs.Steps.{area_spare, extent_spare, pages_spare, own_step, extent_elements, step}
@@ -81,6 +82,12 @@ pub record QueuesFits (w : Walk) (r : QueuesRecord) : Type 0 where
 pub record RegisterFits (w : Walk) (r : RegisterRecord) : Type 0 where
   pub task : IsSome (w.state.tasks.parents r.task)
   pub register : r.register < 16
+
+-- There are four words, and as many registers from the first on.
+pub record RegistersFits (w : Walk) (r : RegistersRecord) : Type 0 where
+  pub task : IsSome (w.state.tasks.parents r.task)
+  pub first : r.first + 4 ≤ 16
+  pub four : length r.words ≡ 4
 
 -- The task isn't the first nor the current one, its parent is there, nobody has it for a parent, and its registers are
 -- zeros.
@@ -174,6 +181,7 @@ Fits w (Pages r) = PagesFits w r
 Fits w (Own r) = OwnFits w r
 Fits w (Queues r) = QueuesFits w r
 Fits w (Register r) = RegisterFits w r
+Fits w (Registers r) = RegistersFits w r
 Fits w (Task r) = TaskFits w r
 Fits w (Turn r) = TurnFits w r
 Fits w (Sharer r) = SharerFits w r

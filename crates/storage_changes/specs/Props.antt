@@ -11,7 +11,7 @@ use Rattle.vsm_model.specs.Standing.{Outcome}
 use Rattle.vsm_model.specs.State.{State}
 use Rattle.storage_changes.specs.declared.record.Record.{Record}
 use Rattle.storage_changes.specs.declared.record.Record.TheVariants.{Area, Extent, Pages, Own, Queues, Register, Bytes}
-use Rattle.storage_changes.specs.declared.record.Record.TheVariants.{Task, Turn, Sharer, Pass}
+use Rattle.storage_changes.specs.declared.record.Record.TheVariants.{Registers, Task, Turn, Sharer, Pass}
 use Rattle.storage_changes.specs.declared.record.Record.TheVariants.{CellPool, CellExtent, Cell}
 use Rattle.storage_changes.specs.State.{StorageState}
 use Rattle.storage_changes.specs.Walk.{Walk}
@@ -28,6 +28,7 @@ Fits-prop w (Pages r) = hlevel props
 Fits-prop w (Own r) = hlevel props
 Fits-prop w (Queues r) = hlevel props
 Fits-prop w (Register r) = hlevel props
+Fits-prop w (Registers r) = hlevel props
 Fits-prop w (Task r) = hlevel props
 Fits-prop w (Turn r) = hlevel props
 Fits-prop w (Sharer r) = hlevel props

@@ -4,11 +4,12 @@ use Rattle.run_set.specs.declared.run.Run.{Run}
 use Rattle.vsm_model.specs.declared.Subpool.{Subpool}
 use Rattle.vsm_model.specs.Bytes.{fullword}
 use Rattle.storage_changes.specs.declared.record.RegisterRecord.{RegisterRecord}
+use Rattle.storage_changes.specs.declared.record.RegistersRecord.{RegistersRecord}
 use Rattle.storage_changes.specs.declared.record.Record.{Record}
 use Rattle.storage_changes.specs.declared.record.TaskRecord.{TaskRecord}
 use Rattle.storage_changes.specs.declared.record.CellExtentRecord.{CellExtentRecord}
 use Rattle.storage_changes.specs.declared.record.Record.TheVariants.{Area, Extent, Pages, Own, Queues, Register, Bytes}
-use Rattle.storage_changes.specs.declared.record.Record.TheVariants.{Task, Turn, Sharer, Pass}
+use Rattle.storage_changes.specs.declared.record.Record.TheVariants.{Registers, Task, Turn, Sharer, Pass}
 use Rattle.storage_changes.specs.declared.record.Record.TheVariants.{CellPool, CellExtent, Cell}
 
 -- the word at a place, or 0 past the last
@@ -38,6 +39,15 @@ cell_extent_in words =
 -- the register of a task that the second and the third word name, and the word in the fourth
 abbrev pub register_in : List ℕ → RegisterRecord
 register_in words = record { task = word words 1 % 256; register = word words 2 % 256; word = word words 3 }
+
+-- the task and its first of four registers that the second and the third word name, and the words in the others
+abbrev pub registers_in : List ℕ → RegistersRecord
+registers_in words =
+    record {
+      task = word words 1 % 256;
+      first = word words 2 % 256;
+      words = word words 3 ∷ word words 4 ∷ word words 5 ∷ word words 6 ∷ [];
+    }
 
 -- the task and the parent that the second and the third word name
 abbrev pub task_in : List ℕ → TaskRecord
@@ -74,4 +84,5 @@ record_of words =
     else if word words 0 == 11 then CellExtent (cell_extent_in words)
     else if word words 0 == 12 then
     Cell (record { pool = word words 1; cell = word words 3; free = word words 5 == 1 })
+    else if word words 0 == 14 then Registers (registers_in words)
     else Bytes (record { block = word words 1; bytes = bytes_in words })

@@ -12,6 +12,7 @@ use Rattle.storage_changes.specs.declared.record.PagesRecord.{PagesRecord}
 use Rattle.storage_changes.specs.declared.record.OwnRecord.{OwnRecord}
 use Rattle.storage_changes.specs.declared.record.QueuesRecord.{QueuesRecord}
 use Rattle.storage_changes.specs.declared.record.RegisterRecord.{RegisterRecord}
+use Rattle.storage_changes.specs.declared.record.RegistersRecord.{RegistersRecord}
 use Rattle.storage_changes.specs.declared.record.BytesRecord.{BytesRecord}
 use Rattle.storage_changes.specs.declared.record.TaskRecord.{TaskRecord}
 use Rattle.storage_changes.specs.declared.record.TurnRecord.{TurnRecord}
@@ -22,7 +23,7 @@ use Rattle.storage_changes.specs.declared.record.CellExtentRecord.{CellExtentRec
 use Rattle.storage_changes.specs.declared.record.CellRecord.{CellRecord}
 use Rattle.storage_changes.specs.declared.record.Record.{Record}
 use Rattle.storage_changes.specs.declared.record.Record.TheVariants.{Area, Extent, Pages, Own, Queues, Register, Bytes}
-use Rattle.storage_changes.specs.declared.record.Record.TheVariants.{Task, Turn, Sharer, Pass}
+use Rattle.storage_changes.specs.declared.record.Record.TheVariants.{Registers, Task, Turn, Sharer, Pass}
 use Rattle.storage_changes.specs.declared.record.Record.TheVariants.{CellPool, CellExtent, Cell}
 use Rattle.storage_changes.specs.Walk.{Walk, spare_joined, spare_left}
 
@@ -97,6 +98,21 @@ register_step w r =
       state = record w.state {
         tasks = record w.state.tasks {
           words = λ task register. if (task == r.task) && (register == r.register) then r.word
+              else w.state.tasks.words task register;
+        };
+      };
+    }
+
+-- four registers of a task
+
+abbrev pub registers_step : Walk → RegistersRecord → Walk
+registers_step w r =
+    record w {
+      state = record w.state {
+        tasks = record w.state.tasks {
+          words = λ task register.
+              if (task == r.task) && inside register (record { start = r.first; len = 4 })
+              then slice_index_or r.words (register - r.first) 0
               else w.state.tasks.words task register;
         };
       };
@@ -197,6 +213,7 @@ step w (Pages r) = pages_step w r
 step w (Own r) = own_step w r
 step w (Queues r) = queues_step w r
 step w (Register r) = register_step w r
+step w (Registers r) = registers_step w r
 step w (Task r) = task_step w r
 step w (Turn r) = turn_step w r
 step w (Sharer r) = sharer_step w r

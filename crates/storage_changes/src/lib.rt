@@ -7,6 +7,6 @@ mod record;
 
 pub use record::{
     AreaRecord, BytesRecord, CellExtentRecord, CellPoolRecord, CellRecord, ExtentRecord, OwnRecord,
-    PagesRecord, PassRecord, QueuesRecord, Record, RegisterRecord, SharerRecord, TaskRecord,
-    TurnRecord,
+    PagesRecord, PassRecord, QueuesRecord, Record, RegisterRecord, RegistersRecord, SharerRecord,
+    TaskRecord, TurnRecord,
 };

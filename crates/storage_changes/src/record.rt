@@ -1,7 +1,7 @@
 ghost use Rattle.std.specs.Prelude.{◌≡◌, ◌+◌, ◌%◌, ◌≤◌, ◌==◌};
 ghost use Rattle.vsm_model.specs.Bytes.{fullword};
 ghost use Rattle.storage_changes.specs.Records.{record_of, words_of, word, subpool_in, run_in, register_in, bytes_in};
-ghost use Rattle.storage_changes.specs.Records.{four_at, task_in, extent_words, cell_extent_in};
+ghost use Rattle.storage_changes.specs.Records.{four_at, task_in, registers_in, extent_words, cell_extent_in};
 
 use run_set::Run;
 use subpool_storage::CellId;
@@ -53,6 +53,15 @@ pub struct RegisterRecord {
     pub task: u8,
     pub register: u8,
     pub word: u32,
+}
+
+/// Four registers of a task, from one on, get these words.
+#[derive(Clone, Copy, Debug, PartialEq, Eq)]
+pub struct RegistersRecord {
+    pub task: u8,
+    /// The first of the four, at most 12.
+    pub first: u8,
+    pub words: [u32; 4],
 }
 
 /// The sixteen bytes of a block get these values. Block `b` has the addresses from `16 * b`.
@@ -128,6 +137,7 @@ pub enum Record {
     Own(OwnRecord),
     Queues(QueuesRecord),
     Register(RegisterRecord),
+    Registers(RegistersRecord),
     Task(TaskRecord),
     Turn(TurnRecord),
     Sharer(SharerRecord),
@@ -175,6 +185,8 @@ const CELL: u32 = 12;
 
 const BYTES: u32 = 13;
 
+const REGISTERS: u32 = 14;
+
 /// What stands in the words of a record that names no subpool,
 const NO_SUBPOOL: Subpool = Subpool {
     number: 0,
@@ -205,6 +217,7 @@ impl Record {
                 0,
                 0,
             ],
+            Record::Registers(r) => registers_words(r),
             Record::Task(r) => task_words(r),
             Record::Turn(r) => [TURN, u32::from(r.task), 0, 0, 0, 0, 0],
             Record::Sharer(r) => place_words(SHARER, r.subpool, one_task(r.task), r.present),
@@ -244,6 +257,7 @@ impl Record {
             }),
             QUEUES => Record::Queues(QueuesRecord { subpool }),
             REGISTER => Record::Register(register_of(words)),
+            REGISTERS => Record::Registers(registers_of(words)),
             TASK => Record::Task(task_of(words)),
             TURN => Record::Turn(TurnRecord {
                 task: low_byte(words[1]),
@@ -315,6 +329,22 @@ fn word_at(bytes: [u8; 16], place: usize) -> u32
         bytes[place + 2],
         bytes[place + 3],
     ])
+}
+
+/// The words of a record of four registers.
+fn registers_words(r: RegistersRecord) -> [u32; 7]
+    ensures kind { word result 0 ≡ 14 }
+    ensures registers { registers_in result ≡ r }
+{
+    [
+        REGISTERS,
+        u32::from(r.task),
+        u32::from(r.first),
+        r.words[0],
+        r.words[1],
+        r.words[2],
+        r.words[3],
+    ]
 }
 
 /// The words of a record of a task.
@@ -433,6 +463,16 @@ fn register_of(words: [u32; 7]) -> RegisterRecord
         task: low_byte(words[1]),
         register: low_byte(words[2]),
         word: words[3],
+    }
+}
+
+fn registers_of(words: [u32; 7]) -> RegistersRecord
+    ensures { result ≡ registers_in words }
+{
+    RegistersRecord {
+        task: low_byte(words[1]),
+        first: low_byte(words[2]),
+        words: [words[3], words[4], words[5], words[6]],
     }
 }
 

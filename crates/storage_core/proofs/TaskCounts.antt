@@ -13,6 +13,7 @@ use Rattle.storage_swap.specs.declared.change.Change.{Change}
 use Rattle.storage_swap.specs.Reserve.{Reserves}
 use Rattle.task_actions.specs.Attaching.{given_records, gift_records, sharing_records, share_records, zero_records, attach_records, attach_blanks}
 use Rattle.task_actions.specs.Ending.{ended_below, end_records, with_turn}
+use Rattle.task_actions.proofs.EndCounts.{ends_are_short}
 use Rattle.task_plans.specs.declared.attach.AttachPlan.{AttachPlan}
 use Rattle.task_plans.specs.declared.end.EndPlan.{EndPlan}
 use Rattle.task_plans.specs.TaskPlans.{numbers, attach_change, end_change, end_registers}
@@ -79,5 +80,6 @@ end_few p t m plan r made =
     let ended = ended_below m.tasks.parents plan.top in
     let records = end_records m ended plan.next in
     let registers = register_records (with_turn m plan.next) (end_registers plan.reply) in
+    let counted = ends_are_short m ended plan.next in
     few-answered p t (end_change m plan) (elements_below m (End plan)) r made
-    (omega (arith, length-append records registers, one-register (with_turn m plan.next) plan.reply))
+    (omega (arith, counted.0, counted.1, length-append records registers, one-register (with_turn m plan.next) plan.reply))

@@ -21,7 +21,7 @@ use Rattle.storage_changes.specs.Changes.{Change}
 use Rattle.storage_changes.specs.Meaning.{model_of}
 use Rattle.storage_plans.specs.declared.plan.Plan.{Plan as StoragePlan}
 use Rattle.storage_plans.specs.Plans.{change_in}
-use Rattle.task_actions.specs.Ending.{ended_below, end_records, end_blanks}
+use Rattle.task_actions.specs.Ending.{ended_below, weight_ended}
 use Rattle.task_plans.specs.TaskPlans.{numbers, attach_change, end_change, parks_all}
 use Rattle.task_plans.specs.TaskPlans.{CanBeAttached, CanBeEnded}
 pub use Rattle.task_plans.specs.TaskPlans.{IsAccepted}
@@ -120,16 +120,15 @@ pages_assigned (Delete plan) = 0
 abbrev pub storage_elements : StorageState → StoragePlan → ℕ
 storage_elements m plan = 25 + plan.blanks + 8 * extents_leaving m.subpools plan.emptied
 
--- That of a new task has fewer than 32, and 4 more for each number that is given or shared; that of tasks that end one
--- for each of their records, one for the return code, and its blank ones; that of a cell pool that comes fewer than 32;
--- and that of one that goes fewer than 32, and 8 more for it and for each of its extents. What is parked isn't counted.
+-- That of a new task has fewer than 32, and 4 more for each number that is given or shared; that of tasks that end
+-- fewer than 32, and 7 more for each task, subpool, extent and row of sight that leaves; that of a cell pool that comes
+-- fewer than 32; and that of one that goes fewer than 32, and 8 more for it and for each of its extents. What is parked
+-- isn't counted: of tasks that end it's an element for each subpool that leaves.
 abbrev pub elements_below : StorageState → Plan → ℕ
 elements_below m (Storage plan) = storage_elements m plan
 elements_below m (Attach plan) =
     32 + 4 * (length (numbers m plan.attach.given) + length (numbers m plan.attach.shared))
-elements_below m (End plan) =
-    let ended = ended_below m.tasks.parents plan.top in
-    2 + (length (end_records m ended plan.next) + end_blanks m ended)
+elements_below m (End plan) = 32 + 7 * weight_ended m.subpools (ended_below m.tasks.parents plan.top)
 elements_below m (Build plan) = 32
 elements_below m (Delete plan) = 32 + 8 * (1 + extents_of_pool (m.subpools.cells plan.pool))
 

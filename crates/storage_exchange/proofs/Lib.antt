@@ -2,6 +2,7 @@ pub mod StructureLemmas
 pub mod WalkLemmas
 pub mod CallLemmas
 pub mod SubpoolLemmas
+pub mod FourWords
 pub mod TaskLemmas
 pub mod CellLemmas
 pub mod PageLemmas

@@ -1,7 +1,8 @@
 -- A record of a register, of a task, or of the queues of a subpool changed sides with the storage.
-use Rattle.std.proofs.Common.{◌≡◌, ℕ, ◌+◌, ◌-◌, ◌/◌, ◌<◌, ◌≤◌, inl, inr, Bool, true, false, ◌&&◌, ◌==◌, Some, None, if◌then◌else◌, List, refl, ap, sym, ◌∙◌, arith}
+use Rattle.std.proofs.Common.{◌≡◌, ℕ, ◌+◌, ◌-◌, ◌/◌, ◌<◌, ◌≤◌, inl, inr, Bool, true, false, ◌&&◌, ◌==◌, Some, None, if◌then◌else◌, List, slice_index_or, refl, ap, sym, ◌∙◌, arith}
 use Rattle.std.specs.Prelude.{nat_lt}
 use Rattle.std.proofs.lemmas.Bool.{eqb-true, cases_lt, lt-ltb, ltb-true, le-ltb}
+use Rattle.run_set.specs.Runs.{inside}
 use Rattle.vsm_elements.specs.Store.{Store}
 use Rattle.vsm_elements.specs.Owners.{times, Moves}
 use Rattle.vsm_elements.specs.Ownership.{Leaves}
@@ -14,9 +15,10 @@ use Rattle.task_tree.specs.TaskTree.{current, parent, word, IsTaskTree}
 use Rattle.task_tree.specs.TaskTree
 use Rattle.subpool_storage.specs.declared.storage.SubpoolStorage.{SubpoolStorage as Head}
 use Rattle.storage_changes.specs.declared.record.RegisterRecord.{RegisterRecord}
+use Rattle.storage_changes.specs.declared.record.RegistersRecord.{RegistersRecord}
 use Rattle.storage_changes.specs.declared.record.TaskRecord.{TaskRecord}
 use Rattle.storage_changes.specs.declared.record.Record.{Record}
-use Rattle.storage_changes.specs.declared.record.Record.TheVariants.{Register, Task}
+use Rattle.storage_changes.specs.declared.record.Record.TheVariants.{Register, Registers, Task}
 use Rattle.storage_changes.specs.State.{Tasks}
 use Rattle.storage_changes.specs.Walk.{Walk}
 use Rattle.storage_changes.specs.Steps.{step}
@@ -25,27 +27,39 @@ use Rattle.storage_exchange.specs.declared.storage.Storage.{Storage}
 use Rattle.storage_exchange.specs.Storage.{tasks_of, walk_of, StandsWith}
 use Rattle.storage_exchange.specs.Exchange.{Exchanges}
 use Rattle.storage_changes.proofs.Cases.{cond-in, cond-out, and-false}
+use Rattle.storage_changes.proofs.RegistersSteps.{among-four}
+use Rattle.storage_exchange.proofs.FourWords.{FirstWritten}
 use Rattle.storage_exchange.proofs.WalkLemmas.{walk-by-places}
 use Rattle.storage_exchange.proofs.CallLemmas.{tasks-pages, tasks-subpools, tasks-parked, tasks-stand, tasks-move}
 use Rattle.storage_exchange.proofs.SubpoolLemmas.{tables-same}
 
--- one of sixteen registers, and no other, has the word
-pub registers : (old new : ℕ → ℕ → ℕ) (t r v : ℕ) → r < 16 → ((task k : ℕ) → k < 16 → new task k ≡ (if (task == t) && (k == r) then v else old task k))
-    → (task k : ℕ) → (if nat_lt k 16 then new task k else 0) ≡ (if (task == t) && (k == r) then v else (if nat_lt k 16 then old task k else 0))
-registers old new t r v low h task k = elim (cases_lt k 16) [ inl x ↦ within x | inr x ↦ beyond x ] where
-  within : k < 16 → (if nat_lt k 16 then new task k else 0) ≡ (if (task == t) && (k == r) then v else (if nat_lt k 16 then old task k else 0))
+-- some of sixteen registers, and no others, have these words
+pub registers : (old new : ℕ → ℕ → ℕ) (those : ℕ → ℕ → Bool) (v : ℕ → ℕ) → ((task k : ℕ) → 16 ≤ k → those task k ≡ false)
+    → ((task k : ℕ) → k < 16 → new task k ≡ (if those task k then v k else old task k))
+    → (task k : ℕ) → (if nat_lt k 16 then new task k else 0) ≡ (if those task k then v k else (if nat_lt k 16 then old task k else 0))
+registers old new those v low h task k = elim (cases_lt k 16) [ inl x ↦ within x | inr x ↦ beyond x ] where
+  within : k < 16 → (if nat_lt k 16 then new task k else 0) ≡ (if those task k then v k else (if nat_lt k 16 then old task k else 0))
   within x =
       let e : nat_lt k 16 ≡ true = lt-ltb k 16 x in
-      cond-in (nat_lt k 16) (new task k) 0 e ∙ h task k x ∙ ap (λ (z : ℕ). if (task == t) && (k == r) then v else z) (sym (cond-in (nat_lt k 16) (old task k) 0 e))
+      cond-in (nat_lt k 16) (new task k) 0 e ∙ h task k x ∙ ap (λ (z : ℕ). if those task k then v k else z) (sym (cond-in (nat_lt k 16) (old task k) 0 e))
 
-  not-it : 16 ≤ k → (c : Bool) → (k == r) ≡ c → ((task == t) && (k == r)) ≡ false
-  not-it x true e = absurd (omega (arith, eqb-true k r e, x, low))
-  not-it x false e = and-false (task == t) (k == r) e
-
-  beyond : 16 ≤ k → (if nat_lt k 16 then new task k else 0) ≡ (if (task == t) && (k == r) then v else (if nat_lt k 16 then old task k else 0))
+  beyond : 16 ≤ k → (if nat_lt k 16 then new task k else 0) ≡ (if those task k then v k else (if nat_lt k 16 then old task k else 0))
   beyond x =
       let e : nat_lt k 16 ≡ false = le-ltb k 16 x in
-      cond-out (nat_lt k 16) (new task k) 0 e ∙ sym (cond-out ((task == t) && (k == r)) v (if nat_lt k 16 then old task k else 0) (not-it x (k == r) refl) ∙ cond-out (nat_lt k 16) (old task k) 0 e)
+      cond-out (nat_lt k 16) (new task k) 0 e ∙ sym (cond-out (those task k) (v k) (if nat_lt k 16 then old task k else 0) (low task k x) ∙ cond-out (nat_lt k 16) (old task k) 0 e)
+
+-- a number past 15 is no register that is written
+not-one : (t r : ℕ) → r < 16 → (task k : ℕ) → 16 ≤ k → ((task == t) && (k == r)) ≡ false
+not-one t r low task k x = go (k == r) refl where
+  go : (c : Bool) → (k == r) ≡ c → ((task == t) && (k == r)) ≡ false
+  go true e = absurd (omega (arith, eqb-true k r e, x, low))
+  go false e = and-false (task == t) (k == r) e
+
+not-among : (t first : ℕ) → first + 4 ≤ 16 → (task k : ℕ) → 16 ≤ k → ((task == t) && inside k (record { start = first; len = 4 })) ≡ false
+not-among t first high task k x = go (inside k (record { start = first; len = 4 })) refl where
+  go : (c : Bool) → inside k (record { start = first; len = 4 }) ≡ c → ((task == t) && inside k (record { start = first; len = 4 })) ≡ false
+  go true e = absurd (let within = among-four first k e in omega (arith, within.1, x, high))
+  go false e = and-false (task == t) (inside k (record { start = first; len = 4 })) e
 
 -- a walk whose tasks and blank elements are others
 abbrev pub walk_with_tasks : Walk → Tasks → ℕ → Walk
@@ -95,8 +109,29 @@ module _ (p : Storage) (e : Store) (r : RegisterRecord) (low : r.register < 16) 
   pub register-exchanged : (given : List PageFrame) (parked : Head) → StandsWith p parked → Exchanges p (record p { elements = e }) given given parked parked (Register r)
   register-exchanged given parked k =
       tasks-exchanged p e p.tasks with-register new (moves-of p.elements e (TaskTree.owned p.elements p.tasks) (TaskTree.owned e p.tasks) owned)
-      refl parents (registers (λ task n. word p.elements p.tasks task n) (λ task n. word e p.tasks task n) r.task r.register r.word low words)
+      refl parents
+      (registers (λ task n. word p.elements p.tasks task n) (λ task n. word e p.tasks task n) (λ task n. (task == r.task) && (n == r.register)) (λ n. r.word) (not-one r.task r.register low) words)
       given parked k (Register r) (λ kept le fits. (omega (arith, le, spares), ap (walk_with_tasks (walk_of p given parked kept) with-register) (ap (λ (z : ℕ). z - kept) spares)))
+
+-- four registers
+module _ (p : Storage) (e : Store) (r : RegistersRecord) (high : r.first + 4 ≤ 16) (new : IsTaskTree e p.tasks)
+    (parents : (task : ℕ) → parent e p.tasks task ≡ parent p.elements p.tasks task)
+    (words : FirstWritten (λ task k. word p.elements p.tasks task k) (λ task k. word e p.tasks task k) r.task r.first r.words 4)
+    (owned : Leaves p.elements e (TaskTree.owned p.elements p.tasks) (TaskTree.owned e p.tasks)) (spares : e.spare ≡ p.elements.spare) where
+  abbrev with-registers : Tasks
+  with-registers =
+      record (tasks_of p) {
+        words = λ task k.
+            if (task == r.task) && inside k (record { start = r.first; len = 4 }) then slice_index_or r.words (k - r.first) 0 else (tasks_of p).words task k;
+      }
+
+  pub registers-exchanged : (given : List PageFrame) (parked : Head) → StandsWith p parked → Exchanges p (record p { elements = e }) given given parked parked (Registers r)
+  registers-exchanged given parked k =
+      tasks-exchanged p e p.tasks with-registers new (moves-of p.elements e (TaskTree.owned p.elements p.tasks) (TaskTree.owned e p.tasks) owned)
+      refl parents
+      (registers (λ task n. word p.elements p.tasks task n) (λ task n. word e p.tasks task n) (λ task n. (task == r.task) && inside n (record { start = r.first; len = 4 }))
+      (λ n. slice_index_or r.words (n - r.first) 0) (not-among r.task r.first high) words)
+      given parked k (Registers r) (λ kept le fits. (omega (arith, le, spares), ap (walk_with_tasks (walk_of p given parked kept) with-registers) (ap (λ (z : ℕ). z - kept) spares)))
 
 -- A task that has no words has none of another's words either.
 module _ (old new : ℕ → ℕ → ℕ) (t : ℕ) (zeros : (k : ℕ) → (if nat_lt k 16 then old t k else 0) ≡ 0)

@@ -5,10 +5,11 @@ ghost use Rattle.std.specs.Prelude.{◌≡◌, ℕ, ◌*◌, ◌≤◌, List, tr
 ghost use Rattle.raw_region.specs.Frames.{PageFrame};
 ghost use Rattle.subpool_storage.specs.declared.storage.SubpoolStorage.{SubpoolStorage as TheParked};
 ghost use Rattle.storage_changes.specs.declared.record.Record.TheVariants.{Area, Extent, Own, Queues};
-ghost use Rattle.storage_changes.specs.declared.record.Record.TheVariants.{Pages as Assignment, Register, Bytes};
-ghost use Rattle.storage_changes.specs.Turned.{turned, read};
+ghost use Rattle.storage_changes.specs.declared.record.Record.TheVariants.{Pages as Assignment, Bytes};
+ghost use Rattle.storage_changes.specs.declared.record.Record.TheVariants.{Register, Registers};
+ghost use Rattle.storage_changes.specs.Turned.{turned, read, four_words};
 ghost use Rattle.storage_changes.specs.Fits.{Fits, AreaFits, ExtentFits, PagesFits, OwnFits, QueuesFits};
-ghost use Rattle.storage_changes.specs.Fits.{RegisterFits, BytesFits};
+ghost use Rattle.storage_changes.specs.Fits.{RegisterFits, RegistersFits, BytesFits};
 ghost use Rattle.storage_exchange.specs.Storage.{state_of, walk_of, Stand, StandsWith};
 ghost use Rattle.storage_exchange.specs.Exchange.{Exchanges};
 
@@ -18,7 +19,7 @@ use run_set::Run;
 use std::mem;
 use storage_changes::{
     AreaRecord, BytesRecord, ExtentRecord, OwnRecord, PagesRecord, QueuesRecord, Record,
-    RegisterRecord,
+    RegisterRecord, RegistersRecord,
 };
 use subpool_storage::SubpoolStorage;
 
@@ -72,6 +73,7 @@ impl Storage {
                 Record::Queues(r)
             }
             Record::Register(r) => Record::Register(self.exchange_register(r)),
+            Record::Registers(r) => Record::Registers(self.exchange_registers(r)),
             Record::Task(r) => Record::Task(self.exchange_task(r)),
             Record::Turn(r) => Record::Turn(self.exchange_turn(r)),
             Record::Sharer(r) => Record::Sharer(self.exchange_sharer(r)),
@@ -197,6 +199,33 @@ impl Storage {
             .tasks
             .swap_register(&mut self.elements, r.task, r.register, r.word);
         RegisterRecord { word, ..r }
+    }
+
+    // The four registers get the words, and the record with their old ones is answered.
+    fn exchange_registers(&mut self, r: RegistersRecord) -> RegistersRecord
+        requires stands { Stand self.old }
+        requires fits { (given : List PageFrame) × (parked : TheParked) × (kept : ℕ)
+            × RegistersFits (walk_of self.old given parked kept) r }
+        ensures exchanges { (given : List PageFrame) (parked : TheParked) → StandsWith self.old parked
+            → Exchanges self.old self.new given given parked parked (Registers r) }
+        ensures turned { result ≡ record r { words = four_words ((state_of self.old).tasks.words r.task) r.first } }
+    {
+        let first = self
+            .tasks
+            .swap_register(&mut self.elements, r.task, r.first, r.words[0]);
+        let second = self
+            .tasks
+            .swap_register(&mut self.elements, r.task, r.first + 1, r.words[1]);
+        let third = self
+            .tasks
+            .swap_register(&mut self.elements, r.task, r.first + 2, r.words[2]);
+        let fourth = self
+            .tasks
+            .swap_register(&mut self.elements, r.task, r.first + 3, r.words[3]);
+        RegistersRecord {
+            words: [first, second, third, fourth],
+            ..r
+        }
     }
 
     // The bytes of the block change places with the record's.

@@ -1,18 +1,18 @@
 -- Tasks that end one by one, each behind its subtasks, with registers of zeros.
-use Rattle.std.proofs.Common.{◌≡◌, ◌≢◌, ℕ, ◌<◌, Bool, true, false, ◌&&◌, ◌||◌, ◌==◌, if◌then◌else◌, List, [], ◌∷◌, Option, Some, None, IsSome, is_some, refl, sym, ◌∙◌, ap, arith, inl, inr, true≢false}
-use Rattle.std.specs.Prelude.{map, unwrap_or}
+use Rattle.std.proofs.Common.{◌≡◌, ◌≢◌, ℕ, zero, suc, ◌+◌, ◌-◌, ◌*◌, ◌/◌, ◌<◌, Bool, true, false, ◌&&◌, ◌||◌, ◌==◌, if◌then◌else◌, List, [], ◌∷◌, slice_index_or, Option, Some, None, IsSome, is_some, refl, sym, ◌∙◌, ap, arith, inl, inr, true≢false}
+use Rattle.std.specs.Prelude.{map, unwrap_or, nat_le, nat_lt}
 use Rattle.std.specs.List.{range_with_len, flat_map, list_any}
-use Rattle.std.proofs.lemmas.Bool.{cond-true, cond-false, and_left, and_from, or_left, or_right, or_cases, or_parts, eqb-true, eq-eqb, ne_eqb, cases_Bool, cases_lt, both_ways, false_from_ne_true}
+use Rattle.std.proofs.lemmas.Bool.{cond-true, cond-false, and_left, and_from, or_left, or_right, or_cases, or_parts, eqb-true, eq-eqb, ne_eqb, cases_Bool, cases_lt, le-leb, lt-ltb, both_ways, false_from_ne_true}
+use Rattle.run_set.specs.Runs.{inside}
 use Rattle.vsm_model.specs.Search.{holds, is_in}
 use Rattle.vsm_model.specs.Ending.{climbs}
 use Rattle.vsm_model.specs.WellFormed.{TasksAreSound}
-use Rattle.storage_changes.specs.declared.record.Record.{Record}
-use Rattle.storage_changes.specs.declared.record.Record.TheVariants.{Register, Task}
+use Rattle.storage_changes.specs.declared.record.Record.TheVariants.{Task}
 use Rattle.storage_changes.specs.Meaning.{model_of}
 use Rattle.storage_changes.specs.State.{StorageState}
 use Rattle.task_laws.proofs.Ends.{comes}
 use Rattle.task_laws.proofs.Options.{none_some, held}
-use Rattle.task_actions.specs.Ending.{ended_records, AreSubtasksFirst}
+use Rattle.task_actions.specs.Ending.{cleared_quarter, ended_records, AreSubtasksFirst}
 use Rattle.task_actions.proofs.EndLists.{or_nothing}
 use Rattle.task_actions.proofs.EndEach.{Each, each_to, in_range}
 use Rattle.task_actions.proofs.EndWalk.{LeadsOn, leads_nowhere, leads_first, leads_then}
@@ -27,52 +27,74 @@ Words = ℕ → ℕ → ℕ
 abbrev pub having : StorageState → Parents → Words → StorageState
 having m parents words = record m { tasks = record m.tasks { parents = parents; words = words } }
 
--- registers of a task become zeros
+-- whether a register is in a quarter
+abbrev pub in_quarter : ℕ → ℕ → Bool
+in_quarter quarter register = inside register (record { start = 4 * quarter; len = 4 })
+
+-- the word of a register of a quarter whose words are zeros
+abbrev pub four_zeros : List ℕ
+four_zeros = 0 ∷ 0 ∷ 0 ∷ 0 ∷ []
+
+abbrev pub zero_word : ℕ → ℕ → ℕ
+zero_word quarter register = slice_index_or four_zeros (register - 4 * quarter) 0
+
+-- quarters of a task's registers become zeros
 abbrev pub cleared : Words → ℕ → List ℕ → Words
 cleared words task [] = words
-cleared words task (r ∷ rs) = cleared (λ t k. if (t == task) && (k == r) then 0 else words t k) task rs
+cleared words task (q ∷ qs) = cleared (λ t k. if (t == task) && in_quarter q k then zero_word q k else words t k) task qs
 
-zero_still : (b : Bool) (word : ℕ) → word ≡ 0 → (if b then 0 else word) ≡ 0
-zero_still true word e = refl
-zero_still false word e = e
+all_zeros : (i : ℕ) → slice_index_or four_zeros i 0 ≡ 0
+all_zeros zero = refl
+all_zeros (suc zero) = refl
+all_zeros (suc (suc zero)) = refl
+all_zeros (suc (suc (suc zero))) = refl
+all_zeros (suc (suc (suc (suc i)))) = refl
 
-cleared_zero : (words : Words) (task k : ℕ) (rs : List ℕ) → words task k ≡ 0 → cleared words task rs task k ≡ 0
+zero_still : (b : Bool) (other word : ℕ) → other ≡ 0 → word ≡ 0 → (if b then other else word) ≡ 0
+zero_still true other word z e = z
+zero_still false other word z e = e
+
+cleared_zero : (words : Words) (task k : ℕ) (qs : List ℕ) → words task k ≡ 0 → cleared words task qs task k ≡ 0
 cleared_zero words task k [] e = e
-cleared_zero words task k (r ∷ rs) e =
-    cleared_zero (λ t j. if (t == task) && (j == r) then 0 else words t j) task k rs (zero_still ((task == task) && (k == r)) (words task k) e)
+cleared_zero words task k (q ∷ qs) e =
+    cleared_zero (λ t j. if (t == task) && in_quarter q j then zero_word q j else words t j) task k qs
+    (zero_still ((task == task) && in_quarter q k) (zero_word q k) (words task k) (all_zeros (k - 4 * q)) e)
 
-cleared_in : (words : Words) (task k : ℕ) (rs : List ℕ) → list_any (λ r. r == k) rs ≡ true → cleared words task rs task k ≡ 0
+its_quarter : (q k : ℕ) → q ≡ k / 4 → in_quarter q k ≡ true
+its_quarter q k is =
+    and_from (nat_le (4 * q) k) (nat_lt k (4 * q + 4)) (le-leb (4 * q) k (omega (arith, is))) (lt-ltb k (4 * q + 4) (omega (arith, is)))
+
+cleared_in : (words : Words) (task k : ℕ) (qs : List ℕ) → list_any (λ q. q == k / 4) qs ≡ true → cleared words task qs task k ≡ 0
 cleared_in words task k [] e = absurd (true≢false (sym e))
-cleared_in words task k (r ∷ rs) e =
-    let next : Words = λ t j. if (t == task) && (j == r) then 0 else words t j in
-    elim (or_cases (r == k) (list_any (λ r. r == k) rs) e) [
-      | inl is ↦ cleared_zero next task k rs
-          (cond-true ((task == task) && (k == r)) 0 (words task k)
-          (and_from (task == task) (k == r) (eq-eqb task task refl) (eq-eqb k r (sym (eqb-true r k is)))))
-      | inr later ↦ cleared_in next task k rs later
+cleared_in words task k (q ∷ qs) e =
+    let next : Words = λ t j. if (t == task) && in_quarter q j then zero_word q j else words t j in
+    elim (or_cases (q == k / 4) (list_any (λ q. q == k / 4) qs) e) [
+      | inl is ↦ cleared_zero next task k qs
+          (cond-true ((task == task) && in_quarter q k) (zero_word q k) (words task k)
+          (and_from (task == task) (in_quarter q k) (eq-eqb task task refl) (its_quarter q k (eqb-true q (k / 4) is)))
+          ∙ all_zeros (k - 4 * q))
+      | inr later ↦ cleared_in next task k qs later
     ]
 
-cleared_out : (words : Words) (task t k : ℕ) (rs : List ℕ) → (t == task) ≡ false → cleared words task rs t k ≡ words t k
+cleared_out : (words : Words) (task t k : ℕ) (qs : List ℕ) → (t == task) ≡ false → cleared words task qs t k ≡ words t k
 cleared_out words task t k [] other = refl
-cleared_out words task t k (r ∷ rs) other =
-    cleared_out (λ u j. if (u == task) && (j == r) then 0 else words u j) task t k rs other
-    ∙ cond-false ((t == task) && (k == r)) 0 (words t k) (and_left (t == task) (k == r) other)
+cleared_out words task t k (q ∷ qs) other =
+    cleared_out (λ u j. if (u == task) && in_quarter q j then zero_word q j else words u j) task t k qs other
+    ∙ cond-false ((t == task) && in_quarter q k) (zero_word q k) (words t k) (and_left (t == task) (in_quarter q k) other)
 
 -- the records of its registers lead there
-abbrev zeroed : ℕ → ℕ → Record
-zeroed task register = Register (record { task = task; register = register; word = 0 })
-
-clearing_leads : (m : StorageState) (parents : Parents) (words : Words) (task : ℕ) (rs : List ℕ) → IsSome (parents task) → Each (λ r. r < 16) rs
-    → LeadsOn (having m parents words) (map (zeroed task) rs) (having m parents (cleared words task rs))
+clearing_leads : (m : StorageState) (parents : Parents) (words : Words) (task : ℕ) (qs : List ℕ) → IsSome (parents task) → Each (λ q. q < 4) qs
+    → LeadsOn (having m parents words) (map (cleared_quarter task) qs) (having m parents (cleared words task qs))
 clearing_leads m parents words task [] there low = leads_nowhere (having m parents words)
-clearing_leads m parents words task (r ∷ rs) there low =
-    let next : Words = λ t k. if (t == task) && (k == r) then 0 else words t k in
-    leads_first (having m parents words) (having m parents next) (having m parents (cleared next task rs)) (zeroed task r) (map (zeroed task) rs)
+clearing_leads m parents words task (q ∷ qs) there low =
+    let next : Words = λ t k. if (t == task) && in_quarter q k then zero_word q k else words t k in
+    let below : q < 4 = low.0 in
+    leads_first (having m parents words) (having m parents next) (having m parents (cleared next task qs)) (cleared_quarter task q) (map (cleared_quarter task) qs)
     (λ w rests. (
-      record { task = there; register = low.0 },
+      record { task = there; first = omega (arith, below); four = refl },
       record { state = refl; none_brought = rests.none_brought; spare = rests.spare },
     ))
-    (clearing_leads m parents next task rs there low.1)
+    (clearing_leads m parents next task qs there low.1)
 
 -- These have ended, and all below them.
 pub record HaveGone (m : StorageState) (gone : ℕ → Bool) (parents : Parents) (words : Words) : Type 0 where
@@ -125,13 +147,13 @@ module _ (m : StorageState) (w : TasksAreSound (model_of m)) where
     parent_stays = false_from_ne_true (is_in gone parent) (λ ends. both_ways (is_in gone task) order.0 (closed parent task ends has_parent))
 
     abbrev zeros : Words
-    zeros = cleared words task (range_with_len 0 16)
+    zeros = cleared words task (range_with_len 0 4)
 
     are_zeros : (r : ℕ) → zeros task r ≡ 0
     are_zeros r =
         elim (cases_lt r 16) [
-          | inl low ↦ cleared_in words task r (range_with_len 0 16) (in_range 0 16 r (omega arith) (omega (arith, low)))
-          | inr high ↦ cleared_zero words task r (range_with_len 0 16) (have.same_words task r order.0 ∙ w.no_register task r high)
+          | inl low ↦ cleared_in words task r (range_with_len 0 4) (in_range 0 4 (r / 4) (omega arith) (omega (arith, low)))
+          | inr high ↦ cleared_zero words task r (range_with_len 0 4) (have.same_words task r order.0 ∙ w.no_register task r high)
         ]
 
     abbrev fewer : Parents
@@ -149,9 +171,9 @@ module _ (m : StorageState) (w : TasksAreSound (model_of m)) where
 
     one_leads : LeadsOn (having n parents words) (ended_records m task) (having n fewer zeros)
     one_leads =
-        leads_then (having n parents words) (having n parents zeros) (having n fewer zeros) (map (zeroed task) (range_with_len 0 16))
+        leads_then (having n parents words) (having n parents zeros) (having n fewer zeros) (map (cleared_quarter task) (range_with_len 0 4))
         (Task (record { task = task; parent = parent; present = false }) ∷ [])
-        (clearing_leads n parents words task (range_with_len 0 16) (ap is_some still) (each_to 16 0 16 (omega arith)))
+        (clearing_leads n parents words task (range_with_len 0 4) (ap is_some still) (each_to 4 0 4 (omega arith)))
         (leads_first (having n parents zeros) (having n fewer zeros) (having n fewer zeros) (Task (record { task = task; parent = parent; present = false })) []
         (λ v rests. (
           record {
@@ -186,12 +208,12 @@ module _ (m : StorageState) (w : TasksAreSound (model_of m)) where
         | inl is ↦ ap (λ u. zeros u r) (sym (eqb-true task t is)) ∙ are_zeros r
         | inr other ↦ elim (or_cases (task == t) (is_in gone t) ends) [
           | inl is ↦ absurd (both_ways (task == t) other is)
-          | inr old ↦ cleared_out words task t r (range_with_len 0 16) (turned_test t other) ∙ have.zeros t r old
+          | inr old ↦ cleared_out words task t r (range_with_len 0 4) (turned_test t other) ∙ have.zeros t r old
         ]
       ];
       same_words = λ t r stays.
           let both = or_parts (task == t) (is_in gone t) stays in
-          cleared_out words task t r (range_with_len 0 16) (turned_test t both.0) ∙ have.same_words t r both.1;
+          cleared_out words task t r (range_with_len 0 4) (turned_test t both.0) ∙ have.same_words t r both.1;
     } where
       none_of : (b : Bool) (o : Option ℕ) → o ≡ None → (if b then None else o) ≡ None
       none_of true o e = refl

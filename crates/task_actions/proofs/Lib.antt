@@ -17,3 +17,4 @@ mod EndTasks
 mod EndParked
 mod EndRows
 pub mod EndLeads
+pub mod EndCounts

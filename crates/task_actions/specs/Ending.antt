@@ -1,6 +1,6 @@
 -- The records of tasks that end. Assembler Services Reference, DETACH; Assembler Services Guide, "Virtual storage
 -- management", "Subpool handling": when a task ends, the subpools that it owns are released.
-use Rattle.std.specs.Prelude.{◌≡◌, ℕ, zero, suc, ◌+◌, Bool, true, false, ◌||◌, ◌==◌, Option, Some, unwrap_or}
+use Rattle.std.specs.Prelude.{◌≡◌, ℕ, zero, suc, ◌+◌, ◌*◌, Bool, true, false, ◌||◌, ◌==◌, Option, Some, unwrap_or}
 use Rattle.std.specs.Prelude.{List, [], ◌∷◌, ◌++◌, length, map, filter}
 use Rattle.std.specs.List.{flat_map, range_with_len}
 use Rattle.vsm_model.specs.declared.Subpool.{Subpool}
@@ -11,7 +11,7 @@ use Rattle.subpool_storage.specs.Extents.{extents}
 use Rattle.subpool_storage.specs.Order.{subpools_in_order}
 use Rattle.subpool_storage.specs.Subpools.{Subpools}
 use Rattle.storage_changes.specs.declared.record.Record.{Record}
-use Rattle.storage_changes.specs.declared.record.Record.TheVariants.{Own, Queues, Register, Task, Turn, Sharer}
+use Rattle.storage_changes.specs.declared.record.Record.TheVariants.{Own, Queues, Registers, Task, Turn, Sharer}
 use Rattle.storage_changes.specs.Changes.{unassigned_records}
 use Rattle.storage_changes.specs.State.{StorageState}
 
@@ -62,10 +62,14 @@ removed p = Own (record { subpool = p; present = false })
 abbrev pub removed_records : Subpools → List ℕ → List Record
 removed_records m ended = map removed (owned_by_these m ended)
 
+-- a quarter of a task's registers become zeros
+abbrev pub cleared_quarter : ℕ → ℕ → Record
+cleared_quarter task quarter = Registers (record { task = task; first = 4 * quarter; words = 0 ∷ 0 ∷ 0 ∷ 0 ∷ [] })
+
 -- a task's registers become zeros, and it is gone
 abbrev pub ended_records : StorageState → ℕ → List Record
 ended_records m task =
-    map (λ register. Register (record { task = task; register = register; word = 0 })) (range_with_len 0 16)
+    map (cleared_quarter task) (range_with_len 0 4)
     ++ Task (record { task = task; parent = unwrap_or (m.tasks.parents task) 0; present = false })
     ∷ []
 
@@ -85,6 +89,19 @@ with_turn m next = record m { tasks = record m.tasks { current = next } }
 -- the blank elements
 abbrev pub end_blanks : StorageState → List ℕ → ℕ
 end_blanks m ended = 1 + length (released_records m.subpools ended)
+
+-- how many extents their subpools have,
+abbrev pub extents_ended : Subpools → List ℕ → ℕ
+extents_ended m ended = length (flat_map (extents m) (owned_by_these m ended))
+
+-- and how many rows of sight go besides those of owners
+abbrev pub sights_ended : Subpools → List ℕ → ℕ
+sights_ended m ended = length (flat_map (unseeing m ended) (subpools_in_order m))
+
+-- what leaves: the tasks, their subpools, the extents of these, and rows of sight
+abbrev pub weight_ended : Subpools → List ℕ → ℕ
+weight_ended m ended =
+    length ended + length (owned_by_these m ended) + extents_ended m ended + sights_ended m ended
 
 -- each task comes but once, behind all those whose parent it is
 abbrev pub AreSubtasksFirst : (ℕ → Option ℕ) → List ℕ → List ℕ → Type 0

@@ -1,5 +1,5 @@
 -- Each action's records lead to its effect on the plain machine.
-use Rattle.std.specs.Prelude.{◌≡◌, ℕ, Bool, true, List, [], ◌++◌}
+use Rattle.std.specs.Prelude.{◌≡◌, ℕ, ◌+◌, ◌*◌, ◌<◌, Bool, true, List, [], ◌++◌, length}
 use Rattle.vsm_model.specs.declared.limits.Settings.{Settings}
 use Rattle.vsm_model.specs.Ending.{is_in_subtree, without_tasks}
 use Rattle.vsm_model.specs.Regions.{settings_valid}
@@ -15,7 +15,7 @@ use Rattle.storage_actions.specs.Actions.{register_records}
 use Rattle.storage_actions.specs.Leads.{Leads, AreRegisters}
 use Rattle.task_actions.specs.Attaching.{attach_records, attach_blanks, with_attached, CanAttach, turn_records}
 use Rattle.task_actions.specs.Ending.{ended_below, owned_by_these, end_records, end_blanks, with_turn}
-use Rattle.task_actions.specs.Ending.{AreSubtasksFirst, CanEnd}
+use Rattle.task_actions.specs.Ending.{extents_ended, sights_ended, weight_ended, AreSubtasksFirst, CanEnd}
 
 -- A task comes, with its subpools, and registers of the current task are set;
 abbrev pub AttachingLeads : Type 0
@@ -55,3 +55,16 @@ EndsAreInOrder =
     (s : State) (top : ℕ) → TasksAreSound s → is_task s top ≡ true →
     AreSubtasksFirst s.parents [] (ended_below s.parents top)
     × ((task : ℕ) → is_in (ended_below s.parents top) task ≡ is_in_subtree s top task)
+
+-- Tasks that end take five records each, two for each of their subpools, one for each extent of these and for each row
+-- of sight that goes besides, and one for the turn. With the blank elements, a subpool that is parked for each that
+-- goes, and one record more for a register, that's fewer than 32 elements, and 8 for each of what leaves.
+abbrev pub EndsAreShort : Type 0
+EndsAreShort =
+    (m : StorageState) (ended : List ℕ) (next : ℕ) →
+    let subpools = length (owned_by_these m.subpools ended) in
+    (length (end_records m ended next)
+    ≡ 1 + 5 * length ended + 2 * subpools + extents_ended m.subpools ended + sights_ended m.subpools ended)
+    × (end_blanks m ended ≡ 1 + subpools + extents_ended m.subpools ended)
+    × (subpools + (length (end_records m ended next) + 1) + end_blanks m ended
+    < 32 + 8 * weight_ended m.subpools ended)

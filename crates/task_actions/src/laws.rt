@@ -1,7 +1,7 @@
 //! The records of each action on tasks fit, and lead to its effect. Each law is the contract of a function that does
 //! nothing: of any sound storage, where the action's effect on the plain machine is a well-formed state.
 
-ghost use Rattle.task_actions.specs.Laws.{AttachingLeads, EndingLeads, EndsAreInOrder, TurningLeads};
+ghost use Rattle.task_actions.specs.Laws.{AttachingLeads, EndingLeads, EndsAreInOrder, EndsAreShort, TurningLeads};
 
 use cell_tables::laws::{all_rows_change, pools_are_found, rows_of_the_others_stay};
 
@@ -33,4 +33,11 @@ pub fn ending_leads()
 /// The tasks of a subtree, those furthest below its top first, can end one by one.
 pub fn ends_are_in_order()
     ensures { EndsAreInOrder }
+{}
+
+/// Tasks that end take five records each, two for each subpool that they own, one for each extent of these and for each
+/// row of sight that goes besides, and one for the turn. With their blank elements and what is parked that's fewer than
+/// 32 elements, and 8 for each of what leaves.
+pub fn ends_are_short()
+    ensures { EndsAreShort }
 {}

@@ -4,7 +4,6 @@ mod RecordCounts
 mod RunPlans
 mod Rests
 mod Climbs
-mod Zeroed
 mod OwnedNames
 mod Walks
 mod Parks

@@ -117,7 +117,7 @@ pub fn plan_end_task(storage: &Storage) -> Result<EndPlan, Cause>
 impl EndPlan {
     /// The change: for each subpool of the subtree's tasks two records, one more for each of its extents and of its
     /// sharers, and an empty one that is parked under its name; one record for each subpool that they share; and
-    /// seventeen for each task. The state of the storage stays as it is.
+    /// five for each task. The state of the storage stays as it is.
     ///
     /// `AllocError` where memory is refused: what was made before that stays, as spare elements. Where so many elements
     /// are spare as it parks subpools and has records and blank elements, it takes no memory.

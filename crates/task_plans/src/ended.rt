@@ -1,15 +1,14 @@
 //! The tasks of a subtree that ends, and their records.
 
-ghost use Rattle.std.specs.Prelude.{◌≡◌, ◌≤◌, [], ◌∷◌, filter, length, IsOk, OnOk};
+ghost use Rattle.std.specs.Prelude.{◌≡◌, ◌<◌, ◌≤◌, [], ◌∷◌, filter, length, IsOk, OnOk};
 ghost use Rattle.vsm_model.specs.Search.{is_in};
 ghost use Rattle.storage_exchange.specs.Storage.{state_of, Stand};
 ghost use Rattle.storage_swap.specs.Builder.{IsBuilding, Builds, Pushes};
-ghost use Rattle.task_actions.specs.Ending.{is_below_by, ended_below, ended_level, ended_records};
+ghost use Rattle.task_actions.specs.Ending.{cleared_quarter, is_below_by, ended_below, ended_level, ended_records};
 ghost use Rattle.std.specs.List.{flat_map};
 
-use crate::registers::push_register;
 use std::alloc::AllocError;
-use storage_changes::{Record, TaskRecord};
+use storage_changes::{Record, RegistersRecord, TaskRecord};
 use storage_exchange::Storage;
 use storage_swap::ChangeBuilder;
 
@@ -55,6 +54,28 @@ pub(crate) fn is_ended(storage: &Storage, top: u8, task: u8) -> bool
     above == top
 }
 
+// Four registers of a task become zeros: a quarter of its sixteen.
+fn push_quarter(
+    storage: &mut Storage,
+    builder: &mut ChangeBuilder,
+    task: u8,
+    quarter: u8,
+) -> Result<(), AllocError>
+    requires building { IsBuilding storage.old builder.old }
+    requires quarter { quarter < 4 }
+    ensures builds { Builds storage.old builder.old storage.new builder.new }
+    ensures ok { OnOk result (Pushes storage.old builder.old
+        (cleared_quarter task quarter ∷ []) storage.new builder.new) }
+    ensures needless { 0 < storage.old.elements.spare → IsOk result }
+{
+    let cleared = Record::Registers(RegistersRecord {
+        task,
+        first: 4 * quarter,
+        words: [0; 4],
+    });
+    builder.push(storage, cleared)
+}
+
 // The registers of a task become zeros, and it is gone.
 fn push_ended_task(
     storage: &mut Storage,
@@ -71,8 +92,8 @@ fn push_ended_task(
         .tasks
         .parent_of(&storage.elements, task)
         .unwrap_or(0);
-    for register in 0..16 {
-        push_register(storage, builder, task, register, 0)?;
+    for quarter in 0..4 {
+        push_quarter(storage, builder, task, quarter)?;
     }
     let gone = Record::Task(TaskRecord {
         task,

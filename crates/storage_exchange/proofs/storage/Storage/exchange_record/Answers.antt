@@ -26,6 +26,10 @@ pub returns-in-Register-clause-exchanges : goal.returns-in-Register-clause-excha
 returns-in-Register-clause-exchanges c = exchanges-as c.args.self.now _ c.args.given.now c.args.given.now c.args.parked.now c.args.parked.now _ c.args.change (sym c.in-Register.is)
     (c.exchange_register.ensures.exchanges c.args.given.now c.args.parked.now c.requires.stands)
 
+pub returns-in-Registers-clause-exchanges : goal.returns-in-Registers-clause-exchanges
+returns-in-Registers-clause-exchanges c = exchanges-as c.args.self.now _ c.args.given.now c.args.given.now c.args.parked.now c.args.parked.now _ c.args.change (sym c.in-Registers.is)
+    (c.exchange_registers.ensures.exchanges c.args.given.now c.args.parked.now c.requires.stands)
+
 pub returns-in-Bytes-clause-exchanges : goal.returns-in-Bytes-clause-exchanges
 returns-in-Bytes-clause-exchanges c = exchanges-as c.args.self.now _ c.args.given.now c.args.given.now c.args.parked.now c.args.parked.now _ c.args.change (sym c.in-Bytes.is)
     (c.exchange_bytes.ensures.exchanges c.args.given.now c.args.parked.now c.requires.stands)
