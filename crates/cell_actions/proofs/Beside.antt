@@ -70,6 +70,24 @@ gives_back p d count page (suc n) =
     (area_returns p (d + count) (past - (d + count)) false))
     (tt, (refl, tt))
 
+-- an element is left behind them, if there was one before them
+pub one_left : (w : Walk) (rs : List Record) → AreReturns rs → FitInTurn w rs → 0 < w.spare → 0 < (walk w rs).spare
+one_left w [] are f some = some
+one_left w (Area r ∷ rs) are f some = one_left (step w (Area r)) rs are.1 f.1 f.0.room_after
+one_left w (Extent r ∷ rs) are f some = one_left (step w (Extent r)) rs are.1 f.1 f.0.room_after
+one_left w (Pages r ∷ rs) are f some = one_left (step w (Pages r)) rs are.1 f.1 f.0.room_after
+one_left w (Own r ∷ rs) are f some = absurd are.0
+one_left w (Register r ∷ rs) are f some = absurd are.0
+one_left w (Queues r ∷ rs) are f some = absurd are.0
+one_left w (Task r ∷ rs) are f some = absurd are.0
+one_left w (Turn r ∷ rs) are f some = absurd are.0
+one_left w (Sharer r ∷ rs) are f some = absurd are.0
+one_left w (Pass r ∷ rs) are f some = absurd are.0
+one_left w (CellPool r ∷ rs) are f some = absurd are.0
+one_left w (CellExtent r ∷ rs) are f some = absurd are.0
+one_left w (Cell r ∷ rs) are f some = absurd are.0
+one_left w (Bytes r ∷ rs) are f some = absurd are.0
+
 -- each record takes or gives as many blank elements
 spare_more : (b : Bool) (s n more : ℕ) → 0 < s → 0 < (if b then spare_joined s n else spare_left s n)
     → (if b then spare_joined (s + more) n else spare_left (s + more) n) ≡ (if b then spare_joined s n else spare_left s n) + more

@@ -38,7 +38,7 @@ use Rattle.storage_actions.proofs.Goes.{walk_on, fits_on}
 use Rattle.storage_actions.proofs.Idle.{emptied_pages_are_a_run}
 use Rattle.storage_actions.proofs.Rows.{none_brought}
 use Rattle.cell_actions.specs.Actions.{extents_given_back}
-use Rattle.cell_actions.proofs.Beside.{IsAway, beside, all_beside, gives_back}
+use Rattle.cell_actions.proofs.Beside.{IsAway, beside, all_beside, gives_back, one_left}
 use Rattle.cell_actions.proofs.Places.{zeros_for}
 use Rattle.cell_actions.proofs.Ready.{AreReady, IsClear, kept, still_ready}
 
@@ -147,17 +147,17 @@ module _ (settings : Settings) (valid : settings_valid settings ≡ true) (p : P
   runs : emptied_pages m.subpools sub d count ≡ run
   runs = λ i. run_of (sym first_same i) (sym past_same i - sym first_same i)
 
-  pub leads : Leads settings m (change_of (give run) 7 (run_of 0 0)) left
+  pub leads : Leads settings m (change_of (give run) 5 (run_of 0 0)) left
   leads =
       let idle = emptied_pages_are_a_run settings m sub d count sound more high held in
       let its_run = emptied_pages m.subpools sub d count in
       let formed = kept settings (model_of m) sound.well_formed (cell_pool_of p) x its clear in
       let one = giving_back_leads settings m sub d count its_run.start its_run.len [] sound (All-nil (λ row. row.0 < 16)) more high idle.1 held idle.0 formed in
-      let P : List Record → Type 0 = λ rs. Leads settings m (change_of rs 7 (run_of 0 0)) left in
+      let P : List Record → Type 0 = λ rs. Leads settings m (change_of rs 5 (run_of 0 0)) left in
       subst (λ r. P (give r)) runs (subst P (nothing_more (give its_run)) one)
 
   abbrev pub then_there : StorageState
-  then_there = overlay m (change_of (give run) 7 (run_of 0 0))
+  then_there = overlay m (change_of (give run) 5 (run_of 0 0))
 
   -- and then it is that of `u` with the extent
   pub same_then : (k : ℕ) → then_there.subpools.pages sub (k / 512) ≡ true → (with_free u sub (run_of d count) true).free sub k ≡ then_there.subpools.free sub k
@@ -171,27 +171,28 @@ module _ (settings : Settings) (valid : settings_valid settings ≡ true) (p : P
       ∙ ap (λ b. not (inside k (run_of d count)) && b) (ap (λ o. is_taken m.subpools o k) was ∙ ap not (sym (same k page))))
 
   pub reaches_next :
-      (g : ℕ → Option ℕ) (parked : Subpools) (s : ℕ) (rest : List Record) (n : StorageState) → IsAway m g → 7 ≤ s
-      → ((h : ℕ → Option ℕ) (t : ℕ) → IsAway then_there h → s ≤ t + 7 → Reaches (walk_at then_there h parked t) rest n parked)
+      (g : ℕ → Option ℕ) (parked : Subpools) (s : ℕ) (rest : List Record) (n : StorageState) → IsAway m g → 5 ≤ s
+      → ((h : ℕ → Option ℕ) (t : ℕ) → IsAway then_there h → s ≤ t + 4 → Reaches (walk_at then_there h parked t) rest n parked)
       → Reaches (walk_at m g parked s) (give run ++ rest) n parked
   reaches_next g parked s rest n away less next =
-      let w = outset m (change_of (give run) 7 (run_of 0 0)) in
-      let more = s - 7 in
+      let w = outset m (change_of (give run) 5 (run_of 0 0)) in
+      let more = s - 5 in
       let all = all_beside w (give run) (gives_back sub d count run.start run.len) leads.fits.in_turn g parked more away in
       let spare = (walk w (give run)).spare + more in
+      let still = one_left w (give run) (gives_back sub d count run.start run.len) leads.fits.in_turn (omega arith) in
       let v = walk_at then_there all.then_given parked spare in
-      let there : walk (walk_at m g parked (7 + more)) (give run) ≡ v =
-      plainly (walk w (give run)) all.then_given parked more (walk (walk_at m g parked (7 + more)) (give run)) all.there leads.fits.brought in
-      let e : 7 + more ≡ s = omega (arith, less) in
+      let there : walk (walk_at m g parked (5 + more)) (give run) ≡ v =
+      plainly (walk w (give run)) all.then_given parked more (walk (walk_at m g parked (5 + more)) (give run)) all.there leads.fits.brought in
+      let e : 5 + more ≡ s = omega (arith, less) in
       subst (λ k. Reaches (walk_at m g parked k) (give run ++ rest) n parked) e
-      (reach_on (walk_at m g parked (7 + more)) v (give run) rest n parked all.fits there (next all.then_given spare all.away (omega (arith, less))))
+      (reach_on (walk_at m g parked (5 + more)) v (give run) rest n parked all.fits there (next all.then_given spare all.away (omega (arith, less, still))))
 
 -- All of them.
 pub record GivesBack (settings : Settings) (p : Pool) (m : StorageState) (u : Subpools) (xs : List Extent) : Type 0 where
   pub now : StorageState
   pub sound : IsSound settings now
   pub leads : model_of now ≡ without_extents (model_of m) (cell_pool_of p) (map extent_of xs)
-  pub go : (g : ℕ → Option ℕ) (parked : Subpools) (s : ℕ) → IsAway m g → 7 * length xs ≤ s
+  pub go : (g : ℕ → Option ℕ) (parked : Subpools) (s : ℕ) → IsAway m g → 4 * length xs + 1 ≤ s
       → Reaches (walk_at m g parked s) (extents_given_back u p.settings.subpool p.settings.size xs) now parked
 
 pub all_given_back :

@@ -80,9 +80,9 @@ deleting_records m p =
     CellPoolRow (record { pool = p.id; present = false })
     ∷ extents_given_back m p.settings.subpool p.settings.size p.extents
 
--- The blank elements that this takes at most.
+-- The blank elements that this takes at most: four for each extent, and one that has to be left.
 abbrev pub deleting_blanks : Pool → ℕ
-deleting_blanks p = 7 * length p.extents
+deleting_blanks p = 4 * length p.extents + 1
 
 -- the state in which a cell pool has the next cells, where the one that it hands out is its first free one,
 abbrev pub with_handed_out : State → Pool → State

@@ -1,8 +1,7 @@
 -- The plan of a cell pool that comes leads to what BUILD leaves, or it's refused for the first cause.
 use Rattle.std.proofs.Common.{◌≡◌, ℕ, ◌+◌, ◌*◌, ◌<◌, ◌≤◌, ◌^◌, Bool, true, false, not, ◌&&◌, nat_le, is_some, Option, Some, None, List, [], ◌∷◌, ◌++◌, length, refl, sym, ap, ◌∙◌, subst, arith}
 use Rattle.std.specs.Prelude.{unwrap_or, option_map, Ok}
-use Rattle.std.proofs.Math.Bool.{Bool-set}
-use Rattle.std.proofs.Math.Logic.{∥∥₁_map, ∥∥₁_elim}
+use Rattle.std.proofs.Math.Logic.{∥∥₁_map}
 use Rattle.std.proofs.Math.Nat.{mul-pos, mul-le-mul_left}
 use Rattle.std.proofs.lemmas.Bool.{and_parts, cond-false, cond-true, not-false, not-true}
 use Rattle.run_set.specs.declared.run.Run.{Run}

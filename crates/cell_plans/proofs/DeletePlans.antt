@@ -118,10 +118,10 @@ module _ (m : StorageState) (id : ℕ) (p : Pool) (there : m.subpools.cells id �
 
   pub listed_is :
       (current : ℕ) (names : List Subpool) (first then_back records : List Record) (blanks count : ℕ) → current ≡ m.tasks.current → names ≡ []
-      → first ≡ [] ++ row id ∷ [] → then_back ≡ first ++ back → records ≡ then_back ++ last current ∷ [] → blanks ≡ 7 * count → count ≡ length p.extents
+      → first ≡ [] ++ row id ∷ [] → then_back ≡ first ++ back → records ≡ then_back ++ last current ∷ [] → blanks ≡ 4 * count + 1 → count ≡ length p.extents
       → change_parking names records blanks ≡ delete_change m (record { pool = id })
   listed_is current names first then_back records blanks count now none e f g many so_many =
       let whole : records ≡ row p.id ∷ (back ++ register_records m ((15, 0) ∷ [])) =
       g ∙ ap (λ rs. rs ++ last current ∷ []) (f ∙ ap (λ rs. rs ++ back) e) ∙ (λ i. row (sym own i) ∷ (back ++ last (now i) ∷ [])) in
-      let blanks_are : blanks ≡ 7 * length p.extents = many ∙ ap (λ n. 7 * n) so_many in
+      let blanks_are : blanks ≡ 4 * length p.extents + 1 = many ∙ ap (λ n. 4 * n + 1) so_many in
       (λ i. change_parking (none i) (whole i) (blanks_are i)) ∙ ap (deleting_change m) (sym there)

@@ -10,3 +10,4 @@ mod BuildPlans
 mod FreeEnds
 mod GivenAreas
 mod DeletePlans
+pub mod DeleteCounts

@@ -1,7 +1,7 @@
 -- What the plans of cell pools come to on the plain machine. Assembler Services Reference, CPOOL; Assembler Services
 -- Guide, "Virtual storage management", "Using the CPOOL macro".
 use Rattle.std.specs.Prelude.{◌≡◌, ℕ, ◌+◌, ◌*◌, ◌/◌, ◌^◌, ◌<◌, ◌≤◌, Bool, true, All, IfSome, IsSome, Option, Some, None}
-use Rattle.std.specs.Prelude.{option_map, Result, Ok, Err, [], ◌∷◌, ◌++◌}
+use Rattle.std.specs.Prelude.{length, option_map, Result, Ok, Err, [], ◌∷◌, ◌++◌}
 use Rattle.run_set.specs.Runs.{inside}
 use Rattle.vsm_model.specs.declared.causes.Cause.{Cause}
 use Rattle.vsm_model.specs.declared.limits.Settings.{Settings}
@@ -74,6 +74,11 @@ deleting_change m (Some p) =
 
 abbrev pub delete_change : StorageState → DeletePlan → Change
 delete_change m plan = deleting_change m (m.subpools.cells plan.pool)
+
+-- how many extents leave with it, if it's there
+abbrev pub extents_of_pool : Option Pool → ℕ
+extents_of_pool None = 0
+extents_of_pool (Some p) = length p.extents
 
 -- The cell pool is there, with its extents in storage, each of which has a doubleword.
 pub record CanBeDeleted (m : StorageState) (plan : DeletePlan) : Type 0 where

@@ -54,9 +54,9 @@ pub fn plan_delete(storage: &Storage, name: &str) -> Result<DeletePlan, Cause>
 
 impl DeletePlan {
     /// What the change is made of: a record for the cell pool, and up to four for each of its extents, which is given
-    /// back with the pages that it empties once those before it are given back. `AllocError` where there is no memory
-    /// for the list, it would have four million records (2^22) or more, or the cell pool has more than a million
-    /// extents (2^20).
+    /// back with the pages that it empties once those before it are given back; and four blank elements for each of
+    /// them, and one more. `AllocError` where there is no memory for the list, it would have four million records
+    /// (2^22) or more, or the cell pool has more than a million extents (2^20).
     pub fn listed(self, alloc: Global, storage: &Storage) -> Result<Listed, AllocError>
         requires stands { Stand storage.now }
         requires can { CanBeDeleted (state_of storage.now) self }
@@ -79,7 +79,7 @@ impl DeletePlan {
         Ok(Listed {
             names: Vec::new(alloc),
             records,
-            blanks: 7 * extents,
+            blanks: 4 * extents + 1,
         })
     }
 }

@@ -1,5 +1,5 @@
 -- An area that is given back, with each page that it empties.
-use Rattle.std.proofs.Common.{◌≡◌, ℕ, zero, suc, ◌+◌, ◌-◌, ◌<◌, ◌≤◌, Bool, true, false, not, ◌&&◌, ◌⊎◌, if◌then◌else◌, ◌++◌, Option, None, is_some, refl, sym, ◌∙◌, ap, arith, inl, inr, true≢false}
+use Rattle.std.proofs.Common.{◌≡◌, ℕ, zero, suc, ◌+◌, ◌-◌, ◌<◌, ◌≤◌, min, Bool, true, false, not, ◌&&◌, ◌⊎◌, if◌then◌else◌, ◌++◌, Option, None, is_some, refl, sym, ◌∙◌, ap, arith, inl, inr, true≢false}
 use Rattle.std.specs.Prelude.{◌^◌, ◌/◌, ◌*◌}
 use Rattle.std.proofs.lemmas.Bool.{cases_lt, cond-false, and_right}
 use Rattle.run_set.specs.Runs.{inside}
@@ -177,8 +177,9 @@ module _ (settings : Settings) (m : StorageState) (p : Subpool) (d count page n 
   abbrev nothing : ℕ → Option ℕ
   nothing a = None
 
+  -- of the areas on either side one has a doubleword at most
   areas_go :
-      (b : ℕ → Option ℕ) → Goes (at m b nothing 7)
+      (b : ℕ → Option ℕ) → Goes (at m b nothing 5)
       (area_records p d (512 * page - d) true ++ area_records p (512 * page) (d - 512 * page) false ++ area_records p past (d + count - past) true
       ++ area_records p (d + count) (past - (d + count)) false) taken_behind b nothing 3
   areas_go b =
@@ -186,20 +187,22 @@ module _ (settings : Settings) (m : StorageState) (p : Subpool) (d count page n 
       let taking_before = area_records p (512 * page) (d - 512 * page) false in
       let freeing_behind = area_records p past (d + count - past) true in
       let taking_behind = area_records p (d + count) (past - (d + count)) false in
-      let w = at m b nothing 7 in
-      goes_on w (freeing_before ++ taking_before ++ freeing_behind) taking_behind freed_behind taken_behind b nothing b nothing 4 3
-      (goes_on w (freeing_before ++ taking_before) freeing_behind taken_before freed_behind b nothing b nothing 5 4
-      (goes_on w freeing_before taking_before freed_before taken_before b nothing b nothing 6 5
-      (area_goes m b nothing 7 6 p d (512 * page - d) true there (omega (arith, high, most)) were_taken_before (omega arith) (omega arith))
-      (λ s less. area_goes freed_before b nothing s 5 p (512 * page) (d - 512 * page) false there (omega (arith, high, most)) were_free_before (omega arith) (omega (arith, less))))
-      (λ s less. area_goes taken_before b nothing s 4 p past (d + count - past) true there (omega (arith, high, most)) were_taken_behind (omega arith) (omega (arith, less))))
+      let w = at m b nothing 5 in
+      let before : ℕ = 5 - min 1 (512 * page - d) in
+      let behind : ℕ = 4 - min 1 (d + count - past) in
+      goes_on w (freeing_before ++ taking_before ++ freeing_behind) taking_behind freed_behind taken_behind b nothing b nothing behind 3
+      (goes_on w (freeing_before ++ taking_before) freeing_behind taken_before freed_behind b nothing b nothing 4 behind
+      (goes_on w freeing_before taking_before freed_before taken_before b nothing b nothing before 4
+      (area_goes m b nothing 5 before p d (512 * page - d) true there (omega (arith, high, most)) were_taken_before (omega arith) (omega arith))
+      (λ s less. area_goes freed_before b nothing s 4 p (512 * page) (d - 512 * page) false there (omega (arith, high, most)) were_free_before (omega arith) (omega (arith, less))))
+      (λ s less. area_goes taken_before b nothing s behind p past (d + count - past) true there (omega (arith, high, most)) were_taken_behind (omega arith) (omega (arith, less))))
       (λ s less. area_goes freed_behind b nothing s 3 p (d + count) (past - (d + count)) false there (omega (arith, high, most)) were_free_behind (omega arith) (omega (arith, less)))
 
   pub emptying_goes :
-      (b : ℕ → Option ℕ) → ((a : ℕ) → b a ≡ None) → Goes (at m b nothing 7) (give_back_records p d count page (suc n)) (without_pages m p (run_of page (suc n)) f)
+      (b : ℕ → Option ℕ) → ((a : ℕ) → b a ≡ None) → Goes (at m b nothing 5) (give_back_records p d count page (suc n)) (without_pages m p (run_of page (suc n)) f)
       (brought_then b page (suc n)) (given_then (paged taken_behind p page (suc n) false) nothing page (suc n) false) 1
   emptying_goes b none =
-      goes_on (at m b nothing 7)
+      goes_on (at m b nothing 5)
       (area_records p d (512 * page - d) true ++ area_records p (512 * page) (d - 512 * page) false ++ area_records p past (d + count - past) true
       ++ area_records p (d + count) (past - (d + count)) false)
       (returned_records p page (suc n)) taken_behind (without_pages m p (run_of page (suc n)) f) b nothing (brought_then b page (suc n))
@@ -234,16 +237,16 @@ module _ (settings : Settings) (m : StorageState) (p : Subpool) (d count page : 
   alone_gone : (k : ℕ) → inside (k / 512) (run_of page 0) ≡ true → alone p k ≡ false
   alone_gone k own = absurd (true≢false (sym own ∙ no_page (k / 512)))
 
-  alone_goes : (b g : ℕ → Option ℕ) → d + count ≤ 2 ^ 29 → Goes (at m b g 7) (area_records p d count true) (without_pages m p (run_of page 0) alone) b g 1
+  alone_goes : (b g : ℕ → Option ℕ) → d + count ≤ 2 ^ 29 → Goes (at m b g 5) (area_records p d count true) (without_pages m p (run_of page 0) alone) b g 1
   alone_goes b g high =
-      goes_to (at m b g 7) (area_records p d count true) (freed m p d count true) (without_pages m p (run_of page 0) alone) b g 1 none_leaves
-      (area_goes m b g 7 1 p d count true (has_pages settings m sound p (d / 512) (held d (in_inside d count d (omega arith) (omega (arith, more)))).0) high
+      goes_to (at m b g 5) (area_records p d count true) (freed m p d count true) (without_pages m p (run_of page 0) alone) b g 1 none_leaves
+      (area_goes m b g 5 1 p d count true (has_pages settings m sound p (d / 512) (held d (in_inside d count d (omega arith) (omega (arith, more)))).0) high
       (λ k own. (held k own).1) (omega arith) (omega arith))
 
 pub giving_back_leads : GivingBackLeads
 giving_back_leads settings m p d count page zero rows sound are more high most held idle formed =
     let records = give_back_records p d count page 0 in
-    let change = change_of (records ++ register_records m rows) 7 (run_of 0 0) in
+    let change = change_of (records ++ register_records m rows) 5 (run_of 0 0) in
     let none : ℕ → Option ℕ = λ a. None in
     let f = (freed m p d count true).subpools.free in
     let n = without_pages m p (run_of page 0) f in
@@ -251,8 +254,8 @@ giving_back_leads settings m p d count page zero rows sound are more high most h
     let given : (k : ℕ) → inside k (run_of d count) ≡ true → inside (k / 512) (run_of page 0) ≡ false → f p k ≡ true = λ k own other. freed_in m p d count true k own in
     let gone = alone_gone settings m p d count page sound more held in
     let kept : (k : ℕ) → inside k (run_of d count) ≡ false → inside (k / 512) (run_of page 0) ≡ false → f p k ≡ m.subpools.free p k = λ k beside other. freed_out m p d count true p k beside in
-    leads_with_rows settings m n (records ++ register_records m rows) 7 (run_of 0 0) change.frames none 1 rows (without_area (model_of m) p d count)
-    (goes_on (at m change.frames none 7) records (register_records m rows) n (with_rows n rows) change.frames none change.frames none 1 1
+    leads_with_rows settings m n (records ++ register_records m rows) 5 (run_of 0 0) change.frames none 1 rows (without_area (model_of m) p d count)
+    (goes_on (at m change.frames none 5) records (register_records m rows) n (with_rows n rows) change.frames none change.frames none 1 1
     (alone_goes settings m p d count page sound more held change.frames none high)
     (λ s less. rows_go n change.frames none s 1 rows (task_is_there settings m sound) are less))
     none_brought (none_fresh m)
@@ -260,14 +263,14 @@ giving_back_leads settings m p d count page zero rows sound are more high most h
     (back_leads settings m p d count page 0 sound held idle f others given gone kept) formed
 giving_back_leads settings m p d count page (suc k) rows sound are more high most held idle formed =
     let records = give_back_records p d count page (suc k) in
-    let change = change_of (records ++ register_records m rows) 7 (run_of 0 0) in
+    let change = change_of (records ++ register_records m rows) 5 (run_of 0 0) in
     let none : ℕ → Option ℕ = λ a. None in
     let free = f settings m p d count page k sound held idle high most in
     let n = without_pages m p (run_of page (suc k)) free in
     let c = brought_then change.frames page (suc k) in
     let h = given_then (paged (taken_behind settings m p d count page k sound held idle high most) p page (suc k) false) none page (suc k) false in
-    leads_with_rows settings m n (records ++ register_records m rows) 7 (run_of 0 0) c h 1 rows (without_area (model_of m) p d count)
-    (goes_on (at m change.frames none 7) records (register_records m rows) n (with_rows n rows) c h c h 1 1
+    leads_with_rows settings m n (records ++ register_records m rows) 5 (run_of 0 0) c h 1 rows (without_area (model_of m) p d count)
+    (goes_on (at m change.frames none 5) records (register_records m rows) n (with_rows n rows) c h c h 1 1
     (emptying_goes settings m p d count page k sound held idle high most change.frames none_brought)
     (λ s less. rows_go n c h s 1 rows (task_is_there settings m sound) are less))
     (none_left settings m p d count page k sound held idle high most change.frames none_brought) (none_fresh m)

@@ -1,5 +1,5 @@
 -- What a record of each kind leads to.
-use Rattle.std.proofs.Common.{◌≡◌, ℕ, zero, suc, ◌+◌, ◌-◌, ◌<◌, ◌≤◌, Bool, true, false, not, ◌&&◌, if◌then◌else◌, [], ◌∷◌, Option, Some, None, refl, sym, arith}
+use Rattle.std.proofs.Common.{◌≡◌, ℕ, zero, suc, ◌+◌, ◌-◌, ◌<◌, ◌≤◌, min, Bool, true, false, not, ◌&&◌, if◌then◌else◌, [], ◌∷◌, Option, Some, None, refl, sym, arith}
 use Rattle.std.specs.Prelude.{◌^◌, ◌/◌}
 use Rattle.std.proofs.lemmas.Bool.{cond-true, cond-false, and_left, and_right}
 use Rattle.run_set.specs.declared.run.Run.{Run}
@@ -59,16 +59,18 @@ nothing_freed m p start free = λ i. record m {
   };
 }
 
+-- an area costs one blank element at most, and none where it has no doubleword
 pub area_goes :
     (m : StorageState) (b g : ℕ → Option ℕ) (s left : ℕ) (p : Subpool) (start count : ℕ) (free : Bool) → is_there m.subpools p ≡ true
-    → start + count ≤ 2 ^ 29 → ((d : ℕ) → inside d (run_of start count) ≡ true → m.subpools.free p d ≡ not free) → 1 ≤ left → left + 1 ≤ s
+    → start + count ≤ 2 ^ 29 → ((d : ℕ) → inside d (run_of start count) ≡ true → m.subpools.free p d ≡ not free) → 1 ≤ left → left + min 1 count ≤ s
     → Goes (at m b g s) (area_records p start count free) (freed m p start count free) b g left
 area_goes m b g s left p start zero free there high other some less =
     goes_to (at m b g s) [] m (freed m p start 0 free) b g left (nothing_freed m p start free)
     (goes_nowhere m b g s left (omega (arith, less)))
 area_goes m b g s left p start (suc n) free there high other some less =
     let r : AreaRecord = record { subpool = p; area = run_of start (suc n); free = free } in
-    let after : left ≤ area_spare (at m b g s) r = joined_less free left s (joins (m.subpools.free p) (run_of start (suc n))) (two (m.subpools.free p) (run_of start (suc n)) (omega arith)) less in
+    let one : left + 1 ≤ s = omega (arith, less) in
+    let after : left ≤ area_spare (at m b g s) r = joined_less free left s (joins (m.subpools.free p) (run_of start (suc n))) (two (m.subpools.free p) (run_of start (suc n)) (omega arith)) one in
     goes_step m (freed m p start (suc n) free) b g b g s (area_spare (at m b g s) r) left (Area r)
     (record { there = there; some = omega arith; high = high; other = other; room = omega (arith, less); room_after = omega (arith, some, after) })
     refl after

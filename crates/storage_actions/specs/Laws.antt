@@ -53,7 +53,7 @@ GivingBackLeads =
     ((k : ℕ) → among d count k ≡ true → (m.subpools.pages p (k / 512) ≡ true) × (m.subpools.free p k ≡ false)) →
     AreIdle (model_of m) p d count (run_of page n) →
     IsWellFormed settings (with_registers (without_area (model_of m) p d count) rows) →
-    Leads settings m (change_of (give_back_records p d count page n ++ register_records m rows) 7 (run_of 0 0))
+    Leads settings m (change_of (give_back_records p d count page n ++ register_records m rows) 5 (run_of 0 0))
     (with_registers (without_area (model_of m) p d count) rows)
 
 -- these pages are a run, which its first and its last page alone have to be looked at for;

@@ -26,7 +26,7 @@ pub fn taking_fresh_leads()
 {}
 
 /// An area of taken doublewords of the subpool is given back, with the pages that it empties, which lie in one run; and
-/// registers are set. Seven blank elements are enough.
+/// registers are set. Five blank elements are enough.
 pub fn giving_back_leads()
     ensures { GivingBackLeads }
 {}

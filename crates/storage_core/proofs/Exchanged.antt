@@ -1,7 +1,6 @@
 -- A plan that was made into a change, and the change once it was exchanged: it can be exchanged, and leads to a sound
 -- storage.
 use Rattle.std.proofs.Common.{◌≡◌, ℕ, Bool, sym, ap, ◌∙◌, subst}
-use Rattle.std.proofs.Props.{props}
 use mathlib.Core.Logic.{∥∥₁_elim, ∥∥₁_map}
 use Rattle.vsm_model.specs.declared.limits.Settings.{Settings}
 use Rattle.vsm_model.specs.Services.{Service}

@@ -8,3 +8,4 @@ mod Walking
 mod Made
 mod PlanCases
 mod TaskCounts
+mod CellPoolCounts

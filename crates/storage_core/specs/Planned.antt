@@ -25,7 +25,7 @@ use Rattle.task_actions.specs.Ending.{ended_below, end_records, end_blanks}
 use Rattle.task_plans.specs.TaskPlans.{numbers, attach_change, end_change, CanBeAttached, CanBeEnded}
 pub use Rattle.task_plans.specs.TaskPlans.{IsAccepted}
 use Rattle.cell_pool.specs.Pools.{mark_items}
-use Rattle.cell_plans.specs.CellPlans.{build_change, delete_change, CanBeBuilt, CanBeDeleted}
+use Rattle.cell_plans.specs.CellPlans.{build_change, delete_change, extents_of_pool, CanBeBuilt, CanBeDeleted}
 pub use Rattle.cell_plans.specs.CellPlans.{HasRecords}
 use Rattle.storage_core.specs.declared.plans.Plan.{Plan}
 use Rattle.storage_core.specs.declared.plans.Plan.TheVariants.{Storage, Attach, End, Build, Delete}
@@ -119,9 +119,9 @@ pages_assigned (Delete plan) = 0
 abbrev pub storage_elements : StorageState → StoragePlan → ℕ
 storage_elements m plan = 25 + plan.blanks + 8 * extents_leaving m.subpools plan.emptied
 
--- That of a new task has fewer than 32, and 4 more for each number that is given or shared; that of tasks that end, or
--- of a cell pool that goes, one for each of their records, one for the return code, and its blank ones; and that of a
--- cell pool that comes fewer than 32. What is parked isn't counted.
+-- That of a new task has fewer than 32, and 4 more for each number that is given or shared; that of tasks that end one
+-- for each of their records, one for the return code, and its blank ones; that of a cell pool that comes fewer than 32;
+-- and that of one that goes fewer than 32, and 8 more for it and for each of its extents. What is parked isn't counted.
 abbrev pub elements_below : StorageState → Plan → ℕ
 elements_below m (Storage plan) = storage_elements m plan
 elements_below m (Attach plan) =
@@ -130,7 +130,7 @@ elements_below m (End plan) =
     let ended = ended_below m.tasks.parents plan.top in
     2 + (length (end_records m ended plan.next) + end_blanks m ended)
 elements_below m (Build plan) = 32
-elements_below m (Delete plan) = 1 + (length (delete_change m plan).records + (delete_change m plan).blanks)
+elements_below m (Delete plan) = 32 + 8 * (1 + extents_of_pool (m.subpools.cells plan.pool))
 
 -- Nothing has to grow for the plan's change: a cell pool that comes takes 30 elements besides those of its cells and of
 -- their marks. Where tasks come or end or a cell pool goes that isn't said: the list of the records is made first.

@@ -23,10 +23,11 @@ impl Storage {
     ///
     /// The change has fewer records and blank elements than 25 and its plan's blank ones, and 8 more for each extent
     /// that leaves with a whole subpool that is emptied. That of a new task has fewer than 32, and 4 for each number
-    /// that it is given or shares; that of tasks that end, or of a cell pool that goes, has one for each of its
-    /// records, and its blank ones; and that of a cell pool that comes has fewer than 32. Besides it has one element
-    /// for each subpool that it has parked, and those of what these hold, which were the storage's, and those of a cell
-    /// pool that comes. It has just as many frames as pages come to be assigned.
+    /// that it is given or shares; that of tasks that end has one for each of its records, and its blank ones; that of
+    /// a cell pool that comes has fewer than 32; and that of one that goes has fewer than 32, and 8 for it and for each
+    /// of its extents. Besides it has one element for each subpool that it has parked, and those of what these hold,
+    /// which were the storage's, and those of a cell pool that comes. It has just as many frames as pages come to be
+    /// assigned.
     ///
     /// `AllocError` where memory is refused. Of requests for storage or for a cell, and of a cell pool that comes, that
     /// can be only where fewer elements or frames are spare, or a table isn't there. What was made before that stays,

@@ -40,7 +40,7 @@ module _ (settings : Settings) (names_full : Bool) (m : StorageState) (x : Servi
   pub carries_out_from : (plan : Plan) (emptied : Option Subpool) (records : List Record) (blanks : ℕ) (fresh : Run) (t : State) →
       plan.emptied ≡ emptied → plan.records.items ≡ records → plan.blanks ≡ blanks → plan.fresh ≡ fresh →
       step settings names_full (model_of m) x ≡ Accepted t plan.reply → Leads settings m (change_from m.subpools emptied records blanks fresh) t →
-      IfSome emptied (λ p. is_there m.subpools p ≡ true) → blanks ≤ 7 → fresh.start + fresh.len ≤ 2 ^ 20 →
+      IfSome emptied (λ p. is_there m.subpools p ≡ true) → blanks ≤ 5 → fresh.start + fresh.len ≤ 2 ^ 20 →
       ((page : ℕ) → inside page fresh ≡ true → m.unassigned page ≡ true) → CarriesOut settings names_full m x plan
   carries_out_from plan emptied records blanks fresh t is_emptied is_records is_blanks is_fresh accepted leads there few range unassigned =
       let change : change_in m plan ≡ change_from m.subpools emptied records blanks fresh =
@@ -48,7 +48,7 @@ module _ (settings : Settings) (names_full : Bool) (m : StorageState) (x : Servi
       let leads_to : Change → Type 0 = λ d. Leads settings m d t in
       let its : Leads settings m (change_in m plan) t = subst leads_to (sym change) leads in
       let are_there : Option Subpool → Type 0 = λ o. IfSome o (λ p. is_there m.subpools p ≡ true) in
-      let is_few : ℕ → Type 0 = λ n. n ≤ 7 in
+      let is_few : ℕ → Type 0 = λ n. n ≤ 5 in
       let in_range : Run → Type 0 = λ r. r.start + r.len ≤ 2 ^ 20 in
       let are_unassigned : Run → Type 0 = λ r. (page : ℕ) → inside page r ≡ true → m.unassigned page ≡ true in
       let outcome : State → Stepped = λ s. Accepted s plan.reply in
@@ -66,7 +66,7 @@ module _ (settings : Settings) (names_full : Bool) (m : StorageState) (x : Servi
   pub carries_out : (plan : Plan) (records : List Record) (blanks : ℕ) (fresh : Run) (t : State) →
       plan.emptied ≡ None → plan.records.items ≡ records → plan.blanks ≡ blanks → plan.fresh ≡ fresh →
       step settings names_full (model_of m) x ≡ Accepted t plan.reply → Leads settings m (change_of records blanks fresh) t →
-      blanks ≤ 7 → fresh.start + fresh.len ≤ 2 ^ 20 → ((page : ℕ) → inside page fresh ≡ true → m.unassigned page ≡ true) → CarriesOut settings names_full m x plan
+      blanks ≤ 5 → fresh.start + fresh.len ≤ 2 ^ 20 → ((page : ℕ) → inside page fresh ≡ true → m.unassigned page ≡ true) → CarriesOut settings names_full m x plan
   carries_out plan records blanks fresh t is_emptied is_records is_blanks is_fresh accepted leads few range unassigned =
       carries_out_from plan None records blanks fresh t is_emptied is_records is_blanks is_fresh accepted leads tt few range unassigned
 

@@ -154,7 +154,7 @@ module _ (settings : Settings) (m : StorageState) (r : Release) where
         let pages : Run = emptied_pages m.subpools p d count in
         let idle = emptied_pages_are_a_run settings m p d count sound some high taken in
         let outcome : Reply → Stepped = λ reply. Accepted after reply in
-        carries_out settings names_full m (release r) plan (give_back_records p d count pages.start pages.len ++ register_records m ((15, 0) ∷ [])) 7 (run_of 0 0) after
+        carries_out settings names_full m (release r) plan (give_back_records p d count pages.start pages.len ++ register_records m ((15, 0) ∷ [])) 5 (run_of 0 0) after
         given.emptied given.records given.blanks given.fresh (accepted ∙ ap outcome (sym given.reply))
         (giving_back_leads settings m p d count pages.start pages.len ((15, 0) ∷ []) sound (register_and 15 0 [] (omega arith) no_registers) some high idle.1 taken idle.0
         (release_leaves_well_formed settings names_full s after r (Returned 0) sound.well_formed accepted))

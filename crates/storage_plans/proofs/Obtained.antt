@@ -82,7 +82,7 @@ are_registers lengths named address length h =
       of_length (Fixed n) = is_named named h
       of_length (Variable most least) = register_and 0 length (named_register named address) (omega arith) (is_named named h)
 
-few_blanks : (x : AreaPlace) → place_blanks x ≤ 7
+few_blanks : (x : AreaPlace) → place_blanks x ≤ 5
 few_blanks (areas.Inside d) = omega arith
 few_blanks (areas.Fresh page) = omega arith
 

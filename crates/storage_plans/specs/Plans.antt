@@ -36,7 +36,7 @@ pub record CarriesOut (settings : Settings) (names_full : Bool) (m : StorageStat
   pub fits : Fit m (change_in m plan)
   pub sound : IsSound settings (overlay m (change_in m plan))
   pub there : IfSome plan.emptied (λ p. is_there m.subpools p ≡ true)
-  pub few : plan.blanks ≤ 7
+  pub few : plan.blanks ≤ 5
   pub range : plan.fresh.start + plan.fresh.len ≤ 2 ^ 20
   pub unassigned : (page : ℕ) → inside page plan.fresh ≡ true → m.unassigned page ≡ true
 

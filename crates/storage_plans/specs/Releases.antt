@@ -33,6 +33,6 @@ given_back_records m p d count =
 pub record IsGivenBack (m : StorageState) (found : GivenBack) (plan : Plan) : Type 0 where
   pub emptied : plan.emptied ≡ None
   pub records : plan.records.items ≡ given_back_records m found.subpool found.area.start found.area.len
-  pub blanks : plan.blanks ≡ 7
+  pub blanks : plan.blanks ≡ 5
   pub fresh : plan.fresh ≡ run_of 0 0
   pub reply : plan.reply ≡ Returned 0

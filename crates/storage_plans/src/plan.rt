@@ -29,7 +29,7 @@ pub struct Plan {
     pub emptied: Option<Subpool>,
     /// The records of its change, in the order in which they are exchanged.
     pub records: ArrayVec<Record, PLAN_RECORDS>,
-    /// How many blank elements the change needs: at most 7, or 4,121 for a further extent of a cell pool.
+    /// How many blank elements the change needs: at most 5, or 4,121 for a further extent of a cell pool.
     pub blanks: u32,
     /// The pages of 4,096 bytes that come to be assigned; an empty run where there is none.
     pub fresh: Run,

@@ -39,7 +39,7 @@ pub(crate) struct GivenBack {
 }
 
 /// The blank elements that a release needs at most.
-const RELEASE_BLANKS: u32 = 7;
+const RELEASE_BLANKS: u32 = 5;
 
 // The pages that an area in doublewords touches.
 fn pages_of(area: Run) -> Run

@@ -7,6 +7,7 @@ use Rattle.storage_core.specs.Meaning.{state_in_place}
 use Rattle.storage_core.specs.Planned.{elements_below, pages_assigned, IsSpare}
 use Rattle.storage_core.proofs.Made.{IsMadeOf, made_of}
 use Rattle.storage_core.proofs.TaskCounts.{attach_few, end_few}
+use Rattle.storage_core.proofs.CellPoolCounts.{delete_few}
 use Rattle.storage_core.proofs.storage.Storage.reserve.Goals as goal
 
 pub returns-in_ok-listed-in-Attach-clause-few : goal.returns-in_ok-listed-in-Attach-clause-few
@@ -51,3 +52,14 @@ returns-in_ok-listed-in-End-clause-needless c =
     let s = c.args.self.now in
     let P : Plan → Type 0 = λ plan. IsSpare s.parts (state_in_place s) plan → IsOk c.reserve_listed-in-End.result in
     subst P (sym c.in-End.is) (λ none. absurd none)
+
+pub returns-in_ok-listed-in-Delete-clause-few : goal.returns-in_ok-listed-in-Delete-clause-few
+returns-in_ok-listed-in-Delete-clause-few c =
+    let s = c.args.self.now in
+    let m = state_in_place s in
+    let r = c.reserve_listed-in-Delete.result in
+    let t = c.reserve_listed-in-Delete.new.self.parts in
+    let P : Plan → Type 0 = λ plan. IfOk r (λ change. change.records.count + change.blanks.count < elements_below m plan) in
+    let Q : Meaning → Type 0 = λ d. IfOk r (λ change. Reserves s.parts d change t) in
+    subst P (sym c.in-Delete.is)
+    (delete_few s.parts t m c.in-Delete.plan r (subst Q c.in_ok-listed-in-Delete.ensures.change c.reserve_listed-in-Delete.ensures.ok))
