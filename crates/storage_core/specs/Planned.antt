@@ -22,7 +22,8 @@ use Rattle.storage_changes.specs.Meaning.{model_of}
 use Rattle.storage_plans.specs.declared.plan.Plan.{Plan as StoragePlan}
 use Rattle.storage_plans.specs.Plans.{change_in}
 use Rattle.task_actions.specs.Ending.{ended_below, end_records, end_blanks}
-use Rattle.task_plans.specs.TaskPlans.{numbers, attach_change, end_change, CanBeAttached, CanBeEnded}
+use Rattle.task_plans.specs.TaskPlans.{numbers, attach_change, end_change, parks_all}
+use Rattle.task_plans.specs.TaskPlans.{CanBeAttached, CanBeEnded}
 pub use Rattle.task_plans.specs.TaskPlans.{IsAccepted}
 use Rattle.cell_pool.specs.Pools.{mark_items}
 use Rattle.cell_plans.specs.CellPlans.{build_change, delete_change, extents_of_pool, CanBeBuilt, CanBeDeleted}
@@ -132,12 +133,16 @@ elements_below m (End plan) =
 elements_below m (Build plan) = 32
 elements_below m (Delete plan) = 32 + 8 * (1 + extents_of_pool (m.subpools.cells plan.pool))
 
--- Nothing has to grow for the plan's change: a cell pool that comes takes 30 elements besides those of its cells and of
--- their marks. Where tasks come or end or a cell pool goes that isn't said: the list of the records is made first.
+-- Nothing has to grow for the plan's change: a new task takes an element for each of its records and blank ones, and so
+-- do tasks that end, with one for each subpool that is parked; and a cell pool that comes takes 30 elements besides those
+-- of its cells and of their marks. Where a cell pool goes that isn't said: the list of the records is made first.
 abbrev pub IsSpare : Parts → StorageState → Plan → Type 0
 IsSpare p m (Storage plan) = IsSpareFor p (storage_elements m plan) plan.fresh
-IsSpare p m (Attach plan) = ⊥
-IsSpare p m (End plan) = ⊥
+IsSpare p m (Attach plan) =
+    length (attach_change m plan).records + (attach_change m plan).blanks ≤ p.elements.spare
+IsSpare p m (End plan) =
+    length (parks_all m plan.top) + (length (end_change m plan).records + (end_change m plan).blanks)
+    ≤ p.elements.spare
 IsSpare p m (Build plan) =
     IsSpareFor p (30 + (plan.settings.primary + mark_items plan.settings.primary)) plan.fresh
 IsSpare p m (Delete plan) = ⊥

@@ -10,12 +10,15 @@ ghost use Rattle.storage_core.specs.Meaning.{state_in_place, settings_of};
 ghost use Rattle.storage_core.specs.Planned.{change_for, elements_below, pages_assigned, storage_elements};
 ghost use Rattle.storage_core.specs.Planned.{CanBeReserved, HasRecords, IsIdFor, IsSpare, IsSpareFor};
 ghost use Rattle.storage_core.specs.Stays.{Stays};
+ghost use Rattle.storage_core.specs.declared.plans.Plan.TheVariants.{Attach, End};
+ghost use Rattle.task_plans.specs.TaskPlans.{attach_change, end_change, parks_all, CanBeAttached, CanBeEnded};
 
 use crate::plans::Plan;
 use crate::storage::Storage;
 use std::alloc::AllocError;
 use storage_plans::{Listed, Plan as StoragePlan};
 use storage_swap::Change;
+use task_plans::{AttachPlan, EndPlan};
 
 impl Storage {
     /// The change that carries out the plan, with all the memory that it needs: elements, and a frame and a place in a
@@ -29,9 +32,8 @@ impl Storage {
     /// which were the storage's, and those of a cell pool that comes. It has just as many frames as pages come to be
     /// assigned.
     ///
-    /// `AllocError` where memory is refused. Of requests for storage or for a cell, and of a cell pool that comes, that
-    /// can be only where fewer elements or frames are spare, or a table isn't there. What was made before that stays,
-    /// as spare elements and frames.
+    /// `AllocError` where memory is refused. But for a cell pool that goes, that can be only where fewer elements or
+    /// frames are spare, or a table isn't there. What was made before that stays, as spare elements and frames.
     pub fn reserve(&mut self, plan: Plan) -> Result<Change, AllocError>
         requires { CanBeReserved (state_in_place self.old) plan }
         ensures ok { IfOk result (λ change. (id : ℕ) × IsIdFor (state_in_place self.old) plan id
@@ -45,14 +47,8 @@ impl Storage {
     {
         match plan {
             Plan::Storage(plan) => self.reserve_storage(plan),
-            Plan::Attach(plan) => {
-                let listed = plan.listed(self.alloc, &self.parts)?;
-                self.reserve_listed(listed)
-            }
-            Plan::End(plan) => {
-                let listed = plan.listed(self.alloc, &self.parts)?;
-                self.reserve_listed(listed)
-            }
+            Plan::Attach(plan) => self.reserve_attach(plan),
+            Plan::End(plan) => self.reserve_end(plan),
             Plan::Build(plan) => self.reserve_building(plan),
             Plan::Delete(plan) => {
                 let listed = plan.listed(self.alloc, &self.parts)?;
@@ -81,6 +77,39 @@ impl Storage {
             plan.blanks,
             plan.fresh,
         )
+    }
+
+    // The change of a new task.
+    fn reserve_attach(&mut self, plan: AttachPlan) -> Result<Change, AllocError>
+        requires { CanBeAttached (state_in_place self.old) plan }
+        ensures ok { IfOk result (λ change. Reserves self.old.parts
+            (attach_change (state_in_place self.old) plan) change self.new.parts) }
+        ensures frames { IfOk result (λ change. length change.frames ≡ 0) }
+        ensures few { IfOk result (λ change. change.records.count + change.blanks.count
+            < elements_below (state_in_place self.old) (Attach plan)) }
+        ensures err { OnErr result (Stays self.old.parts self.new.parts) }
+        ensures needless { let d = attach_change (state_in_place self.old) plan in
+            length d.records + d.blanks ≤ self.old.parts.elements.spare → IsOk result }
+        ensures settings { settings_of self.new ≡ settings_of self.old }
+    {
+        plan.reserve(&mut self.parts)
+    }
+
+    // The change of tasks that end.
+    fn reserve_end(&mut self, plan: EndPlan) -> Result<Change, AllocError>
+        requires { CanBeEnded (state_in_place self.old) plan }
+        ensures ok { IfOk result (λ change. Reserves self.old.parts
+            (end_change (state_in_place self.old) plan) change self.new.parts) }
+        ensures frames { IfOk result (λ change. length change.frames ≡ 0) }
+        ensures few { IfOk result (λ change. change.records.count + change.blanks.count
+            < elements_below (state_in_place self.old) (End plan)) }
+        ensures err { OnErr result (Stays self.old.parts self.new.parts) }
+        ensures needless { let d = end_change (state_in_place self.old) plan in
+            length (parks_all (state_in_place self.old) plan.top) + (length d.records + d.blanks)
+            ≤ self.old.parts.elements.spare → IsOk result }
+        ensures settings { settings_of self.new ≡ settings_of self.old }
+    {
+        plan.reserve(&mut self.parts)
     }
 
     // The change of listed records.

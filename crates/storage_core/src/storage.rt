@@ -19,7 +19,7 @@ use vsm_model::Settings;
 pub struct Storage {
     pub(crate) parts: Parts,
     pub(crate) settings: Settings,
-    // Where the lists come from of which a change of tasks is made.
+    // Where the list comes from of which the change of a cell pool that goes is made.
     pub(crate) alloc: Global,
     ghost held: { IsHeld settings parts } by { IsHeld-prop settings parts },
 }

@@ -6,4 +6,6 @@ mod Rests
 mod Climbs
 mod Zeroed
 mod OwnedNames
+mod Walks
+mod Parks
 mod EndPlans

@@ -1,6 +1,12 @@
 -- What the plans of tasks come to on the plain machine. Assembler Services Reference, ATTACH and DETACH; Assembler
 -- Services Guide, "Virtual storage management", "Subpool handling".
-use Rattle.std.specs.Prelude.{◌≡◌, ℕ, Bool, unwrap_or, IsSome, List, [], ◌∷◌, ◌++◌, Result, Ok, Err}
+use Rattle.std.specs.Prelude.{◌≡◌, ℕ, ◌≤◌, Bool, true, ◌||◌, unwrap_or, None, IsSome, List, [], ◌∷◌, ◌++◌, filter}
+use Rattle.std.specs.Prelude.{Result, Ok, Err}
+use Rattle.std.specs.List.{flat_map}
+use Rattle.vsm_model.specs.declared.Subpool.{Subpool}
+use Rattle.vsm_model.specs.Search.{is_in}
+use Rattle.subpool_storage.specs.Subpools.{Subpools, with_own}
+use Rattle.storage_changes.specs.declared.record.Record.{Record}
 use Rattle.vsm_model.specs.declared.causes.Cause.{Cause}
 use Rattle.vsm_model.specs.declared.limits.Settings.{Settings}
 use Rattle.vsm_model.specs.declared.replies.Reply.{Reply}
@@ -16,6 +22,7 @@ use Rattle.storage_changes.specs.Meaning.{model_of}
 use Rattle.storage_actions.specs.Actions.{register_records}
 use Rattle.task_actions.specs.Attaching.{attach_records, attach_blanks, CanAttach}
 use Rattle.task_actions.specs.Ending.{ended_below, owned_by_these, end_records, end_blanks, with_turn, CanEnd}
+use Rattle.task_actions.specs.Ending.{ended_records, removed_records, unshared_records}
 pub use Rattle.storage_plans.specs.Plans.{IsAccepted}
 use Rattle.task_plans.specs.declared.attach.AttachPlan.{AttachPlan}
 use Rattle.task_plans.specs.declared.end.EndPlan.{EndPlan}
@@ -45,6 +52,39 @@ end_change m plan =
     change_parking (owned_by_these m.subpools ended)
     (end_records m ended plan.next ++ register_records (with_turn m plan.next) (end_registers plan.reply))
     (end_blanks m ended)
+
+-- of these subpools, those that tasks of the subtree own
+abbrev pub owned_among : StorageState → ℕ → List Subpool → List Subpool
+owned_among m top ps = filter (λ p. is_in (ended_below m.tasks.parents top) p.owner) ps
+
+-- the subpools under whose names the end of a subtree parks empty ones
+abbrev pub parks_all : StorageState → ℕ → List Subpool
+parks_all m top = owned_by_these m.subpools (ended_below m.tasks.parents top)
+
+-- of these tasks, those that see the subpool no more: they end, or its owner does
+abbrev pub unseeing_among : StorageState → ℕ → Subpool → List ℕ → List ℕ
+unseeing_among m top p tasks =
+    let ended = ended_below m.tasks.parents top in
+    filter (λ task. is_in ended task || is_in ended p.owner) tasks
+
+-- the records of a subtree's end that stand behind the turn
+abbrev pub rest_records : StorageState → EndPlan → List Record
+rest_records m plan =
+    let ended = ended_below m.tasks.parents plan.top in
+    unshared_records m.subpools ended ++ removed_records m.subpools ended ++ flat_map (ended_records m) ended
+    ++ register_records (with_turn m plan.next) (end_registers plan.reply)
+
+-- empty subpools are parked under these names too
+abbrev pub parked_onto : Subpools → List Subpool → Subpools
+parked_onto m [] = m
+parked_onto m (p ∷ ps) = parked_onto (with_own m p true) ps
+
+-- each can be, one behind the other
+abbrev pub CanPark : Subpools → List Subpool → Type 0
+CanPark m [] = Unit {0}
+CanPark m (p ∷ ps) =
+    (1 ≤ p.owner) × (p.owner ≤ 64) × (p.number ≤ 127) × (m.sight p.owner p.number ≡ None)
+    × CanPark (with_own m p true) ps
 
 -- The bytes of both operands are there, and the task can come with what they name.
 pub record CanBeAttached (m : StorageState) (plan : AttachPlan) : Type 0 where

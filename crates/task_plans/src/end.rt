@@ -1,29 +1,33 @@
 //! Plans of tasks that end.
 
-ghost use Rattle.std.specs.Prelude.{◌≡◌, ◌+◌, ◌^◌, ◌≤◌, ◌++◌, Bool, true, length, map, IfOk, OnOk};
+ghost use Rattle.std.specs.Prelude.{◌≡◌, ℕ, ◌+◌, ◌≤◌, ◌++◌, [], ◌∷◌, Bool, true, length, map, IsOk, OnOk, IfOk};
+ghost use Rattle.std.specs.Prelude.{IfErr};
 ghost use Rattle.std.specs.List.{flat_map};
 ghost use Rattle.vsm_model.specs.declared.limits.Settings.{Settings};
 ghost use Rattle.vsm_model.specs.Regions.{settings_valid};
 ghost use Rattle.vsm_model.specs.Services.{detach, end_task};
-ghost use Rattle.storage_changes.specs.Changes.{change_parking};
-ghost use Rattle.storage_exchange.specs.Storage.{state_of, Stand};
-ghost use Rattle.storage_plans.specs.Places.{StandsSound};
-ghost use Rattle.storage_changes.specs.Names.{AreNames};
 ghost use Rattle.subpool_set.specs.SubpoolSet.{number_at};
 ghost use Rattle.subpool_storage.specs.Extents.{extents};
+ghost use Rattle.subpool_storage.specs.Subpools.{no_subpools};
 ghost use Rattle.subpool_storage.specs.SubpoolStorage.{IsSubpoolPlace};
-ghost use Rattle.storage_changes.specs.Changes.{unassigned_records};
+ghost use Rattle.storage_changes.specs.Changes.{unassigned_records, empties};
+ghost use Rattle.storage_changes.specs.Names.{AreNames};
+ghost use Rattle.storage_exchange.specs.Storage.{hold, state_of, Stand, IsFrameless};
+ghost use Rattle.storage_plans.specs.Places.{StandsSound};
+ghost use Rattle.storage_swap.specs.Builder.{parked_in, records_in, IsBuilding, Builds, Pushes};
+ghost use Rattle.storage_swap.specs.Reserve.{Grown, Reserves};
 ghost use Rattle.task_actions.specs.Ending.{ended_below, owned_by_these, emptying_records, removed};
-ghost use Rattle.task_actions.specs.Ending.{unseeing, unshared, unshared_records};
-ghost use Rattle.task_plans.specs.TaskPlans.{end_change, CanBeEnded, IsEndPlanned};
+ghost use Rattle.task_actions.specs.Ending.{released_records, removed_records, unseeing, unshared, unshared_records};
+ghost use Rattle.task_plans.specs.TaskPlans.{end_change, owned_among, parked_onto, parks_all};
+ghost use Rattle.task_plans.specs.TaskPlans.{rest_records, unseeing_among, CanBeEnded, CanPark, IsEndPlanned};
 
 use crate::ended::{is_ended, push_ended};
+use crate::registers::push_register;
 use descriptor_queue::Extents;
-use std::alloc::{AllocError, Global};
+use std::alloc::AllocError;
 use storage_changes::{OwnRecord, PagesRecord, QueuesRecord, Record, SharerRecord, TurnRecord};
 use storage_exchange::Storage;
-use storage_plans::Listed;
-use storage_plans::listed::push_register;
+use storage_swap::{Change, ChangeBuilder};
 use subpool_set::PoolPlace;
 use subpool_storage::SubpoolStorage;
 use subpool_storage::laws::{cell_pools_are_named, subpools_are_there};
@@ -41,9 +45,6 @@ pub struct EndPlan {
     pub next: u8,
     pub reply: Reply,
 }
-
-/// The most elements of a change of tasks: a longer one is refused as if there were no memory for it.
-const ELEMENTS_MOST: usize = 1 << 23;
 
 /// A plan for the end of a subtask of the current task, with all tasks below it (*Assembler Services Reference*,
 /// DETACH). The subpools that they own are released and are gone; those that they share stay. Register 15 gets 0. Reads
@@ -114,107 +115,218 @@ pub fn plan_end_task(storage: &Storage) -> Result<EndPlan, Cause>
 }
 
 impl EndPlan {
-    /// What the change is made of: for each subpool of the subtree's tasks two records, one more for each of its
-    /// extents and of its sharers; one for each subpool that they share; and seventeen for each task. `AllocError`
-    /// where there is no memory for the list, or it would be longer than eight million.
-    pub fn listed(self, alloc: Global, storage: &Storage) -> Result<Listed, AllocError>
-        requires stands { Stand storage.now }
-        requires can { CanBeEnded (state_of storage.now) self }
-        ensures change { IfOk result (λ l. change_parking l.names.items l.records.items l.blanks
-            ≡ end_change (state_of storage.now) self) }
-        ensures names { IfOk result (λ l. AreNames l.names.items) }
-        ensures size { IfOk result (λ l. length l.names.items + (length l.records.items + l.blanks) ≤ 2 ^ 24) }
+    /// The change: for each subpool of the subtree's tasks two records, one more for each of its extents and of its
+    /// sharers, and an empty one that is parked under its name; one record for each subpool that they share; and
+    /// seventeen for each task. The state of the storage stays as it is.
+    ///
+    /// `AllocError` where memory is refused: what was made before that stays, as spare elements. Where so many elements
+    /// are spare as it parks subpools and has records and blank elements, it takes no memory.
+    pub fn reserve(self, storage: &mut Storage) -> Result<Change, AllocError>
+        requires stands { Stand storage.old }
+        requires once { (i : ℕ) → hold storage.old i ≤ 1 }
+        requires frameless { IsFrameless storage.old }
+        requires can { CanBeEnded (state_of storage.old) self }
+        ensures ok { IfOk result (λ change.
+            Reserves storage.old (end_change (state_of storage.old) self) change storage.new) }
+        ensures frames { IfOk result (λ change. length change.frames ≡ 0) }
+        ensures grown { IfErr result (λ _. Grown storage.old storage.new) }
+        ensures needless { let d = end_change (state_of storage.old) self in
+            length (parks_all (state_of storage.old) self.top) + (length d.records + d.blanks)
+            ≤ storage.old.elements.spare → IsOk result }
     {
-        subpools_are_there();
-        let names = owned_names(alloc, storage, self.top)?;
-        let mut records = Vec::new(alloc);
-        push_released(storage, &mut records, &names)?;
-        let released = records.len();
-        records.push(Record::Turn(TurnRecord { task: self.next }))?;
-        push_unshared(storage, &mut records, self.top)?;
-        push_removed(&mut records, &names)?;
-        push_ended(storage, &mut records, self.top)?;
-        if let Reply::Returned(code) = self.reply {
-            push_register(&mut records, self.next, 15, code)?;
+        let mut builder = ChangeBuilder::new();
+        match self.push_records(storage, &mut builder) {
+            Ok(blanks) => builder.finish(storage, blanks),
+            Err(refused) => {
+                builder.discard(storage);
+                Err(refused)
+            }
         }
-        if names.len() + records.len() >= ELEMENTS_MOST {
-            return Err(AllocError);
+    }
+
+    // The records of the change, in their order, and the subpools that it parks. Answers how many blank elements it
+    // has.
+    fn push_records(
+        self,
+        storage: &mut Storage,
+        builder: &mut ChangeBuilder,
+    ) -> Result<u32, AllocError>
+        requires building { IsBuilding storage.old builder.old }
+        requires empty { records_in storage.old builder.old ≡ [] }
+        requires none { parked_in storage.old builder.old ≡ no_subpools }
+        requires can { CanBeEnded (state_of storage.old) self }
+        ensures builds { Builds storage.old builder.old storage.new builder.new }
+        ensures records { OnOk result (records_in storage.new builder.new
+            ≡ (end_change (state_of storage.old) self).records) }
+        ensures parked { OnOk result (parked_in storage.new builder.new
+            ≡ empties (parks_all (state_of storage.old) self.top)) }
+        ensures blanks { IfOk result (λ n. n ≡ (end_change (state_of storage.old) self).blanks) }
+        ensures spare { OnOk result (storage.old.elements.spare
+            ≤ storage.new.elements.spare + (length (parks_all (state_of storage.old) self.top)
+            + length (end_change (state_of storage.old) self).records)) }
+        ensures needless { length (parks_all (state_of storage.old) self.top)
+            + length (end_change (state_of storage.old) self).records ≤ storage.old.elements.spare → IsOk result }
+    {
+        park_owned(storage, builder, self.top)?;
+        push_released(storage, builder, self.top)?;
+        builder.push(storage, Record::Turn(TurnRecord { task: self.next }))?;
+        let blanks = builder.count();
+        self.push_rest(storage, builder)?;
+        Ok(blanks)
+    }
+
+    // The records behind the turn.
+    fn push_rest(self, storage: &mut Storage, builder: &mut ChangeBuilder) -> Result<(), AllocError>
+        requires { IsBuilding storage.old builder.old }
+        ensures builds { Builds storage.old builder.old storage.new builder.new }
+        ensures ok { OnOk result (Pushes storage.old builder.old
+            (rest_records (state_of storage.old) self) storage.new builder.new) }
+        ensures needless { length (rest_records (state_of storage.old) self) ≤ storage.old.elements.spare
+            → IsOk result }
+    {
+        push_unshared(storage, builder, self.top)?;
+        push_removed(storage, builder, self.top)?;
+        push_ended(storage, builder, self.top)?;
+        match self.reply {
+            Reply::Returned(code) => push_register(storage, builder, self.next, 15, code),
+            _ => Ok(()),
         }
-        Ok(Listed {
-            names,
-            records,
-            blanks: 1 + released as u32,
-        })
     }
 }
 
-// The subpools that tasks of the subtree own.
-fn owned_names(alloc: Global, storage: &Storage, top: u8) -> Result<Vec<Subpool>, AllocError>
-    requires stands { Stand storage.now }
-    ensures ok { IfOk result (λ names. names.items ≡ owned_by_these (state_of storage.now).subpools
-        (ended_below (state_of storage.now).tasks.parents top)) }
+// An empty subpool is parked under the name of each that a task of the subtree owns.
+fn park_owned(storage: &mut Storage, builder: &mut ChangeBuilder, top: u8) -> Result<(), AllocError>
+    requires building { IsBuilding storage.old builder.old }
+    requires none { parked_in storage.old builder.old ≡ no_subpools }
+    ensures builds { Builds storage.old builder.old storage.new builder.new }
+    ensures records { OnOk result (records_in storage.new builder.new ≡ records_in storage.old builder.old) }
+    ensures parked { OnOk result (parked_in storage.new builder.new
+        ≡ empties (parks_all (state_of storage.old) top)) }
+    ensures spare { OnOk result (storage.old.elements.spare
+        ≤ storage.new.elements.spare + length (parks_all (state_of storage.old) top)) }
+    ensures needless { length (parks_all (state_of storage.old) top) ≤ storage.old.elements.spare → IsOk result }
 {
-    let mut names = Vec::new(alloc);
+    subpools_are_there();
     let mut place = SubpoolStorage::first_subpool_place();
     while let Some((subpool, next)) = storage.subpools.next_subpool(&storage.elements, place) {
-        if is_ended(storage, top, subpool.owner) {
-            names.push(subpool)?;
-        }
+        park_one(storage, builder, top, subpool)?;
         place = next;
     }
-    Ok(names)
+    Ok(())
 }
 
-// The storage of each subpool goes over into the change, and its pages become unassigned.
-fn push_released(
-    storage: &Storage,
-    records: &mut Vec<Record>,
-    names: &Vec<Subpool>,
+// One is parked under this name, where a task of the subtree is the owner.
+fn park_one(
+    storage: &mut Storage,
+    builder: &mut ChangeBuilder,
+    top: u8,
+    subpool: Subpool,
 ) -> Result<(), AllocError>
-    requires stands { Stand storage.now }
-    ensures ok { OnOk result (records.new.items ≡ records.old.items
-        ++ flat_map (emptying_records (state_of storage.now).subpools) names.now.items) }
+    requires building { IsBuilding storage.old builder.old }
+    requires can { CanPark (parked_in storage.old builder.old) (owned_among (state_of storage.old) top (subpool ∷ [])) }
+    ensures builds { Builds storage.old builder.old storage.new builder.new }
+    ensures records { OnOk result (records_in storage.new builder.new ≡ records_in storage.old builder.old) }
+    ensures parked { OnOk result (parked_in storage.new builder.new
+        ≡ parked_onto (parked_in storage.old builder.old) (owned_among (state_of storage.old) top (subpool ∷ []))) }
+    ensures spare { OnOk result (storage.old.elements.spare
+        ≤ storage.new.elements.spare + length (owned_among (state_of storage.old) top (subpool ∷ []))) }
+    ensures needless { length (owned_among (state_of storage.old) top (subpool ∷ []))
+        ≤ storage.old.elements.spare → IsOk result }
 {
-    for k in 0..names.len() {
-        let subpool = names[k];
-        records.push(Record::Queues(QueuesRecord { subpool }))?;
-        push_extents(storage, records, subpool)?;
+    if is_ended(storage, top, subpool.owner) {
+        return builder.park(storage, subpool);
+    }
+    Ok(())
+}
+
+// The storage of each subpool that a task of the subtree owns goes over into the change, and its pages become
+// unassigned.
+fn push_released(
+    storage: &mut Storage,
+    builder: &mut ChangeBuilder,
+    top: u8,
+) -> Result<(), AllocError>
+    requires { IsBuilding storage.old builder.old }
+    ensures builds { Builds storage.old builder.old storage.new builder.new }
+    ensures ok { OnOk result (Pushes storage.old builder.old
+        (released_records (state_of storage.old).subpools (ended_below (state_of storage.old).tasks.parents top))
+        storage.new builder.new) }
+    ensures needless { length (released_records (state_of storage.old).subpools
+        (ended_below (state_of storage.old).tasks.parents top)) ≤ storage.old.elements.spare → IsOk result }
+{
+    let mut place = SubpoolStorage::first_subpool_place();
+    while let Some((subpool, next)) = storage.subpools.next_subpool(&storage.elements, place) {
+        push_emptied(storage, builder, top, subpool)?;
+        place = next;
+    }
+    Ok(())
+}
+
+// So does that of one subpool, where a task of the subtree is the owner.
+fn push_emptied(
+    storage: &mut Storage,
+    builder: &mut ChangeBuilder,
+    top: u8,
+    subpool: Subpool,
+) -> Result<(), AllocError>
+    requires { IsBuilding storage.old builder.old }
+    ensures builds { Builds storage.old builder.old storage.new builder.new }
+    ensures ok { OnOk result (Pushes storage.old builder.old
+        (flat_map (emptying_records (state_of storage.old).subpools)
+        (owned_among (state_of storage.old) top (subpool ∷ []))) storage.new builder.new) }
+    ensures needless { length (flat_map (emptying_records (state_of storage.old).subpools)
+        (owned_among (state_of storage.old) top (subpool ∷ []))) ≤ storage.old.elements.spare → IsOk result }
+{
+    if is_ended(storage, top, subpool.owner) {
+        builder.push(storage, Record::Queues(QueuesRecord { subpool }))?;
+        return push_extents(storage, builder, subpool);
     }
     Ok(())
 }
 
 // The pages of each extent of the subpool become unassigned.
 fn push_extents(
-    storage: &Storage,
-    records: &mut Vec<Record>,
+    storage: &mut Storage,
+    builder: &mut ChangeBuilder,
     subpool: Subpool,
 ) -> Result<(), AllocError>
-    requires stands { Stand storage.now }
-    ensures ok { OnOk result (records.new.items ≡ records.old.items
-        ++ unassigned_records (extents (state_of storage.now).subpools subpool)) }
+    requires { IsBuilding storage.old builder.old }
+    ensures builds { Builds storage.old builder.old storage.new builder.new }
+    ensures ok { OnOk result (Pushes storage.old builder.old
+        (unassigned_records (extents (state_of storage.old).subpools subpool)) storage.new builder.new) }
+    ensures needless { length (unassigned_records (extents (state_of storage.old).subpools subpool))
+        ≤ storage.old.elements.spare → IsOk result }
 {
     let extents = storage.subpools.extents(&storage.elements, subpool);
     let mut place = Extents::first_place();
     while let Some((run, next)) = extents.next_run(&storage.elements, place) {
-        records.push(Record::Pages(PagesRecord {
+        let leave = Record::Pages(PagesRecord {
             run,
             assigned: false,
-        }))?;
+        });
+        builder.push(storage, leave)?;
         place = next;
     }
     Ok(())
 }
 
 // Tasks of the subtree see no subpool of others any more, nor others theirs.
-fn push_unshared(storage: &Storage, records: &mut Vec<Record>, top: u8) -> Result<(), AllocError>
-    requires stands { Stand storage.now }
-    ensures ok { OnOk result (records.new.items ≡ records.old.items
-        ++ unshared_records (state_of storage.now).subpools
-        (ended_below (state_of storage.now).tasks.parents top)) }
+fn push_unshared(
+    storage: &mut Storage,
+    builder: &mut ChangeBuilder,
+    top: u8,
+) -> Result<(), AllocError>
+    requires { IsBuilding storage.old builder.old }
+    ensures builds { Builds storage.old builder.old storage.new builder.new }
+    ensures ok { OnOk result (Pushes storage.old builder.old
+        (unshared_records (state_of storage.old).subpools (ended_below (state_of storage.old).tasks.parents top))
+        storage.new builder.new) }
+    ensures needless { length (unshared_records (state_of storage.old).subpools
+        (ended_below (state_of storage.old).tasks.parents top)) ≤ storage.old.elements.spare → IsOk result }
 {
     let mut place = SubpoolStorage::first_subpool_place();
     while let Some((subpool, next)) = storage.subpools.next_subpool(&storage.elements, place) {
-        push_unseeing(storage, records, subpool, next, top)?;
+        push_unseeing(storage, builder, subpool, next, top)?;
         place = next;
     }
     Ok(())
@@ -222,47 +334,102 @@ fn push_unshared(storage: &Storage, records: &mut Vec<Record>, top: u8) -> Resul
 
 // Those who share the subpool and end, or all where its owner does, see it no more. The place is right behind it.
 fn push_unseeing(
-    storage: &Storage,
-    records: &mut Vec<Record>,
+    storage: &mut Storage,
+    builder: &mut ChangeBuilder,
     subpool: Subpool,
     behind: PoolPlace,
     top: u8,
 ) -> Result<(), AllocError>
-    requires stands { Stand storage.now }
-    requires place { IsSubpoolPlace storage.now.elements storage.now.subpools behind }
+    requires building { IsBuilding storage.old builder.old }
+    requires place { IsSubpoolPlace storage.old.elements storage.old.subpools behind }
     requires number { number_at behind ≡ subpool.number }
-    ensures ok { OnOk result (records.new.items ≡ records.old.items
-        ++ map (unshared subpool)
-        (unseeing (state_of storage.now).subpools (ended_below (state_of storage.now).tasks.parents top) subpool)) }
+    ensures builds { Builds storage.old builder.old storage.new builder.new }
+    ensures ok { OnOk result (Pushes storage.old builder.old
+        (map (unshared subpool) (unseeing (state_of storage.old).subpools
+        (ended_below (state_of storage.old).tasks.parents top) subpool)) storage.new builder.new) }
+    ensures needless { length (map (unshared subpool) (unseeing (state_of storage.old).subpools
+        (ended_below (state_of storage.old).tasks.parents top) subpool)) ≤ storage.old.elements.spare → IsOk result }
 {
-    let owner_ends = is_ended(storage, top, subpool.owner);
     let mut place = SubpoolStorage::first_sharer_place(behind);
     while let Some((task, next)) = storage
         .subpools
         .next_sharer(&storage.elements, subpool, place)
     {
-        if owner_ends || is_ended(storage, top, task) {
-            records.push(Record::Sharer(SharerRecord {
-                subpool,
-                task,
-                present: false,
-            }))?;
-        }
+        push_unseen(storage, builder, subpool, top, task)?;
         place = next;
     }
     Ok(())
 }
 
-// The subpools are gone.
-fn push_removed(records: &mut Vec<Record>, names: &Vec<Subpool>) -> Result<(), AllocError>
-    ensures ok { OnOk result (records.new.items ≡ records.old.items
-        ++ map removed names.now.items) }
+// One who shares the subpool sees it no more, where it ends or its owner does.
+fn push_unseen(
+    storage: &mut Storage,
+    builder: &mut ChangeBuilder,
+    subpool: Subpool,
+    top: u8,
+    task: u8,
+) -> Result<(), AllocError>
+    requires { IsBuilding storage.old builder.old }
+    ensures builds { Builds storage.old builder.old storage.new builder.new }
+    ensures ok { OnOk result (Pushes storage.old builder.old
+        (map (unshared subpool) (unseeing_among (state_of storage.old) top subpool (task ∷ [])))
+        storage.new builder.new) }
+    ensures needless { length (map (unshared subpool) (unseeing_among (state_of storage.old) top subpool (task ∷ [])))
+        ≤ storage.old.elements.spare → IsOk result }
 {
-    for k in 0..names.len() {
-        records.push(Record::Own(OwnRecord {
-            subpool: names[k],
+    if is_ended(storage, top, task) || is_ended(storage, top, subpool.owner) {
+        let unseen = Record::Sharer(SharerRecord {
+            subpool,
+            task,
             present: false,
-        }))?;
+        });
+        return builder.push(storage, unseen);
+    }
+    Ok(())
+}
+
+// The subpools that tasks of the subtree own are gone.
+fn push_removed(
+    storage: &mut Storage,
+    builder: &mut ChangeBuilder,
+    top: u8,
+) -> Result<(), AllocError>
+    requires { IsBuilding storage.old builder.old }
+    ensures builds { Builds storage.old builder.old storage.new builder.new }
+    ensures ok { OnOk result (Pushes storage.old builder.old
+        (removed_records (state_of storage.old).subpools (ended_below (state_of storage.old).tasks.parents top))
+        storage.new builder.new) }
+    ensures needless { length (removed_records (state_of storage.old).subpools
+        (ended_below (state_of storage.old).tasks.parents top)) ≤ storage.old.elements.spare → IsOk result }
+{
+    let mut place = SubpoolStorage::first_subpool_place();
+    while let Some((subpool, next)) = storage.subpools.next_subpool(&storage.elements, place) {
+        push_gone(storage, builder, top, subpool)?;
+        place = next;
+    }
+    Ok(())
+}
+
+// So is one, where a task of the subtree is the owner.
+fn push_gone(
+    storage: &mut Storage,
+    builder: &mut ChangeBuilder,
+    top: u8,
+    subpool: Subpool,
+) -> Result<(), AllocError>
+    requires { IsBuilding storage.old builder.old }
+    ensures builds { Builds storage.old builder.old storage.new builder.new }
+    ensures ok { OnOk result (Pushes storage.old builder.old
+        (map removed (owned_among (state_of storage.old) top (subpool ∷ []))) storage.new builder.new) }
+    ensures needless { length (map removed (owned_among (state_of storage.old) top (subpool ∷ [])))
+        ≤ storage.old.elements.spare → IsOk result }
+{
+    if is_ended(storage, top, subpool.owner) {
+        let gone = Record::Own(OwnRecord {
+            subpool,
+            present: false,
+        });
+        return builder.push(storage, gone);
     }
     Ok(())
 }

@@ -1,38 +1,23 @@
-use Rattle.std.proofs.Common.{◌≡◌, suc, ◌<◌, false, List, [], ◌∷◌, ◌++◌, length, drop, Some, None, sym, ◌∙◌, ap, arith}
-use Rattle.std.specs.Prelude.{slice_get}
-use Rattle.std.proofs.lemmas.Option.{slice_get_within}
-use Rattle.run_set.specs.declared.run.Run.{Run}
-use Rattle.run_set.specs.RunSet.{place_index}
-use Rattle.subpool_storage.specs.Extents.{extents}
-use Rattle.storage_changes.specs.declared.record.Record.TheVariants.{Pages}
-use Rattle.storage_changes.specs.Changes.{unassigned_records}
-use Rattle.storage_exchange.specs.Storage.{state_of}
-use Rattle.task_plans.proofs.Rests.{goes_over, all_over, drop_next, drop_none}
+use Rattle.std.proofs.Common.{arith}
+use Rattle.storage_swap.proofs.BuilderLemmas.{builds-follow}
+use Rattle.task_plans.proofs.Walks.{extents_done, extents_less, extents_room, extents_more}
 use Rattle.task_plans.proofs.end.push_extents.Goals as goal
+
+pub returns-in_err-push-clause-builds : goal.returns-in_err-push-clause-builds
+returns-in_err-push-clause-builds c = builds-follow _ _ _ _ _ _ c.loop-run.invariant.leads.builds c.push.ensures.builds
+
+pub returns-in_err-push-clause-needless : goal.returns-in_err-push-clause-needless
+returns-in_err-push-clause-needless c = λ room.
+    absurd (cc (c.in_err-push.ensures.needless (extents_room _ _ _ _ _ _ _ c.loop-run.invariant c.in-Some.run' c.in-Some.next c.in-Some.ensures.run c.in-Some.ensures.next.1 room)))
+
+pub loop-run-smaller : goal.loop-run-smaller
+loop-run-smaller c =
+    omega (arith, extents_less _ _ _ _ _ _ _ c.loop-run.invariant c.in-Some.run' c.in-Some.next c.in-Some.ensures.run c.in-Some.ensures.next.1, c.in-Some.ensures.next.1)
 
 pub loop-run-preserved : goal.loop-run-preserved
 loop-run-preserved c =
-    let all = extents (state_of c.args.storage.now).subpools c.args.subpool in
-    let i = place_index c.loop-run.place in
-    let run = c.in-Some.run' in
-    let at : slice_get all i ≡ Some run = ap (λ (rs : List Run). slice_get rs i) (sym c.extents-extents.ensures.runs) ∙ sym c.in-Some.ensures.run in
-    let less : i < length all = slice_get_within all i run at in
-    let next : suc i ≡ place_index c.in-Some.next = omega (arith, c.in-Some.ensures.next.1) in
-    record {
-      within = omega (arith, less, next);
-      place = c.in-Some.ensures.next.0;
-      records = goes_over c.loop-run.records.items c.push.new.self.items (Pages (record { run = run; assigned = false }) ∷ [])
-          (unassigned_records (drop (place_index c.in-Some.next) all)) (unassigned_records (drop i all))
-          (c.args.records.now.items ++ unassigned_records all) c.loop-run.invariant.records
-          (ap unassigned_records (drop_next all i run at ∙ ap (λ n. run ∷ drop n all) next)) c.in_ok-push.ensures.items;
-    }
+    extents_more _ _ _ _ _ _ _ c.loop-run.invariant c.in-Some.run' c.in-Some.next c.in-Some.ensures.run c.in-Some.ensures.next.1
+    c.push.new.storage c.push.new.self c.in-Some.ensures.next.0 c.push.ensures.builds c.in_ok-push.ensures.ok
 
-pub returns : goal.returns
-returns c =
-    let all = extents (state_of c.args.storage.now).subpools c.args.subpool in
-    let i = place_index c.loop-run.place in
-    let none : slice_get all i ≡ None = ap (λ (rs : List Run). slice_get rs i) (sym c.extents-extents.ensures.runs) ∙ sym c.in_default.ensures.run in
-    record {
-      ok = all_over c.loop-run.records.items (unassigned_records (drop i all)) (c.args.records.now.items ++ unassigned_records all)
-          c.loop-run.invariant.records (ap unassigned_records (drop_none all i none));
-    }
+pub returns-clause-ok : goal.returns-clause-ok
+returns-clause-ok c = extents_done _ _ _ _ _ _ _ c.loop-run.invariant c.in_default.ensures.run

@@ -1,7 +1,16 @@
-use Rattle.std.proofs.Common.{◌≡◌, ◌++◌, drop}
+use Rattle.std.proofs.Common.{length}
 use Rattle.std.specs.Prelude.{map}
+use Rattle.subpool_storage.specs.SubpoolStorage.{subpools_left}
+use Rattle.storage_exchange.specs.Storage.{state_of}
+use Rattle.task_plans.proofs.Walks.{WalkLeads}
 use Rattle.task_actions.specs.Ending.{removed}
+use Rattle.task_plans.specs.TaskPlans.{owned_among}
 use Rattle.task_plans.proofs.end.push_removed.Given as goal
 
-abbrev pub invariant-loop-k : goal.invariant-loop-k
-invariant-loop-k l = l.records.items ++ map removed (drop l.k l.names.items) ≡ l.initial.records.items ++ map removed l.names.items
+abbrev pub invariant-loop-subpool : goal.invariant-loop-subpool
+invariant-loop-subpool l =
+    let m = state_of l.fn.storage in
+    WalkLeads (λ ps. map removed (owned_among m l.top ps)) l.fn.storage l.fn.builder l.storage l.builder l.place
+
+abbrev pub decreases-loop-subpool : goal.decreases-loop-subpool
+decreases-loop-subpool l = length (subpools_left l.storage.elements l.storage.subpools l.place)

@@ -1,36 +1,86 @@
-use Rattle.std.proofs.Common.{◌≡◌, ◌+◌, ◌-◌, ◌++◌, refl, ◌∙◌, ap, arith}
+use Rattle.std.proofs.Common.{◌≡◌, ◌+◌, ◌-◌, List, ◌++◌, length, length-append, sym, ap, ◌∙◌, subst, arith}
 use Rattle.std.specs.List.{flat_map}
 use Rattle.std.proofs.lemmas.Grind.{flat_map-append}
+use Rattle.storage_changes.specs.declared.record.Record.{Record}
+use Rattle.storage_changes.specs.State.{StorageState}
 use Rattle.storage_exchange.specs.Storage.{state_of}
+use Rattle.storage_swap.proofs.BuilderLemmas.{Leads, builds-follow, leads-none, leads-more, leads-room}
 use Rattle.task_actions.specs.Ending.{ended_from, ended_level, ended_below, ended_records}
 use Rattle.task_plans.proofs.Climbs.{level_next}
-use Rattle.task_plans.proofs.Rests.{goes_over}
+use Rattle.task_plans.proofs.Walks.{ok_last}
 use Rattle.task_plans.proofs.ended.push_ended.Goals as goal
 
 pub loop-done-init : goal.loop-done-init
 unfolding ended_below
-loop-done-init c = refl
+loop-done-init c = leads-none c.args.storage.now c.args.builder.now (flat_map (ended_records (state_of c.args.storage.now)) (ended_below (state_of c.args.storage.now).tasks.parents c.args.top)) c.requires
+
+pub returns-in_err-push_ended_level-clause-builds : goal.returns-in_err-push_ended_level-clause-builds
+returns-in_err-push_ended_level-clause-builds c = builds-follow _ _ _ _ _ _ c.loop-done.invariant.builds c.push_ended_level.ensures.builds
+
+pub returns-in_err-push_ended_level-clause-needless : goal.returns-in_err-push_ended_level-clause-needless
+returns-in_err-push_ended_level-clause-needless c = λ room.
+    let p = c.args.storage.now in
+    let t = c.loop-done.storage in
+    let m = state_of p in
+    let top = c.args.top in
+    let done = c.loop-done.done in
+    let w = c.loop-done.invariant in
+    let level : StorageState → List Record = λ x. flat_map (ended_records x) (ended_level x.tasks.parents top (63 - done)) in
+    let later = flat_map (ended_records m) (ended_from m.tasks.parents top (63 - (done + 1))) in
+    let is : flat_map (ended_records m) (ended_from m.tasks.parents top (63 - done)) ≡ level (state_of t) ++ later =
+    ap (flat_map (ended_records m)) (level_next m.tasks.parents top 63 done c.loop-done-test.true)
+    ∙ flat_map-append (ended_records m) (ended_level m.tasks.parents top (63 - done)) (ended_from m.tasks.parents top (63 - (done + 1)))
+    ∙ ap (λ (x : StorageState). level x ++ later) (sym w.builds.keeps.shows) in
+    let r = leads-room _ _ _ _ _ _ w room in
+    absurd (cc (c.in_err-push_ended_level.ensures.needless (omega (arith, r, ap length is, length-append (level (state_of t)) later))))
 
 pub loop-done-preserved : goal.loop-done-preserved
 loop-done-preserved c =
-    let m = state_of c.args.storage.now in
-    let parents = m.tasks.parents in
+    let p = c.args.storage.now in
+    let t = c.loop-done.storage in
+    let m = state_of p in
     let top = c.args.top in
     let done = c.loop-done.done in
-    let each = ended_records m in
-    goes_over c.loop-done.records.items c.push_ended_level.new.records.items (flat_map each (ended_level parents top (63 - done)))
-    (flat_map each (ended_from parents top (63 - (done + 1)))) (flat_map each (ended_from parents top (63 - done)))
-    (c.args.records.now.items ++ flat_map each (ended_below parents top)) c.loop-done.invariant
-    (ap (flat_map each) (level_next parents top 63 done c.loop-done-test.true)
-    ∙ flat_map-append each (ended_level parents top (63 - done)) (ended_from parents top (63 - (done + 1))))
-    c.in_ok-push_ended_level.ensures.ok
+    let w = c.loop-done.invariant in
+    let level : StorageState → List Record = λ x. flat_map (ended_records x) (ended_level x.tasks.parents top (63 - done)) in
+    let later = flat_map (ended_records m) (ended_from m.tasks.parents top (63 - (done + 1))) in
+    let is : flat_map (ended_records m) (ended_from m.tasks.parents top (63 - done)) ≡ level (state_of t) ++ later =
+    ap (flat_map (ended_records m)) (level_next m.tasks.parents top 63 done c.loop-done-test.true)
+    ∙ flat_map-append (ended_records m) (ended_level m.tasks.parents top (63 - done)) (ended_from m.tasks.parents top (63 - (done + 1)))
+    ∙ ap (λ (x : StorageState). level x ++ later) (sym w.builds.keeps.shows) in
+    leads-more _ _ _ _ _ _ w _ _ (level (state_of t)) later is c.push_ended_level.ensures.builds c.in_ok-push_ended_level.ensures.ok
 
-pub returns : goal.returns
-returns c =
-    let m = state_of c.args.storage.now in
-    let none : 0 ≡ 63 - c.loop-done.done = omega (arith, c.loop-done-test.false) in
-    record {
-      ok = c.in_ok-push_ended_level-2.ensures.ok
-          ∙ ap (λ n. c.loop-done.records.items ++ flat_map (ended_records m) (ended_from m.tasks.parents c.args.top n)) none
-          ∙ c.loop-done.invariant;
-    }
+pub returns-clause-builds : goal.returns-clause-builds
+returns-clause-builds c = builds-follow _ _ _ _ _ _ c.loop-done.invariant.builds c.push_ended_level-2.ensures.builds
+
+pub returns-clause-ok : goal.returns-clause-ok
+returns-clause-ok c =
+    let p = c.args.storage.now in
+    let t = c.loop-done.storage in
+    let m = state_of p in
+    let top = c.args.top in
+    let done = c.loop-done.done in
+    let w = c.loop-done.invariant in
+    let none : 63 - done ≡ 0 = omega (arith, c.loop-done-test.false) in
+    let last : flat_map (ended_records m) (ended_from m.tasks.parents top (63 - done)) ≡ flat_map (ended_records (state_of t)) (ended_level (state_of t).tasks.parents top 0) =
+    ap (λ n. flat_map (ended_records m) (ended_from m.tasks.parents top n)) none
+    ∙ ap (λ (x : StorageState). flat_map (ended_records x) (ended_level x.tasks.parents top 0)) (sym w.builds.keeps.shows) in
+    let all = flat_map (ended_records m) (ended_below m.tasks.parents top) in
+    let P : List Record → Type 0 = λ rs. Leads p c.args.builder.now all t c.loop-done.builder rs in
+    let end = c.push_ended_level-2 in
+    ok_last p t end.new.storage c.args.builder.now c.loop-done.builder end.new.builder all (flat_map (ended_records (state_of t)) (ended_level (state_of t).tasks.parents top 0)) (subst P last w) end.result end.ensures.builds end.ensures.ok
+
+pub returns-clause-needless : goal.returns-clause-needless
+returns-clause-needless c = λ room.
+    let p = c.args.storage.now in
+    let t = c.loop-done.storage in
+    let m = state_of p in
+    let top = c.args.top in
+    let done = c.loop-done.done in
+    let w = c.loop-done.invariant in
+    let none : 63 - done ≡ 0 = omega (arith, c.loop-done-test.false) in
+    let last : flat_map (ended_records m) (ended_from m.tasks.parents top (63 - done)) ≡ flat_map (ended_records (state_of t)) (ended_level (state_of t).tasks.parents top 0) =
+    ap (λ n. flat_map (ended_records m) (ended_from m.tasks.parents top n)) none
+    ∙ ap (λ (x : StorageState). flat_map (ended_records x) (ended_level x.tasks.parents top 0)) (sym w.builds.keeps.shows) in
+    let r = leads-room _ _ _ _ _ _ w room in
+    c.push_ended_level-2.ensures.needless (omega (arith, r, ap length last))

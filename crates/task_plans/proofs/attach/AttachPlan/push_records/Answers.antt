@@ -1,4 +1,4 @@
-use Rattle.std.proofs.Common.{◌≡◌, ℕ, ◌≤◌, true, List, [], ◌∷◌, ◌++◌, length, refl, sym, ap, ◌∙◌, subst, arith}
+use Rattle.std.proofs.Common.{◌≡◌, ℕ, ◌≤◌, true, List, [], ◌∷◌, ◌++◌, length, sym, ap, ◌∙◌, subst, arith}
 use Rattle.std.specs.List.{All, flat_map}
 use Rattle.std.proofs.lemmas.List.{append_assoc}
 use Rattle.storage_changes.specs.declared.record.Record.{Record}
@@ -92,15 +92,15 @@ returns-clause-ok c =
     let task = c.args.self.task in
     let here = c.current-current.ensures in
     let zero : zero_records (state_of c.push.new.storage) task c.args.self.attach.shares_zero ≡ zero_records m task c.args.self.attach.shares_zero =
-        ap (λ (x : StorageState). zero_records x task c.args.self.attach.shares_zero) c.push.ensures.builds.keeps.shows in
+    ap (λ (x : StorageState). zero_records x task c.args.self.attach.shares_zero) c.push.ensures.builds.keeps.shows in
     let gifts : flat_map (gift_records (state_of c.push_zero.new.storage) task) c.numbers_or_none-given.result.items ≡ flat_map (gift_records m task) (numbers m c.args.self.attach.given) =
-        (λ i. flat_map (gift_records ((builds-follow _ _ _ _ _ _ c.push.ensures.builds c.push_zero.ensures.builds).keeps.shows i) task) (c.numbers_or_none-given.ensures i)) in
+    (λ i. flat_map (gift_records ((builds-follow _ _ _ _ _ _ c.push.ensures.builds c.push_zero.ensures.builds).keeps.shows i) task) (c.numbers_or_none-given.ensures i)) in
     let shares : flat_map (share_records (state_of c.push_gifts.new.storage) task) c.numbers_or_none-shared.result.items ≡ flat_map (share_records m task) (numbers m c.args.self.attach.shared) =
-        (λ i. flat_map (share_records ((builds-follow _ _ _ _ _ _ (builds-follow _ _ _ _ _ _ c.push.ensures.builds c.push_zero.ensures.builds) c.push_gifts.ensures.builds).keeps.shows i) task) (c.numbers_or_none-shared.ensures i)) in
+    (λ i. flat_map (share_records ((builds-follow _ _ _ _ _ _ (builds-follow _ _ _ _ _ _ c.push.ensures.builds c.push_zero.ensures.builds) c.push_gifts.ensures.builds).keeps.shows i) task) (c.numbers_or_none-shared.ensures i)) in
     let register : ℕ → ℕ → ℕ → Record = λ t r w. Register (record { task = t; register = r; word = w }) in
     let all =
-        pushes-follow _ _ _ _ _ _ _ _ (pushes-follow _ _ _ _ _ _ _ _ (pushes-follow _ _ _ _ _ _ _ _ (pushes-follow _ _ _ _ _ _ _ _ (pushes-follow _ _ _ _ _ _ _ _
-        c.in_ok-push.ensures.ok c.in_ok-push_zero.ensures.ok) c.in_ok-push_gifts.ensures.ok) c.in_ok-push_shares.ensures.ok) c.in_ok-push_register.ensures.ok) c.in_ok-push_register-2.ensures.ok in
+    pushes-follow _ _ _ _ _ _ _ _ (pushes-follow _ _ _ _ _ _ _ _ (pushes-follow _ _ _ _ _ _ _ _ (pushes-follow _ _ _ _ _ _ _ _ (pushes-follow _ _ _ _ _ _ _ _
+    c.in_ok-push.ensures.ok c.in_ok-push_zero.ensures.ok) c.in_ok-push_gifts.ensures.ok) c.in_ok-push_shares.ensures.ok) c.in_ok-push_register.ensures.ok) c.in_ok-push_register-2.ensures.ok in
     let P : List Record → Type 0 = λ rs. Pushes p c.args.builder.now rs c.push_register-2.new.storage c.push_register-2.new.builder in
     subst P
     ((λ i. ((((Task (record { task = task; parent = here i; present = true }) ∷ zero i) ++ gifts i) ++ shares i) ++ register (here i) 15 0 ∷ []) ++ register (here i) 1 (c.from.ensures i) ∷ [])

@@ -1,9 +1,9 @@
-use Rattle.std.proofs.Common.{◌≡◌, ◌++◌, List, [], ap, ◌∙◌}
-use Rattle.subpool_storage.specs.Subpools.{Subpools, no_subpools}
+use Rattle.std.proofs.Common.{◌≡◌, ◌++◌, List, ap, ◌∙◌}
+use Rattle.subpool_storage.specs.Subpools.{no_subpools}
 use Rattle.storage_changes.specs.declared.record.Record.{Record}
 use Rattle.storage_changes.specs.Changes.{change_of, no_pages}
 use Rattle.storage_exchange.specs.Storage.{state_of}
-use Rattle.storage_swap.specs.Builder.{records_in, parked_in, meaning_with}
+use Rattle.storage_swap.specs.Builder.{records_in, parked_in}
 use Rattle.storage_swap.proofs.BuilderLemmas.{made-reserves}
 use Rattle.task_plans.specs.TaskPlans.{attach_change}
 use Rattle.task_plans.proofs.attach.AttachPlan.reserve.Goals as goal
@@ -16,7 +16,7 @@ returns-in-Ok-clause-ok c =
     let a = c.new-builder.result in
     let b = c.push_records.new.builder in
     let records : records_in t b ≡ d.records =
-        c.in-Ok.ensures.ok.records ∙ ap (λ (rs : List Record). rs ++ d.records) (c.new-builder.ensures.records p) in
+    c.in-Ok.ensures.ok.records ∙ ap (λ (rs : List Record). rs ++ d.records) (c.new-builder.ensures.records p) in
     let parked : parked_in t b ≡ no_subpools = c.in-Ok.ensures.ok.parked ∙ c.new-builder.ensures.parked p in
     made-reserves p t c.finish.new.storage a b (c.new-builder.ensures.none p) c.push_records.ensures.builds c.in-Ok.blanks d c.finish.result c.finish.ensures.ok
     (λ i. record (change_of (records i) (c.in-Ok.ensures.blanks i) no_pages) { parked = parked i })

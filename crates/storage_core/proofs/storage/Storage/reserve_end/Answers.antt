@@ -1,0 +1,23 @@
+use Rattle.storage_core.specs.Meaning.{state_in_place}
+use Rattle.storage_core.proofs.Holding.{reserved_is_held}
+use Rattle.storage_core.proofs.Staying.{failed_stays}
+use Rattle.storage_core.proofs.TaskCounts.{end_few}
+use Rattle.storage_core.proofs.storage.Storage.reserve_end.Goals as goal
+
+pub invariant_of-self : goal.invariant_of-self
+invariant_of-self c =
+    let s = c.args.self.now in
+    record {
+      held = reserved_is_held s.settings s.parts c.reserve.new.storage _ s.held c.reserve.result
+          c.reserve.ensures.ok c.reserve.ensures.grown;
+    }
+
+pub returns-clause-err : goal.returns-clause-err
+returns-clause-err c =
+    let s = c.args.self.now in
+    failed_stays s.parts c.reserve.new.storage s.held.stands c.reserve.result c.reserve.ensures.grown
+
+pub returns-clause-few : goal.returns-clause-few
+returns-clause-few c =
+    let s = c.args.self.now in
+    end_few s.parts c.reserve.new.storage (state_in_place s) c.args.plan c.reserve.result c.reserve.ensures.ok

@@ -1,0 +1,41 @@
+use Rattle.std.proofs.Common.{◌≡◌, ℕ, ◌||◌, List, [], ◌∷◌, ap}
+use Rattle.std.specs.Prelude.{map}
+use Rattle.vsm_model.specs.Search.{is_in}
+use Rattle.subpool_set.specs.Pools.{sharers}
+use Rattle.storage_changes.specs.declared.record.Record.{Record}
+use Rattle.storage_changes.specs.State.{StorageState}
+use Rattle.storage_exchange.specs.Storage.{state_of}
+use Rattle.task_actions.specs.Ending.{ended_below, unshared}
+use Rattle.task_plans.specs.TaskPlans.{unseeing_among}
+use Rattle.task_plans.proofs.Walks.{sharers_more, sharers_less, mapped_first}
+use Rattle.task_plans.proofs.end.push_unseeing.Goals as goal
+
+pub loop-task-smaller : goal.loop-task-smaller
+loop-task-smaller c =
+    let p = c.args.storage.now in
+    let t = c.loop-task.storage in
+    let top = c.args.top in
+    let q = c.args.subpool in
+    let x = c.in-Some.task in
+    let w = c.loop-task.invariant in
+    let h : StorageState → List ℕ → List Record = λ m ts. map (unshared q) (unseeing_among m top q ts) in
+    let all = sharers (state_of p).subpools.sight q.number q.owner in
+    let its : h (state_of t) (x ∷ []) ≡ h (state_of p) (x ∷ []) = ap (λ (m : StorageState). h m (x ∷ [])) w.leads.builds.keeps.shows in
+    let ended = ended_below (state_of p).tasks.parents top in
+    sharers_less (h (state_of p)) q all p c.args.builder.now t c.loop-task.builder c.loop-task.place w (mapped_first (λ k. is_in ended k || is_in ended q.owner) (unshared q)) c.in-Some.next x c.in-Some.ensures.next (h (state_of t) (x ∷ [])) its
+    c.push_unseen.new.storage c.push_unseen.new.builder c.in-Some.ensures.place c.push_unseen.ensures.builds
+
+pub loop-task-preserved : goal.loop-task-preserved
+loop-task-preserved c =
+    let p = c.args.storage.now in
+    let t = c.loop-task.storage in
+    let top = c.args.top in
+    let q = c.args.subpool in
+    let x = c.in-Some.task in
+    let w = c.loop-task.invariant in
+    let h : StorageState → List ℕ → List Record = λ m ts. map (unshared q) (unseeing_among m top q ts) in
+    let all = sharers (state_of p).subpools.sight q.number q.owner in
+    let its : h (state_of t) (x ∷ []) ≡ h (state_of p) (x ∷ []) = ap (λ (m : StorageState). h m (x ∷ [])) w.leads.builds.keeps.shows in
+    let ended = ended_below (state_of p).tasks.parents top in
+    sharers_more (h (state_of p)) q all p c.args.builder.now t c.loop-task.builder c.loop-task.place w (mapped_first (λ k. is_in ended k || is_in ended q.owner) (unshared q)) c.in-Some.next x c.in-Some.ensures.next (h (state_of t) (x ∷ [])) its
+    c.push_unseen.new.storage c.push_unseen.new.builder c.in-Some.ensures.place c.push_unseen.ensures.builds c.in_ok-push_unseen.ensures.ok
