@@ -97,12 +97,12 @@ fn push_given_back(
 fn push_all(
     storage: &mut Storage,
     builder: &mut ChangeBuilder,
-    records: &ArrayVec<Record, PLAN_RECORDS>,
+    records: &[Record],
 ) -> Result<(), AllocError>
     requires { IsBuilding storage.old builder.old }
     ensures builds { Builds storage.old builder.old storage.new builder.new }
-    ensures ok { OnOk result (Pushes storage.old builder.old records.now.items storage.new builder.new) }
-    ensures needless { length records.now.items ≤ storage.old.elements.spare → IsOk result }
+    ensures ok { OnOk result (Pushes storage.old builder.old records.now storage.new builder.new) }
+    ensures needless { length records.now ≤ storage.old.elements.spare → IsOk result }
 {
     for k in 0..records.len() {
         builder.push(storage, records[k])?;
@@ -132,7 +132,7 @@ fn push_area(
     let pages = emptied(storage, subpool, given, area);
     let mut records = ArrayVec::new();
     push_given_back(&mut records, subpool, area, pages);
-    push_all(storage, builder, &records)
+    push_all(storage, builder, records.as_slice())
 }
 
 // As many elements are spare as a word can say, at most.
