@@ -1,6 +1,7 @@
 -- Walks over the areas of a cell pool's extents, and the records by which they are given back.
-use Rattle.std.proofs.Common.{◌≡◌, ℕ, zero, suc, ◌+◌, ◌-◌, ◌*◌, ◌<◌, ◌≤◌, ◌^◌, Bool, true, false, List, [], ◌∷◌, ◌++◌, length, length-append, take, drop, map, Option, Some, None, IsSome, IfSome, refl, sym, ap, ◌∙◌, subst, arith}
+use Rattle.std.proofs.Common.{◌≡◌, ℕ, zero, suc, ◌+◌, ◌-◌, ◌*◌, ◌<◌, ◌≤◌, ◌^◌, Bool, true, false, ◌||◌, List, [], ◌∷◌, ◌++◌, length, length-append, get_or, take, drop, map, Option, Some, None, IfSome, refl, sym, ap, ◌∙◌, subst, arith}
 use Rattle.std.specs.Prelude.{slice_get}
+use Rattle.std.proofs.Math.Seq.{drop-cons}
 use Rattle.run_set.specs.declared.run.Run.{Run}
 use Rattle.run_set.specs.Runs.{inside, contains}
 use Rattle.vsm_model.specs.declared.Subpool.{Subpool}
@@ -17,7 +18,6 @@ use Rattle.storage_swap.specs.Builder.{IsBuilding, Builds, Pushes}
 use Rattle.storage_swap.proofs.BuilderLemmas.{Leads, leads-none, leads-more, leads-all, leads-room}
 use Rattle.cell_actions.specs.Actions.{extents_given_back}
 use Rattle.cell_plans.specs.declared.areas.FirstExtents.{FirstExtents}
-use Rattle.cell_plans.specs.declared.delete.DeletePlan.{DeletePlan}
 use Rattle.cell_plans.specs.Areas.{areas_of, first_areas}
 use Rattle.cell_plans.specs.CellPlans.{pool_given_back, extents_of_pool, CanBeDeleted}
 use Rattle.cell_plans.specs.Emptied.{area_of, area_given_back, freed}
@@ -84,6 +84,10 @@ past_all [] i e = omega arith
 past_all (y ∷ ys) zero e = cc
 past_all (y ∷ ys) (suc i) e = let k = past_all ys i e in omega (arith, k)
 
+-- the next record of a list
+pub next_record : (rs : List Record) (k : ℕ) (d : Record) → k < length rs → drop k rs ≡ (get_or rs k d ∷ []) ++ drop (k + 1) rs
+next_record rs k d less = let next : suc k ≡ k + 1 = omega arith in drop-cons rs k d less ∙ ap (λ (n : ℕ). get_or rs k d ∷ drop n rs) next
+
 -- the records by which areas are given back, the first of them first
 abbrev pub areas_given_back : Subpools → Subpool → List Run → List Record
 areas_given_back m p [] = []
@@ -121,29 +125,39 @@ areas_count (Some q) = mapped_length q.settings.size q.extents
 pub still_can : (s t : Storage) (pool : ℕ) → state_of t ≡ state_of s → CanBeDeleted (state_of s) (record { pool = pool }) → CanBeDeleted (state_of t) (record { pool = pool })
 still_can s t pool same can = let P : StorageState → Type 0 = λ m. CanBeDeleted m (record { pool = pool }) in subst P (sym same) can
 
+-- all areas of a cell pool, their records, and those of the areas behind the first ones
+abbrev pub all_areas : ℕ → Storage → List Run
+all_areas pool s = areas_of ((state_of s).subpools.cells pool)
+
+abbrev pub whole_records : Subpool → ℕ → Storage → List Record
+whole_records p pool s = areas_given_back (state_of s).subpools p (all_areas pool s)
+
+abbrev pub records_from : Subpool → ℕ → Storage → ℕ → List Record
+records_from p pool s count = areas_given_back (freed (state_of s).subpools p (take count (all_areas pool s))) p (drop count (all_areas pool s))
+
 -- Of the areas, so many were given back.
+pub record AreasLead (p : Subpool) (pool : ℕ) (s : Storage) (a : ChangeBuilder) (t : Storage) (b : ChangeBuilder) (count : ℕ) : Type 0 where
+  pub leads : Leads s a (whole_records p pool s) t b (records_from p pool s count)
+  pub within : count ≤ length (all_areas pool s)
+  pub few : count < 2 ^ 30
+
 module _ (p : Subpool) (pool : ℕ) (s : Storage) (a : ChangeBuilder) where
   abbrev m : StorageState
   m = state_of s
 
   abbrev all : List Run
-  all = areas_of (m.subpools.cells pool)
+  all = all_areas pool s
 
   abbrev whole : List Record
-  whole = areas_given_back m.subpools p all
+  whole = whole_records p pool s
 
   abbrev rest_from : ℕ → List Record
-  rest_from count = areas_given_back (freed m.subpools p (take count all)) p (drop count all)
+  rest_from count = records_from p pool s count
 
-  pub record AreasLead (t : Storage) (b : ChangeBuilder) (count : ℕ) : Type 0 where
-    pub leads : Leads s a whole t b (rest_from count)
-    pub within : count ≤ length all
-    pub few : count < 2 ^ 30
-
-  pub areas_none : IsBuilding s a → AreasLead s a 0
+  pub areas_none : IsBuilding s a → AreasLead p pool s a s a 0
   areas_none building = record { leads = leads-none s a whole building; within = omega arith; few = omega arith }
 
-  module _ (t : Storage) (b : ChangeBuilder) (count : ℕ) (w : AreasLead t b count) where
+  module _ (t : Storage) (b : ChangeBuilder) (count : ℕ) (w : AreasLead p pool s a t b count) where
     abbrev now : List Run
     now = areas_of ((state_of t).subpools.cells pool)
 
@@ -184,7 +198,7 @@ module _ (p : Subpool) (pool : ℕ) (s : Storage) (a : ChangeBuilder) where
           let r = leads-room s t a b whole (rest_from count) w.leads room in
           omega (arith, r, ap length front, length-append (added_by (state_of t)) (rest_from (count + 1)))
 
-      pub area_more : (u : Storage) (c : ChangeBuilder) → count + 1 < 2 ^ 30 → Builds t b u c → Pushes t b (added_by (state_of t)) u c → AreasLead u c (count + 1)
+      pub area_more : (u : Storage) (c : ChangeBuilder) → count + 1 < 2 ^ 30 → Builds t b u c → Pushes t b (added_by (state_of t)) u c → AreasLead p pool s a u c (count + 1)
       area_more u c small builds pushes = record {
         leads = leads-more s t a b whole (rest_from count) w.leads u c (added_by (state_of t)) (rest_from (count + 1)) front builds pushes;
         within = omega (arith, is_one_more);

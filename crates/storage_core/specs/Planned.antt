@@ -134,8 +134,8 @@ elements_below m (Build plan) = 32
 elements_below m (Delete plan) = 32 + 8 * (1 + extents_of_pool (m.subpools.cells plan.pool))
 
 -- Nothing has to grow for the plan's change: a new task takes an element for each of its records and blank ones, and so
--- do tasks that end, with one for each subpool that is parked; a cell pool that comes takes 30 elements besides those of
--- its cells and of their marks; and one that goes fewer than 32, and 8 more for it and for each of its extents.
+-- do tasks that end, with one for each subpool that is parked; a cell pool that comes takes 30 elements besides those
+-- of its cells and of their marks; and one that goes fewer than 32, and 8 more for it and for each of its extents.
 abbrev pub IsSpare : Parts → StorageState → Plan → Type 0
 IsSpare p m (Storage plan) = IsSpareFor p (storage_elements m plan) plan.fresh
 IsSpare p m (Attach plan) =

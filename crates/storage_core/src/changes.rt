@@ -33,8 +33,8 @@ impl Storage {
     /// which were the storage's, and those of a cell pool that comes. It has just as many frames as pages come to be
     /// assigned.
     ///
-    /// `AllocError` where memory is refused: that can be only where fewer elements or frames are spare, or a table isn't
-    /// there. What was made before that stays, as spare elements and frames.
+    /// `AllocError` where memory is refused: that can be only where fewer elements or frames are spare, or a table
+    /// isn't there. What was made before that stays, as spare elements and frames.
     pub fn reserve(&mut self, plan: Plan) -> Result<Change, AllocError>
         requires { CanBeReserved (state_in_place self.old) plan }
         ensures ok { IfOk result (λ change. (id : ℕ) × IsIdFor (state_in_place self.old) plan id

@@ -11,10 +11,10 @@ loop-area-init c = record {
   rest = ap (λ (xs : List Run). slice_get xs c.args.index) c.first_place-place.ensures.all;
 }
 
-pub returns-then-before-clause-area : goal.returns-then-before-clause-area
-returns-then-before-clause-area c =
+pub returns-then-before-eq0-clause-area : goal.returns-then-before-eq0-clause-area
+returns-then-before-eq0-clause-area c =
     let s = c.args.storage.now.elements in
-    sym (at_first c.in-Some.area (areas_left s c.in-Some.next) (areas_left s c.loop-area.place) c.loop-area.before c.in-Some.ensures.next c.if-before.true)
+    sym (at_first c.in-Some.area (areas_left s c.in-Some.next) (areas_left s c.loop-area.place) c.loop-area.before c.in-Some.ensures.next c.if-before-eq0.true)
     ∙ c.loop-area.invariant.rest
 
 pub loop-area-smaller : goal.loop-area-smaller
@@ -25,7 +25,7 @@ loop-area-preserved c =
     let s = c.args.storage.now.elements in
     record {
       place = c.in-Some.ensures.place;
-      rest = at_later c.loop-area.before c.in-Some.area (areas_left s c.in-Some.next) (areas_left s c.loop-area.place) (omega (arith, c.if-before.false)) c.in-Some.ensures.next
+      rest = at_later c.loop-area.before c.in-Some.area (areas_left s c.in-Some.next) (areas_left s c.loop-area.place) (omega (arith, c.if-before-eq0.false)) c.in-Some.ensures.next
           ∙ c.loop-area.invariant.rest;
     }
 

@@ -7,11 +7,11 @@ use Rattle.cell_plans.proofs.emptied.given_end.Given as goal
 abbrev pub invariant-loop-left : goal.invariant-loop-left
 invariant-loop-left l =
     let given = first_areas (state_of l.storage) l.fn.given in
-    let rest = take l.left (areas_left l.storage.elements l.place) in
+    let behind = take l.left (areas_left l.storage.elements l.place) in
     record {
       place : IsAreaPlace l.storage.elements l.place;
-      rest : contains l.doubleword rest ≡ contains l.doubleword given;
-      own : (d : ℕ) → contains d rest ≡ true → contains d given ≡ true;
+      rest : contains l.doubleword behind ≡ contains l.doubleword given;
+      own : (d : ℕ) → contains d behind ≡ true → contains d given ≡ true;
     }
 
 abbrev pub decreases-loop-left : goal.decreases-loop-left

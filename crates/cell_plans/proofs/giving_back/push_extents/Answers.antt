@@ -18,14 +18,14 @@ area_at-requires-clause-can c = still_can c.args.storage.now c.loop-area.storage
 pub push_area-requires-clause-can : goal.push_area-requires-clause-can
 push_area-requires-clause-can c = still_can c.args.storage.now c.loop-area.storage c.args.pool c.loop-area.invariant.leads.builds.keeps.shows c.requires.can
 
-pub returns-then-count-clause-builds : goal.returns-then-count-clause-builds
-returns-then-count-clause-builds c = c.loop-area.invariant.leads.builds
+pub returns-then-count-eq-EXTENTS_MOST-clause-builds : goal.returns-then-count-eq-EXTENTS_MOST-clause-builds
+returns-then-count-eq-EXTENTS_MOST-clause-builds c = c.loop-area.invariant.leads.builds
 
-pub returns-then-count-clause-needless : goal.returns-then-count-clause-needless
-returns-then-count-clause-needless c = λ room.
+pub returns-then-count-eq-EXTENTS_MOST-clause-needless : goal.returns-then-count-eq-EXTENTS_MOST-clause-needless
+returns-then-count-eq-EXTENTS_MOST-clause-needless c = λ room.
     let more = is_one_more _ _ _ _ _ _ _ c.loop-area.invariant c.in-Some.area (sym c.in-Some.ensures.area) in
     let o = (state_of c.args.storage.now).subpools.cells c.args.pool in
-    absurd (omega (arith, more, room, areas_count o, c.if-count.true, c.spares_are_few.ensures))
+    absurd (omega (arith, more, room, areas_count o, c.if-count-eq-EXTENTS_MOST.true, c.spares_are_few.ensures))
 
 pub returns-in_err-push_area-clause-builds : goal.returns-in_err-push_area-clause-builds
 returns-in_err-push_area-clause-builds c = builds-follow _ _ _ _ _ _ c.loop-area.invariant.leads.builds c.push_area.ensures.builds
@@ -46,7 +46,7 @@ loop-area-smaller c =
 pub loop-area-preserved : goal.loop-area-preserved
 loop-area-preserved c =
     area_more _ _ _ _ _ _ _ c.loop-area.invariant c.in-Some.area (sym c.in-Some.ensures.area) c.push_area.new.storage c.push_area.new.builder
-    (omega (arith, c.loop-area.invariant.few, c.if-count.false)) c.push_area.ensures.builds c.in_ok-push_area.ensures.ok
+    (omega (arith, c.loop-area.invariant.few, c.if-count-eq-EXTENTS_MOST.false)) c.push_area.ensures.builds c.in_ok-push_area.ensures.ok
 
 pub returns-clause-builds : goal.returns-clause-builds
 returns-clause-builds c = c.loop-area.invariant.leads.builds
