@@ -1,10 +1,10 @@
 -- CPOOL DELETE, and its plan on the plain machine.
-use Rattle.std.proofs.Common.{◌≡◌, ℕ, ◌+◌, ◌-◌, ◌*◌, ◌/◌, ◌<◌, Bool, true, false, not, Option, Some, None, IsSome, IfSome, is_some, List, [], ◌∷◌, ◌++◌, length, All, refl, sym, ◌∙◌, ap, subst, arith}
+use Rattle.std.proofs.Common.{◌≡◌, ℕ, ◌+◌, ◌-◌, ◌*◌, ◌/◌, ◌<◌, Bool, true, false, not, Option, Some, None, IsSome, IfSome, is_some, List, [], ◌∷◌, ◌++◌, length, length-append, All, refl, sym, ◌∙◌, ap, subst, arith}
 use Rattle.std.specs.Prelude.{Ok}
 use Rattle.std.proofs.Math.Logic.{∥∥₁_elim, ∥∥₁_map}
 use Rattle.std.proofs.Math.Nat.{mul-pos}
 use Rattle.std.proofs.Props.{props}
-use Rattle.vsm_model.specs.declared.Subpool.{Subpool}
+use Rattle.subpool_storage.specs.Subpools.{no_subpools}
 use Rattle.vsm_model.specs.declared.causes.Cause.TheVariants.{NoCellPool}
 use Rattle.vsm_model.specs.declared.limits.Settings.{Settings}
 use Rattle.vsm_model.specs.declared.replies.Reply.TheVariants.{Returned}
@@ -29,15 +29,14 @@ use Rattle.cell_tables.specs.Named.{AreNamed}
 use Rattle.cell_tables.specs.Table.{cell_pool_of, extent_of}
 use Rattle.storage_changes.specs.declared.record.Record.{Record}
 use Rattle.storage_changes.specs.declared.record.Record.TheVariants.{CellPool as CellPoolRow, Register}
-use Rattle.storage_changes.specs.Changes.{change_parking}
+use Rattle.storage_changes.specs.Changes.{change_of, no_pages}
 use Rattle.storage_changes.specs.Meaning.{model_of, IsSound}
 use Rattle.storage_changes.specs.State.{StorageState}
 use Rattle.storage_actions.specs.Actions.{register_records}
 use Rattle.storage_plans.specs.Plans.{IsAccepted}
 use Rattle.storage_plans.proofs.Carried.{no_registers, register_and}
-use Rattle.cell_actions.specs.Actions.{extents_given_back}
 use Rattle.cell_actions.specs.Laws.{DeletingLeads}
-use Rattle.cell_plans.specs.CellPlans.{deleting_change, delete_change, CanBeDeleted, IsDeletePlanned}
+use Rattle.cell_plans.specs.CellPlans.{deleting_change, delete_change, pool_given_back, extents_of_pool, CanBeDeleted, IsDeletePlanned}
 use Rattle.cell_plans.specs.Seen.{IsSeen}
 use Rattle.cell_plans.proofs.GivenAreas.{EndsLow}
 
@@ -105,23 +104,32 @@ module _ (settings : Settings) (names_full : Bool) (m : StorageState) (name : Li
         let P : Option Pool → Type 0 = λ o. IsAccepted settings names_full m (delete name) (deleting_change m o) (Returned 0) in
         (∥∥₁_map sound (λ h. subst P (sym its.there) (is_accepted valid h)), can valid sound)
 
--- the records of the list
-module _ (m : StorageState) (id : ℕ) (p : Pool) (there : m.subpools.cells id ≡ Some p) (own : p.id ≡ id) where
+-- the records of its change, and how many blank elements it has
+module _ (m u : StorageState) (same : u ≡ m) (id : ℕ) (p : Pool) (there : m.subpools.cells id ≡ Some p) (own : p.id ≡ id) where
   abbrev row : ℕ → Record
   row i = CellPoolRow (record { pool = i; present = false })
-
-  abbrev back : List Record
-  back = extents_given_back m.subpools p.settings.subpool p.settings.size p.extents
 
   abbrev last : ℕ → Record
   last current = Register (record { task = current; register = 15; word = 0 })
 
-  pub listed_is :
-      (current : ℕ) (names : List Subpool) (first then_back records : List Record) (blanks count : ℕ) → current ≡ m.tasks.current → names ≡ []
-      → first ≡ [] ++ row id ∷ [] → then_back ≡ first ++ back → records ≡ then_back ++ last current ∷ [] → blanks ≡ 4 * count + 1 → count ≡ length p.extents
-      → change_parking names records blanks ≡ delete_change m (record { pool = id })
-  listed_is current names first then_back records blanks count now none e f g many so_many =
-      let whole : records ≡ row p.id ∷ (back ++ register_records m ((15, 0) ∷ [])) =
-      g ∙ ap (λ rs. rs ++ last current ∷ []) (f ∙ ap (λ rs. rs ++ back) e) ∙ (λ i. row (sym own i) ∷ (back ++ last (now i) ∷ [])) in
-      let blanks_are : blanks ≡ 4 * length p.extents + 1 = many ∙ ap (λ n. 4 * n + 1) so_many in
-      (λ i. change_parking (none i) (whole i) (blanks_are i)) ∙ ap (deleting_change m) (sym there)
+  abbrev back_in : StorageState → List Record
+  back_in x = pool_given_back x.subpools (x.subpools.cells id)
+
+  pub records_are : (current : ℕ) → current ≡ m.tasks.current → ((row id ∷ []) ++ back_in u) ++ last current ∷ [] ≡ (delete_change m (record { pool = id })).records
+  records_are current now =
+      (λ i. ((row (sym own i) ∷ []) ++ back_in (same i)) ++ last (now i) ∷ [])
+      ∙ ap (λ (o : Option Pool). ((row p.id ∷ []) ++ pool_given_back m.subpools o) ++ last m.tasks.current ∷ []) there
+      ∙ ap (λ (o : Option Pool). (deleting_change m o).records) (sym there)
+
+  pub blanks_are : (count : ℕ) → count ≡ extents_of_pool (u.subpools.cells id) → 4 * count + 1 ≡ (delete_change m (record { pool = id })).blanks
+  blanks_are count so_many =
+      ap (λ (n : ℕ). 4 * n + 1) (so_many ∙ ap (λ (x : StorageState). extents_of_pool (x.subpools.cells id)) same ∙ ap extents_of_pool there)
+      ∙ ap (λ (o : Option Pool). (deleting_change m o).blanks) (sym there)
+
+  pub all_counted : length (delete_change m (record { pool = id })).records ≡ 2 + length (back_in u)
+  all_counted = omega (arith, ap length (sym (records_are m.tasks.current refl)), length-append ((row id ∷ []) ++ back_in u) (last m.tasks.current ∷ []), length-append (row id ∷ []) (back_in u))
+
+-- a change of a cell pool that goes has no frame and has parked nothing
+pub delete_is : (m : StorageState) (o : Option Pool) → record (change_of (deleting_change m o).records (deleting_change m o).blanks no_pages) { parked = no_subpools } ≡ deleting_change m o
+delete_is m None = refl
+delete_is m (Some p) = refl

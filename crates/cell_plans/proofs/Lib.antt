@@ -9,5 +9,6 @@ mod HandedOut
 mod BuildPlans
 mod FreeEnds
 mod GivenAreas
+mod AreaWalks
 mod DeletePlans
 pub mod DeleteCounts

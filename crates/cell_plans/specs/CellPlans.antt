@@ -1,7 +1,7 @@
 -- What the plans of cell pools come to on the plain machine. Assembler Services Reference, CPOOL; Assembler Services
 -- Guide, "Virtual storage management", "Using the CPOOL macro".
 use Rattle.std.specs.Prelude.{◌≡◌, ℕ, ◌+◌, ◌*◌, ◌/◌, ◌^◌, ◌<◌, ◌≤◌, Bool, true, All, IfSome, IsSome, Option, Some, None}
-use Rattle.std.specs.Prelude.{length, option_map, Result, Ok, Err, [], ◌∷◌, ◌++◌}
+use Rattle.std.specs.Prelude.{List, length, option_map, Result, Ok, Err, [], ◌∷◌, ◌++◌}
 use Rattle.run_set.specs.Runs.{inside}
 use Rattle.vsm_model.specs.declared.causes.Cause.{Cause}
 use Rattle.vsm_model.specs.declared.limits.Settings.{Settings}
@@ -12,14 +12,15 @@ use Rattle.vsm_model.specs.Standing as outcome
 use Rattle.vsm_model.specs.Standing.{Refused}
 use Rattle.vsm_model.specs.Step.{step}
 use Rattle.cell_pool.specs.Pools.{Pool}
-use Rattle.subpool_storage.specs.Subpools.{is_there, built_pool}
+use Rattle.subpool_storage.specs.Subpools.{Subpools, is_there, built_pool}
+use Rattle.storage_changes.specs.declared.record.Record.{Record}
 use Rattle.storage_changes.specs.State.{StorageState}
 use Rattle.storage_changes.specs.Changes.{Change, change_of, change_building, no_pages}
 use Rattle.storage_changes.specs.Meaning.{model_of}
 use Rattle.storage_actions.specs.Actions.{register_records}
 use Rattle.storage_plans.specs.declared.plan.Plan.{Plan}
 use Rattle.storage_plans.specs.Plans.{IsAccepted, change_in}
-use Rattle.cell_actions.specs.Actions.{deleting_records, deleting_blanks}
+use Rattle.cell_actions.specs.Actions.{deleting_records, deleting_blanks, extents_given_back}
 use Rattle.cell_plans.specs.declared.build.BuildPlan.{BuildPlan}
 use Rattle.cell_plans.specs.declared.delete.DeletePlan.{DeletePlan}
 
@@ -79,6 +80,11 @@ delete_change m plan = deleting_change m (m.subpools.cells plan.pool)
 abbrev pub extents_of_pool : Option Pool → ℕ
 extents_of_pool None = 0
 extents_of_pool (Some p) = length p.extents
+
+-- the records by which these are given back, the first one first
+abbrev pub pool_given_back : Subpools → Option Pool → List Record
+pool_given_back m None = []
+pool_given_back m (Some p) = extents_given_back m p.settings.subpool p.settings.size p.extents
 
 -- The cell pool is there, with its extents in storage, each of which has a doubleword.
 pub record CanBeDeleted (m : StorageState) (plan : DeletePlan) : Type 0 where

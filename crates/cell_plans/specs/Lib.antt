@@ -1,4 +1,5 @@
 pub mod CellPlans
 pub mod Emptied
+pub mod Areas
 pub mod Seen
 pub mod Handing

@@ -1,11 +1,12 @@
 //! Plans of CPOOL DELETE.
-ghost use Rattle.std.specs.Prelude.{◌≡◌, ◌+◌, ◌^◌, ◌≤◌, true, Bool, length, [], IfOk};
+ghost use Rattle.std.specs.Prelude.{◌≡◌, ℕ, ◌+◌, ◌≤◌, true, Bool, length, IsOk, OnOk, IfOk, IfErr};
 ghost use Rattle.vsm_model.specs.declared.limits.Settings.{Settings};
 ghost use Rattle.vsm_model.specs.Regions.{settings_valid};
 ghost use Rattle.vsm_model.specs.Services.{delete};
-ghost use Rattle.storage_changes.specs.Changes.{change_parking};
-ghost use Rattle.storage_exchange.specs.Storage.{state_of, Stand};
+ghost use Rattle.storage_exchange.specs.Storage.{hold, state_of, Stand, IsFrameless};
 ghost use Rattle.storage_plans.specs.Places.{StandsSound};
+ghost use Rattle.storage_swap.specs.Builder.{IsBuilding, Builds, Pushes};
+ghost use Rattle.storage_swap.specs.Reserve.{Grown, Reserves};
 ghost use Rattle.cell_plans.specs.CellPlans.{delete_change, CanBeDeleted, IsDeletePlanned};
 
 use crate::giving_back::push_extents;
@@ -13,11 +14,10 @@ use crate::seen::find_seen;
 use cell_actions::laws::deleting_leads;
 use cell_laws::laws::cell_pools_stay_well_formed;
 use cell_pool::CellId;
-use std::alloc::{AllocError, Global};
-use storage_changes::{CellPoolRecord, Record};
+use std::alloc::AllocError;
+use storage_changes::{CellPoolRecord, Record, RegisterRecord};
 use storage_exchange::Storage;
-use storage_plans::Listed;
-use storage_plans::listed::push_register;
+use storage_swap::{Change, ChangeBuilder};
 use subpool_storage::laws::cell_pools_are_named;
 use vsm_model::Cause;
 
@@ -26,9 +26,6 @@ use vsm_model::Cause;
 pub struct DeletePlan {
     pub pool: CellId,
 }
-
-/// The most records of a change: with more, it's refused as if there were no memory for them.
-const RECORDS_MOST: usize = 1 << 22;
 
 /// A plan for the end of a cell pool (*Assembler Services Reference*, CPOOL DELETE): each of its extents is given back,
 /// cells in use among them, and the pages that are left without a taken doubleword leave the subpool. Register 15 gets
@@ -53,33 +50,63 @@ pub fn plan_delete(storage: &Storage, name: &str) -> Result<DeletePlan, Cause>
 }
 
 impl DeletePlan {
-    /// What the change is made of: a record for the cell pool, and up to four for each of its extents, which is given
-    /// back with the pages that it empties once those before it are given back; and four blank elements for each of
-    /// them, and one more. `AllocError` where there is no memory for the list, it would have four million records
-    /// (2^22) or more, or the cell pool has more than a million extents (2^20).
-    pub fn listed(self, alloc: Global, storage: &Storage) -> Result<Listed, AllocError>
-        requires stands { Stand storage.now }
-        requires can { CanBeDeleted (state_of storage.now) self }
-        ensures change { IfOk result (λ l. change_parking l.names.items l.records.items l.blanks
-            ≡ delete_change (state_of storage.now) self) }
-        ensures names { IfOk result (λ l. l.names.items ≡ []) }
-        ensures size { IfOk result (λ l. length l.names.items + (length l.records.items + l.blanks) ≤ 2 ^ 24) }
+    /// The change: a record for the cell pool, and up to four for each of its extents, which is given back with the
+    /// pages that it empties once those before it are given back; one for register 15; and four blank elements for each
+    /// extent, and one more. The state of the storage stays as it is.
+    ///
+    /// `AllocError` where memory is refused: what was made before that stays, as spare elements. Where so many elements
+    /// are spare as it has records and blank elements, it takes no memory.
+    pub fn reserve(self, storage: &mut Storage) -> Result<Change, AllocError>
+        requires stands { Stand storage.old }
+        requires once { (i : ℕ) → hold storage.old i ≤ 1 }
+        requires frameless { IsFrameless storage.old }
+        requires can { CanBeDeleted (state_of storage.old) self }
+        ensures ok { IfOk result (λ change.
+            Reserves storage.old (delete_change (state_of storage.old) self) change storage.new) }
+        ensures frames { IfOk result (λ change. length change.frames ≡ 0) }
+        ensures grown { IfErr result (λ _. Grown storage.old storage.new) }
+        ensures needless { let d = delete_change (state_of storage.old) self in
+            length d.records + d.blanks ≤ storage.old.elements.spare → IsOk result }
+    {
+        let mut builder = ChangeBuilder::new();
+        match self.push_records(storage, &mut builder) {
+            Ok(blanks) => builder.finish(storage, blanks),
+            Err(refused) => {
+                builder.discard(storage);
+                Err(refused)
+            }
+        }
+    }
+
+    // The records of the change, in their order. Answers how many blank elements it has.
+    fn push_records(
+        self,
+        storage: &mut Storage,
+        builder: &mut ChangeBuilder,
+    ) -> Result<u32, AllocError>
+        requires building { IsBuilding storage.old builder.old }
+        requires can { CanBeDeleted (state_of storage.old) self }
+        ensures builds { Builds storage.old builder.old storage.new builder.new }
+        ensures ok { OnOk result (Pushes storage.old builder.old
+            (delete_change (state_of storage.old) self).records storage.new builder.new) }
+        ensures blanks { IfOk result (λ n. n ≡ (delete_change (state_of storage.old) self).blanks) }
+        ensures needless { let d = delete_change (state_of storage.old) self in
+            length d.records + d.blanks ≤ storage.old.elements.spare → IsOk result }
     {
         cell_pools_are_named();
-        let mut records = Vec::new(alloc);
-        records.push(Record::CellPool(CellPoolRecord {
+        let current = storage.tasks.current();
+        let gone = Record::CellPool(CellPoolRecord {
             pool: self.pool,
             present: false,
-        }))?;
-        let extents = push_extents(alloc, storage, &mut records, self.pool)?;
-        push_register(&mut records, storage.tasks.current(), 15, 0)?;
-        if records.len() >= RECORDS_MOST {
-            return Err(AllocError);
-        }
-        Ok(Listed {
-            names: Vec::new(alloc),
-            records,
-            blanks: 4 * extents + 1,
-        })
+        });
+        let returned = Record::Register(RegisterRecord {
+            task: current,
+            register: 15,
+            word: 0,
+        });
+        builder.push(storage, gone)?;
+        let extents = push_extents(storage, builder, self.pool)?;
+        builder.push(storage, returned)?;
+        Ok(4 * extents + 1)
     }
 }

@@ -1,12 +1,15 @@
 //! Which pages an extent of a cell pool empties, once those before it are given back.
-ghost use Rattle.std.specs.Prelude.{◌≡◌, ◌+◌, ◌/◌, ◌^◌, ◌<◌, ◌≤◌, All};
+ghost use Rattle.std.specs.Prelude.{◌≡◌, ◌+◌, ◌/◌, ◌^◌, ◌<◌, ◌≤◌};
 ghost use Rattle.run_set.specs.Runs.{contains, inside};
 ghost use Rattle.vsm_model.specs.Regions.{pages_for};
 ghost use Rattle.vsm_model.specs.Search.{all_pass};
 ghost use Rattle.storage_actions.specs.Actions.{emptied_pages};
 ghost use Rattle.storage_exchange.specs.Storage.{state_of, Stand};
+ghost use Rattle.cell_plans.specs.Areas.{first_areas};
+ghost use Rattle.cell_plans.specs.CellPlans.{CanBeDeleted};
 ghost use Rattle.cell_plans.specs.Emptied.{freed, IsFreeUpTo};
 
+use crate::areas::{FirstExtents, first_place, next_area};
 use free_queue::FreeQueue;
 use free_queue::laws::queues_stand;
 use run_set::Run;
@@ -41,27 +44,36 @@ fn free_end(storage: &Storage, subpool: Subpool, doubleword: u32) -> u32
     doubleword
 }
 
-// The end of the first of these areas that has the doubleword, or the doubleword itself where none has it.
-fn given_end(given: &[Run], doubleword: u32) -> u32
-    requires { All (λ area. area.start + area.len ≤ 2 ^ 29) given.now }
-    ensures { IsFreeUpTo (λ d. contains d given.now) doubleword result }
+// The end of the first of these extents that has the doubleword, or the doubleword itself where none has it.
+fn given_end(storage: &Storage, given: FirstExtents, doubleword: u32) -> u32
+    requires stands { Stand storage.now }
+    requires can { CanBeDeleted (state_of storage.now) (record { pool = given.pool }) }
+    ensures { IsFreeUpTo (λ d. contains d (first_areas (state_of storage.now) given)) doubleword result }
 {
-    for area in given {
-        if has(*area, doubleword) {
+    let mut place = first_place(storage, given.pool);
+    let mut left = given.count;
+    while left > 0 {
+        let Some((area, next)) = next_area(storage, place) else {
+            return doubleword;
+        };
+        if has(area, doubleword) {
             return area.start + area.len;
         }
+        left -= 1;
+        place = next;
     }
     doubleword
 }
 
-// The end of free doublewords of the subpool, with the areas that were given back, that begin with this one; the
+// The end of free doublewords of the subpool, with the extents that were given back, that begin with this one; the
 // doubleword itself where it isn't free.
-fn end_of_free(storage: &Storage, subpool: Subpool, given: &[Run], doubleword: u32) -> u32
+fn end_of_free(storage: &Storage, subpool: Subpool, given: FirstExtents, doubleword: u32) -> u32
     requires stands { Stand storage.now }
-    requires given { All (λ area. area.start + area.len ≤ 2 ^ 29) given.now }
-    ensures { IsFreeUpTo ((freed (state_of storage.now).subpools subpool given.now).free subpool) doubleword result }
+    requires can { CanBeDeleted (state_of storage.now) (record { pool = given.pool }) }
+    ensures { IsFreeUpTo ((freed (state_of storage.now).subpools subpool
+        (first_areas (state_of storage.now) given)).free subpool) doubleword result }
 {
-    let end = given_end(given, doubleword);
+    let end = given_end(storage, given, doubleword);
     if doubleword < end {
         end
     } else {
@@ -69,13 +81,14 @@ fn end_of_free(storage: &Storage, subpool: Subpool, given: &[Run], doubleword: u
     }
 }
 
-// Whether each doubleword of the area, if it has any, is free storage of the subpool, with the areas that were given
+// Whether each doubleword of the area, if it has any, is free storage of the subpool, with the extents that were given
 // back.
-fn is_free(storage: &Storage, subpool: Subpool, given: &[Run], area: Run) -> bool
+fn is_free(storage: &Storage, subpool: Subpool, given: FirstExtents, area: Run) -> bool
     requires stands { Stand storage.now }
-    requires given { All (λ area. area.start + area.len ≤ 2 ^ 29) given.now }
+    requires can { CanBeDeleted (state_of storage.now) (record { pool = given.pool }) }
     requires range { area.start + area.len ≤ 2 ^ 29 }
-    ensures { result ≡ all_pass ((freed (state_of storage.now).subpools subpool given.now).free subpool)
+    ensures { result ≡ all_pass ((freed (state_of storage.now).subpools subpool
+        (first_areas (state_of storage.now) given)).free subpool)
         area.start area.len }
 {
     let past = area.start + area.len;
@@ -106,14 +119,15 @@ fn pages_of(area: Run) -> Run
     }
 }
 
-/// The pages that the area, in doublewords, empties when it's given back to the subpool, once these other areas are.
+/// The pages that the area, in doublewords, empties when it's given back to the subpool, once these extents are.
 /// Reads alone.
-pub(crate) fn emptied(storage: &Storage, subpool: Subpool, given: &[Run], area: Run) -> Run
+pub(crate) fn emptied(storage: &Storage, subpool: Subpool, given: FirstExtents, area: Run) -> Run
     requires stands { Stand storage.now }
-    requires given { All (λ area. area.start + area.len ≤ 2 ^ 29) given.now }
+    requires can { CanBeDeleted (state_of storage.now) (record { pool = given.pool }) }
     requires some { 0 < area.len }
     requires range { area.start + area.len ≤ 2 ^ 29 }
-    ensures value { result ≡ emptied_pages (freed (state_of storage.now).subpools subpool given.now) subpool
+    ensures value { result ≡ emptied_pages (freed (state_of storage.now).subpools subpool
+        (first_areas (state_of storage.now) given)) subpool
         area.start area.len }
     ensures range { result.start + result.len ≤ 2 ^ 20 }
 {

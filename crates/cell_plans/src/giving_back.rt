@@ -1,36 +1,41 @@
 //! The records by which the extents of a cell pool are given back.
-ghost use Rattle.std.specs.Prelude.{◌≡◌, ◌+◌, ◌-◌, ◌^◌, ◌<◌, ◌≤◌, ◌++◌, true, All, length, Some, IfOk, OnOk};
-ghost use Rattle.vsm_model.specs.declared.Subpool.{Subpool as Named};
-ghost use Rattle.cell_pool.specs.Pools.{Pool};
-ghost use Rattle.subpool_storage.specs.Subpools.{Subpools, with_free};
+ghost use Rattle.std.specs.Prelude.{◌≡◌, ◌+◌, ◌*◌, ◌-◌, ◌^◌, ◌<◌, ◌≤◌, ◌++◌, [], length, IsOk, IfOk, OnOk};
+ghost use Rattle.arrayvec.specs.ArrayVec.{array_vec_len};
 ghost use Rattle.storage_actions.specs.Actions.{area_records, give_back_records, returned_records};
-ghost use Rattle.storage_exchange.specs.Storage.{state_of, Stand};
-ghost use Rattle.cell_actions.specs.Actions.{extents_given_back};
-ghost use Rattle.cell_plans.specs.CellPlans.{CanBeDeleted};
+ghost use Rattle.storage_exchange.specs.Storage.{state_of};
+ghost use Rattle.storage_swap.specs.Builder.{IsBuilding, Builds, Pushes};
+ghost use Rattle.cell_plans.specs.Areas.{first_areas};
+ghost use Rattle.cell_plans.specs.CellPlans.{pool_given_back, extents_of_pool, CanBeDeleted};
 ghost use Rattle.cell_plans.specs.Emptied.{area_given_back, freed};
 
+use crate::areas::{FirstExtents, area_at};
 use crate::emptied::{PAGE_DOUBLEWORDS, emptied};
-use crate::sizes::extent_doublewords;
-use cell_pool::{CellId, CellPools};
+use arrayvec::ArrayVec;
+use cell_pool::CellId;
 use run_set::Run;
-use std::alloc::{AllocError, Global};
+use std::alloc::AllocError;
 use storage_changes::{AreaRecord, ExtentRecord, PagesRecord, Record};
 use storage_exchange::Storage;
+use storage_plans::PLAN_RECORDS;
+use storage_swap::ChangeBuilder;
 use vsm_model::Subpool;
 
-/// The most extents of a cell pool that goes: with more, it's refused as if there were no memory for its records.
-const EXTENTS_MOST: u32 = 1 << 20;
+/// The most extents of a cell pool that goes: with more, its blank elements would be more than there are ids of 32
+/// bits.
+const EXTENTS_MOST: u32 = (1 << 30) - 1;
 
 // One more record: the doublewords from one up to another, if there are any, become free storage of the subpool, or
 // taken.
 fn push_between(
-    records: &mut Vec<Record>,
+    records: &mut ArrayVec<Record, PLAN_RECORDS>,
     subpool: Subpool,
     from: u32,
     to: u32,
     free: bool,
-) -> Result<(), AllocError>
-    ensures { OnOk result (records.new.items ≡ records.old.items ++ area_records subpool from (to - from) free) }
+)
+    requires { array_vec_len records.old < 17 }
+    ensures records { records.new.items ≡ records.old.items ++ area_records subpool from (to - from) free }
+    ensures few { array_vec_len records.new ≤ array_vec_len records.old + 1 }
 {
     if from < to {
         records.push(Record::Area(AreaRecord {
@@ -40,131 +45,133 @@ fn push_between(
                 len: to - from,
             },
             free,
-        }))?;
+        }));
     }
-    Ok(())
 }
 
 // The pages, which are the subpool's, leave it and become unassigned.
-fn push_returned(records: &mut Vec<Record>, subpool: Subpool, run: Run) -> Result<(), AllocError>
-    requires { 0 < run.len }
-    ensures { OnOk result (records.new.items ≡ records.old.items ++ returned_records subpool run.start run.len) }
+fn push_returned(records: &mut ArrayVec<Record, PLAN_RECORDS>, subpool: Subpool, run: Run)
+    requires few { array_vec_len records.old + 2 ≤ 17 }
+    requires some { 0 < run.len }
+    ensures records { records.new.items ≡ records.old.items ++ returned_records subpool run.start run.len }
 {
     records.push(Record::Extent(ExtentRecord {
         subpool,
         run,
         present: false,
-    }))?;
+    }));
     records.push(Record::Pages(PagesRecord {
         run,
         assigned: false,
-    }))?;
-    Ok(())
+    }));
 }
 
 // The area, in doublewords, is given back with the pages that it empties: what of either lies beside the other becomes
 // free, or taken.
 fn push_given_back(
-    records: &mut Vec<Record>,
+    records: &mut ArrayVec<Record, PLAN_RECORDS>,
     subpool: Subpool,
     area: Run,
     pages: Run,
-) -> Result<(), AllocError>
+)
+    requires none { records.old.items ≡ [] }
     requires range { area.start + area.len ≤ 2 ^ 29 }
     requires high { pages.start + pages.len ≤ 2 ^ 20 }
-    ensures { OnOk result (records.new.items
-        ≡ records.old.items ++ give_back_records subpool area.start area.len pages.start pages.len) }
+    ensures { records.new.items ≡ give_back_records subpool area.start area.len pages.start pages.len }
 {
     let past = area.start + area.len;
     if pages.len == 0 {
-        return push_between(records, subpool, area.start, past, true);
+        push_between(records, subpool, area.start, past, true);
+        return;
     }
     let begin = PAGE_DOUBLEWORDS * pages.start;
     let end = PAGE_DOUBLEWORDS * (pages.start + pages.len);
-    push_between(records, subpool, area.start, begin, true)?;
-    push_between(records, subpool, begin, area.start, false)?;
-    push_between(records, subpool, end, past, true)?;
-    push_between(records, subpool, past, end, false)?;
-    push_returned(records, subpool, pages)
+    push_between(records, subpool, area.start, begin, true);
+    push_between(records, subpool, begin, area.start, false);
+    push_between(records, subpool, end, past, true);
+    push_between(records, subpool, past, end, false);
+    push_returned(records, subpool, pages);
 }
 
-// The area is given back with the pages that it empties, once these other areas are given back.
-fn push_area(
-    storage: &Storage,
-    records: &mut Vec<Record>,
-    subpool: Subpool,
-    given: &Vec<Run>,
-    area: Run,
+// One more record of the change for each of these, in their order.
+fn push_all(
+    storage: &mut Storage,
+    builder: &mut ChangeBuilder,
+    records: &[Record],
 ) -> Result<(), AllocError>
-    requires stands { Stand storage.now }
-    requires given { All (λ area. area.start + area.len ≤ 2 ^ 29) given.now.items }
-    requires some { 0 < area.len }
-    requires range { area.start + area.len ≤ 2 ^ 29 }
-    ensures { OnOk result (records.new.items ≡ records.old.items
-        ++ area_given_back (freed (state_of storage.now).subpools subpool given.now.items) subpool area) }
+    requires { IsBuilding storage.old builder.old }
+    ensures builds { Builds storage.old builder.old storage.new builder.new }
+    ensures ok { OnOk result (Pushes storage.old builder.old records.now storage.new builder.new) }
+    ensures needless { length records.now ≤ storage.old.elements.spare → IsOk result }
 {
-    let pages = emptied(storage, subpool, given, area);
-    push_given_back(records, subpool, area, pages)
-}
-
-// One more area that is given back: where it begins at the end of the last one, they are one.
-fn add_given(given: &mut Vec<Run>, area: Run) -> Result<(), AllocError>
-    requires given { All (λ area. area.start + area.len ≤ 2 ^ 29) given.old.items }
-    requires range { area.start + area.len ≤ 2 ^ 29 }
-    ensures freed { OnOk result ((m : Subpools) (p : Named) → freed m p given.new.items
-        ≡ with_free (freed m p given.old.items) p area true) }
-    ensures low { OnOk result (All (λ area. area.start + area.len ≤ 2 ^ 29) given.new.items) }
-{
-    let Some(last) = given.pop() else {
-        given.push(area)?;
-        return Ok(());
-    };
-    if last.start + last.len == area.start {
-        given.push(Run {
-            start: last.start,
-            len: last.len + area.len,
-        })?;
-        return Ok(());
+    for k in 0..records.len() {
+        builder.push(storage, records[k])?;
     }
-    given.push(last)?;
-    given.push(area)?;
     Ok(())
 }
 
-/// The records by which each extent of the cell pool is given back, the first one first, and how many extents it has.
-/// `AllocError` where there is no memory for them, or it has more than a million extents (2^20).
+// The area is given back with the pages that it empties, once these extents are given back.
+fn push_area(
+    storage: &mut Storage,
+    builder: &mut ChangeBuilder,
+    subpool: Subpool,
+    given: FirstExtents,
+    area: Run,
+) -> Result<(), AllocError>
+    requires building { IsBuilding storage.old builder.old }
+    requires can { CanBeDeleted (state_of storage.old) (record { pool = given.pool }) }
+    requires some { 0 < area.len }
+    requires range { area.start + area.len ≤ 2 ^ 29 }
+    ensures builds { Builds storage.old builder.old storage.new builder.new }
+    ensures ok { let m = state_of storage.old in OnOk result (Pushes storage.old builder.old
+        (area_given_back (freed m.subpools subpool (first_areas m given)) subpool area) storage.new builder.new) }
+    ensures needless { let m = state_of storage.old in
+        length (area_given_back (freed m.subpools subpool (first_areas m given)) subpool area)
+        ≤ storage.old.elements.spare → IsOk result }
+{
+    let pages = emptied(storage, subpool, given, area);
+    let mut records = ArrayVec::new();
+    push_given_back(&mut records, subpool, area, pages);
+    push_all(storage, builder, records.as_slice())
+}
+
+// As many elements are spare as a word can say, at most.
+fn spares_are_few(storage: &Storage)
+    ensures { storage.now.elements.spare < 2 ^ 32 }
+{
+    let _spare = storage.elements.spare();
+}
+
+/// The records by which each extent of the cell pool is given back, the first one first. Answers how many extents it
+/// has.
+///
+/// `AllocError` where memory is refused, or the cell pool has more than 2^30 - 1 extents.
 pub(crate) fn push_extents(
-    alloc: Global,
-    storage: &Storage,
-    records: &mut Vec<Record>,
+    storage: &mut Storage,
+    builder: &mut ChangeBuilder,
     pool: CellId,
 ) -> Result<u32, AllocError>
-    requires stands { Stand storage.now }
-    requires can { CanBeDeleted (state_of storage.now) (record { pool = pool }) }
-    ensures records { IfOk result (λ count. (p : Pool) → (state_of storage.now).subpools.cells pool ≡ Some p
-        → records.new.items ≡ records.old.items ++ extents_given_back (state_of storage.now).subpools
-        p.settings.subpool p.settings.size p.extents) }
-    ensures count { IfOk result (λ count. (p : Pool) → (state_of storage.now).subpools.cells pool ≡ Some p
-        → count ≡ length p.extents) }
-    ensures few { IfOk result (λ count. count ≤ 2 ^ 20) }
+    requires building { IsBuilding storage.old builder.old }
+    requires can { CanBeDeleted (state_of storage.old) (record { pool = pool }) }
+    ensures builds { Builds storage.old builder.old storage.new builder.new }
+    ensures ok { let m = (state_of storage.old).subpools in OnOk result (Pushes storage.old builder.old
+        (pool_given_back m (m.cells pool)) storage.new builder.new) }
+    ensures count { IfOk result (λ n. n ≡ extents_of_pool ((state_of storage.old).subpools.cells pool)) }
+    ensures few { IfOk result (λ n. n < 2 ^ 30) }
+    ensures needless { let m = (state_of storage.old).subpools in
+        length (pool_given_back m (m.cells pool)) + (4 * extents_of_pool (m.cells pool) + 1)
+        ≤ storage.old.elements.spare → IsOk result }
 {
+    spares_are_few(storage);
     let pools = storage.subpools.cell_pools(&storage.elements);
-    let cells = pools.settings(&storage.elements, pool);
-    let mut given = Vec::new(alloc);
+    let subpool = pools.settings(&storage.elements, pool).subpool;
     let mut count = 0;
-    let mut place = pools.first_extent(&storage.elements, pool);
-    while let Some((extent, next)) = CellPools::next_extent(&storage.elements, place) {
+    while let Some(area) = area_at(storage, pool, count) {
         if count == EXTENTS_MOST {
             return Err(AllocError);
         }
-        let area = Run {
-            start: extent.start / 8,
-            len: extent_doublewords(extent.count, cells.size),
-        };
-        push_area(storage, records, cells.subpool, &given, area)?;
-        add_given(&mut given, area)?;
+        push_area(storage, builder, subpool, FirstExtents { pool, count }, area)?;
         count += 1;
-        place = next;
     }
     Ok(count)
 }

@@ -1,6 +1,7 @@
 //! Plans of cell pools that come, hand out cells, take them back and go.
 #![tactic(auto)]
 
+mod areas;
 mod build;
 mod delete;
 mod emptied;

@@ -133,8 +133,8 @@ elements_below m (Build plan) = 32
 elements_below m (Delete plan) = 32 + 8 * (1 + extents_of_pool (m.subpools.cells plan.pool))
 
 -- Nothing has to grow for the plan's change: a new task takes an element for each of its records and blank ones, and so
--- do tasks that end, with one for each subpool that is parked; and a cell pool that comes takes 30 elements besides those
--- of its cells and of their marks. Where a cell pool goes that isn't said: the list of the records is made first.
+-- do tasks that end, with one for each subpool that is parked; a cell pool that comes takes 30 elements besides those
+-- of its cells and of their marks; and one that goes fewer than 32, and 8 more for it and for each of its extents.
 abbrev pub IsSpare : Parts → StorageState → Plan → Type 0
 IsSpare p m (Storage plan) = IsSpareFor p (storage_elements m plan) plan.fresh
 IsSpare p m (Attach plan) =
@@ -144,4 +144,4 @@ IsSpare p m (End plan) =
     ≤ p.elements.spare
 IsSpare p m (Build plan) =
     IsSpareFor p (30 + (plan.settings.primary + mark_items plan.settings.primary)) plan.fresh
-IsSpare p m (Delete plan) = ⊥
+IsSpare p m (Delete plan) = elements_below m (Delete plan) ≤ p.elements.spare

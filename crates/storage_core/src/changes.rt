@@ -1,22 +1,23 @@
 //! Changes of a storage: made of a plan, exchanged with it, and discarded.
-ghost use Rattle.std.specs.Prelude.{◌≡◌, ℕ, ◌+◌, ◌^◌, ◌<◌, ◌≤◌, length, IsOk, OnErr, IfOk};
+ghost use Rattle.std.specs.Prelude.{◌≡◌, ℕ, ◌+◌, ◌<◌, ◌≤◌, length, IsOk, OnErr, IfOk};
 ghost use Rattle.storage_changes.specs.Changes.{Fit, overlay};
 ghost use Rattle.storage_changes.specs.Meaning.{IsSound};
-ghost use Rattle.storage_changes.specs.Changes.{change_parking};
 ghost use Rattle.storage_plans.specs.Plans.{change_in};
-ghost use Rattle.storage_swap.specs.Reserve.{Reserves, AreNames};
+ghost use Rattle.storage_swap.specs.Reserve.{Reserves};
 ghost use Rattle.storage_swap.specs.Swap.{means, Ready, Swaps, Discards};
 ghost use Rattle.storage_core.specs.Meaning.{state_in_place, settings_of};
 ghost use Rattle.storage_core.specs.Planned.{change_for, elements_below, pages_assigned, storage_elements};
 ghost use Rattle.storage_core.specs.Planned.{CanBeReserved, HasRecords, IsIdFor, IsSpare, IsSpareFor};
 ghost use Rattle.storage_core.specs.Stays.{Stays};
-ghost use Rattle.storage_core.specs.declared.plans.Plan.TheVariants.{Attach, End};
+ghost use Rattle.storage_core.specs.declared.plans.Plan.TheVariants.{Attach, Delete, End};
+ghost use Rattle.cell_plans.specs.CellPlans.{delete_change, CanBeDeleted};
 ghost use Rattle.task_plans.specs.TaskPlans.{attach_change, end_change, parks_all, CanBeAttached, CanBeEnded};
 
 use crate::plans::Plan;
 use crate::storage::Storage;
+use cell_plans::DeletePlan;
 use std::alloc::AllocError;
-use storage_plans::{Listed, Plan as StoragePlan};
+use storage_plans::Plan as StoragePlan;
 use storage_swap::Change;
 use task_plans::{AttachPlan, EndPlan};
 
@@ -32,8 +33,8 @@ impl Storage {
     /// parked, and those of what these hold, which were the storage's, and those of a cell pool that comes. It has just
     /// as many frames as pages come to be assigned.
     ///
-    /// `AllocError` where memory is refused. But for a cell pool that goes, that can be only where fewer elements or
-    /// frames are spare, or a table isn't there. What was made before that stays, as spare elements and frames.
+    /// `AllocError` where memory is refused: that can be only where fewer elements or frames are spare, or a table
+    /// isn't there. What was made before that stays, as spare elements and frames.
     pub fn reserve(&mut self, plan: Plan) -> Result<Change, AllocError>
         requires { CanBeReserved (state_in_place self.old) plan }
         ensures ok { IfOk result (λ change. (id : ℕ) × IsIdFor (state_in_place self.old) plan id
@@ -50,10 +51,7 @@ impl Storage {
             Plan::Attach(plan) => self.reserve_attach(plan),
             Plan::End(plan) => self.reserve_end(plan),
             Plan::Build(plan) => self.reserve_building(plan),
-            Plan::Delete(plan) => {
-                let listed = plan.listed(self.alloc, &self.parts)?;
-                self.reserve_listed(listed)
-            }
+            Plan::Delete(plan) => self.reserve_delete(plan),
         }
     }
 
@@ -112,22 +110,20 @@ impl Storage {
         plan.reserve(&mut self.parts)
     }
 
-    // The change of listed records.
-    fn reserve_listed(&mut self, listed: Listed) -> Result<Change, AllocError>
-        requires names { AreNames listed.names.items }
-        requires size { length listed.names.items + (length listed.records.items + listed.blanks) ≤ 2 ^ 24 }
+    // The change of a cell pool that goes.
+    fn reserve_delete(&mut self, plan: DeletePlan) -> Result<Change, AllocError>
+        requires { CanBeDeleted (state_in_place self.old) plan }
         ensures ok { IfOk result (λ change. Reserves self.old.parts
-            (change_parking listed.names.items listed.records.items listed.blanks) change self.new.parts) }
+            (delete_change (state_in_place self.old) plan) change self.new.parts) }
         ensures frames { IfOk result (λ change. length change.frames ≡ 0) }
+        ensures few { IfOk result (λ change. change.records.count + change.blanks.count
+            < elements_below (state_in_place self.old) (Delete plan)) }
         ensures err { OnErr result (Stays self.old.parts self.new.parts) }
+        ensures needless { elements_below (state_in_place self.old) (Delete plan) ≤ self.old.parts.elements.spare
+            → IsOk result }
         ensures settings { settings_of self.new ≡ settings_of self.old }
     {
-        Change::reserve_parking(
-            &mut self.parts,
-            &listed.names,
-            &listed.records,
-            listed.blanks,
-        )
+        plan.reserve(&mut self.parts)
     }
 
     /// Exchanges a change with the storage, and leaves in its place the one that takes it back. Takes no memory, and

@@ -1,70 +1,66 @@
-use Rattle.std.proofs.Common.{◌≡◌, ℕ, ◌/◌, List, ◌∷◌, ◌++◌, true, length, ap, ◌∙◌, arith}
+use Rattle.std.proofs.Common.{◌≡◌, ℕ, ◌+◌, ◌*◌, ◌<◌, List, length, ap, sym, ◌∙◌, subst, arith}
 use Rattle.run_set.specs.declared.run.Run.{Run}
-use Rattle.cell_extents.specs.declared.settings.Extent.{Extent}
-use Rattle.cell_pool.specs.Walks.{extents_left}
 use Rattle.storage_changes.specs.declared.record.Record.{Record}
-use Rattle.subpool_storage.specs.Subpools.{with_free}
 use Rattle.storage_exchange.specs.Storage.{state_of}
-use Rattle.storage_actions.specs.Actions.{emptied_pages, give_back_records, run_of}
-use Rattle.cell_actions.specs.Actions.{extents_given_back}
-use Rattle.cell_plans.specs.Emptied.{area_of, freed}
-use Rattle.cell_plans.proofs.GivenAreas.{EndsLow, first_has, rest_have, records_go_over}
+use Rattle.storage_swap.specs.Builder.{Pushes}
+use Rattle.storage_swap.proofs.BuilderLemmas.{builds-follow}
+use Rattle.cell_plans.specs.Areas.{areas_of}
+use Rattle.cell_plans.specs.CellPlans.{pool_given_back, extents_of_pool}
+use Rattle.cell_plans.proofs.AreaWalks.{still_can, its_subpool, pool_as_areas, areas_count, areas_given_back, areas_none, all_came, all_counted, is_one_more, area_room, area_more}
 use Rattle.cell_plans.proofs.giving_back.push_extents.Goals as goal
 
-pub extent_doublewords-requires : goal.extent_doublewords-requires
-extent_doublewords-requires c =
-    let s = c.args.storage.now.elements in
-    let low = first_has (EndsLow c.settings-cells.result.size) c.in-Some.extent (extents_left s c.in-Some.next) (extents_left s c.loop-extent.place)
-    c.in-Some.ensures.next c.loop-extent.invariant.low in
-    low.1
+pub loop-area-init : goal.loop-area-init
+loop-area-init c = areas_none _ _ _ _ c.requires.building
 
-pub push_area-requires-clause-some : goal.push_area-requires-clause-some
-push_area-requires-clause-some c =
-    let s = c.args.storage.now.elements in
-    let low = first_has (EndsLow c.settings-cells.result.size) c.in-Some.extent (extents_left s c.in-Some.next) (extents_left s c.loop-extent.place)
-    c.in-Some.ensures.next c.loop-extent.invariant.low in
-    omega (arith, low.0, c.extent_doublewords.ensures)
+pub area_at-requires-clause-can : goal.area_at-requires-clause-can
+area_at-requires-clause-can c = still_can c.args.storage.now c.loop-area.storage c.args.pool c.loop-area.invariant.leads.builds.keeps.shows c.requires.can
 
-pub push_area-requires-clause-range : goal.push_area-requires-clause-range
-push_area-requires-clause-range c =
-    let s = c.args.storage.now.elements in
-    let low = first_has (EndsLow c.settings-cells.result.size) c.in-Some.extent (extents_left s c.in-Some.next) (extents_left s c.loop-extent.place)
-    c.in-Some.ensures.next c.loop-extent.invariant.low in
-    omega (arith, low.2, c.extent_doublewords.ensures)
+pub push_area-requires-clause-can : goal.push_area-requires-clause-can
+push_area-requires-clause-can c = still_can c.args.storage.now c.loop-area.storage c.args.pool c.loop-area.invariant.leads.builds.keeps.shows c.requires.can
 
-pub add_given-requires-clause-range : goal.add_given-requires-clause-range
-add_given-requires-clause-range c =
-    let s = c.args.storage.now.elements in
-    let low = first_has (EndsLow c.settings-cells.result.size) c.in-Some.extent (extents_left s c.in-Some.next) (extents_left s c.loop-extent.place)
-    c.in-Some.ensures.next c.loop-extent.invariant.low in
-    omega (arith, low.2, c.extent_doublewords.ensures)
+pub returns-then-count-eq-EXTENTS_MOST-clause-builds : goal.returns-then-count-eq-EXTENTS_MOST-clause-builds
+returns-then-count-eq-EXTENTS_MOST-clause-builds c = c.loop-area.invariant.leads.builds
 
-pub loop-extent-preserved : goal.loop-extent-preserved
-loop-extent-preserved c =
-    let s = c.args.storage.now.elements in
+pub returns-then-count-eq-EXTENTS_MOST-clause-needless : goal.returns-then-count-eq-EXTENTS_MOST-clause-needless
+returns-then-count-eq-EXTENTS_MOST-clause-needless c = λ room.
+    let more = is_one_more _ _ _ _ _ _ _ c.loop-area.invariant c.in-Some.area (sym c.in-Some.ensures.area) in
+    let o = (state_of c.args.storage.now).subpools.cells c.args.pool in
+    absurd (omega (arith, more, room, areas_count o, c.if-count-eq-EXTENTS_MOST.true, c.spares_are_few.ensures))
+
+pub returns-in_err-push_area-clause-builds : goal.returns-in_err-push_area-clause-builds
+returns-in_err-push_area-clause-builds c = builds-follow _ _ _ _ _ _ c.loop-area.invariant.leads.builds c.push_area.ensures.builds
+
+pub returns-in_err-push_area-clause-needless : goal.returns-in_err-push_area-clause-needless
+returns-in_err-push_area-clause-needless c = λ room.
     let m = (state_of c.args.storage.now).subpools in
-    let p = c.settings-cells.result.subpool in
-    let size = c.settings-cells.result.size in
-    let x = c.in-Some.extent in
-    let rest = extents_left s c.in-Some.next in
-    let left = extents_left s c.loop-extent.place in
-    let is : left ≡ x ∷ rest = c.in-Some.ensures.next in
-    let low = first_has (EndsLow size) x rest left is c.loop-extent.invariant.low in
-    let given : List Run = c.loop-extent.given.items in
-    let now : List Run = c.add_given.new.given.items in
-    let e : c.extent_doublewords.result ≡ (area_of size x).len = c.extent_doublewords.ensures in
-    let more : freed m p now ≡ with_free (freed m p given) p (area_of size x) true =
-    c.in_ok-add_given.ensures.freed m p ∙ ap (λ (n : ℕ). with_free (freed m p given) p (run_of (x.start / 8) n) true) e in
-    let all : List Extent = extents_left s c.first_extent-place.result in
-    let old : List Record = c.loop-extent.records.items in
-    let gives : ℕ → List Record = λ n. give_back_records p (x.start / 8) n (emptied_pages (freed m p given) p (x.start / 8) n).start (emptied_pages (freed m p given) p (x.start / 8) n).len in
-    record {
-      place = c.in-Some.ensures.place;
-      low = rest_have (EndsLow size) x rest left is c.loop-extent.invariant.low;
-      given_low = c.in_ok-add_given.ensures.low;
-      count = (let b = ap length is in omega (arith, b, c.loop-extent.invariant.count));
-      few = omega (arith, c.loop-extent.invariant.few);
-      records = records_go_over m p size given x rest left is old c.push_area.new.records.items
-          (c.args.records.now.items ++ extents_given_back m p size all) now c.loop-extent.invariant.records
-          (c.in_ok-push_area.ensures ∙ ap (λ (n : ℕ). old ++ gives n) e) more;
-    }
+    let o = m.cells c.args.pool in
+    let p = c.settings.result.subpool in
+    let whole : areas_given_back m p (areas_of o) ≡ pool_given_back m o = pool_as_areas m p o (its_subpool _ o c.settings.result (c.cell_pools-pools.ensures.pools c.args.pool) c.settings.ensures) in
+    absurd (cc (c.in_err-push_area.ensures.needless (area_room _ _ _ _ _ _ _ c.loop-area.invariant c.in-Some.area (sym c.in-Some.ensures.area) (omega (arith, room, ap length whole)))))
+
+pub loop-area-smaller : goal.loop-area-smaller
+loop-area-smaller c =
+    let more = is_one_more _ _ _ _ _ _ _ c.loop-area.invariant c.in-Some.area (sym c.in-Some.ensures.area) in
+    omega (arith, more)
+
+pub loop-area-preserved : goal.loop-area-preserved
+loop-area-preserved c =
+    area_more _ _ _ _ _ _ _ c.loop-area.invariant c.in-Some.area (sym c.in-Some.ensures.area) c.push_area.new.storage c.push_area.new.builder
+    (omega (arith, c.loop-area.invariant.few, c.if-count-eq-EXTENTS_MOST.false)) c.push_area.ensures.builds c.in_ok-push_area.ensures.ok
+
+pub returns-clause-builds : goal.returns-clause-builds
+returns-clause-builds c = c.loop-area.invariant.leads.builds
+
+pub returns-clause-ok : goal.returns-clause-ok
+returns-clause-ok c =
+    let m = (state_of c.args.storage.now).subpools in
+    let o = m.cells c.args.pool in
+    let p = c.settings.result.subpool in
+    let whole : areas_given_back m p (areas_of o) ≡ pool_given_back m o = pool_as_areas m p o (its_subpool _ o c.settings.result (c.cell_pools-pools.ensures.pools c.args.pool) c.settings.ensures) in
+    let P : List Record → Type 0 = λ rs. Pushes c.args.storage.now c.args.builder.now rs c.loop-area.storage c.loop-area.builder in
+    subst P whole (all_came _ _ _ _ _ _ _ c.loop-area.invariant (sym c.in_default.ensures.area))
+
+pub returns-clause-count : goal.returns-clause-count
+returns-clause-count c =
+    let o = (state_of c.args.storage.now).subpools.cells c.args.pool in
+    all_counted _ _ _ _ _ _ _ c.loop-area.invariant (sym c.in_default.ensures.area) ∙ areas_count o

@@ -1,0 +1,68 @@
+use Rattle.std.proofs.Common.{◌≡◌, ℕ, ◌+◌, List, refl, subst, arith}
+use Rattle.storage_changes.specs.declared.record.Record.{Record}
+use Rattle.storage_exchange.specs.Storage.{state_of}
+use Rattle.storage_swap.specs.Builder.{Pushes}
+use Rattle.storage_swap.proofs.BuilderLemmas.{builds-follow, pushes-follow}
+use Rattle.cell_plans.proofs.AreaWalks.{still_can}
+use Rattle.cell_plans.proofs.DeletePlans.{found_pool, records_are, blanks_are, all_counted}
+use Rattle.cell_plans.proofs.delete.DeletePlan.push_records.Goals as goal
+
+pub push_extents-requires-clause-can : goal.push_extents-requires-clause-can
+push_extents-requires-clause-can c = still_can c.args.storage.now c.push.new.storage c.args.self.pool c.push.ensures.builds.keeps.shows c.requires.can
+
+pub returns-in_err-extents-clause-builds : goal.returns-in_err-extents-clause-builds
+returns-in_err-extents-clause-builds c = builds-follow _ _ _ _ _ _ c.push.ensures.builds c.push_extents.ensures.builds
+
+pub returns-in_err-push-2-clause-builds : goal.returns-in_err-push-2-clause-builds
+returns-in_err-push-2-clause-builds c = builds-follow _ _ _ _ _ _ (builds-follow _ _ _ _ _ _ c.push.ensures.builds c.push_extents.ensures.builds) c.push-2.ensures.builds
+
+pub returns-clause-builds : goal.returns-clause-builds
+returns-clause-builds c = builds-follow _ _ _ _ _ _ (builds-follow _ _ _ _ _ _ c.push.ensures.builds c.push_extents.ensures.builds) c.push-2.ensures.builds
+
+pub returns-in_err-extents-clause-needless : goal.returns-in_err-extents-clause-needless
+returns-in_err-extents-clause-needless c = λ room.
+    let storage = c.args.storage.now in
+    let m = state_of storage in
+    let u = state_of c.push.new.storage in
+    let same = c.push.ensures.builds.keeps.shows in
+    let id = c.args.self.pool in
+    let found = found_pool (m.subpools.cells id) c.requires.can.there in
+    let own = (c.cell_pools_are_named.ensures storage.elements storage.subpools c.requires.building.ready.stands.storage.subpools).ids id found.0 found.1 in
+    let counted = all_counted m u same id found.0 found.1 own in
+    let blanks = blanks_are m u same id found.0 found.1 own _ refl in
+    absurd (cc (c.in_err-extents.ensures.needless (omega (arith, room, counted, blanks, c.in_ok-push.ensures.ok.spare))))
+
+pub returns-in_err-push-2-clause-needless : goal.returns-in_err-push-2-clause-needless
+returns-in_err-push-2-clause-needless c = λ room.
+    let storage = c.args.storage.now in
+    let m = state_of storage in
+    let u = state_of c.push.new.storage in
+    let same = c.push.ensures.builds.keeps.shows in
+    let id = c.args.self.pool in
+    let found = found_pool (m.subpools.cells id) c.requires.can.there in
+    let own = (c.cell_pools_are_named.ensures storage.elements storage.subpools c.requires.building.ready.stands.storage.subpools).ids id found.0 found.1 in
+    let counted = all_counted m u same id found.0 found.1 own in
+    absurd (cc (c.in_err-push-2.ensures.needless (omega (arith, room, counted, c.in_ok-push.ensures.ok.spare, c.in_ok-extents.ensures.ok.spare))))
+
+pub returns-clause-ok : goal.returns-clause-ok
+returns-clause-ok c =
+    let storage = c.args.storage.now in
+    let m = state_of storage in
+    let u = state_of c.push.new.storage in
+    let same = c.push.ensures.builds.keeps.shows in
+    let id = c.args.self.pool in
+    let found = found_pool (m.subpools.cells id) c.requires.can.there in
+    let own = (c.cell_pools_are_named.ensures storage.elements storage.subpools c.requires.building.ready.stands.storage.subpools).ids id found.0 found.1 in
+    let P : List Record → Type 0 = λ rs. Pushes storage c.args.builder.now rs c.push-2.new.storage c.push-2.new.self in
+    subst P (records_are m u same id found.0 found.1 own c.current.result c.current.ensures)
+    (pushes-follow _ _ _ _ _ _ _ _ (pushes-follow _ _ _ _ _ _ _ _ c.in_ok-push.ensures.ok c.in_ok-extents.ensures.ok) c.in_ok-push-2.ensures.ok)
+
+pub returns-clause-blanks : goal.returns-clause-blanks
+returns-clause-blanks c =
+    let storage = c.args.storage.now in
+    let m = state_of storage in
+    let u = state_of c.push.new.storage in
+    let id = c.args.self.pool in
+    let found = found_pool (m.subpools.cells id) c.requires.can.there in
+    let own = (c.cell_pools_are_named.ensures storage.elements storage.subpools c.requires.building.ready.stands.storage.subpools).ids id found.0 found.1 in
+    blanks_are m u c.push.ensures.builds.keeps.shows id found.0 found.1 own c.in_ok-extents.extents c.in_ok-extents.ensures.count

@@ -1,0 +1,24 @@
+use Rattle.std.proofs.Common.{◌≡◌, ◌++◌, List, [], ap, ◌∙◌}
+use Rattle.subpool_storage.specs.Subpools.{Subpools, no_subpools}
+use Rattle.storage_changes.specs.declared.record.Record.{Record}
+use Rattle.storage_changes.specs.Changes.{change_of, no_pages}
+use Rattle.storage_exchange.specs.Storage.{state_of}
+use Rattle.storage_swap.specs.Builder.{records_in, parked_in, meaning_with}
+use Rattle.storage_swap.proofs.BuilderLemmas.{made-reserves}
+use Rattle.cell_plans.specs.CellPlans.{delete_change}
+use Rattle.cell_plans.proofs.DeletePlans.{delete_is}
+use Rattle.cell_plans.proofs.delete.DeletePlan.reserve.Goals as goal
+
+pub returns-in-Ok-clause-ok : goal.returns-in-Ok-clause-ok
+returns-in-Ok-clause-ok c =
+    let p = c.args.storage.now in
+    let m = state_of p in
+    let d = delete_change m c.args.self in
+    let t = c.push_records.new.storage in
+    let a = c.new-builder.result in
+    let b = c.push_records.new.builder in
+    let records : records_in t b ≡ d.records =
+    c.in-Ok.ensures.ok.records ∙ ap (λ (rs : List Record). rs ++ d.records) (c.new-builder.ensures.records p) in
+    let parked : parked_in t b ≡ no_subpools = c.in-Ok.ensures.ok.parked ∙ c.new-builder.ensures.parked p in
+    made-reserves p t c.finish.new.storage a b (c.new-builder.ensures.none p) c.push_records.ensures.builds c.in-Ok.blanks d c.finish.result c.finish.ensures.ok
+    ((λ i. record (change_of (records i) (c.in-Ok.ensures.blanks i) no_pages) { parked = parked i }) ∙ delete_is m (m.subpools.cells c.args.self.pool))

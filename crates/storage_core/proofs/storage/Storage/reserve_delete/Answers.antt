@@ -1,0 +1,30 @@
+use Rattle.std.proofs.Common.{arith}
+use Rattle.cell_plans.proofs.DeleteCounts.{delete-short}
+use Rattle.storage_core.specs.Meaning.{state_in_place}
+use Rattle.storage_core.proofs.Holding.{reserved_is_held}
+use Rattle.storage_core.proofs.Staying.{failed_stays}
+use Rattle.storage_core.proofs.CellPoolCounts.{delete_few}
+use Rattle.storage_core.proofs.storage.Storage.reserve_delete.Goals as goal
+
+pub invariant_of-self : goal.invariant_of-self
+invariant_of-self c =
+    let s = c.args.self.now in
+    record {
+      held = reserved_is_held s.settings s.parts c.reserve.new.storage _ s.held c.reserve.result
+          c.reserve.ensures.ok c.reserve.ensures.grown;
+    }
+
+pub returns-clause-err : goal.returns-clause-err
+returns-clause-err c =
+    let s = c.args.self.now in
+    failed_stays s.parts c.reserve.new.storage s.held.stands c.reserve.result c.reserve.ensures.grown
+
+pub returns-clause-few : goal.returns-clause-few
+returns-clause-few c =
+    let s = c.args.self.now in
+    delete_few s.parts c.reserve.new.storage (state_in_place s) c.args.plan c.reserve.result c.reserve.ensures.ok
+
+pub returns-clause-needless : goal.returns-clause-needless
+returns-clause-needless c = λ spare.
+    let m = state_in_place c.args.self.now in
+    c.reserve.ensures.needless (omega (arith, spare, delete-short m (m.subpools.cells c.args.plan.pool)))
