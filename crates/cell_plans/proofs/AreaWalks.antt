@@ -190,7 +190,7 @@ module _ (p : Subpool) (pool : ℕ) (s : Storage) (a : ChangeBuilder) where
       front =
           ap (areas_given_back (freed m.subpools p (take count all)) p) (next_dropped all count area here)
           ∙ ap (λ (u : Subpools). added_by m ++ areas_given_back u p (drop (count + 1) all))
-            (sym (ap (freed m.subpools p) (next_taken all count area here) ∙ freed_more m.subpools p (take count all) area))
+          (sym (ap (freed m.subpools p) (next_taken all count area here) ∙ freed_more m.subpools p (take count all) area))
           ∙ ap (λ (x : StorageState). added_by x ++ rest_from (count + 1)) (sym w.leads.builds.keeps.shows)
 
       pub area_room : length whole ≤ s.elements.spare → length (added_by (state_of t)) ≤ t.elements.spare

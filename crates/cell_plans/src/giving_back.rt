@@ -170,7 +170,13 @@ pub(crate) fn push_extents(
         if count == EXTENTS_MOST {
             return Err(AllocError);
         }
-        push_area(storage, builder, subpool, FirstExtents { pool, count }, area)?;
+        push_area(
+            storage,
+            builder,
+            subpool,
+            FirstExtents { pool, count },
+            area,
+        )?;
         count += 1;
     }
     Ok(count)

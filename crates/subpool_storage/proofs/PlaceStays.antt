@@ -56,7 +56,7 @@ places_stay s t q h same =
     let own : (i : ℕ) → among i (owned s q.set) ≡ true → at t i ≡ at s i = λ i m. same i (omega (arith, times-some i (owned s q.set) m)) in
     let k = places_kept s t q.set h.set own in (
       (λ place p.
-      let r = k.0 place p in
-      (r.0, ap (map (named t)) r.1 ∙ same_names s t (pools_left s q.set place) (λ i m. own i (left_owned s q.set place i m)))),
+          let r = k.0 place p in
+          (r.0, ap (map (named t)) r.1 ∙ same_names s t (pools_left s q.set place) (λ i m. own i (left_owned s q.set place i m)))),
       (λ place p. let r = k.1 place p in (r.0, λ x. r.1 x.number x.owner)),
     )
