@@ -67,6 +67,8 @@ impl Change {
         ensures small { IfOk result (λ r. r.1 < 2 ^ 32) }
         ensures frames { IfOk result (λ r. length r.0.frames ≡ fresh.len) }
         ensures grown { IfErr result (λ _. Grown storage.old storage.new) }
+        ensures uses { IfOk result (λ _. storage.old.elements.spare
+            ≤ storage.new.elements.spare + elements_to_build pool.now (length records.now) blanks) }
         ensures needless { elements_to_build pool.now (length records.now) blanks ≤ storage.old.elements.spare
             → fresh.len ≤ storage.old.region.spare → HaveTables storage.old.region fresh.start fresh.len
             → IsOk result }
@@ -100,6 +102,8 @@ fn make_building(
         (change_building (pool_as pool.now result.1) (change_of records.now blanks fresh)) result.0 storage.new }
     ensures absent { (state_of storage.old).subpools.cells result.1 ≡ None }
     ensures frames { length result.0.frames ≡ fresh.len }
+    ensures spare { storage.new.elements.spare + elements_to_build pool.now (length records.now) blanks
+        ≡ storage.old.elements.spare }
 {
     pools_are_held();
     let (parked, id) = park_pool(&mut storage.elements, pool);

@@ -15,7 +15,7 @@ ghost use Rattle.subpool_storage.specs.Subpools.{is_there};
 ghost use Rattle.subpool_storage.specs.SubpoolStorage.{subpools_of, hold as held_parked, Stands};
 ghost use Rattle.storage_changes.specs.Changes.{change_from};
 ghost use Rattle.storage_exchange.specs.Storage.{hold, state_of, Stand, IsFrameless};
-ghost use Rattle.storage_swap.specs.Reserve.{Grown, Reserves, elements_for, emptied_extents, parked_under};
+ghost use Rattle.storage_swap.specs.Reserve.{Grown, Reserves, elements_for, emptied_extents, emptying, parked_under};
 
 use crate::chains::take_records;
 use crate::change::Change;
@@ -64,6 +64,8 @@ impl Change {
             (change_from (state_of storage.old).subpools emptied records.now blanks fresh) c storage.new) }
         ensures frames { IfOk result (λ c. length c.frames ≡ fresh.len) }
         ensures grown { IfErr result (λ _. Grown storage.old storage.new) }
+        ensures uses { IfOk result (λ _. storage.old.elements.spare ≤ storage.new.elements.spare
+            + elements_for (state_of storage.old).subpools emptied (length records.now) blanks) }
         ensures needless { elements_for (state_of storage.old).subpools emptied (length records.now) blanks
             ≤ storage.old.elements.spare
             → fresh.len ≤ storage.old.region.spare → HaveTables storage.old.region fresh.start fresh.len
@@ -107,6 +109,7 @@ fn extents_emptied(storage: &Storage, emptied: Option<Subpool>) -> Extents
 pub(crate) fn grow(storage: &mut Storage, elements: u32, fresh: Run) -> Result<(), AllocError>
     requires segments { (page : ℕ) → inside page fresh ≡ true → IsTrue (has_segment storage.old.region page) }
     ensures grown { Grown storage.old storage.new }
+    ensures more { storage.old.elements.spare ≤ storage.new.elements.spare }
     ensures elements { OnOk result (elements ≤ storage.new.elements.spare) }
     ensures frames { OnOk result (fresh.len ≤ storage.new.region.spare) }
     ensures tables { OnOk result (HaveTables storage.new.region fresh.start fresh.len) }
@@ -141,6 +144,9 @@ fn make(
     ensures reserves { Reserves storage.old
         (change_from (state_of storage.old).subpools emptied records.now blanks fresh) result storage.new }
     ensures frames { length result.frames ≡ fresh.len }
+    ensures spare { storage.new.elements.spare
+        + elements_for (state_of storage.old).subpools emptied (length records.now) blanks
+        ≡ storage.old.elements.spare }
 {
     subpools_are_there();
     let extents = extents_emptied(storage, emptied);
@@ -175,6 +181,7 @@ fn park_empty(elements: &mut Elements, emptied: Option<Subpool>) -> SubpoolStora
     ensures stands { Stands elements.new result }
     ensures subpools { subpools_of elements.new result ≡ parked_under emptied }
     ensures moves { Moves elements.old elements.new (λ i. 0) (λ i. held_parked elements.new result i) }
+    ensures spare { elements.new.spare + length (emptying emptied []) ≡ elements.old.spare }
 {
     let mut parked = SubpoolStorage::new();
     if let Some(subpool) = emptied {

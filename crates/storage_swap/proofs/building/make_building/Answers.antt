@@ -1,4 +1,4 @@
-use Rattle.std.proofs.Common.{refl}
+use Rattle.std.proofs.Common.{refl, arith}
 use Rattle.storage_changes.specs.Changes.{change_of, change_building}
 use Rattle.storage_swap.specs.Building.{pool_as}
 use Rattle.storage_swap.proofs.ReserveLemmas.{reserves-behind}
@@ -15,3 +15,7 @@ returns-clause-reserves c =
 
 pub returns-clause-absent : goal.returns-clause-absent
 returns-clause-absent c = id-is-new c.pools_are_held.ensures c.args.storage.now _ (change_of c.args.records.now c.args.blanks c.args.fresh) _ (pool_as c.args.pool.now c.park_pool-id.result.1) (returns-clause-reserves c)
+
+pub returns-clause-spare : goal.returns-clause-spare
+returns-clause-spare c =
+    omega (arith, c.park_pool-id.ensures.spares, c.building_records-records.ensures.spare, c.take_blanks-blanks.ensures.spare)

@@ -40,3 +40,7 @@ returns-clause-reserves c =
     c.park_empty-parked.new.elements c.park_empty-parked.result c.park_empty-parked.ensures.stands
     (c.park_empty-parked.ensures.subpools ∙ sym (meant-parked m c.args.records.now c.args.blanks c.args.fresh c.args.emptied))
     c.park_empty-parked.ensures.moves
+
+pub returns-clause-spare : goal.returns-clause-spare
+returns-clause-spare c =
+    omega (arith, c.take_records-records.ensures.spare, c.take_blanks-blanks.ensures.spare, c.park_empty-parked.ensures.spare, c.count.ensures c.args.storage.now.elements, parts-take (subpools_of c.args.storage.now.elements c.args.storage.now.subpools) c.args.emptied (length c.args.records.now) c.args.blanks, ap (λ (rs : List Run). length rs) c.extents_emptied-extents.ensures.runs, ap (λ (rs : List Run). length (emptying c.args.emptied rs)) c.extents_emptied-extents.ensures.runs)
