@@ -276,4 +276,5 @@ module _ (settings : Settings) (names_full : Bool) (m : StorageState) (name : Li
             subst (λ (r : Reply). is (build_change plan id) r) (sym reply_is)
             (subst (λ (d : Change). is d (Obtained (place_address x) (8 * count))) (sym (change_is id)) (carried h leads kept named id low absent)))),
         can_be_built sound,
+        omega (arith, ap (λ (g : CellSettings). g.primary) with_these),
       )

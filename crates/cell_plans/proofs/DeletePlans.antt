@@ -4,6 +4,7 @@ use Rattle.std.specs.Prelude.{Ok}
 use Rattle.std.proofs.Math.Logic.{∥∥₁_elim, ∥∥₁_map}
 use Rattle.std.proofs.Math.Nat.{mul-pos}
 use Rattle.std.proofs.Props.{props}
+use Rattle.std.proofs.lemmas.List.{length-map}
 use Rattle.subpool_storage.specs.Subpools.{no_subpools}
 use Rattle.vsm_model.specs.declared.causes.Cause.TheVariants.{NoCellPool}
 use Rattle.vsm_model.specs.declared.limits.Settings.{Settings}
@@ -36,7 +37,7 @@ use Rattle.storage_actions.specs.Actions.{register_records}
 use Rattle.storage_plans.specs.Plans.{IsAccepted}
 use Rattle.storage_plans.proofs.Carried.{no_registers, register_and}
 use Rattle.cell_actions.specs.Laws.{DeletingLeads}
-use Rattle.cell_plans.specs.CellPlans.{deleting_change, delete_change, pool_given_back, extents_of_pool, CanBeDeleted, IsDeletePlanned}
+use Rattle.cell_plans.specs.CellPlans.{cells_weight, pool_and_extents, deleting_change, delete_change, pool_given_back, extents_of_pool, CanBeDeleted, IsDeletePlanned}
 use Rattle.cell_plans.specs.Seen.{IsSeen}
 use Rattle.cell_plans.proofs.GivenAreas.{EndsLow}
 
@@ -99,10 +100,16 @@ module _ (settings : Settings) (names_full : Bool) (m : StorageState) (name : Li
         let P : Option Pool → Type 0 = λ o. IfSome o (λ q. All (EndsLow q.settings.size) q.extents) in
         record { there = ap is_some its.there; extents = subst P (sym its.there) all }
 
+    weight_is : cells_weight m (delete name) ≡ 1 + extents_of_pool (m.subpools.cells id)
+    weight_is =
+        ap pool_and_extents its.row
+        ∙ ap (λ (n : ℕ). 1 + n) (length-map p.extents extent_of)
+        ∙ ap (λ (o : Option Pool). 1 + extents_of_pool o) (sym its.there)
+
     pub delete_planned : settings_valid settings ≡ true → ∥ IsSound settings m ∥₁ → IsDeletePlanned settings names_full m (delete name) (Ok (record { pool = id }))
     delete_planned valid sound =
         let P : Option Pool → Type 0 = λ o. IsAccepted settings names_full m (delete name) (deleting_change m o) (Returned 0) in
-        (∥∥₁_map sound (λ h. subst P (sym its.there) (is_accepted valid h)), can valid sound)
+        (∥∥₁_map sound (λ h. subst P (sym its.there) (is_accepted valid h)), can valid sound, omega (arith, weight_is))
 
 -- the records of its change, and how many blank elements it has
 module _ (m u : StorageState) (same : u ≡ m) (id : ℕ) (p : Pool) (there : m.subpools.cells id ≡ Some p) (own : p.id ≡ id) where

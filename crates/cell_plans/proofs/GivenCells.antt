@@ -75,4 +75,5 @@ module _ (settings : Settings) (names_full : Bool) (m : StorageState) (name : Li
                 (leads settings m p cell ((15, 0) ∷ []) h named (under_its_id m name id p seen) used (register_and 15 0 [] (omega arith) no_registers)
                 (formed settings names_full s after name cell (Returned 0) h.well_formed (accepted used)))),
             has_records settings names_full m (free name cell) plan records 1 (run_of 0 0) is_emptied with_id is_blanks is_fresh (omega arith) (omega arith) (none_fresh m),
+            record { none = is_emptied; few = omega (arith, is_blanks) },
           )

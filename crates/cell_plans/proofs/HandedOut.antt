@@ -14,7 +14,7 @@ use Rattle.vsm_model.specs.declared.services.Get.{Get}
 use Rattle.vsm_model.specs.Areas.{Place, address_of, is_nowhere, place}
 use Rattle.vsm_model.specs.Causes.{Causes, answers_four, first_cause}
 use Rattle.vsm_model.specs.Cells.{extent_at, extent_place, get_causes, got, handed_out, has_no_cell, pool_of, sees_pool, with_extent_area, with_pool}
-use Rattle.vsm_model.specs.CellPools.{CellPool, with_extent}
+use Rattle.vsm_model.specs.CellPools.{CellPool, cell_pool_in, with_extent}
 use Rattle.vsm_model.specs.Regions.{doublewords, regions_for, settings_valid}
 use Rattle.vsm_model.specs.Registers.{with_registers}
 use Rattle.vsm_model.specs.Services.{Service, get}
@@ -43,7 +43,7 @@ use Rattle.storage_plans.proofs.Carried.{four_carried_out, no_registers, registe
 use Rattle.cell_actions.specs.Actions.{area_blanks, area_pages, area_records, doublewords_for, extent_blanks, extent_records, handed_out_records, with_extended, with_handed_out}
 use Rattle.cell_actions.specs.Laws.{ExtendingLeads, HandingOutLeads}
 use Rattle.cell_actions.proofs.Extents.{first_free}
-use Rattle.cell_plans.specs.CellPlans.{IsCellPlanned}
+use Rattle.cell_plans.specs.CellPlans.{cells_weight, further_cells, IsCellPlanned}
 use Rattle.cell_plans.specs.Handing.{cell_records, cell_registers, further_records}
 use Rattle.cell_plans.specs.Seen.{IsSeen}
 use Rattle.cell_plans.proofs.CellsCarried.{accepts, as_accepted, has_records}
@@ -212,6 +212,7 @@ module _ (settings : Settings) (names_full : Bool) (m : StorageState) (name : Li
                 (leads settings m p cell rest rows h named (under_its_id m name id p seen) first (are_registers g.register cell register)
                 (formed settings names_full s after_first name g (Cell cell) valid (names_a_register g.register register) h.well_formed (first_accepted fits)))),
             has_records settings names_full m x plan records 0 (run_of 0 0) is_emptied with_id is_blanks is_fresh (omega arith) (omega arith) (none_fresh m),
+            record { none = is_emptied; few = omega (arith, is_blanks) },
           )
 
     -- None is free, and the conditional form is answered 4.
@@ -222,6 +223,7 @@ module _ (settings : Settings) (names_full : Bool) (m : StorageState) (name : Li
           (four_carried_out settings names_full m x NoStorage plan h
           (no_storage fits empty (ap (λ (b : Bool). b || is_nowhere (goes_for q)) conditional)) conditional refl is_emptied is_records is_blanks is_fresh is_reply)),
       has_records settings names_full m x plan (register_records m ((15, 4) ∷ [])) 0 (run_of 0 0) is_emptied is_records is_blanks is_fresh (omega arith) (omega arith) (none_fresh m),
+      record { none = is_emptied; few = omega (arith, is_blanks) },
     )
 
     -- None is free, and a further extent has a place.
@@ -273,6 +275,15 @@ module _ (settings : Settings) (names_full : Bool) (m : StorageState) (name : Li
           let area = few_blanks to in
           omega (arith, most, area)
 
+      weight_is : cells_weight m x ≡ count
+      weight_is =
+          ap (λ (b : Bool). if b then 0 else further_cells (cell_pool_in s.cell_pools name)) plain
+          ∙ ap further_cells seen.row
+          ∙ cond-true (has_no_cell q) q.secondary 0 (no_cells p.cells empty)
+
+      light : (blanks : ℕ) → blanks ≡ place_blanks to + extent_blanks count → blanks ≤ 7 + 8 * cells_weight m x
+      light blanks is = let area = few_blanks to in omega (arith, is, area, weight_is)
+
       pub further_planned : ExtendingLeads → GetLeavesWellFormed → AreNamed m.subpools.cells → settings_valid settings ≡ true → IfSome g.register (λ r. r < 16) → names_full ≡ false
           → (cells : CellSettings) → cells ≡ p.settings → (plan : Plan) → plan.emptied ≡ None → plan.records.items ≡ further_records m id cells to g.register
           → plan.blanks ≡ place_blanks to + extent_blanks cells.secondary → plan.fresh ≡ place_pages (doublewords (cells.secondary * cells.size)) to
@@ -304,4 +315,5 @@ module _ (settings : Settings) (names_full : Bool) (m : StorageState) (name : Li
             has_records settings names_full m x plan records (place_blanks to + extent_blanks count) (place_pages length to) is_emptied as_records from_blanks from_place
                 few (in_range settings m p.settings.subpool p.settings.location length valid some_area to at)
                 (are_unassigned settings m p.settings.subpool p.settings.location length valid some_area to at sound),
+            record { none = is_emptied; few = light plan.blanks from_blanks },
           )

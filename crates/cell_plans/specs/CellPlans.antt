@@ -1,13 +1,15 @@
 -- What the plans of cell pools come to on the plain machine. Assembler Services Reference, CPOOL; Assembler Services
 -- Guide, "Virtual storage management", "Using the CPOOL macro".
-use Rattle.std.specs.Prelude.{◌≡◌, ℕ, ◌+◌, ◌*◌, ◌/◌, ◌^◌, ◌<◌, ◌≤◌, Bool, true, All, IfSome, IsSome, Option, Some, None}
-use Rattle.std.specs.Prelude.{List, length, option_map, Result, Ok, Err, [], ◌∷◌, ◌++◌}
+use Rattle.std.specs.Prelude.{◌≡◌, ℕ, ◌+◌, ◌*◌, ◌/◌, ◌^◌, ◌<◌, ◌≤◌, Bool, true, if◌then◌else◌, All, IfSome, IsSome}
+use Rattle.std.specs.Prelude.{Option, Some, None, List, length, option_map, Result, Ok, Err, [], ◌∷◌, ◌++◌}
 use Rattle.run_set.specs.Runs.{inside}
 use Rattle.vsm_model.specs.declared.causes.Cause.{Cause}
 use Rattle.vsm_model.specs.declared.limits.Settings.{Settings}
 use Rattle.vsm_model.specs.declared.replies.Reply.TheVariants.{Returned}
+use Rattle.vsm_model.specs.Cells.{has_no_cell}
+use Rattle.vsm_model.specs.CellPools.{CellPool, cell_pool_in}
 use Rattle.vsm_model.specs.Regions.{doublewords}
-use Rattle.vsm_model.specs.Services.{Service}
+use Rattle.vsm_model.specs.Services.{Service, build, get, delete}
 use Rattle.vsm_model.specs.Standing as outcome
 use Rattle.vsm_model.specs.Standing.{Refused}
 use Rattle.vsm_model.specs.Step.{step}
@@ -32,10 +34,33 @@ pub record HasRecords (m : StorageState) (plan : Plan) : Type 0 where
   pub there : IfSome plan.emptied (λ p. is_there m.subpools p ≡ true)
   pub unassigned : (page : ℕ) → inside page plan.fresh ≡ true → m.unassigned page ≡ true
 
+-- how many cells a further extent of a cell pool has, if it's there and has no free cell
+abbrev pub further_cells : Option CellPool → ℕ
+further_cells None = 0
+further_cells (Some pool) = if has_no_cell pool then pool.secondary else 0
+
+-- how many a cell pool and its extents are, if it's there
+abbrev pub pool_and_extents : Option CellPool → ℕ
+pool_and_extents None = 0
+pool_and_extents (Some pool) = 1 + length pool.extents
+
+-- How heavy a service on cell pools is: how many cells it makes, and how many cell pools and extents leave by it.
+abbrev pub cells_weight : StorageState → Service → ℕ
+cells_weight m (build name header b) = b.primary
+cells_weight m (get name g) =
+    if g.conditional then 0 else further_cells (cell_pool_in (model_of m).cell_pools name)
+cells_weight m (delete name) = pool_and_extents (cell_pool_in (model_of m).cell_pools name)
+cells_weight m _ = 0
+
+-- No subpool is emptied, and the blank elements are few for how heavy the service is.
+pub record IsLight (m : StorageState) (x : Service) (plan : Plan) : Type 0 where
+  pub none : plan.emptied ≡ None
+  pub few : plan.blanks ≤ 7 + 8 * cells_weight m x
+
 -- A cell that is handed out or given back was planned; or it's refused for this cause.
 abbrev pub IsCellPlanned : Settings → Bool → StorageState → Service → Result Plan Cause → Type 0
 IsCellPlanned settings names_full m x (Ok plan) =
-    (∥ IsAccepted settings names_full m x (change_in m plan) plan.reply ∥₁) × HasRecords m plan
+    (∥ IsAccepted settings names_full m x (change_in m plan) plan.reply ∥₁) × HasRecords m plan × IsLight m x plan
 IsCellPlanned settings names_full m x (Err cause) = step settings names_full (model_of m) x ≡ Refused cause
 
 -- the cell pool that comes, under an id: the cells of its one extent are free
@@ -57,14 +82,15 @@ pub record CanBeBuilt (m : StorageState) (plan : BuildPlan) : Type 0 where
   pub range : plan.fresh.start + plan.fresh.len ≤ 2 ^ 20
   pub unassigned : (page : ℕ) → inside page plan.fresh ≡ true → m.unassigned page ≡ true
 
--- A cell pool's coming was planned, under whatever id that none has; or it's refused for this cause. That it's accepted
--- stands by itself, as it doesn't need such an id.
+-- A cell pool's coming was planned, under whatever id that none has, with no more cells than the service's weight; or
+-- it's refused for this cause. That it's accepted stands by itself, as it doesn't need such an id.
 abbrev pub IsBuildPlanned : Settings → Bool → StorageState → Service → Result BuildPlan Cause → Type 0
 IsBuildPlanned settings names_full m x (Ok plan) =
     outcome.IsAccepted (step settings names_full (model_of m) x)
     × ((id : ℕ) → id < 2 ^ 32 → m.subpools.cells id ≡ None
     → ∥ IsAccepted settings names_full m x (build_change plan id) plan.reply ∥₁)
     × CanBeBuilt m plan
+    × (plan.settings.primary ≤ cells_weight m x)
 IsBuildPlanned settings names_full m x (Err cause) = step settings names_full (model_of m) x ≡ Refused cause
 
 -- the change by which a cell pool goes
@@ -93,8 +119,9 @@ pub record CanBeDeleted (m : StorageState) (plan : DeletePlan) : Type 0 where
       (λ x. (0 < doublewords (x.count * p.settings.size)) × (x.count * p.settings.size < 2 ^ 32)
       × (x.start / 8 + doublewords (x.count * p.settings.size) ≤ 2 ^ 29)) p.extents)
 
--- A cell pool's end was planned; or it's refused for this cause.
+-- A cell pool's end was planned, with no more extents than the service's weight; or it's refused for this cause.
 abbrev pub IsDeletePlanned : Settings → Bool → StorageState → Service → Result DeletePlan Cause → Type 0
 IsDeletePlanned settings names_full m x (Ok plan) =
     (∥ IsAccepted settings names_full m x (delete_change m plan) (Returned 0) ∥₁) × CanBeDeleted m plan
+    × (1 + extents_of_pool (m.subpools.cells plan.pool) ≤ cells_weight m x)
 IsDeletePlanned settings names_full m x (Err cause) = step settings names_full (model_of m) x ≡ Refused cause

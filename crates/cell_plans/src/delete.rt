@@ -54,8 +54,8 @@ impl DeletePlan {
     /// pages that it empties once those before it are given back; one for register 15; and four blank elements for each
     /// extent, and one more. The state of the storage stays as it is.
     ///
-    /// `AllocError` where memory is refused: what was made before that stays, as spare elements. Where so many elements
-    /// are spare as it has records and blank elements, it takes no memory.
+    /// `AllocError` where memory is refused: what was made before that stays, as spare elements. Of the spare elements it
+    /// uses at most as many as it has records and blank elements; where so many are spare, it takes no memory.
     pub fn reserve(self, storage: &mut Storage) -> Result<Change, AllocError>
         requires stands { Stand storage.old }
         requires once { (i : ℕ) → hold storage.old i ≤ 1 }
@@ -65,6 +65,8 @@ impl DeletePlan {
             Reserves storage.old (delete_change (state_of storage.old) self) change storage.new) }
         ensures frames { IfOk result (λ change. length change.frames ≡ 0) }
         ensures grown { IfErr result (λ _. Grown storage.old storage.new) }
+        ensures uses { IfOk result (λ _. let d = delete_change (state_of storage.old) self in
+            storage.old.elements.spare ≤ storage.new.elements.spare + (length d.records + d.blanks)) }
         ensures needless { let d = delete_change (state_of storage.old) self in
             length d.records + d.blanks ≤ storage.old.elements.spare → IsOk result }
     {

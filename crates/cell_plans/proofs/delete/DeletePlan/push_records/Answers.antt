@@ -54,7 +54,7 @@ returns-clause-ok c =
     let found = found_pool (m.subpools.cells id) c.requires.can.there in
     let own = (c.cell_pools_are_named.ensures storage.elements storage.subpools c.requires.building.ready.stands.storage.subpools).ids id found.0 found.1 in
     let P : List Record → Type 0 = λ rs. Pushes storage c.args.builder.now rs c.push-2.new.storage c.push-2.new.self in
-    subst P (records_are m u same id found.0 found.1 own c.current.result c.current.ensures)
+    subst P (records_are m u same id found.0 found.1 own c.current-current.result c.current-current.ensures)
     (pushes-follow _ _ _ _ _ _ _ _ (pushes-follow _ _ _ _ _ _ _ _ c.in_ok-push.ensures.ok c.in_ok-extents.ensures.ok) c.in_ok-push-2.ensures.ok)
 
 pub returns-clause-blanks : goal.returns-clause-blanks

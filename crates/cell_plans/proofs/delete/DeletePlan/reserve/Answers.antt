@@ -1,4 +1,5 @@
-use Rattle.std.proofs.Common.{◌≡◌, ◌++◌, List, [], ap, ◌∙◌}
+use Rattle.std.proofs.Common.{◌≡◌, ◌+◌, ◌≤◌, ◌++◌, List, [], length, ap, ◌∙◌, arith}
+use Rattle.std.proofs.lemmas.Result.{IfOk-weaker}
 use Rattle.subpool_storage.specs.Subpools.{Subpools, no_subpools}
 use Rattle.storage_changes.specs.declared.record.Record.{Record}
 use Rattle.storage_changes.specs.Changes.{change_of, no_pages}
@@ -22,3 +23,12 @@ returns-in-Ok-clause-ok c =
     let parked : parked_in t b ≡ no_subpools = c.in-Ok.ensures.ok.parked ∙ c.new-builder.ensures.parked p in
     made-reserves p t c.finish.new.storage a b (c.new-builder.ensures.none p) c.push_records.ensures.builds c.in-Ok.blanks d c.finish.result c.finish.ensures.ok
     ((λ i. record (change_of (records i) (c.in-Ok.ensures.blanks i) no_pages) { parked = parked i }) ∙ delete_is m (m.subpools.cells c.args.self.pool))
+
+pub returns-in-Ok-clause-uses : goal.returns-in-Ok-clause-uses
+returns-in-Ok-clause-uses c =
+    let p = c.args.storage.now in
+    let t = c.push_records.new.storage in
+    let u = c.finish.new.storage in
+    let d = delete_change (state_of p) c.args.self in
+    IfOk-weaker c.finish.result (λ _. t.elements.spare ≤ u.elements.spare + c.in-Ok.blanks) (λ _. p.elements.spare ≤ u.elements.spare + (length d.records + d.blanks))
+    (λ change used. omega (arith, used, c.in-Ok.ensures.ok.spare, c.in-Ok.ensures.blanks)) c.finish.ensures.uses
