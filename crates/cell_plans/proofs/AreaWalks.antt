@@ -1,5 +1,5 @@
 -- Walks over the areas of a cell pool's extents, and the records by which they are given back.
-use Rattle.std.proofs.Common.{◌≡◌, ℕ, zero, suc, ◌+◌, ◌-◌, ◌*◌, ◌<◌, ◌≤◌, ◌^◌, Bool, true, false, ◌||◌, List, [], ◌∷◌, ◌++◌, length, length-append, get_or, take, drop, map, Option, Some, None, IfSome, refl, sym, ap, ◌∙◌, subst, arith}
+use Rattle.std.proofs.Common.{◌≡◌, ℕ, zero, suc, ◌+◌, ◌-◌, ◌<◌, ◌≤◌, ◌^◌, true, false, ◌||◌, List, [], ◌∷◌, ◌++◌, length, length-append, get_or, take, drop, map, Option, Some, None, IfSome, refl, sym, ap, ◌∙◌, subst, arith}
 use Rattle.std.specs.Prelude.{slice_get}
 use Rattle.std.proofs.Math.Seq.{drop-cons}
 use Rattle.run_set.specs.declared.run.Run.{Run}
@@ -17,7 +17,6 @@ use Rattle.storage_swap.specs.declared.builder.ChangeBuilder.{ChangeBuilder}
 use Rattle.storage_swap.specs.Builder.{IsBuilding, Builds, Pushes}
 use Rattle.storage_swap.proofs.BuilderLemmas.{Leads, leads-none, leads-more, leads-all, leads-room}
 use Rattle.cell_actions.specs.Actions.{extents_given_back}
-use Rattle.cell_plans.specs.declared.areas.FirstExtents.{FirstExtents}
 use Rattle.cell_plans.specs.Areas.{areas_of, first_areas}
 use Rattle.cell_plans.specs.CellPlans.{pool_given_back, extents_of_pool, CanBeDeleted}
 use Rattle.cell_plans.specs.Emptied.{area_of, area_given_back, freed}

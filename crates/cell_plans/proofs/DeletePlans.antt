@@ -33,7 +33,6 @@ use Rattle.storage_changes.specs.declared.record.Record.TheVariants.{CellPool as
 use Rattle.storage_changes.specs.Changes.{change_of, no_pages}
 use Rattle.storage_changes.specs.Meaning.{model_of, IsSound}
 use Rattle.storage_changes.specs.State.{StorageState}
-use Rattle.storage_actions.specs.Actions.{register_records}
 use Rattle.storage_plans.specs.Plans.{IsAccepted}
 use Rattle.storage_plans.proofs.Carried.{no_registers, register_and}
 use Rattle.cell_actions.specs.Laws.{DeletingLeads}

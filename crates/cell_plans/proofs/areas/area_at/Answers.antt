@@ -1,4 +1,4 @@
-use Rattle.std.proofs.Common.{◌≡◌, List, sym, ap, ◌∙◌, length, arith}
+use Rattle.std.proofs.Common.{List, sym, ap, ◌∙◌, length, arith}
 use Rattle.std.specs.Prelude.{slice_get}
 use Rattle.run_set.specs.declared.run.Run.{Run}
 use Rattle.cell_plans.specs.Areas.{areas_left}

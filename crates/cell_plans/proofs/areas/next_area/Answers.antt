@@ -1,5 +1,4 @@
-use Rattle.std.proofs.Common.{◌≡◌, List, ◌∷◌, arith}
-use Rattle.cell_extents.specs.declared.settings.Extent.{Extent}
+use Rattle.std.proofs.Common.{arith}
 use Rattle.cell_pool.specs.Walks.{extents_left}
 use Rattle.cell_plans.proofs.GivenAreas.{EndsLow, first_has, rest_have}
 use Rattle.cell_plans.proofs.areas.next_area.Goals as goal

@@ -1,8 +1,7 @@
-use Rattle.std.proofs.Common.{◌≡◌, ◌+◌, ℕ, true, List, take, sym, ap, ◌∙◌, arith}
+use Rattle.std.proofs.Common.{ℕ, List, take, sym, ap, ◌∙◌, arith}
 use Rattle.run_set.specs.declared.run.Run.{Run}
 use Rattle.run_set.specs.Runs.{contains}
-use Rattle.storage_exchange.specs.Storage.{state_of}
-use Rattle.cell_plans.specs.Areas.{areas_left, first_areas}
+use Rattle.cell_plans.specs.Areas.{areas_left}
 use Rattle.cell_plans.proofs.FreeEnds.{in_inside, inside_from}
 use Rattle.cell_plans.proofs.AreaWalks.{over_one, in_later, in_first, none_taken, none_is_left}
 use Rattle.cell_plans.proofs.emptied.given_end.Goals as goal

@@ -1,11 +1,10 @@
-use Rattle.std.proofs.Common.{◌≡◌, ℕ, ◌+◌, ◌*◌, ◌<◌, List, length, ap, sym, ◌∙◌, subst, arith}
-use Rattle.run_set.specs.declared.run.Run.{Run}
+use Rattle.std.proofs.Common.{◌≡◌, List, length, ap, sym, ◌∙◌, subst, arith}
 use Rattle.storage_changes.specs.declared.record.Record.{Record}
 use Rattle.storage_exchange.specs.Storage.{state_of}
 use Rattle.storage_swap.specs.Builder.{Pushes}
 use Rattle.storage_swap.proofs.BuilderLemmas.{builds-follow}
 use Rattle.cell_plans.specs.Areas.{areas_of}
-use Rattle.cell_plans.specs.CellPlans.{pool_given_back, extents_of_pool}
+use Rattle.cell_plans.specs.CellPlans.{pool_given_back}
 use Rattle.cell_plans.proofs.AreaWalks.{still_can, its_subpool, pool_as_areas, areas_count, areas_given_back, areas_none, all_came, all_counted, is_one_more, area_room, area_more}
 use Rattle.cell_plans.proofs.giving_back.push_extents.Goals as goal
 

@@ -1,4 +1,4 @@
-use Rattle.std.proofs.Common.{◌≡◌, ℕ, ◌+◌, List, refl, subst, arith}
+use Rattle.std.proofs.Common.{List, refl, subst, arith}
 use Rattle.storage_changes.specs.declared.record.Record.{Record}
 use Rattle.storage_exchange.specs.Storage.{state_of}
 use Rattle.storage_swap.specs.Builder.{Pushes}

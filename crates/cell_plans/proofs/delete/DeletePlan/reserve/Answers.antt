@@ -1,10 +1,10 @@
-use Rattle.std.proofs.Common.{◌≡◌, ◌+◌, ◌≤◌, ◌++◌, List, [], length, ap, ◌∙◌, arith}
+use Rattle.std.proofs.Common.{◌≡◌, ◌+◌, ◌≤◌, ◌++◌, List, length, ap, ◌∙◌, arith}
 use Rattle.std.proofs.lemmas.Result.{IfOk-weaker}
-use Rattle.subpool_storage.specs.Subpools.{Subpools, no_subpools}
+use Rattle.subpool_storage.specs.Subpools.{no_subpools}
 use Rattle.storage_changes.specs.declared.record.Record.{Record}
 use Rattle.storage_changes.specs.Changes.{change_of, no_pages}
 use Rattle.storage_exchange.specs.Storage.{state_of}
-use Rattle.storage_swap.specs.Builder.{records_in, parked_in, meaning_with}
+use Rattle.storage_swap.specs.Builder.{records_in, parked_in}
 use Rattle.storage_swap.proofs.BuilderLemmas.{made-reserves}
 use Rattle.cell_plans.specs.CellPlans.{delete_change}
 use Rattle.cell_plans.proofs.DeletePlans.{delete_is}
