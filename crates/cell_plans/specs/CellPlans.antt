@@ -39,7 +39,7 @@ abbrev pub further_cells : Option CellPool → ℕ
 further_cells None = 0
 further_cells (Some pool) = if has_no_cell pool then pool.secondary else 0
 
--- how many a cell pool and its extents are, if it's there
+-- how many leave with a cell pool, if it's there: itself, and its extents
 abbrev pub pool_and_extents : Option CellPool → ℕ
 pool_and_extents None = 0
 pool_and_extents (Some pool) = 1 + length pool.extents
