@@ -54,8 +54,8 @@ impl DeletePlan {
     /// pages that it empties once those before it are given back; one for register 15; and four blank elements for each
     /// extent, and one more. The state of the storage stays as it is.
     ///
-    /// `AllocError` where memory is refused: what was made before that stays, as spare elements. It uses at most as many
-    /// spare elements as it has records and blank elements; where so many are spare, it takes no memory.
+    /// `AllocError` where memory is refused: what was made before that stays, as spare elements. No more spare elements
+    /// are used than it has records and blank elements; where so many are spare, it takes no memory.
     pub fn reserve(self, storage: &mut Storage) -> Result<Change, AllocError>
         requires stands { Stand storage.old }
         requires once { (i : ℕ) → hold storage.old i ≤ 1 }
