@@ -4,7 +4,6 @@
 
 pub mod areas;
 mod blocks;
-pub mod listed;
 pub mod obtain;
 pub mod places;
 pub mod plan;
@@ -14,7 +13,6 @@ mod searches;
 mod store;
 mod whole;
 
-pub use listed::Listed;
 pub use obtain::plan_obtain;
 pub use plan::{PLAN_RECORDS, Plan};
 pub use reading::{current, load, register};

@@ -1,5 +1,5 @@
 //! Plans of STORAGE OBTAIN.
-ghost use Rattle.std.specs.Prelude.{◌≡◌, ◌+◌, ◌*◌, ◌<◌, ◌≤◌, ◌^◌, ◌++◌, true, None, IfSome};
+ghost use Rattle.std.specs.Prelude.{◌≡◌, ◌+◌, ◌*◌, ◌<◌, ◌≤◌, ◌^◌, ◌++◌, true, None, IfOk, IfSome};
 ghost use Rattle.arrayvec.specs.ArrayVec.{array_vec_len};
 ghost use Rattle.vsm_model.specs.declared.replies.Reply.TheVariants.{Obtained};
 ghost use Rattle.vsm_model.specs.Regions.{pages_for, settings_valid};
@@ -195,7 +195,8 @@ pub fn plan_obtain(
     requires sound { StandsSound settings storage.now }
     requires valid { settings_valid settings ≡ true }
     requires register { IfSome o.register (λ r. r < 16) }
-    ensures { IsPlanned settings names_full (state_of storage.now) (obtain o) result }
+    ensures planned { IsPlanned settings names_full (state_of storage.now) (obtain o) result }
+    ensures emptied { IfOk result (λ plan. plan.emptied ≡ None) }
 {
     match find_area(storage, settings, o, names_full) {
         Ok(found) => Ok(plan_area(storage, found, o)),

@@ -1,5 +1,5 @@
 //! What an accepted request will do to the storage, as the records of a change.
-ghost use Rattle.std.specs.Prelude.{◌≡◌, ◌+◌, ◌<◌, ◌≤◌, [], ◌∷◌, ◌++◌, Bool, Some, None};
+ghost use Rattle.std.specs.Prelude.{◌≡◌, ◌+◌, ◌<◌, ◌≤◌, [], ◌∷◌, ◌++◌, Bool, IfOk, Some, None};
 ghost use Rattle.arrayvec.specs.ArrayVec.{array_vec_len};
 ghost use Rattle.vsm_model.specs.declared.limits.Settings.{Settings};
 ghost use Rattle.vsm_model.specs.declared.replies.Reply.TheVariants.{Returned};
@@ -101,7 +101,9 @@ pub fn answer_four(storage: &Storage) -> Plan
 /// What a request is answered of which this is the first cause: a plan that sets register 15 to 4, where it is
 /// conditional and the cause is one of those that such a form answers so; else the cause refuses it.
 pub fn answer_cause(storage: &Storage, cause: Cause, conditional: bool) -> Result<Plan, Cause>
-    ensures { (settings : Settings) (names_full : Bool) (x : Service) → ∥ IsSound settings (state_of storage.now) ∥₁
+    ensures emptied { IfOk result (λ plan. plan.emptied ≡ None) }
+    ensures planned { (settings : Settings) (names_full : Bool) (x : Service)
+        → ∥ IsSound settings (state_of storage.now) ∥₁
         → is_conditional x ≡ conditional
         → first_cause (causes settings names_full (model_of (state_of storage.now)) x) ≡ Some cause
         → IsPlanned settings names_full (state_of storage.now) x result }

@@ -353,7 +353,8 @@ pub fn plan_release(storage: &Storage, settings: Settings, r: Release) -> Result
     requires sound { StandsSound settings storage.now }
     requires frameless { IsFrameless storage.now }
     requires valid { settings_valid settings ≡ true }
-    ensures { (names_full : Bool) → IsPlanned settings names_full (state_of storage.now) (release r) result }
+    ensures planned { (names_full : Bool) → IsPlanned settings names_full (state_of storage.now) (release r) result }
+    ensures emptied { IfOk result (λ plan. plan.emptied ≡ None) }
 {
     match find_given_back(storage, settings, r) {
         Ok(found) => Ok(give_back(storage, found)),

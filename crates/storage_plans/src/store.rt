@@ -1,5 +1,5 @@
 //! Plans of stores.
-ghost use Rattle.std.specs.Prelude.{◌≡◌, ◌<◌, ◌≤◌, true, Bool, length};
+ghost use Rattle.std.specs.Prelude.{◌≡◌, ◌<◌, ◌≤◌, true, Bool, IfOk, None, length};
 ghost use Rattle.vsm_model.specs.declared.limits.Settings.{Settings};
 ghost use Rattle.vsm_model.specs.Bytes.{are_there};
 ghost use Rattle.vsm_model.specs.Services.{store};
@@ -78,8 +78,9 @@ fn block_records(storage: &Storage, address: u32, bytes: &[u8]) -> ArrayVec<Reco
 pub fn plan_store(storage: &Storage, address: u32, bytes: &[u8]) -> Result<Plan, Cause>
     requires frameless { IsFrameless storage.now }
     requires room { length bytes.now ≤ 256 }
-    ensures { (settings : Settings) (names_full : Bool) → StandsSound settings storage.now
+    ensures planned { (settings : Settings) (names_full : Bool) → StandsSound settings storage.now
         → IsPlanned settings names_full (state_of storage.now) (store address bytes.now) result }
+    ensures emptied { IfOk result (λ plan. plan.emptied ≡ None) }
 {
     if !are_assigned(storage, address, bytes.len()) {
         return Err(Cause::NotAssigned);

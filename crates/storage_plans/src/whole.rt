@@ -79,9 +79,11 @@ fn empty(storage: &Storage, subpool: Subpool) -> Plan
 #[inline(never)]
 pub fn plan_whole(storage: &Storage, number: u32) -> Result<Plan, Cause>
     requires { Stand storage.now }
-    ensures { (settings : Settings) (names_full : Bool) → settings_valid settings ≡ true
+    ensures planned { (settings : Settings) (names_full : Bool) → settings_valid settings ≡ true
         → StandsSound settings storage.now
         → IsPlanned settings names_full (state_of storage.now) (whole number) result }
+    ensures emptied { IfOk result (λ plan. plan.emptied
+        ≡ Some (seen_or_own (model_of (state_of storage.now)) number)) }
 {
     rows_of_the_others_stay();
     cell_pools_are_named();

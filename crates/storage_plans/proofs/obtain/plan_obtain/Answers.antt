@@ -16,8 +16,8 @@ plan_area-requires c =
       place = c.in-Ok.ensures.place;
     })
 
-pub returns-in-Ok : goal.returns-in-Ok
-returns-in-Ok c =
+pub returns-in-Ok-clause-planned : goal.returns-in-Ok-clause-planned
+returns-in-Ok-clause-planned c =
     ∥∥₁_map c.requires.sound.sound (λ h. obtain_carried_out c.args.settings c.args.names_full (state_of c.args.storage.now) c.args.o c.in-Ok.found (record {
       valid = c.requires.valid;
       none = c.in-Ok.ensures.none;
@@ -27,6 +27,6 @@ returns-in-Ok c =
       place = c.in-Ok.ensures.place;
     }) h c.requires.register c.plan_area.result c.plan_area.ensures.emptied c.plan_area.ensures.records c.plan_area.ensures.blanks c.plan_area.ensures.fresh c.plan_area.ensures.reply)
 
-pub returns-in-Err : goal.returns-in-Err
-returns-in-Err c =
-    c.answer_cause.ensures c.args.settings c.args.names_full (obtain c.args.o) c.requires.sound.sound refl c.in-Err.ensures.err
+pub returns-in-Err-clause-planned : goal.returns-in-Err-clause-planned
+returns-in-Err-clause-planned c =
+    c.answer_cause.ensures.planned c.args.settings c.args.names_full (obtain c.args.o) c.requires.sound.sound refl c.in-Err.ensures.err

@@ -2,8 +2,8 @@ use Rattle.storage_exchange.specs.Storage.{state_of}
 use Rattle.storage_plans.proofs.Emptied.{emptying_carried_out}
 use Rattle.storage_plans.proofs.whole.plan_whole.Goals as goal
 
-pub returns : goal.returns
-returns c settings names_full valid stands =
+pub returns-clause-planned : goal.returns-clause-planned
+returns-clause-planned c settings names_full valid stands =
     let its = c.in_ok-find_owned.ensures in
     let plan = c.empty in
     let storage = c.args.storage.now in

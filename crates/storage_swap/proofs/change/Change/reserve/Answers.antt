@@ -1,4 +1,4 @@
-use Rattle.std.proofs.Common.{◌≡◌, ◌≤◌, true, length, IfSome, sym, subst, arith}
+use Rattle.std.proofs.Common.{◌≡◌, ◌≤◌, true, length, IfSome, ap, sym, subst, arith}
 use Rattle.subpool_storage.specs.Subpools.{Subpools, is_there}
 use Rattle.subpool_storage.specs.SubpoolStorage.{subpools_of}
 use Rattle.storage_changes.specs.Changes.{change_from}
@@ -33,3 +33,9 @@ returns-clause-ok c =
     let P : Subpools → Type 0 = λ m. Reserves c.grow.new.storage (change_from m c.args.emptied c.args.records.now c.args.blanks c.args.fresh) c.make.result c.make.new.storage in
     grown-reserves c.args.storage.now c.grow.new.storage c.requires.stands c.requires.once c.grow.ensures.grown (change_from (subpools_of c.args.storage.now.elements c.args.storage.now.subpools) c.args.emptied c.args.records.now c.args.blanks c.args.fresh) c.make.result c.make.new.storage
     (subst P (grown-subpools c.args.storage.now c.grow.new.storage c.requires.stands c.requires.once c.grow.ensures.grown) c.make.ensures.reserves)
+
+pub returns-clause-uses : goal.returns-clause-uses
+returns-clause-uses c =
+    let same = ap (λ (m : Subpools). elements_for m c.args.emptied (length c.args.records.now) c.args.blanks)
+    (grown-subpools c.args.storage.now c.grow.new.storage c.requires.stands c.requires.once c.grow.ensures.grown) in
+    omega (arith, same, c.grow.ensures.more, c.make.ensures.spare)
