@@ -61,6 +61,7 @@ fn storage_planned(planned: Result<StoragePlan, Cause>) -> Result<Plan, Cause>
 }
 
 // The plan of a task that comes.
+#[inline(never)]
 fn attach_planned(planned: Result<AttachPlan, Cause>) -> Result<Plan, Cause>
     ensures { (settings : Settings) (names_full : Bool) (m : StorageState) (x : Asked)
         → IsAttachPlanned settings names_full m x planned → IsPlanned settings names_full m x result }
@@ -72,6 +73,7 @@ fn attach_planned(planned: Result<AttachPlan, Cause>) -> Result<Plan, Cause>
 }
 
 // The plan of tasks that end.
+#[inline(never)]
 fn end_planned(planned: Result<EndPlan, Cause>) -> Result<Plan, Cause>
     ensures { (settings : Settings) (names_full : Bool) (m : StorageState) (x : Asked)
         → IsEndPlanned settings names_full m x planned → IsPlanned settings names_full m x result }
@@ -83,6 +85,7 @@ fn end_planned(planned: Result<EndPlan, Cause>) -> Result<Plan, Cause>
 }
 
 // The plan of a cell that is handed out or given back.
+#[inline(never)]
 fn cell_planned(planned: Result<StoragePlan, Cause>) -> Result<Plan, Cause>
     ensures { (settings : Settings) (names_full : Bool) (m : StorageState) (x : Asked)
         → IsCellPlanned settings names_full m x planned → IsPlanned settings names_full m x result }
@@ -94,6 +97,7 @@ fn cell_planned(planned: Result<StoragePlan, Cause>) -> Result<Plan, Cause>
 }
 
 // The plan of a cell pool that comes.
+#[inline(never)]
 fn build_planned(planned: Result<BuildPlan, Cause>) -> Result<Plan, Cause>
     ensures { (settings : Settings) (names_full : Bool) (m : StorageState) (x : Asked)
         → IsBuildPlanned settings names_full m x planned → IsPlanned settings names_full m x result }
@@ -105,6 +109,7 @@ fn build_planned(planned: Result<BuildPlan, Cause>) -> Result<Plan, Cause>
 }
 
 // The plan of a cell pool that goes.
+#[inline(never)]
 fn delete_planned(planned: Result<DeletePlan, Cause>) -> Result<Plan, Cause>
     ensures { (settings : Settings) (names_full : Bool) (m : StorageState) (x : Asked)
         → IsDeletePlanned settings names_full m x planned → IsPlanned settings names_full m x result }
