@@ -7,6 +7,7 @@ ghost use Rattle.vsm_machine.specs.Changes.{machine_fits as fit, machine_fits_pr
 ghost use Rattle.vsm_machine.specs.Changes.{UndefineNone, IsWhole, IsWhole-prop as whole_prop};
 ghost use Rattle.vsm_machine.specs.Machine.{shown_at};
 ghost use Rattle.vsm_machine.specs.Refusals.{IsRefusedFor};
+ghost use Rattle.vsm_machine.specs.Supplies.{FindsMemory, IsSupplied};
 
 use macro_statements::{Family, Statement};
 use name_table::NameTable;
@@ -65,12 +66,15 @@ impl Bench {
     ///
     /// An accepted statement discards what was undone; past the limit of the history the oldest change can't be undone
     /// any more. It is refused with `Name` where a value is a name that isn't defined, else with `Abend` and the
-    /// completion code of the first cause that holds, and last with `NoMemory`.
+    /// completion code of the first cause that holds, and last with `NoMemory`: of a statement that defines no name only
+    /// where fewer than 32 elements are spare, and 8 for each of what it weighs (subpools that it gives or shares, cells
+    /// that it makes, and what leaves by it), or fewer frames, or tables, than it newly assigns pages.
     pub fn apply(&mut self, statement: &Statement) -> Result<Reply, Refusal>
         requires valid { IsValidAct (act_in statement.now) }
         ensures keeps { Keeps (statement_step (settings_in self.old)) (settings_in self.old).history (bench_of self.old)
             (Apply (act_in statement.now)) (answer_to_apply result) (bench_of self.new) }
         ensures settings { settings_in self.new ≡ settings_in self.old }
+        ensures needless { IsSupplied self.old.machine (act_in statement.now) → FindsMemory result }
     {
         let planned = match plan_of(&self.machine, statement) {
             Ok(planned) => planned,

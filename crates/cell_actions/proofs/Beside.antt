@@ -79,6 +79,7 @@ one_left w (Extent r ∷ rs) are f some = one_left (step w (Extent r)) rs are.1 
 one_left w (Pages r ∷ rs) are f some = one_left (step w (Pages r)) rs are.1 f.1 f.0.room_after
 one_left w (Own r ∷ rs) are f some = absurd are.0
 one_left w (Register r ∷ rs) are f some = absurd are.0
+one_left w (Registers r ∷ rs) are f some = absurd are.0
 one_left w (Queues r ∷ rs) are f some = absurd are.0
 one_left w (Task r ∷ rs) are f some = absurd are.0
 one_left w (Turn r ∷ rs) are f some = absurd are.0

@@ -1,5 +1,5 @@
 -- How many elements a reserved change has.
-use Rattle.std.proofs.Common.{◌≡◌, ℕ, zero, suc, ◌+◌, ◌*◌, ◌<◌, ◌≤◌, List, [], ◌∷◌, ◌++◌, length, Option, Some, None, Result, Ok, Err, IfOk, refl, ap, ◌∙◌, arith}
+use Rattle.std.proofs.Common.{◌≡◌, ℕ, zero, suc, ◌+◌, ◌*◌, ◌≤◌, List, [], ◌∷◌, ◌++◌, length, Option, Some, None, Result, Ok, Err, IfOk, refl, ap, ◌∙◌, arith}
 use Rattle.std.proofs.lemmas.List.{length-map, length-append}
 use Rattle.run_set.specs.declared.run.Run.{Run}
 use Rattle.vsm_model.specs.declared.Subpool.{Subpool}
@@ -13,7 +13,7 @@ use Rattle.storage_changes.specs.Changes.{Change as Meaning, unassigned_records,
 use Rattle.storage_exchange.specs.declared.storage.Storage.{Storage as Parts}
 use Rattle.storage_swap.specs.declared.change.Change.{Change}
 use Rattle.storage_swap.specs.Beside.{record_at, records_of}
-use Rattle.storage_swap.specs.Reserve.{Reserves}
+use Rattle.storage_swap.specs.Reserve.{Reserves, elements_for}
 use Rattle.storage_core.specs.Planned.{extents_leaving}
 
 follow-length : (s : Store) (id n : ℕ) → length (follow s id n) ≡ n
@@ -36,17 +36,27 @@ reserved_count p t d c made =
 
 -- of a change with at most 17 records of its own
 few_from : (m : Subpools) (emptied : Option Subpool) (records : List Record) (blanks : ℕ) (fresh : Run) → length records ≤ 17 →
-    length (change_from m emptied records blanks fresh).records + (change_from m emptied records blanks fresh).blanks < 25 + blanks + 8 * extents_leaving m emptied
-few_from m None records blanks fresh few = let h : length records + blanks < 25 + blanks + 8 * 0 = omega (arith, few) in h
+    length (change_from m emptied records blanks fresh).records + (change_from m emptied records blanks fresh).blanks ≤ 25 + blanks + 8 * extents_leaving m emptied
+few_from m None records blanks fresh few = let h : length records + blanks ≤ 25 + blanks + 8 * 0 = omega (arith, few) in h
 few_from m (Some p) records blanks fresh few =
     let n = length (extents m p) in
-    let h : suc (length (unassigned_records (extents m p) ++ records)) + (n + blanks) < 25 + blanks + 8 * n =
+    let h : suc (length (unassigned_records (extents m p) ++ records)) + (n + blanks) ≤ 25 + blanks + 8 * n =
     omega (arith, few, length-append (unassigned_records (extents m p)) records, unassigned-length (extents m p)) in
     h
 
 pub few_answered : {E : Type 0} (p t : Parts) (m : Subpools) (emptied : Option Subpool) (records : List Record) (blanks : ℕ) (fresh : Run) (r : Result Change E) →
     IfOk r (λ c. Reserves p (change_from m emptied records blanks fresh) c t) → length records ≤ 17 →
-    IfOk r (λ c. c.records.count + c.blanks.count < 25 + blanks + 8 * extents_leaving m emptied)
+    IfOk r (λ c. c.records.count + c.blanks.count ≤ 25 + blanks + 8 * extents_leaving m emptied)
 few_answered p t m emptied records blanks fresh (Ok c) made few =
     omega (arith, few_from m emptied records blanks fresh few, reserved_count p t (change_from m emptied records blanks fresh) c made)
 few_answered p t m emptied records blanks fresh (Err e) made few = made
+
+-- and with what it has parked
+pub needed_for : (m : Subpools) (emptied : Option Subpool) (n blanks : ℕ) → n ≤ 17 → elements_for m emptied n blanks ≤ 25 + blanks + 8 * extents_leaving m emptied
+needed_for m None n blanks few = let h : n + blanks ≤ 25 + blanks + 8 * 0 = omega (arith, few) in h
+needed_for m (Some p) n blanks few = omega (arith, few)
+
+-- of what is used no more is said than that it's within a bound
+pub uses_within : {E C : Type 0} (old new n most : ℕ) → n ≤ most → (r : Result C E) → IfOk r (λ _. old ≤ new + n) → IfOk r (λ _. old ≤ new + most)
+uses_within old new n most within (Ok c) used = omega (arith, within, used)
+uses_within old new n most within (Err e) used = used

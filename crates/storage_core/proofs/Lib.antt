@@ -5,6 +5,7 @@ pub mod Holding
 pub mod Soundness
 pub mod Staying
 mod Walking
+mod Leaving
 mod Made
 mod PlanCases
 mod TaskCounts

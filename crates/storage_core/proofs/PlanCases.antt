@@ -1,5 +1,5 @@
 -- Plans of each kind, as plans of a service.
-use Rattle.std.proofs.Common.{◌≡◌, Bool, Result, Ok, Err, sym, subst, arith}
+use Rattle.std.proofs.Common.{◌≡◌, ℕ, ◌+◌, ◌*◌, ◌≤◌, Bool, None, Result, Ok, Err, IfOk, ap, sym, subst, arith}
 use Rattle.std.proofs.Props.{props}
 use mathlib.Core.Logic.{∥∥₁_elim, ∥∥₁_map}
 use Rattle.vsm_model.specs.declared.causes.Cause.{Cause}
@@ -18,11 +18,17 @@ use Rattle.storage_plans.specs.Plans.{CarriesOut, IsPlanned as IsStoragePlanned}
 use Rattle.task_plans.specs.declared.attach.AttachPlan.{AttachPlan}
 use Rattle.task_plans.specs.declared.end.EndPlan.{EndPlan}
 use Rattle.task_plans.specs.TaskPlans.{IsAttachPlanned, IsEndPlanned}
+use Rattle.cell_pool.specs.Pools.{mark_items}
 use Rattle.cell_plans.specs.declared.build.BuildPlan.{BuildPlan}
 use Rattle.cell_plans.specs.declared.delete.DeletePlan.{DeletePlan}
 use Rattle.cell_plans.specs.CellPlans.{IsBuildPlanned, IsCellPlanned, IsDeletePlanned}
 use Rattle.storage_core.specs.declared.plans.Plan.TheVariants.{Storage, Attach, End, Build, Delete}
-use Rattle.storage_core.specs.Planned.{CanCarryOut, HasRecords, IsAccepted, IsPlanned, change_for, reply_of}
+use Rattle.storage_core.specs.Weight.{weight, cells_weight}
+use Rattle.storage_core.specs.Planned.{CanCarryOut, HasRecords, IsAccepted, IsPlanned, change_for, extents_leaving, reply_of, storage_elements}
+
+-- the marks of cells take fewer elements than the cells, and one
+few_marks : (n : ℕ) → mark_items n ≤ n + 1
+few_marks n = omega arith
 
 -- whether an outcome is an accepted one is a question with one answer
 accepted-prop : {S R C : Type 0} (o : Outcome S R C) → IsProp (outcome.IsAccepted o)
@@ -41,20 +47,23 @@ module _ (settings : Settings) (names_full : Bool) (m : StorageState) (x : Servi
       subst P (sym k.accepted) tt)
 
   storage_accepted : (plan : StoragePlan) → ∥ IsAccepted settings names_full m x (change_for m 0 (Storage plan)) plan.reply ∥₁ → HasRecords m plan
-      → CanCarryOut settings names_full m x (Storage plan)
-  storage_accepted plan planned has = record {
+      → storage_elements m plan ≤ 32 + 8 * weight m x → CanCarryOut settings names_full m x (Storage plan)
+  storage_accepted plan planned has light = record {
     accepts = accepts_by (change_for m 0 (Storage plan)) plan.reply planned;
     accepted = λ id _. planned;
     can = has;
+    light = light;
   }
 
   pub storage_ok : (r : Result StoragePlan Cause) (plan : StoragePlan) → r ≡ Ok plan → IsStoragePlanned settings names_full m x r
-      → IsPlanned settings names_full m x (Ok (Storage plan))
-  storage_ok r plan is h =
+      → IfOk r (λ p. extents_leaving m.subpools p.emptied ≤ weight m x) → IsPlanned settings names_full m x (Ok (Storage plan))
+  storage_ok r plan is h few =
+      let leaves : extents_leaving m.subpools plan.emptied ≤ weight m x = subst (λ z. IfOk z (λ (p : StoragePlan). extents_leaving m.subpools p.emptied ≤ weight m x)) is few in
       let planned : ∥ CarriesOut settings names_full m x plan ∥₁ = subst (IsStoragePlanned settings names_full m x) is h in
       storage_accepted plan
       (∥∥₁_map planned (λ k. record { accepted = k.accepted; fits = k.fits; sound = k.sound }))
       (let has : HasRecords m plan = ∥∥₁_elim planned (hlevel props) (λ k. record { few = omega (arith, k.few); range = k.range; there = k.there; unassigned = k.unassigned }) in has)
+      (∥∥₁_elim planned (hlevel props) (λ k. omega (arith, k.few, leaves)))
 
   pub storage_err : (r : Result StoragePlan Cause) (cause : Cause) → r ≡ Err cause → IsStoragePlanned settings names_full m x r
       → IsPlanned settings names_full m x (Err cause)
@@ -67,7 +76,8 @@ module _ (settings : Settings) (names_full : Bool) (m : StorageState) (x : Servi
       record {
         accepts = accepts_by (change_for m 0 (Attach plan)) (reply_of (Attach plan)) planned.0;
         accepted = λ id _. planned.0;
-        can = planned.1;
+        can = planned.1.0;
+        light = omega (arith, planned.1.1);
       }
 
   pub attach_err : (r : Result AttachPlan Cause) (cause : Cause) → r ≡ Err cause → IsAttachPlanned settings names_full m x r
@@ -81,18 +91,23 @@ module _ (settings : Settings) (names_full : Bool) (m : StorageState) (x : Servi
       record {
         accepts = accepts_by (change_for m 0 (End plan)) plan.reply planned.0;
         accepted = λ id _. planned.0;
-        can = planned.1;
+        can = planned.1.0;
+        light = omega (arith, planned.1.1);
       }
 
   pub end_err : (r : Result EndPlan Cause) (cause : Cause) → r ≡ Err cause → IsEndPlanned settings names_full m x r
       → IsPlanned settings names_full m x (Err cause)
   end_err r cause is h = subst (IsEndPlanned settings names_full m x) is h
 
+  -- a plan that empties no subpool and has few blank elements
+  cell_light : (plan : StoragePlan) → plan.emptied ≡ None → plan.blanks ≤ 7 + 8 * cells_weight m x → storage_elements m plan ≤ 32 + 8 * weight m x
+  cell_light plan none few = omega (arith, ap (extents_leaving m.subpools) none, few)
+
   pub cell_ok : (r : Result StoragePlan Cause) (plan : StoragePlan) → r ≡ Ok plan → IsCellPlanned settings names_full m x r
       → IsPlanned settings names_full m x (Ok (Storage plan))
   cell_ok r plan is h =
       let planned : IsCellPlanned settings names_full m x (Ok plan) = subst (IsCellPlanned settings names_full m x) is h in
-      storage_accepted plan planned.0 planned.1
+      storage_accepted plan planned.0 planned.1.0 (cell_light plan planned.1.1.0 planned.1.1.1)
 
   pub cell_err : (r : Result StoragePlan Cause) (cause : Cause) → r ≡ Err cause → IsCellPlanned settings names_full m x r
       → IsPlanned settings names_full m x (Err cause)
@@ -102,7 +117,7 @@ module _ (settings : Settings) (names_full : Bool) (m : StorageState) (x : Servi
       → IsPlanned settings names_full m x (Ok (Build plan))
   build_ok r plan is h =
       let planned : IsBuildPlanned settings names_full m x (Ok plan) = subst (IsBuildPlanned settings names_full m x) is h in
-      record { accepts = planned.0; accepted = λ id free. planned.1 id free.0 free.1; can = planned.2 }
+      record { accepts = planned.0; accepted = λ id free. planned.1.0 id free.0 free.1; can = planned.1.1.0; light = omega (arith, planned.1.1.1, few_marks plan.settings.primary) }
 
   pub build_err : (r : Result BuildPlan Cause) (cause : Cause) → r ≡ Err cause → IsBuildPlanned settings names_full m x r
       → IsPlanned settings names_full m x (Err cause)
@@ -115,7 +130,8 @@ module _ (settings : Settings) (names_full : Bool) (m : StorageState) (x : Servi
       record {
         accepts = accepts_by (change_for m 0 (Delete plan)) (reply_of (Delete plan)) planned.0;
         accepted = λ id _. planned.0;
-        can = planned.1;
+        can = planned.1.0;
+        light = omega (arith, planned.1.1);
       }
 
   pub delete_err : (r : Result DeletePlan Cause) (cause : Cause) → r ≡ Err cause → IsDeletePlanned settings names_full m x r

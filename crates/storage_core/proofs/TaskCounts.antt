@@ -16,13 +16,13 @@ use Rattle.task_actions.specs.Ending.{ended_below, end_records, with_turn}
 use Rattle.task_actions.proofs.EndCounts.{ends_are_short}
 use Rattle.task_plans.specs.declared.attach.AttachPlan.{AttachPlan}
 use Rattle.task_plans.specs.declared.end.EndPlan.{EndPlan}
-use Rattle.task_plans.specs.TaskPlans.{numbers, attach_change, end_change, end_registers}
+use Rattle.task_plans.specs.TaskPlans.{numbers, attach_change, end_change, end_registers, parks_all}
 use Rattle.storage_core.specs.declared.plans.Plan.TheVariants.{Attach, End}
-use Rattle.storage_core.specs.Planned.{elements_below}
+use Rattle.storage_core.specs.Planned.{elements_needed}
 use Rattle.storage_core.proofs.Counted.{reserved_count}
 
-few-answered : {E : Type 0} (p t : Parts) (d : Meaning) (most : ℕ) (r : Result Change E) → IfOk r (λ c. Reserves p d c t) → length d.records + d.blanks < most →
-    IfOk r (λ c. c.records.count + c.blanks.count < most)
+few-answered : {E : Type 0} (p t : Parts) (d : Meaning) (most : ℕ) (r : Result Change E) → IfOk r (λ c. Reserves p d c t) → length d.records + d.blanks ≤ most →
+    IfOk r (λ c. c.records.count + c.blanks.count ≤ most)
 few-answered p t d most (Ok c) made few = omega (arith, reserved_count p t d c made, few)
 few-answered p t d most (Err e) made few = made
 
@@ -43,8 +43,8 @@ zero-short : (m : StorageState) (task : ℕ) (shares : Bool) → length (zero_re
 zero-short m task true = sharing-short m.tasks.current task 0 (m.subpools.sight m.tasks.current 0)
 zero-short m task false = omega arith
 
-attach-short : (m : StorageState) (task : ℕ) (shares_zero : Bool) (gifts shares : List ℕ) (rows : List (ℕ × ℕ)) → length (register_records m rows) ≡ 2 →
-    length (attach_records m task shares_zero gifts shares ++ register_records m rows) + attach_blanks gifts shares < 32 + 4 * (length gifts + length shares)
+pub attach-short : (m : StorageState) (task : ℕ) (shares_zero : Bool) (gifts shares : List ℕ) (rows : List (ℕ × ℕ)) → length (register_records m rows) ≡ 2 →
+    length (attach_records m task shares_zero gifts shares ++ register_records m rows) + attach_blanks gifts shares ≤ 32 + 4 * (length gifts + length shares)
 attach-short m task shares_zero gifts shares rows two =
     let begins = zero_records m task shares_zero in
     let given = flat_map (gift_records m task) gifts in
@@ -60,11 +60,15 @@ attach-short m task shares_zero gifts shares rows two =
       flat-short (share_records m task) (λ n. sharing-short m.tasks.current task n (m.subpools.sight m.tasks.current n)) shares,
     )
 
+pub attach-fits : (m : StorageState) (plan : AttachPlan) → length (attach_change m plan).records + (attach_change m plan).blanks ≤ elements_needed m (Attach plan)
+attach-fits m plan =
+    attach-short m plan.task plan.attach.shares_zero (numbers m plan.attach.given) (numbers m plan.attach.shared) ((15, 0) ∷ (1, plan.task) ∷ []) refl
+
 pub attach_few : {E : Type 0} (p t : Parts) (m : StorageState) (plan : AttachPlan) (r : Result Change E) → IfOk r (λ c. Reserves p (attach_change m plan) c t) →
-    IfOk r (λ c. c.records.count + c.blanks.count < elements_below m (Attach plan))
+    IfOk r (λ c. c.records.count + c.blanks.count ≤ elements_needed m (Attach plan))
 attach_few p t m plan r made =
-    few-answered p t (attach_change m plan) (elements_below m (Attach plan)) r made
-    (attach-short m plan.task plan.attach.shares_zero (numbers m plan.attach.given) (numbers m plan.attach.shared) ((15, 0) ∷ (1, plan.task) ∷ []) refl)
+    few-answered p t (attach_change m plan) (elements_needed m (Attach plan)) r made
+    (attach-fits m plan)
 
 one-register : (m : StorageState) (reply : Reply) → length (register_records m (end_registers reply)) ≤ 1
 one-register m (Obtained address length) = omega arith
@@ -74,12 +78,14 @@ one-register m (Attached task) = omega arith
 one-register m (Turn task) = omega arith
 one-register m Stored = omega arith
 
-pub end_few : {E : Type 0} (p t : Parts) (m : StorageState) (plan : EndPlan) (r : Result Change E) → IfOk r (λ c. Reserves p (end_change m plan) c t) →
-    IfOk r (λ c. c.records.count + c.blanks.count < elements_below m (End plan))
-end_few p t m plan r made =
+-- with the empty subpools that it parks
+pub end-fits : (m : StorageState) (plan : EndPlan) → length (parks_all m plan.top) + (length (end_change m plan).records + (end_change m plan).blanks) ≤ elements_needed m (End plan)
+end-fits m plan =
     let ended = ended_below m.tasks.parents plan.top in
     let records = end_records m ended plan.next in
     let registers = register_records (with_turn m plan.next) (end_registers plan.reply) in
-    let counted = ends_are_short m ended plan.next in
-    few-answered p t (end_change m plan) (elements_below m (End plan)) r made
-    (omega (arith, counted.0, counted.1, length-append records registers, one-register (with_turn m plan.next) plan.reply))
+    omega (arith, (ends_are_short m ended plan.next).1.1, length-append records registers, one-register (with_turn m plan.next) plan.reply)
+
+pub end_few : {E : Type 0} (p t : Parts) (m : StorageState) (plan : EndPlan) (r : Result Change E) → IfOk r (λ c. Reserves p (end_change m plan) c t) →
+    IfOk r (λ c. c.records.count + c.blanks.count ≤ elements_needed m (End plan))
+end_few p t m plan r made = few-answered p t (end_change m plan) (elements_needed m (End plan)) r made (omega (arith, end-fits m plan))

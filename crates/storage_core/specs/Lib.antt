@@ -3,3 +3,4 @@ pub mod Meaning
 pub mod Planned
 pub mod Stays
 pub mod Walks
+pub mod Weight

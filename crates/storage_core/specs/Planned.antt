@@ -17,17 +17,18 @@ use Rattle.subpool_storage.specs.Extents.{extents}
 use Rattle.subpool_storage.specs.Subpools.{Subpools}
 use Rattle.storage_changes.specs.State.{StorageState}
 use Rattle.storage_exchange.specs.declared.storage.Storage.{Storage as Parts}
-use Rattle.storage_changes.specs.Changes.{Change}
+use Rattle.storage_changes.specs.Changes.{Change, no_pages}
 use Rattle.storage_changes.specs.Meaning.{model_of}
 use Rattle.storage_plans.specs.declared.plan.Plan.{Plan as StoragePlan}
 use Rattle.storage_plans.specs.Plans.{change_in}
 use Rattle.task_actions.specs.Ending.{ended_below, weight_ended}
-use Rattle.task_plans.specs.TaskPlans.{numbers, attach_change, end_change, parks_all}
+use Rattle.task_plans.specs.TaskPlans.{numbers, attach_change, end_change}
 use Rattle.task_plans.specs.TaskPlans.{CanBeAttached, CanBeEnded}
 pub use Rattle.task_plans.specs.TaskPlans.{IsAccepted}
 use Rattle.cell_pool.specs.Pools.{mark_items}
 use Rattle.cell_plans.specs.CellPlans.{build_change, delete_change, extents_of_pool, CanBeBuilt, CanBeDeleted}
 pub use Rattle.cell_plans.specs.CellPlans.{HasRecords}
+use Rattle.storage_core.specs.Weight.{weight}
 use Rattle.storage_core.specs.declared.plans.Plan.{Plan}
 use Rattle.storage_core.specs.declared.plans.Plan.TheVariants.{Storage, Attach, End, Build, Delete}
 
@@ -52,13 +53,6 @@ CanBePlanned (delete name) = length name ≤ 63
 abbrev pub extents_leaving : Subpools → Option Subpool → ℕ
 extents_leaving m None = 0
 extents_leaving m (Some p) = length (extents m p)
-
--- As many elements are spare as the change of a plan takes at most, and a frame for each page of the run; and these
--- have tables.
-pub record IsSpareFor (p : Parts) (most : ℕ) (fresh : Run) : Type 0 where
-  pub elements : most ≤ p.elements.spare
-  pub frames : fresh.len ≤ p.region.spare
-  pub tables : HaveTables p.region fresh.start fresh.len
 
 -- whether a change can be made of the plan
 abbrev pub CanBeReserved : StorageState → Plan → Type 0
@@ -92,8 +86,47 @@ change_for m id (End plan) = end_change m plan
 change_for m id (Build plan) = build_change plan id
 change_for m id (Delete plan) = delete_change m plan
 
+-- the pages that come to be assigned
+abbrev pub fresh_pages : Plan → Run
+fresh_pages (Storage plan) = plan.fresh
+fresh_pages (Attach plan) = no_pages
+fresh_pages (End plan) = no_pages
+fresh_pages (Build plan) = plan.fresh
+fresh_pages (Delete plan) = no_pages
+
+-- how many they are
+abbrev pub pages_assigned : Plan → ℕ
+pages_assigned plan = (fresh_pages plan).len
+
+-- The change of a request for storage, or for a cell, has fewer records and blank elements than this: 25, its blank
+-- elements, and 8 for each extent that leaves with a whole subpool.
+abbrev pub storage_elements : StorageState → StoragePlan → ℕ
+storage_elements m plan = 25 + plan.blanks + 8 * extents_leaving m.subpools plan.emptied
+
+-- The change of a plan takes at most so many elements, those that it has parked among them: of a new task 32, and 4
+-- for each number that is given or shared; of tasks that end 32, and 8 for each task, subpool, extent and row of sight
+-- that leaves; of a cell pool that comes 30, and those of its cells and of their marks; and of one that goes 32, and 8
+-- for it and for each of its extents.
+abbrev pub elements_needed : StorageState → Plan → ℕ
+elements_needed m (Storage plan) = storage_elements m plan
+elements_needed m (Attach plan) =
+    32 + 4 * (length (numbers m plan.attach.given) + length (numbers m plan.attach.shared))
+elements_needed m (End plan) = 32 + 8 * weight_ended m.subpools (ended_below m.tasks.parents plan.top)
+elements_needed m (Build plan) = 30 + (plan.settings.primary + mark_items plan.settings.primary)
+elements_needed m (Delete plan) = 32 + 8 * (1 + extents_of_pool (m.subpools.cells plan.pool))
+
+-- As many elements are spare, and a frame for each of these pages; and the pages have tables.
+pub record IsSpareFor (p : Parts) (most : ℕ) (fresh : Run) : Type 0 where
+  pub elements : most ≤ p.elements.spare
+  pub frames : fresh.len ≤ p.region.spare
+  pub tables : HaveTables p.region fresh.start fresh.len
+
+-- Nothing has to grow for the plan's change.
+abbrev pub IsSpare : Parts → StorageState → Plan → Type 0
+IsSpare p m plan = IsSpareFor p (elements_needed m plan) (fresh_pages plan)
+
 -- The service is accepted, with the plan's reply, in the state that its change leads to, whatever id a cell pool that
--- comes has; and the change can be made.
+-- comes has; the change can be made, and takes no more elements than the service's weight allows.
 pub record CanCarryOut (settings : Settings) (names_full : Bool) (m : StorageState) (x : Service) (plan : Plan)
     : Type 0 where
   pub accepts : outcome.IsAccepted (step settings names_full (model_of m) x)
@@ -101,47 +134,9 @@ pub record CanCarryOut (settings : Settings) (names_full : Bool) (m : StorageSta
       (id : ℕ) → IsIdFor m plan id
       → ∥ IsAccepted settings names_full m x (change_for m id plan) (reply_of plan) ∥₁
   pub can : CanBeReserved m plan
+  pub light : elements_needed m plan ≤ 32 + 8 * weight m x
 
 -- a service was planned; or it's refused for this cause
 abbrev pub IsPlanned : Settings → Bool → StorageState → Service → Result Plan Cause → Type 0
 IsPlanned settings names_full m x (Ok plan) = CanCarryOut settings names_full m x plan
 IsPlanned settings names_full m x (Err cause) = step settings names_full (model_of m) x ≡ Refused cause
-
--- how many pages come to be assigned
-abbrev pub pages_assigned : Plan → ℕ
-pages_assigned (Storage plan) = plan.fresh.len
-pages_assigned (Attach plan) = 0
-pages_assigned (End plan) = 0
-pages_assigned (Build plan) = plan.fresh.len
-pages_assigned (Delete plan) = 0
-
--- The change of a request for storage, or for a cell, has fewer records and blank elements than this: 25, its blank
--- elements, and 8 for each extent that leaves with a whole subpool.
-abbrev pub storage_elements : StorageState → StoragePlan → ℕ
-storage_elements m plan = 25 + plan.blanks + 8 * extents_leaving m.subpools plan.emptied
-
--- That of a new task has fewer than 32, and 4 more for each number that is given or shared; that of tasks that end
--- fewer than 32, and 7 more for each task, subpool, extent and row of sight that leaves; that of a cell pool that comes
--- fewer than 32; and that of one that goes fewer than 32, and 8 more for it and for each of its extents. What is parked
--- isn't counted: of tasks that end it's an element for each subpool that leaves.
-abbrev pub elements_below : StorageState → Plan → ℕ
-elements_below m (Storage plan) = storage_elements m plan
-elements_below m (Attach plan) =
-    32 + 4 * (length (numbers m plan.attach.given) + length (numbers m plan.attach.shared))
-elements_below m (End plan) = 32 + 7 * weight_ended m.subpools (ended_below m.tasks.parents plan.top)
-elements_below m (Build plan) = 32
-elements_below m (Delete plan) = 32 + 8 * (1 + extents_of_pool (m.subpools.cells plan.pool))
-
--- Nothing has to grow for the plan's change: a new task takes an element for each of its records and blank ones, and so
--- do tasks that end, with one for each subpool that is parked; a cell pool that comes takes 30 elements besides those
--- of its cells and of their marks; and one that goes fewer than 32, and 8 more for it and for each of its extents.
-abbrev pub IsSpare : Parts → StorageState → Plan → Type 0
-IsSpare p m (Storage plan) = IsSpareFor p (storage_elements m plan) plan.fresh
-IsSpare p m (Attach plan) =
-    length (attach_change m plan).records + (attach_change m plan).blanks ≤ p.elements.spare
-IsSpare p m (End plan) =
-    length (parks_all m plan.top) + (length (end_change m plan).records + (end_change m plan).blanks)
-    ≤ p.elements.spare
-IsSpare p m (Build plan) =
-    IsSpareFor p (30 + (plan.settings.primary + mark_items plan.settings.primary)) plan.fresh
-IsSpare p m (Delete plan) = elements_below m (Delete plan) ≤ p.elements.spare

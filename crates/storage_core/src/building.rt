@@ -1,5 +1,5 @@
 //! The change by which a cell pool comes.
-ghost use Rattle.std.specs.Prelude.{◌≡◌, ℕ, None, ◌+◌, ◌^◌, ◌<◌, length, IsOk, OnErr, IfOk};
+ghost use Rattle.std.specs.Prelude.{◌≡◌, ℕ, None, ◌+◌, ◌^◌, ◌<◌, ◌≤◌, length, IsOk, OnErr, IfOk};
 ghost use Rattle.cell_pool.specs.Pools.{mark_items};
 ghost use Rattle.storage_swap.specs.Reserve.{Reserves};
 ghost use Rattle.cell_plans.specs.CellPlans.{build_change, CanBeBuilt};
@@ -20,7 +20,9 @@ impl Storage {
             × ((id < 2 ^ 32) × ((state_in_place self.old).subpools.cells id ≡ None))
             × Reserves self.old.parts (build_change plan id) change self.new.parts) }
         ensures frames { IfOk result (λ change. length change.frames ≡ plan.fresh.len) }
-        ensures few { IfOk result (λ change. change.records.count + change.blanks.count < 32) }
+        ensures few { IfOk result (λ change. change.records.count + change.blanks.count ≤ 30) }
+        ensures uses { IfOk result (λ _. self.old.parts.elements.spare ≤ self.new.parts.elements.spare
+            + (30 + (plan.settings.primary + mark_items plan.settings.primary))) }
         ensures err { OnErr result (Stays self.old.parts self.new.parts) }
         ensures needless { IsSpareFor self.old.parts
             (30 + (plan.settings.primary + mark_items plan.settings.primary)) plan.fresh → IsOk result }

@@ -1,17 +1,17 @@
 //! Changes of a storage: made of a plan, exchanged with it, and discarded.
-ghost use Rattle.std.specs.Prelude.{◌≡◌, ℕ, ◌+◌, ◌<◌, ◌≤◌, length, IsOk, OnErr, IfOk};
+ghost use Rattle.std.specs.Prelude.{◌≡◌, ℕ, ◌+◌, ◌≤◌, length, IsOk, OnErr, IfOk};
 ghost use Rattle.storage_changes.specs.Changes.{Fit, overlay};
 ghost use Rattle.storage_changes.specs.Meaning.{IsSound};
 ghost use Rattle.storage_plans.specs.Plans.{change_in};
 ghost use Rattle.storage_swap.specs.Reserve.{Reserves};
 ghost use Rattle.storage_swap.specs.Swap.{means, Ready, Swaps, Discards};
 ghost use Rattle.storage_core.specs.Meaning.{state_in_place, settings_of};
-ghost use Rattle.storage_core.specs.Planned.{change_for, elements_below, pages_assigned, storage_elements};
+ghost use Rattle.storage_core.specs.Planned.{change_for, elements_needed, pages_assigned, storage_elements};
 ghost use Rattle.storage_core.specs.Planned.{CanBeReserved, HasRecords, IsIdFor, IsSpare, IsSpareFor};
 ghost use Rattle.storage_core.specs.Stays.{Stays};
 ghost use Rattle.storage_core.specs.declared.plans.Plan.TheVariants.{Attach, Delete, End};
 ghost use Rattle.cell_plans.specs.CellPlans.{delete_change, CanBeDeleted};
-ghost use Rattle.task_plans.specs.TaskPlans.{attach_change, end_change, parks_all, CanBeAttached, CanBeEnded};
+ghost use Rattle.task_plans.specs.TaskPlans.{attach_change, end_change, CanBeAttached, CanBeEnded};
 
 use crate::plans::Plan;
 use crate::storage::Storage;
@@ -25,13 +25,12 @@ impl Storage {
     /// The change that carries out the plan, with all the memory that it needs: elements, and a frame and a place in a
     /// table for each page that comes to be assigned. The storage stays as it is, whatever the answer.
     ///
-    /// The change has fewer records and blank elements than 25 and its plan's blank ones, and 8 more for each extent
-    /// that leaves with a whole subpool that is emptied. That of a new task has fewer than 32, and 4 for each number
-    /// that it is given or shares; that of tasks that end has fewer than 32, and 7 for each task, subpool, extent and
-    /// row of sight that leaves; that of a cell pool that comes has fewer than 32; and that of one that goes has fewer
-    /// than 32, and 8 for it and for each of its extents. Besides it has one element for each subpool that it has
-    /// parked, and those of what these hold, which were the storage's, and those of a cell pool that comes. It has just
-    /// as many frames as pages come to be assigned.
+    /// It takes at most 25 elements and its plan's blank ones, and 8 for each extent that leaves with a whole subpool that
+    /// is emptied. That of a new task takes 32 at most, and 4 for each number that it is given or shares; that of tasks
+    /// that end 32, and 8 for each task, subpool, extent and row of sight that leaves; that of a cell pool that comes 30,
+    /// and those of its cells and of their marks; and that of one that goes 32, and 8 for it and for each of its extents.
+    /// These are its records, its blank elements and what it has parked: an element for each empty subpool, or the
+    /// elements of a cell pool that comes. It has just as many frames as pages come to be assigned.
     ///
     /// `AllocError` where memory is refused: that can be only where fewer elements or frames are spare, or a table
     /// isn't there. What was made before that stays, as spare elements and frames.
@@ -41,7 +40,9 @@ impl Storage {
             × Reserves self.old.parts (change_for (state_in_place self.old) id plan) change self.new.parts) }
         ensures frames { IfOk result (λ change. length change.frames ≡ pages_assigned plan) }
         ensures few { IfOk result (λ change. change.records.count + change.blanks.count
-            < elements_below (state_in_place self.old) plan) }
+            ≤ elements_needed (state_in_place self.old) plan) }
+        ensures uses { IfOk result (λ _. self.old.parts.elements.spare
+            ≤ self.new.parts.elements.spare + elements_needed (state_in_place self.old) plan) }
         ensures err { OnErr result (Stays self.old.parts self.new.parts) }
         ensures needless { IsSpare self.old.parts (state_in_place self.old) plan → IsOk result }
         ensures settings { settings_of self.new ≡ settings_of self.old }
@@ -62,7 +63,9 @@ impl Storage {
             (change_in (state_in_place self.old) plan) change self.new.parts) }
         ensures frames { IfOk result (λ change. length change.frames ≡ plan.fresh.len) }
         ensures few { IfOk result (λ change. change.records.count + change.blanks.count
-            < storage_elements (state_in_place self.old) plan) }
+            ≤ storage_elements (state_in_place self.old) plan) }
+        ensures uses { IfOk result (λ _. self.old.parts.elements.spare
+            ≤ self.new.parts.elements.spare + storage_elements (state_in_place self.old) plan) }
         ensures err { OnErr result (Stays self.old.parts self.new.parts) }
         ensures needless { IsSpareFor self.old.parts (storage_elements (state_in_place self.old) plan) plan.fresh
             → IsOk result }
@@ -84,10 +87,12 @@ impl Storage {
             (attach_change (state_in_place self.old) plan) change self.new.parts) }
         ensures frames { IfOk result (λ change. length change.frames ≡ 0) }
         ensures few { IfOk result (λ change. change.records.count + change.blanks.count
-            < elements_below (state_in_place self.old) (Attach plan)) }
+            ≤ elements_needed (state_in_place self.old) (Attach plan)) }
+        ensures uses { IfOk result (λ _. self.old.parts.elements.spare
+            ≤ self.new.parts.elements.spare + elements_needed (state_in_place self.old) (Attach plan)) }
         ensures err { OnErr result (Stays self.old.parts self.new.parts) }
-        ensures needless { let d = attach_change (state_in_place self.old) plan in
-            length d.records + d.blanks ≤ self.old.parts.elements.spare → IsOk result }
+        ensures needless { elements_needed (state_in_place self.old) (Attach plan) ≤ self.old.parts.elements.spare
+            → IsOk result }
         ensures settings { settings_of self.new ≡ settings_of self.old }
     {
         plan.reserve(&mut self.parts)
@@ -100,11 +105,12 @@ impl Storage {
             (end_change (state_in_place self.old) plan) change self.new.parts) }
         ensures frames { IfOk result (λ change. length change.frames ≡ 0) }
         ensures few { IfOk result (λ change. change.records.count + change.blanks.count
-            < elements_below (state_in_place self.old) (End plan)) }
+            ≤ elements_needed (state_in_place self.old) (End plan)) }
+        ensures uses { IfOk result (λ _. self.old.parts.elements.spare
+            ≤ self.new.parts.elements.spare + elements_needed (state_in_place self.old) (End plan)) }
         ensures err { OnErr result (Stays self.old.parts self.new.parts) }
-        ensures needless { let d = end_change (state_in_place self.old) plan in
-            length (parks_all (state_in_place self.old) plan.top) + (length d.records + d.blanks)
-            ≤ self.old.parts.elements.spare → IsOk result }
+        ensures needless { elements_needed (state_in_place self.old) (End plan) ≤ self.old.parts.elements.spare
+            → IsOk result }
         ensures settings { settings_of self.new ≡ settings_of self.old }
     {
         plan.reserve(&mut self.parts)
@@ -117,9 +123,11 @@ impl Storage {
             (delete_change (state_in_place self.old) plan) change self.new.parts) }
         ensures frames { IfOk result (λ change. length change.frames ≡ 0) }
         ensures few { IfOk result (λ change. change.records.count + change.blanks.count
-            < elements_below (state_in_place self.old) (Delete plan)) }
+            ≤ elements_needed (state_in_place self.old) (Delete plan)) }
+        ensures uses { IfOk result (λ _. self.old.parts.elements.spare
+            ≤ self.new.parts.elements.spare + elements_needed (state_in_place self.old) (Delete plan)) }
         ensures err { OnErr result (Stays self.old.parts self.new.parts) }
-        ensures needless { elements_below (state_in_place self.old) (Delete plan) ≤ self.old.parts.elements.spare
+        ensures needless { elements_needed (state_in_place self.old) (Delete plan) ≤ self.old.parts.elements.spare
             → IsOk result }
         ensures settings { settings_of self.new ≡ settings_of self.old }
     {

@@ -1,5 +1,5 @@
 //! The plan of any service.
-ghost use Rattle.std.specs.Prelude.{◌≡◌, Bool};
+ghost use Rattle.std.specs.Prelude.{◌≡◌, ◌≤◌, Bool, IfOk};
 ghost use Rattle.vsm_model.specs.declared.limits.Settings.{Settings};
 ghost use Rattle.vsm_model.specs.Meaning.{service_in};
 ghost use Rattle.vsm_model.specs.Services.{Service as Asked};
@@ -8,7 +8,8 @@ ghost use Rattle.storage_plans.specs.Plans.{IsPlanned as IsStoragePlanned};
 ghost use Rattle.task_plans.specs.TaskPlans.{IsAttachPlanned, IsEndPlanned};
 ghost use Rattle.cell_plans.specs.CellPlans.{IsBuildPlanned, IsCellPlanned, IsDeletePlanned};
 ghost use Rattle.storage_core.specs.Meaning.{state_in_place, settings_of};
-ghost use Rattle.storage_core.specs.Planned.{reply_of, CanBePlanned, IsPlanned};
+ghost use Rattle.storage_core.specs.Planned.{extents_leaving, reply_of, CanBePlanned, IsPlanned};
+ghost use Rattle.storage_core.specs.Weight.{weight};
 
 use crate::storage::Storage;
 use cell_plans::{BuildPlan, DeletePlan, plan_build, plan_delete, plan_free, plan_get};
@@ -49,7 +50,9 @@ impl Plan {
 // The plan of a request for storage, or of a turn.
 fn storage_planned(planned: Result<StoragePlan, Cause>) -> Result<Plan, Cause>
     ensures { (settings : Settings) (names_full : Bool) (m : StorageState) (x : Asked)
-        → IsStoragePlanned settings names_full m x planned → IsPlanned settings names_full m x result }
+        → IsStoragePlanned settings names_full m x planned
+        → IfOk planned (λ plan. extents_leaving m.subpools plan.emptied ≤ weight m x)
+        → IsPlanned settings names_full m x result }
 {
     match planned {
         Ok(plan) => Ok(Plan::Storage(plan)),
@@ -58,6 +61,7 @@ fn storage_planned(planned: Result<StoragePlan, Cause>) -> Result<Plan, Cause>
 }
 
 // The plan of a task that comes.
+#[inline(never)]
 fn attach_planned(planned: Result<AttachPlan, Cause>) -> Result<Plan, Cause>
     ensures { (settings : Settings) (names_full : Bool) (m : StorageState) (x : Asked)
         → IsAttachPlanned settings names_full m x planned → IsPlanned settings names_full m x result }
@@ -69,6 +73,7 @@ fn attach_planned(planned: Result<AttachPlan, Cause>) -> Result<Plan, Cause>
 }
 
 // The plan of tasks that end.
+#[inline(never)]
 fn end_planned(planned: Result<EndPlan, Cause>) -> Result<Plan, Cause>
     ensures { (settings : Settings) (names_full : Bool) (m : StorageState) (x : Asked)
         → IsEndPlanned settings names_full m x planned → IsPlanned settings names_full m x result }
@@ -80,6 +85,7 @@ fn end_planned(planned: Result<EndPlan, Cause>) -> Result<Plan, Cause>
 }
 
 // The plan of a cell that is handed out or given back.
+#[inline(never)]
 fn cell_planned(planned: Result<StoragePlan, Cause>) -> Result<Plan, Cause>
     ensures { (settings : Settings) (names_full : Bool) (m : StorageState) (x : Asked)
         → IsCellPlanned settings names_full m x planned → IsPlanned settings names_full m x result }
@@ -91,6 +97,7 @@ fn cell_planned(planned: Result<StoragePlan, Cause>) -> Result<Plan, Cause>
 }
 
 // The plan of a cell pool that comes.
+#[inline(never)]
 fn build_planned(planned: Result<BuildPlan, Cause>) -> Result<Plan, Cause>
     ensures { (settings : Settings) (names_full : Bool) (m : StorageState) (x : Asked)
         → IsBuildPlanned settings names_full m x planned → IsPlanned settings names_full m x result }
@@ -102,6 +109,7 @@ fn build_planned(planned: Result<BuildPlan, Cause>) -> Result<Plan, Cause>
 }
 
 // The plan of a cell pool that goes.
+#[inline(never)]
 fn delete_planned(planned: Result<DeletePlan, Cause>) -> Result<Plan, Cause>
     ensures { (settings : Settings) (names_full : Bool) (m : StorageState) (x : Asked)
         → IsDeletePlanned settings names_full m x planned → IsPlanned settings names_full m x result }

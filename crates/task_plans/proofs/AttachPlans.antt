@@ -104,4 +104,4 @@ module _ (settings : Settings) (names_full : Bool) (m : StorageState) (a : Attac
       record { accepted = accepted ∙ ap outcome (sym its.leads); fits = its.fits; sound = its.sound }
 
   pub attach_planned : AttachingLeads → AreNamed m.subpools.cells → ∥ IsSound settings m ∥₁ → IsAttachPlanned settings names_full m (attach a) (Ok plan)
-  attach_planned law named sound = (∥∥₁_map sound (carried law named), record { given = ap is_some are_given; shared = ap is_some are_shared; can = can_attach })
+  attach_planned law named sound = (∥∥₁_map sound (carried law named), record { given = ap is_some are_given; shared = ap is_some are_shared; can = can_attach }, omega arith)

@@ -107,6 +107,7 @@ module _ (settings : Settings) (names_full : Bool) (m : StorageState) (order : E
     detach_is_planned valid sound = (
       ∥∥₁_map sound (λ h. detach_is_accepted valid h),
       record { can = ∥∥₁_elim sound (CanEnd-prop s below s.current) (λ h. detach_can h.well_formed.tasks) },
+      omega arith,
     )
 
   pub detach_planned : (task next : ℕ) → next ≡ s.current → s.parents task ≡ Some next → settings_valid settings ≡ true → ∥ IsSound settings m ∥₁ →
@@ -205,6 +206,7 @@ module _ (settings : Settings) (names_full : Bool) (m : StorageState) where
     end_is_planned valid sound = (
       ∥∥₁_map sound (λ h. end_is_accepted valid h),
       record { can = ∥∥₁_elim sound (CanEnd-prop before alone parent) (λ h. end_can h.well_formed.tasks) },
+      omega arith,
     )
 
     pub end_planned : (top next : ℕ) → top ≡ before.current → next ≡ parent → settings_valid settings ≡ true → ∥ IsSound settings m ∥₁ →

@@ -1,7 +1,7 @@
 -- What the plans of tasks come to on the plain machine. Assembler Services Reference, ATTACH and DETACH; Assembler
 -- Services Guide, "Virtual storage management", "Subpool handling".
-use Rattle.std.specs.Prelude.{◌≡◌, ℕ, ◌≤◌, Bool, true, ◌||◌, unwrap_or, None, IsSome, List, [], ◌∷◌, ◌++◌, filter}
-use Rattle.std.specs.Prelude.{Result, Ok, Err}
+use Rattle.std.specs.Prelude.{◌≡◌, ℕ, ◌+◌, ◌≤◌, Bool, true, ◌||◌, unwrap_or, None, IsSome, List, [], ◌∷◌, ◌++◌, filter}
+use Rattle.std.specs.Prelude.{length, Result, Ok, Err}
 use Rattle.std.specs.List.{flat_map}
 use Rattle.vsm_model.specs.declared.Subpool.{Subpool}
 use Rattle.vsm_model.specs.Search.{is_in}
@@ -13,7 +13,7 @@ use Rattle.vsm_model.specs.declared.replies.Reply.{Reply}
 use Rattle.vsm_model.specs.declared.replies.Reply.TheVariants.{Attached, Returned}
 use Rattle.vsm_model.specs.declared.services.Passed.{Passed}
 use Rattle.vsm_model.specs.Passing.{numbers_in}
-use Rattle.vsm_model.specs.Services.{Service}
+use Rattle.vsm_model.specs.Services.{Service, attach, detach, end_task}
 use Rattle.vsm_model.specs.Standing.{Refused}
 use Rattle.vsm_model.specs.Step.{step}
 use Rattle.storage_changes.specs.State.{StorageState}
@@ -22,7 +22,7 @@ use Rattle.storage_changes.specs.Meaning.{model_of}
 use Rattle.storage_actions.specs.Actions.{register_records}
 use Rattle.task_actions.specs.Attaching.{attach_records, attach_blanks, CanAttach}
 use Rattle.task_actions.specs.Ending.{ended_below, owned_by_these, end_records, end_blanks, with_turn, CanEnd}
-use Rattle.task_actions.specs.Ending.{ended_records, removed_records, unshared_records}
+use Rattle.task_actions.specs.Ending.{ended_records, removed_records, unshared_records, weight_ended}
 pub use Rattle.storage_plans.specs.Plans.{IsAccepted}
 use Rattle.task_plans.specs.declared.attach.AttachPlan.{AttachPlan}
 use Rattle.task_plans.specs.declared.end.EndPlan.{EndPlan}
@@ -74,6 +74,14 @@ rest_records m plan =
     unshared_records m.subpools ended ++ removed_records m.subpools ended ++ flat_map (ended_records m) ended
     ++ register_records (with_turn m plan.next) (end_registers plan.reply)
 
+-- how many subpools a service on tasks gives and shares, and how many tasks, subpools, extents and rows of sight leave
+-- by it
+abbrev pub tasks_weight : StorageState → Service → ℕ
+tasks_weight m (attach a) = length (numbers m a.given) + length (numbers m a.shared)
+tasks_weight m (detach task) = weight_ended m.subpools (ended_below m.tasks.parents task)
+tasks_weight m end_task = weight_ended m.subpools (ended_below m.tasks.parents m.tasks.current)
+tasks_weight m _ = 0
+
 -- empty subpools are parked under these names too
 abbrev pub parked_onto : Subpools → List Subpool → Subpools
 parked_onto m [] = m
@@ -96,14 +104,16 @@ pub record CanBeAttached (m : StorageState) (plan : AttachPlan) : Type 0 where
 pub record CanBeEnded (m : StorageState) (plan : EndPlan) : Type 0 where
   pub can : CanEnd (model_of m) (ended_below m.tasks.parents plan.top) plan.next
 
--- A task's coming was planned; or it's refused for this cause.
+-- A task's coming was planned, with no more subpools than the service passes; or it's refused for this cause.
 abbrev pub IsAttachPlanned : Settings → Bool → StorageState → Service → Result AttachPlan Cause → Type 0
 IsAttachPlanned settings names_full m x (Ok plan) =
     (∥ IsAccepted settings names_full m x (attach_change m plan) (Attached plan.task) ∥₁) × CanBeAttached m plan
+    × (length (numbers m plan.attach.given) + length (numbers m plan.attach.shared) ≤ tasks_weight m x)
 IsAttachPlanned settings names_full m x (Err cause) = step settings names_full (model_of m) x ≡ Refused cause
 
--- The end of tasks was planned; or it's refused for this cause.
+-- The end of tasks was planned, by which no more leaves than by the service; or it's refused for this cause.
 abbrev pub IsEndPlanned : Settings → Bool → StorageState → Service → Result EndPlan Cause → Type 0
 IsEndPlanned settings names_full m x (Ok plan) =
     (∥ IsAccepted settings names_full m x (end_change m plan) plan.reply ∥₁) × CanBeEnded m plan
+    × (weight_ended m.subpools (ended_below m.tasks.parents plan.top) ≤ tasks_weight m x)
 IsEndPlanned settings names_full m x (Err cause) = step settings names_full (model_of m) x ≡ Refused cause

@@ -68,7 +68,7 @@ impl AttachPlan {
     /// one for each of two registers. The state of the storage stays as it is.
     ///
     /// `AllocError` where memory is refused: what was made before that stays, as spare elements. Where so many elements
-    /// are spare as it has records and blank elements, it takes no memory.
+    /// are spare as it has records and blank elements, it takes no memory. It uses no more of them.
     pub fn reserve(self, storage: &mut Storage) -> Result<Change, AllocError>
         requires stands { Stand storage.old }
         requires once { (i : ℕ) → hold storage.old i ≤ 1 }
@@ -80,6 +80,8 @@ impl AttachPlan {
         ensures grown { IfErr result (λ _. Grown storage.old storage.new) }
         ensures needless { let d = attach_change (state_of storage.old) self in
             length d.records + d.blanks ≤ storage.old.elements.spare → IsOk result }
+        ensures uses { IfOk result (λ _. let d = attach_change (state_of storage.old) self in
+            storage.old.elements.spare ≤ storage.new.elements.spare + (length d.records + d.blanks)) }
     {
         let mut builder = ChangeBuilder::new();
         match self.push_records(storage, &mut builder) {

@@ -120,7 +120,7 @@ impl EndPlan {
     /// five for each task. The state of the storage stays as it is.
     ///
     /// `AllocError` where memory is refused: what was made before that stays, as spare elements. Where so many elements
-    /// are spare as it parks subpools and has records and blank elements, it takes no memory.
+    /// are spare as it parks subpools and has records and blank elements, it takes no memory. It uses no more of them.
     pub fn reserve(self, storage: &mut Storage) -> Result<Change, AllocError>
         requires stands { Stand storage.old }
         requires once { (i : ℕ) → hold storage.old i ≤ 1 }
@@ -133,6 +133,9 @@ impl EndPlan {
         ensures needless { let d = end_change (state_of storage.old) self in
             length (parks_all (state_of storage.old) self.top) + (length d.records + d.blanks)
             ≤ storage.old.elements.spare → IsOk result }
+        ensures uses { IfOk result (λ _. let d = end_change (state_of storage.old) self in
+            storage.old.elements.spare ≤ storage.new.elements.spare
+            + (length (parks_all (state_of storage.old) self.top) + (length d.records + d.blanks))) }
     {
         let mut builder = ChangeBuilder::new();
         match self.push_records(storage, &mut builder) {

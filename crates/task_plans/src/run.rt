@@ -1,6 +1,6 @@
 //! Plans of turns.
 
-ghost use Rattle.std.specs.Prelude.{◌≡◌, Bool, None};
+ghost use Rattle.std.specs.Prelude.{◌≡◌, Bool, None, IfOk};
 ghost use Rattle.vsm_model.specs.declared.limits.Settings.{Settings};
 ghost use Rattle.vsm_model.specs.declared.replies.Reply.TheVariants.{Turn};
 ghost use Rattle.vsm_model.specs.Services.{run};
@@ -42,8 +42,9 @@ fn turn_to(task: u8) -> Plan
 #[inline(never)]
 pub fn plan_run(storage: &Storage, task: u32) -> Result<Plan, Cause>
     requires stands { Stand storage.now }
-    ensures { (settings : Settings) (names_full : Bool) → StandsSound settings storage.now
+    ensures planned { (settings : Settings) (names_full : Bool) → StandsSound settings storage.now
         → IsPlanned settings names_full (state_of storage.now) (run task) result }
+    ensures emptied { IfOk result (λ plan. plan.emptied ≡ None) }
 {
     turning_leads();
     if task > 64 {

@@ -1,6 +1,6 @@
 -- A plan of a service is a plan of the statement that asks for it.
 use mathlib.Core.Logic.{∥∥₁_map}
-use Rattle.std.proofs.Common.{◌≡◌, ℕ, Bool, true, false, ◌||◌, if◌then◌else◌, Option, Some, None, is_some, List, refl, sym, ap, ◌∙◌, subst}
+use Rattle.std.proofs.Common.{◌≡◌, ℕ, ◌+◌, ◌*◌, ◌≤◌, Bool, true, false, ◌||◌, if◌then◌else◌, Option, Some, None, is_some, List, refl, sym, ap, ◌∙◌, subst}
 use Rattle.vsm_model.specs.declared.causes.Cause.{Cause}
 use Rattle.vsm_model.specs.declared.causes.Family.{Family}
 use Rattle.vsm_model.specs.declared.replies.Reply.{Reply}
@@ -16,7 +16,7 @@ use Rattle.vsm_model.specs.Step.{step}
 use Rattle.macro_statements.specs.Requests.{Act}
 use Rattle.storage_changes.specs.Changes as storage
 use Rattle.storage_changes.specs.Meaning.{model_of, IsSound}
-use Rattle.storage_core.specs.Planned.{IsAccepted, change_for, reply_of}
+use Rattle.storage_core.specs.Planned.{IsAccepted, change_for, elements_needed, reply_of}
 use Rattle.storage_core.specs.Planned as planned
 use Rattle.name_table.specs.Steps.{define, reword, step_to}
 use Rattle.name_table.proofs.StepsBack.{step_to_can, step_to_rows}
@@ -27,7 +27,7 @@ use Rattle.vsm_machine.specs.declared.refusals.Refusal.TheVariants.{Abend}
 use Rattle.vsm_machine.specs.NameSteps.{stepped_by, CanStepBy, undefines_none}
 use Rattle.vsm_machine.specs.Changes.{MachineState, named_of}
 use Rattle.vsm_machine.specs.Machine.{Why, abended, or_abend, served, service_asked, name_asked, family_asked, statement_step}
-use Rattle.vsm_machine.specs.Planned.{step_for, step_planned, IsAcceptedBy, CanCarryOut}
+use Rattle.vsm_machine.specs.Planned.{step_for, step_planned, weight_served, IsAcceptedBy, CanCarryOut}
 use Rattle.vsm_machine.specs.Refusals.{refusal_for}
 
 -- without a name no step is taken
@@ -119,6 +119,7 @@ module _ (m : MachineState) (x : Act) (service : Service) (is : Some service ≡
         (formed_accepted (family_asked x) service m.names (name_asked x) (step m.settings (is_one_too_many m.names (name_asked x)) (model_of m.storage) service) carried.accepts);
     accepted = λ id free. ∥∥₁_map (carried.accepted id free) (λ a. accepted_by p id a sound named_by);
     can = carried.can;
+    light = subst (λ o. elements_needed m.storage p.plan ≤ 32 + 8 * weight_served m.storage o) is carried.light;
   }
 
   pub refused_by : (cause : Cause) (e : Refusal) →

@@ -1,13 +1,16 @@
 -- What a plan of a statement says, and the change that is made of it.
-use Rattle.std.specs.Prelude.{◌≡◌, ℕ, true, Option, Some, None, List, Result, Ok, Err}
+use Rattle.std.specs.Prelude.{◌≡◌, ℕ, ◌+◌, ◌*◌, ◌≤◌, true, Option, Some, None, List, Result, Ok, Err}
 use Rattle.std.specs.Option.{option_map}
 use Rattle.vsm_model.specs.declared.replies.Reply.{Reply}
 use Rattle.vsm_model.specs.declared.replies.Reply.TheVariants.{Obtained, Cell}
+use Rattle.vsm_model.specs.Services.{Service}
 use Rattle.vsm_model.specs.Standing as outcome
 use Rattle.vsm_model.specs.Standing.{Accepted, Refused}
 use Rattle.macro_statements.specs.Requests.{Act}
 use Rattle.storage_core.specs.Meaning.{state_in_place}
-pub use Rattle.storage_core.specs.Planned.{CanBeReserved, IsIdFor, change_for, reply_of}
+pub use Rattle.storage_core.specs.Planned.{CanBeReserved, IsIdFor, change_for, elements_needed, reply_of}
+use Rattle.storage_core.specs.Weight.{weight}
+use Rattle.storage_changes.specs.State.{StorageState}
 use Rattle.storage_swap.specs.Reserve.{Reserves}
 use Rattle.name_table.specs.Steps.{NameStep, define, step_in, step_to}
 use Rattle.vsm_machine.specs.declared.machine.Machine.{Machine}
@@ -16,7 +19,7 @@ use Rattle.vsm_machine.specs.declared.plans.Planned.{Planned}
 use Rattle.vsm_machine.specs.declared.refusals.Refusal.{Refusal}
 use Rattle.vsm_machine.specs.NameSteps.{CanStepBy, undefines_none}
 use Rattle.vsm_machine.specs.Changes.{MachineState, Difference, named_of, step_of, overlay, StorageFits}
-use Rattle.vsm_machine.specs.Machine.{Why, statement_step}
+use Rattle.vsm_machine.specs.Machine.{Why, service_asked, statement_step}
 use Rattle.vsm_machine.specs.Refusals.{refusal_for}
 
 -- The name that a statement names is given the address of the area that it obtains, or of the cell.
@@ -48,11 +51,21 @@ pub record IsAcceptedBy (m : MachineState) (x : Act) (p : Planned) (id : ℕ) : 
   pub can : CanStepBy m.names (λ name. true) (step_planned p)
   pub gives : undefines_none (step_planned p) ≡ true
 
--- It's accepted, under whatever id that a cell pool that comes can have, and the change can be made.
+-- how much a statement weighs, once its values are looked up: as its service does
+abbrev pub weight_served : StorageState → Option Service → ℕ
+weight_served m None = 0
+weight_served m (Some service) = weight m service
+
+abbrev pub weight_asked : MachineState → Act → ℕ
+weight_asked m x = weight_served m.storage (service_asked (named_of m) x)
+
+-- It's accepted, under whatever id that a cell pool that comes can have; the change can be made, and takes no more
+-- elements than the statement's weight allows.
 pub record CanCarryOut (m : MachineState) (x : Act) (p : Planned) : Type 0 where
   pub accepts : outcome.IsAccepted (statement_step m.settings (named_of m) x)
   pub accepted : (id : ℕ) → IsIdFor m.storage p.plan id → ∥ IsAcceptedBy m x p id ∥₁
   pub can : CanBeReserved m.storage p.plan
+  pub light : elements_needed m.storage p.plan ≤ 32 + 8 * weight_asked m x
 
 -- A statement was planned; or it is refused for this.
 abbrev pub IsPlanned : MachineState → Act → Result Planned Refusal → Type 0

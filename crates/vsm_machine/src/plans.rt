@@ -1,9 +1,9 @@
 //! What a statement will do to a machine, found by reading alone, and the change that does it.
-ghost use Rattle.std.specs.Prelude.{◌≡◌, ℕ, true, List, IfOk, IfSome, OnErr, OnOk};
+ghost use Rattle.std.specs.Prelude.{◌≡◌, ℕ, ◌≤◌, true, List, None, IfOk, IfSome, IsOk, OnErr, OnOk};
 ghost use Rattle.std.specs.Option.{option_map};
 ghost use Rattle.vsm_model.specs.Names.{is_one_too_many};
 ghost use Rattle.storage_core.specs.Meaning.{state_in_place, settings_of};
-ghost use Rattle.storage_core.specs.Planned.{CanBeReserved};
+ghost use Rattle.storage_core.specs.Planned.{CanBeReserved, elements_needed};
 ghost use Rattle.storage_core.specs.Stays.{Stays};
 ghost use Rattle.macro_statements.specs.Requests.{act_in, IsValidAct};
 ghost use Rattle.name_table.specs.Table.{rows_of, knows};
@@ -11,6 +11,7 @@ ghost use Rattle.name_table.specs.Steps.{step_in};
 ghost use Rattle.vsm_machine.specs.NameSteps.{CanStepBy};
 ghost use Rattle.vsm_machine.specs.Changes.{shown, step_of};
 ghost use Rattle.vsm_machine.specs.Planned.{step_for, step_planned, defined_by, IsPlanned, IsChangeOf};
+ghost use Rattle.vsm_machine.specs.Supplies.{NeedsNoMore};
 
 use crate::machine::{Change, Machine};
 use crate::refusals::Refusal;
@@ -92,6 +93,7 @@ fn make_ready(names: &mut NameTable, new: Option<Name>) -> Result<(), AllocError
     ensures rows { rows_of names.new ≡ rows_of names.old }
     ensures ok { OnOk result (IfSome new (λ name. knows names.new name.bytes ≡ true)) }
     ensures err { OnErr result ((name : List ℕ) → knows names.new name ≡ knows names.old name) }
+    ensures needless { new ≡ None → IsOk result }
 {
     match new {
         Some(name) => match names.reserve(name) {
@@ -112,7 +114,9 @@ fn make_ready(names: &mut NameTable, new: Option<Name>) -> Result<(), AllocError
 /// Behind that nothing can be refused, and the names of undone statements are taken out. The storage and the defined
 /// names are as they were, whatever the answer.
 ///
-/// Refused where there is no memory for it; the table then holds the names that it held.
+/// Refused where there is no memory for it; the table then holds the names that it held. Where as many elements are
+/// spare as the change takes, and a frame and a table for each page that comes to be assigned, and no name is defined,
+/// it takes no memory.
 pub fn reserve(machine: &mut Machine, planned: Planned) -> Result<Change, AllocError>
     requires { CanBeReserved (state_in_place machine.old.storage) planned.plan }
     ensures is { IfOk result (λ c. IsChangeOf machine.old planned machine.new c) }
@@ -122,6 +126,8 @@ pub fn reserve(machine: &mut Machine, planned: Planned) -> Result<Change, AllocE
         → CanStepBy (rows_of machine.new.names) (knows machine.new.names) (step_of c)) }
     ensures stays { OnErr result (Stays machine.old.storage.parts machine.new.storage.parts) }
     ensures same { OnErr result ((name : List ℕ) → knows machine.new.names name ≡ knows machine.old.names name) }
+    ensures needless { elements_needed (state_in_place machine.old.storage) planned.plan
+        ≤ machine.old.storage.parts.elements.spare → NeedsNoMore machine.old planned → IsOk result }
 {
     let Planned { plan, name } = planned;
     let storage = match machine.storage.reserve(plan) {

@@ -2,7 +2,7 @@ use Rattle.storage_core.proofs.PlanCases.{storage_ok, storage_err}
 use Rattle.storage_core.proofs.plans.storage_planned.Goals as goal
 
 pub returns-in-Ok : goal.returns-in-Ok
-returns-in-Ok c = λ settings names_full m x h. storage_ok settings names_full m x c.args.planned c.in-Ok.plan c.in-Ok.is h
+returns-in-Ok c = λ settings names_full m x h few. storage_ok settings names_full m x c.args.planned c.in-Ok.plan c.in-Ok.is h few
 
 pub returns-in-Err : goal.returns-in-Err
-returns-in-Err c = λ settings names_full m x h. storage_err settings names_full m x c.args.planned c.in-Err.cause c.in-Err.is h
+returns-in-Err c = λ settings names_full m x h few. storage_err settings names_full m x c.args.planned c.in-Err.cause c.in-Err.is h

@@ -16,7 +16,7 @@ loop-quarter-preserved c =
     let quarter = c.loop-quarter.quarter in
     let zeros = cleared_quarter c.args.task in
     leads-more _ _ _ _ _ _ c.loop-quarter.invariant _ _ (zeros quarter ∷ []) (map zeros (range_with_len (quarter + 1) (4 - (quarter + 1))))
-    (ap (map zeros) (run_next quarter 4 c.loop-quarter-test.true)) c.push_quarter.ensures.builds c.in_ok-push_quarter.ensures.ok
+    (ap (map zeros) (run_next quarter 4 (omega (arith, c.loop-quarter-test.true)))) c.push_quarter.ensures.builds c.in_ok-push_quarter.ensures.ok
 
 pub returns-clause-builds : goal.returns-clause-builds
 returns-clause-builds c = builds-follow _ _ _ _ _ _ c.loop-quarter.invariant.builds c.push.ensures.builds

@@ -162,3 +162,11 @@ returns-clause-keeps c =
       ap (λ (y : Bench NamedState). y.past) new,
       ap (λ (y : Bench NamedState). y.later) new,
     )
+
+-- where there is memory already
+
+pub returns-in-Err-reserve-clause-needless : goal.returns-in-Err-reserve-clause-needless
+returns-in-Err-reserve-clause-needless c = λ supplied.
+    let planned = c.in-Ok.ensures in
+    let ok = c.reserve.ensures.needless (omega (arith, planned.light, supplied.elements)) (supplied.plans c.in-Ok.planned planned) in
+    absurd (subst IsOk (sym c.in-Err-reserve.is) ok)

@@ -1,7 +1,9 @@
+use Rattle.std.proofs.Common.{arith}
 use Rattle.storage_core.specs.Meaning.{state_in_place}
 use Rattle.storage_core.proofs.Holding.{reserved_is_held}
 use Rattle.storage_core.proofs.Staying.{failed_stays}
-use Rattle.storage_core.proofs.TaskCounts.{attach_few}
+use Rattle.storage_core.proofs.Counted.{uses_within}
+use Rattle.storage_core.proofs.TaskCounts.{attach-fits, attach_few}
 use Rattle.storage_core.proofs.storage.Storage.reserve_attach.Goals as goal
 
 pub invariant_of-self : goal.invariant_of-self
@@ -21,3 +23,11 @@ pub returns-clause-few : goal.returns-clause-few
 returns-clause-few c =
     let s = c.args.self.now in
     attach_few s.parts c.reserve.new.storage (state_in_place s) c.args.plan c.reserve.result c.reserve.ensures.ok
+
+pub returns-clause-uses : goal.returns-clause-uses
+returns-clause-uses c =
+    let s = c.args.self.now in
+    uses_within s.parts.elements.spare c.reserve.new.storage.elements.spare _ _ (attach-fits (state_in_place s) c.args.plan) c.reserve.result c.reserve.ensures.uses
+
+pub returns-clause-needless : goal.returns-clause-needless
+returns-clause-needless c = λ spare. c.reserve.ensures.needless (omega (arith, spare, attach-fits (state_in_place c.args.self.now) c.args.plan))

@@ -3,6 +3,7 @@ use Rattle.cell_plans.proofs.DeleteCounts.{delete-short}
 use Rattle.storage_core.specs.Meaning.{state_in_place}
 use Rattle.storage_core.proofs.Holding.{reserved_is_held}
 use Rattle.storage_core.proofs.Staying.{failed_stays}
+use Rattle.storage_core.proofs.Counted.{uses_within}
 use Rattle.storage_core.proofs.CellPoolCounts.{delete_few}
 use Rattle.storage_core.proofs.storage.Storage.reserve_delete.Goals as goal
 
@@ -28,3 +29,9 @@ pub returns-clause-needless : goal.returns-clause-needless
 returns-clause-needless c = λ spare.
     let m = state_in_place c.args.self.now in
     c.reserve.ensures.needless (omega (arith, spare, delete-short m (m.subpools.cells c.args.plan.pool)))
+
+pub returns-clause-uses : goal.returns-clause-uses
+returns-clause-uses c =
+    let s = c.args.self.now in
+    let m = state_in_place s in
+    uses_within s.parts.elements.spare c.reserve.new.storage.elements.spare _ _ (omega (arith, delete-short m (m.subpools.cells c.args.plan.pool))) c.reserve.result c.reserve.ensures.uses

@@ -1,5 +1,5 @@
 use Rattle.storage_core.specs.Meaning.{state_in_place}
-use Rattle.storage_core.proofs.Counted.{few_answered}
+use Rattle.storage_core.proofs.Counted.{few_answered, needed_for, uses_within}
 use Rattle.storage_core.proofs.Holding.{reserved_is_held, unassigned_in_region}
 use Rattle.storage_core.proofs.Staying.{failed_stays}
 use Rattle.storage_core.proofs.storage.Storage.reserve_storage.Goals as goal
@@ -28,3 +28,10 @@ returns-clause-few c =
     let plan = c.args.plan in
     few_answered s.parts c.reserve.new.storage (state_in_place s).subpools plan.emptied c.as_slice.result.now plan.blanks plan.fresh
     c.reserve.result c.reserve.ensures.ok c.as_slice.ensures.fits
+
+pub returns-clause-uses : goal.returns-clause-uses
+returns-clause-uses c =
+    let s = c.args.self.now in
+    let plan = c.args.plan in
+    uses_within s.parts.elements.spare c.reserve.new.storage.elements.spare _ _
+    (needed_for (state_in_place s).subpools plan.emptied _ plan.blanks c.as_slice.ensures.fits) c.reserve.result c.reserve.ensures.uses
