@@ -107,7 +107,7 @@ module _ (settings : Settings) (names_full : Bool) (m : StorageState) (x : Servi
       → IsPlanned settings names_full m x (Ok (Storage plan))
   cell_ok r plan is h =
       let planned : IsCellPlanned settings names_full m x (Ok plan) = subst (IsCellPlanned settings names_full m x) is h in
-      storage_accepted plan planned.0 planned.1.0 (cell_light plan planned.1.1.0 planned.1.1.1)
+      storage_accepted plan planned.0 planned.1.0 (cell_light plan planned.1.1.none planned.1.1.few)
 
   pub cell_err : (r : Result StoragePlan Cause) (cause : Cause) → r ≡ Err cause → IsCellPlanned settings names_full m x r
       → IsPlanned settings names_full m x (Err cause)
