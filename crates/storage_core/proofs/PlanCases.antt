@@ -76,8 +76,8 @@ module _ (settings : Settings) (names_full : Bool) (m : StorageState) (x : Servi
       record {
         accepts = accepts_by (change_for m 0 (Attach plan)) (reply_of (Attach plan)) planned.0;
         accepted = λ id _. planned.0;
-        can = planned.1.0;
-        light = omega (arith, planned.1.1);
+        can = planned.1;
+        light = omega (arith, planned.2);
       }
 
   pub attach_err : (r : Result AttachPlan Cause) (cause : Cause) → r ≡ Err cause → IsAttachPlanned settings names_full m x r
@@ -91,8 +91,8 @@ module _ (settings : Settings) (names_full : Bool) (m : StorageState) (x : Servi
       record {
         accepts = accepts_by (change_for m 0 (End plan)) plan.reply planned.0;
         accepted = λ id _. planned.0;
-        can = planned.1.0;
-        light = omega (arith, planned.1.1);
+        can = planned.1;
+        light = omega (arith, planned.2);
       }
 
   pub end_err : (r : Result EndPlan Cause) (cause : Cause) → r ≡ Err cause → IsEndPlanned settings names_full m x r
@@ -107,7 +107,7 @@ module _ (settings : Settings) (names_full : Bool) (m : StorageState) (x : Servi
       → IsPlanned settings names_full m x (Ok (Storage plan))
   cell_ok r plan is h =
       let planned : IsCellPlanned settings names_full m x (Ok plan) = subst (IsCellPlanned settings names_full m x) is h in
-      storage_accepted plan planned.0 planned.1.0 (cell_light plan planned.1.1.none planned.1.1.few)
+      storage_accepted plan planned.0 planned.1 (cell_light plan planned.2.none planned.2.few)
 
   pub cell_err : (r : Result StoragePlan Cause) (cause : Cause) → r ≡ Err cause → IsCellPlanned settings names_full m x r
       → IsPlanned settings names_full m x (Err cause)
@@ -117,7 +117,7 @@ module _ (settings : Settings) (names_full : Bool) (m : StorageState) (x : Servi
       → IsPlanned settings names_full m x (Ok (Build plan))
   build_ok r plan is h =
       let planned : IsBuildPlanned settings names_full m x (Ok plan) = subst (IsBuildPlanned settings names_full m x) is h in
-      record { accepts = planned.0; accepted = λ id free. planned.1.0 id free.0 free.1; can = planned.1.1.0; light = omega (arith, planned.1.1.1, few_marks plan.settings.primary) }
+      record { accepts = planned.0; accepted = λ id free. planned.1 id free.0 free.1; can = planned.2; light = omega (arith, planned.3, few_marks plan.settings.primary) }
 
   pub build_err : (r : Result BuildPlan Cause) (cause : Cause) → r ≡ Err cause → IsBuildPlanned settings names_full m x r
       → IsPlanned settings names_full m x (Err cause)
@@ -130,8 +130,8 @@ module _ (settings : Settings) (names_full : Bool) (m : StorageState) (x : Servi
       record {
         accepts = accepts_by (change_for m 0 (Delete plan)) (reply_of (Delete plan)) planned.0;
         accepted = λ id _. planned.0;
-        can = planned.1.0;
-        light = omega (arith, planned.1.1);
+        can = planned.1;
+        light = omega (arith, planned.2);
       }
 
   pub delete_err : (r : Result DeletePlan Cause) (cause : Cause) → r ≡ Err cause → IsDeletePlanned settings names_full m x r

@@ -84,7 +84,7 @@ end-fits m plan =
     let ended = ended_below m.tasks.parents plan.top in
     let records = end_records m ended plan.next in
     let registers = register_records (with_turn m plan.next) (end_registers plan.reply) in
-    omega (arith, (ends_are_short m ended plan.next).1.1, length-append records registers, one-register (with_turn m plan.next) plan.reply)
+    omega (arith, (ends_are_short m ended plan.next).2, length-append records registers, one-register (with_turn m plan.next) plan.reply)
 
 pub end_few : {E : Type 0} (p t : Parts) (m : StorageState) (plan : EndPlan) (r : Result Change E) → IfOk r (λ c. Reserves p (end_change m plan) c t) →
     IfOk r (λ c. c.records.count + c.blanks.count ≤ elements_needed m (End plan))
