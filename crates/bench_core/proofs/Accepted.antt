@@ -1,5 +1,5 @@
 -- A plan that was accepted, and the change that was made of it.
-use Rattle.std.proofs.Common.{◌≡◌, ℕ, true, Option, Some, None, List, ◌∷◌, ◌++◌, Err, sym, subst, refl, arith}
+use Rattle.std.proofs.Common.{◌≡◌, ℕ, true, Option, Some, None, List, ◌∷◌, ◌++◌, Err, sym, subst, refl, arith, Result, Ok, IsOk}
 use Rattle.std.proofs.Props.{props}
 use mathlib.Core.Bool.{Bool-set}
 use mathlib.Core.Logic.{∥∥₁_elim}
@@ -140,3 +140,8 @@ refused_as settings limit b x e why refused told =
     by : (why : Why) → statement_step settings b.present x ≡ Refused why → Keeps (statement_step settings) limit b (Apply x) (answer_to_apply (Err (refusal_for why))) b
     by unknown_name h = (h, refl)
     by (abended code) h = (h, refl)
+
+-- what failed isn't a success
+pub failed_isnt_ok : {T E : Type 0} (e : E) (r : Result T E) → r ≡ Err e → IsOk r → ⊥
+failed_isnt_ok e (Ok x) is ok = cc
+failed_isnt_ok e (Err f) is ok = cc

@@ -1,5 +1,5 @@
 -- What a written statement does to the plain machine: its values are looked up, and then it is a service.
-use Rattle.std.specs.Prelude.{ℕ, Bool, true, false, Option, Some, None, List, Result, Ok, Err}
+use Rattle.std.specs.Prelude.{ℕ, Bool, Option, Some, None, List, Result, Ok, Err}
 use Rattle.std.specs.Option.{option_map}
 use Rattle.vsm_model.specs.declared.limits.Settings.{Settings}
 use Rattle.vsm_model.specs.declared.causes.Code.{Code}

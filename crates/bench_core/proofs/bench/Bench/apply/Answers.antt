@@ -1,4 +1,4 @@
-use Rattle.std.proofs.Common.{◌≡◌, ◌-◌, ◌++◌, ◌∷◌, [], length, drop, take, sym, ◌∙◌, ap, subst}
+use Rattle.std.proofs.Common.{◌≡◌, ◌-◌, ◌++◌, ◌∷◌, [], IsOk, length, drop, take, arith, sym, ◌∙◌, ap, subst}
 use Rattle.std.proofs.lemmas.List.{append-nil}
 use Rattle.macro_statements.specs.Requests.{act_in}
 use Rattle.vsm_machine.specs.Meaning.{settings_of}
@@ -7,7 +7,7 @@ use Rattle.vsm_model.specs.Standing.{Bench, Accepted}
 use Rattle.vsm_machine.specs.NameSteps.{undefines_none}
 use Rattle.vsm_machine.specs.Changes.{Whole, DefineNone, UndefineNone, shown, plain_of, named_of, machine_fits, machine_states}
 use Rattle.bench_core.specs.Stands.{bench_of, bench_at}
-use Rattle.bench_core.proofs.Accepted.{reserved_of, accepted_as, refused_as, stays_readied, gives_of}
+use Rattle.bench_core.proofs.Accepted.{reserved_of, accepted_as, refused_as, stays_readied, gives_of, failed_isnt_ok}
 use Rattle.bench_core.proofs.Applied.{can_swap, applied_fits, applied_apart, applied_whole, applied_settings, kept_bench, kept_directed, next, unchanged_bench, unchanged_fits}
 use Rattle.bench_core.proofs.Moves.{discards_settings}
 use Rattle.bench_core.proofs.bench.Bench.apply.Goals as goal
@@ -168,5 +168,5 @@ returns-clause-keeps c =
 pub returns-in-Err-reserve-clause-needless : goal.returns-in-Err-reserve-clause-needless
 returns-in-Err-reserve-clause-needless c = λ supplied.
     let planned = c.in-Ok.ensures in
-    let ok = c.reserve.ensures.needless (omega (arith, planned.light, supplied.elements)) (supplied.plans c.in-Ok.planned planned) in
-    absurd (subst IsOk (sym c.in-Err-reserve.is) ok)
+    let ok : IsOk c.reserve.result = c.reserve.ensures.needless (omega (arith, planned.light, supplied.elements)) (supplied.plans c.in-Ok.planned planned) in
+    failed_isnt_ok c.in-Err-reserve.field-0 c.reserve.result c.in-Err-reserve.is ok

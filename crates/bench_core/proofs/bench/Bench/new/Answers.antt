@@ -1,5 +1,4 @@
 use Rattle.std.proofs.Common.{◌++◌, sym, ◌∙◌, ap, subst}
-use Rattle.vsm_model.specs.Names.{NamedState}
 use Rattle.vsm_model.specs.Standing.{new_bench}
 use Rattle.storage_changes.specs.Meaning.{model_of}
 use Rattle.step_history.specs.Log.{Log}
