@@ -66,9 +66,11 @@ impl Bench {
     ///
     /// An accepted statement discards what was undone; past the limit of the history the oldest change can't be undone
     /// any more. It is refused with `Name` where a value is a name that isn't defined, else with `Abend` and the
-    /// completion code of the first cause that holds, and last with `NoMemory`: of a statement that defines no name only
-    /// where fewer than 32 elements are spare, and 8 for each of what it weighs (subpools that it gives or shares, cells
-    /// that it makes, and what leaves by it), or fewer frames, or tables, than it newly assigns pages.
+    /// completion code of the first cause that holds, and last with `NoMemory`.
+    ///
+    /// A statement that defines no name is refused with `NoMemory` only where fewer than 32 elements are spare, and 8
+    /// for each of what it weighs (subpools that it gives or shares, cells that it makes, and what leaves by it), or
+    /// fewer frames, or tables, than it newly assigns pages.
     pub fn apply(&mut self, statement: &Statement) -> Result<Reply, Refusal>
         requires valid { IsValidAct (act_in statement.now) }
         ensures keeps { Keeps (statement_step (settings_in self.old)) (settings_in self.old).history (bench_of self.old)
