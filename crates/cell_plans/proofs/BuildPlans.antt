@@ -47,7 +47,8 @@ use Rattle.storage_plans.specs.declared.places.AreaPlace.{AreaPlace}
 use Rattle.storage_plans.specs.declared.places.AreaPlace.TheVariants as areas
 use Rattle.storage_plans.specs.ObtainPlans.{place_address, place_blanks, place_pages, place_records}
 use Rattle.storage_plans.specs.Places.{place_of}
-use Rattle.storage_plans.specs.Plans.{IsAccepted}
+use Rattle.storage_plans.specs.Plans.{Assigns, IsAccepted}
+use Rattle.storage_plans.proofs.Assigning.{own_assigns, registers_keep}
 use Rattle.storage_plans.proofs.AskedLengths.{is_somewhere, number_allowed, skip}
 use Rattle.storage_plans.proofs.Carried.{no_registers, register_and}
 use Rattle.cell_plans.specs.declared.build.BuildPlan.{BuildPlan}
@@ -245,8 +246,10 @@ module _ (settings : Settings) (names_full : Bool) (m : StorageState) (name : Li
       reply_is : plan.reply ≡ Obtained (place_address x) (8 * count)
       reply_is = is_reply ∙ ap (λ (g : CellSettings). Obtained (place_address x) (8 * doublewords (g.primary * g.size))) is_given
 
-      change_is : (id : ℕ) → build_change plan id
-          ≡ change_building (pool id) (change_of (own_records own is_new ++ place_records own count x ++ register_records m rows) (place_blanks x) (place_pages count x))
+      abbrev its_change : ℕ → Change
+      its_change id = change_building (pool id) (change_of (own_records own is_new ++ place_records own count x ++ register_records m rows) (place_blanks x) (place_pages count x))
+
+      change_is : (id : ℕ) → build_change plan id ≡ its_change id
       change_is id = λ i. change_building (built_pool id (is_name i) (with_these i) (is_header i) (is_start i) (with_these i).primary) (change_of (records_are i) (is_blanks i) (fresh_is i))
 
       can_be_built : ∥ IsSound settings m ∥₁ → CanBeBuilt m plan
@@ -277,4 +280,8 @@ module _ (settings : Settings) (names_full : Bool) (m : StorageState) (name : Li
             (subst (λ (d : Change). is d (Obtained (place_address x) (8 * count))) (sym (change_is id)) (carried h leads kept named id low absent)))),
         can_be_built sound,
         omega (arith, ap (λ (g : CellSettings). g.primary) with_these),
+        (λ id.
+            subst (λ (d : Change). Assigns m d plan.fresh) (sym (change_is id))
+            (subst (λ (r : Run). Assigns m (its_change id) r) (sym fresh_is)
+            (own_assigns _ own is_new count x (register_records m rows) (registers_keep m rows)))),
       )

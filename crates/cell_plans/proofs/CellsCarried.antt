@@ -16,7 +16,7 @@ use Rattle.storage_changes.specs.Changes.{Change, change_from, change_of}
 use Rattle.storage_changes.specs.Meaning.{model_of}
 use Rattle.storage_actions.specs.Leads.{Leads}
 use Rattle.storage_plans.specs.declared.plan.Plan.{Plan}
-use Rattle.storage_plans.specs.Plans.{CarriesOut, IsAccepted, change_in}
+use Rattle.storage_plans.specs.Plans.{Assigns, CarriesOut, IsAccepted, change_in}
 use Rattle.cell_plans.specs.CellPlans.{HasRecords}
 
 module _ (settings : Settings) (names_full : Bool) (m : StorageState) (x : Service) (plan : Plan) where
@@ -44,6 +44,13 @@ module _ (settings : Settings) (names_full : Bool) (m : StorageState) (x : Servi
           there = subst are_there (sym is_emptied) tt;
           unassigned = subst are_unassigned (sym is_fresh) unassigned;
         }
+
+    pub assigns : Assigns m (change_of records blanks fresh) fresh → Assigns m (change_in m plan) plan.fresh
+    assigns assigned =
+        let change : change_in m plan ≡ change_of records blanks fresh =
+        λ i. change_from m.subpools (is_emptied i) (is_records i) (is_blanks i) (is_fresh i) in
+        subst (λ (d : Change). Assigns m d plan.fresh) (sym change)
+        (subst (λ (r : Run). Assigns m (change_of records blanks fresh) r) (sym is_fresh) assigned)
 
   -- a plan of another service's form
   pub as_accepted : CarriesOut settings names_full m x plan → IsAccepted settings names_full m x (change_in m plan) plan.reply

@@ -24,12 +24,13 @@ use Rattle.storage_actions.specs.Actions.{register_records, run_of}
 use Rattle.storage_actions.proofs.Rows.{none_fresh}
 use Rattle.storage_plans.specs.declared.plan.Plan.{Plan}
 use Rattle.storage_plans.proofs.AskedLengths.{skip, stop}
+use Rattle.storage_plans.proofs.Assigning.{none_assigned}
 use Rattle.storage_plans.proofs.Carried.{no_registers, register_and}
 use Rattle.cell_actions.specs.Actions.{given_back_records, with_given_back}
 use Rattle.cell_actions.specs.Laws.{GivingBackCellsLeads}
 use Rattle.cell_plans.specs.CellPlans.{IsCellPlanned}
 use Rattle.cell_plans.specs.Seen.{IsSeen}
-use Rattle.cell_plans.proofs.CellsCarried.{accepts, has_records}
+use Rattle.cell_plans.proofs.CellsCarried.{accepts, assigns, has_records}
 use Rattle.cell_plans.proofs.PoolCells.{uses_same}
 use Rattle.cell_plans.proofs.SeenPools.{pool_is, under_its_id}
 
@@ -76,4 +77,5 @@ module _ (settings : Settings) (names_full : Bool) (m : StorageState) (name : Li
                 (formed settings names_full s after name cell (Returned 0) h.well_formed (accepted used)))),
             has_records settings names_full m (free name cell) plan records 1 (run_of 0 0) is_emptied with_id is_blanks is_fresh (omega arith) (omega arith) (none_fresh m),
             record { none = is_emptied; few = omega (arith, is_blanks) },
+            assigns settings names_full m (free name cell) plan records 1 (run_of 0 0) is_emptied with_id is_blanks is_fresh (none_assigned _),
           )

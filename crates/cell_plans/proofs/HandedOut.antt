@@ -28,6 +28,9 @@ use Rattle.cell_extents.specs.declared.settings.Settings.{Settings as CellSettin
 use Rattle.cell_pool.specs.Pools.{Pool, extended}
 use Rattle.cell_tables.specs.Named.{AreNamed}
 use Rattle.cell_tables.specs.Table.{cell_pool_of}
+use Rattle.storage_changes.specs.Changes.{change_of, outset}
+use Rattle.storage_changes.specs.Steps.{walk}
+use Rattle.storage_changes.specs.Walk.{Walk}
 use Rattle.storage_changes.specs.Meaning.{model_of, IsSound}
 use Rattle.storage_changes.specs.State.{StorageState}
 use Rattle.storage_changes.specs.declared.record.Record.{Record}
@@ -39,6 +42,7 @@ use Rattle.storage_plans.specs.Places.{place_of}
 use Rattle.storage_plans.specs.declared.places.AreaPlace.{AreaPlace}
 use Rattle.storage_plans.specs.declared.plan.Plan.{Plan}
 use Rattle.storage_plans.proofs.AskedLengths.{is_somewhere, skip, stop}
+use Rattle.storage_plans.proofs.Assigning.{none_assigned, place_assigns, registers_keep}
 use Rattle.storage_plans.proofs.Carried.{four_carried_out, no_registers, register_and}
 use Rattle.cell_actions.specs.Actions.{area_blanks, area_pages, area_records, doublewords_for, extent_blanks, extent_records, handed_out_records, with_extended, with_handed_out}
 use Rattle.cell_actions.specs.Laws.{ExtendingLeads, HandingOutLeads}
@@ -46,7 +50,7 @@ use Rattle.cell_actions.proofs.Extents.{first_free}
 use Rattle.cell_plans.specs.CellPlans.{cells_weight, further_cells, IsCellPlanned}
 use Rattle.cell_plans.specs.Handing.{cell_records, cell_registers, further_records}
 use Rattle.cell_plans.specs.Seen.{IsSeen}
-use Rattle.cell_plans.proofs.CellsCarried.{accepts, as_accepted, has_records}
+use Rattle.cell_plans.proofs.CellsCarried.{accepts, as_accepted, assigns, has_records}
 use Rattle.cell_plans.proofs.ExtentPlaces.{are_unassigned, few_blanks, has_room, in_range, in_words, same_blanks, same_pages, same_records}
 use Rattle.cell_plans.proofs.PoolCells.{extended_same}
 use Rattle.cell_plans.proofs.SeenPools.{bounds, is_sound, pool_is, under_its_id}
@@ -213,6 +217,7 @@ module _ (settings : Settings) (names_full : Bool) (m : StorageState) (name : Li
                 (formed settings names_full s after_first name g (Cell cell) valid (names_a_register g.register register) h.well_formed (first_accepted fits)))),
             has_records settings names_full m x plan records 0 (run_of 0 0) is_emptied with_id is_blanks is_fresh (omega arith) (omega arith) (none_fresh m),
             record { none = is_emptied; few = omega (arith, is_blanks) },
+            assigns settings names_full m x plan records 0 (run_of 0 0) is_emptied with_id is_blanks is_fresh (none_assigned _),
           )
 
     -- None is free, and the conditional form is answered 4.
@@ -224,6 +229,7 @@ module _ (settings : Settings) (names_full : Bool) (m : StorageState) (name : Li
           (no_storage fits empty (ap (λ (b : Bool). b || is_nowhere (goes_for q)) conditional)) conditional refl is_emptied is_records is_blanks is_fresh is_reply)),
       has_records settings names_full m x plan (register_records m ((15, 4) ∷ [])) 0 (run_of 0 0) is_emptied is_records is_blanks is_fresh (omega arith) (omega arith) (none_fresh m),
       record { none = is_emptied; few = omega (arith, is_blanks) },
+      assigns settings names_full m x plan (register_records m ((15, 4) ∷ [])) 0 (run_of 0 0) is_emptied is_records is_blanks is_fresh (none_assigned _),
     )
 
     -- None is free, and a further extent has a place.
@@ -305,6 +311,9 @@ module _ (settings : Settings) (names_full : Bool) (m : StorageState) (name : Li
           let from_place : plan.fresh ≡ place_pages length to = is_fresh ∙ (λ i. place_pages (doublewords ((cells_are i).secondary * (cells_are i).size)) to) in
           let as_fresh : plan.fresh ≡ area_pages length goes = from_place ∙ same_pages length to in
           let from_blanks : plan.blanks ≡ place_blanks to + extent_blanks count = is_blanks ∙ (λ i. place_blanks to + extent_blanks (cells_are i).secondary) in
+          let area : List Record = place_records p.settings.subpool length to in
+          let behind_extent : List Record = cell_records m p.id (place_address to) g.register in
+          let begin : Walk = outset m (change_of (further_records m p.id p.settings to g.register) (place_blanks to + extent_blanks count) (place_pages length to)) in
           let outcome : Reply → Stepped = λ reply. Accepted after_further reply in (
             ∥∥₁_map sound (λ h. accepts settings names_full m x plan records (area_blanks goes + extent_blanks count) (area_pages length goes)
                 is_emptied as_records as_blanks as_fresh after_further
@@ -316,4 +325,8 @@ module _ (settings : Settings) (names_full : Bool) (m : StorageState) (name : Li
                 few (in_range settings m p.settings.subpool p.settings.location length valid some_area to at)
                 (are_unassigned settings m p.settings.subpool p.settings.location length valid some_area to at sound),
             record { none = is_emptied; few = light plan.blanks from_blanks },
+            assigns settings names_full m x plan (further_records m p.id p.settings to g.register) (place_blanks to + extent_blanks count) (place_pages length to)
+                is_emptied (is_records ∙ (λ i. further_records m (sym seen.id_is i) (cells_are i) to g.register)) from_blanks from_place
+                (λ k own. subst (λ (rs : List Record). (walk begin rs).state.unassigned k ≡ false) (sym (append_assoc area extent behind_extent))
+                (place_assigns begin p.settings.subpool length to (extent ++ behind_extent) (tt, (tt, registers_keep m (cell_registers g.register (place_address to)))) k own)),
           )

@@ -21,7 +21,7 @@ use Rattle.storage_changes.specs.Changes.{Change, change_of, change_building, no
 use Rattle.storage_changes.specs.Meaning.{model_of}
 use Rattle.storage_actions.specs.Actions.{register_records}
 use Rattle.storage_plans.specs.declared.plan.Plan.{Plan}
-use Rattle.storage_plans.specs.Plans.{IsAccepted, change_in}
+use Rattle.storage_plans.specs.Plans.{Assigns, IsAccepted, change_in}
 use Rattle.cell_actions.specs.Actions.{deleting_records, deleting_blanks, extents_given_back}
 use Rattle.cell_plans.specs.declared.build.BuildPlan.{BuildPlan}
 use Rattle.cell_plans.specs.declared.delete.DeletePlan.{DeletePlan}
@@ -57,10 +57,12 @@ pub record IsLight (m : StorageState) (x : Service) (plan : Plan) : Type 0 where
   pub none : plan.emptied ≡ None
   pub few : plan.blanks ≤ 7 + 8 * cells_weight m x
 
--- A cell that is handed out or given back was planned; or it's refused for this cause.
+-- A cell that is handed out or given back was planned, with frames for just the pages that come to be assigned; or it's
+-- refused for this cause.
 abbrev pub IsCellPlanned : Settings → Bool → StorageState → Service → Result Plan Cause → Type 0
 IsCellPlanned settings names_full m x (Ok plan) =
     (∥ IsAccepted settings names_full m x (change_in m plan) plan.reply ∥₁) × HasRecords m plan × IsLight m x plan
+    × Assigns m (change_in m plan) plan.fresh
 IsCellPlanned settings names_full m x (Err cause) = step settings names_full (model_of m) x ≡ Refused cause
 
 -- the cell pool that comes, under an id: the cells of its one extent are free
@@ -82,8 +84,9 @@ pub record CanBeBuilt (m : StorageState) (plan : BuildPlan) : Type 0 where
   pub range : plan.fresh.start + plan.fresh.len ≤ 2 ^ 20
   pub unassigned : (page : ℕ) → inside page plan.fresh ≡ true → m.unassigned page ≡ true
 
--- A cell pool's coming was planned, under whatever id that none has, with no more cells than the service's weight; or
--- it's refused for this cause. That it's accepted stands by itself, as it doesn't need such an id.
+-- A cell pool's coming was planned, under whatever id that none has, with no more cells than the service's weight, and
+-- with frames for just the pages that come to be assigned; or it's refused for this cause. That it's accepted, and that
+-- the pages are assigned, stands by itself, as it doesn't need such an id.
 abbrev pub IsBuildPlanned : Settings → Bool → StorageState → Service → Result BuildPlan Cause → Type 0
 IsBuildPlanned settings names_full m x (Ok plan) =
     outcome.IsAccepted (step settings names_full (model_of m) x)
@@ -91,6 +94,7 @@ IsBuildPlanned settings names_full m x (Ok plan) =
     → ∥ IsAccepted settings names_full m x (build_change plan id) plan.reply ∥₁)
     × CanBeBuilt m plan
     × (plan.settings.primary ≤ cells_weight m x)
+    × ((id : ℕ) → Assigns m (build_change plan id) plan.fresh)
 IsBuildPlanned settings names_full m x (Err cause) = step settings names_full (model_of m) x ≡ Refused cause
 
 -- the change by which a cell pool goes

@@ -15,6 +15,7 @@ use Rattle.storage_changes.specs.Changes.{Change}
 use Rattle.storage_changes.specs.Meaning.{model_of}
 use Rattle.storage_plans.specs.declared.plan.Plan.{Plan as StoragePlan}
 use Rattle.storage_plans.specs.Plans.{CarriesOut, IsPlanned as IsStoragePlanned}
+use Rattle.storage_plans.proofs.Assigning.{none_assigned}
 use Rattle.task_plans.specs.declared.attach.AttachPlan.{AttachPlan}
 use Rattle.task_plans.specs.declared.end.EndPlan.{EndPlan}
 use Rattle.task_plans.specs.TaskPlans.{IsAttachPlanned, IsEndPlanned}
@@ -24,7 +25,7 @@ use Rattle.cell_plans.specs.declared.delete.DeletePlan.{DeletePlan}
 use Rattle.cell_plans.specs.CellPlans.{IsBuildPlanned, IsCellPlanned, IsDeletePlanned}
 use Rattle.storage_core.specs.declared.plans.Plan.TheVariants.{Storage, Attach, End, Build, Delete}
 use Rattle.storage_core.specs.Weight.{weight, cells_weight}
-use Rattle.storage_core.specs.Planned.{CanCarryOut, HasRecords, IsAccepted, IsPlanned, change_for, extents_leaving, reply_of, storage_elements}
+use Rattle.storage_core.specs.Planned.{Assigns, CanCarryOut, HasRecords, IsAccepted, IsPlanned, change_for, extents_leaving, reply_of, storage_elements}
 
 -- the marks of cells take fewer elements than the cells, and one
 few_marks : (n : ℕ) → mark_items n ≤ n + 1
@@ -47,12 +48,13 @@ module _ (settings : Settings) (names_full : Bool) (m : StorageState) (x : Servi
       subst P (sym k.accepted) tt)
 
   storage_accepted : (plan : StoragePlan) → ∥ IsAccepted settings names_full m x (change_for m 0 (Storage plan)) plan.reply ∥₁ → HasRecords m plan
-      → storage_elements m plan ≤ 32 + 8 * weight m x → CanCarryOut settings names_full m x (Storage plan)
-  storage_accepted plan planned has light = record {
+      → storage_elements m plan ≤ 32 + 8 * weight m x → Assigns m (change_for m 0 (Storage plan)) plan.fresh → CanCarryOut settings names_full m x (Storage plan)
+  storage_accepted plan planned has light assigned = record {
     accepts = accepts_by (change_for m 0 (Storage plan)) plan.reply planned;
     accepted = λ id _. planned;
     can = has;
     light = light;
+    assigned = λ id. assigned;
   }
 
   pub storage_ok : (r : Result StoragePlan Cause) (plan : StoragePlan) → r ≡ Ok plan → IsStoragePlanned settings names_full m x r
@@ -64,6 +66,7 @@ module _ (settings : Settings) (names_full : Bool) (m : StorageState) (x : Servi
       (∥∥₁_map planned (λ k. record { accepted = k.accepted; fits = k.fits; sound = k.sound }))
       (let has : HasRecords m plan = ∥∥₁_elim planned (hlevel props) (λ k. record { few = omega (arith, k.few); range = k.range; there = k.there; unassigned = k.unassigned }) in has)
       (∥∥₁_elim planned (hlevel props) (λ k. omega (arith, k.few, leaves)))
+      (let its : Assigns m (change_for m 0 (Storage plan)) plan.fresh = ∥∥₁_elim planned (hlevel props) (λ k. k.assigned) in its)
 
   pub storage_err : (r : Result StoragePlan Cause) (cause : Cause) → r ≡ Err cause → IsStoragePlanned settings names_full m x r
       → IsPlanned settings names_full m x (Err cause)
@@ -78,6 +81,7 @@ module _ (settings : Settings) (names_full : Bool) (m : StorageState) (x : Servi
         accepted = λ id _. planned.0;
         can = planned.1;
         light = omega (arith, planned.2);
+        assigned = λ id. none_assigned _;
       }
 
   pub attach_err : (r : Result AttachPlan Cause) (cause : Cause) → r ≡ Err cause → IsAttachPlanned settings names_full m x r
@@ -93,6 +97,7 @@ module _ (settings : Settings) (names_full : Bool) (m : StorageState) (x : Servi
         accepted = λ id _. planned.0;
         can = planned.1;
         light = omega (arith, planned.2);
+        assigned = λ id. none_assigned _;
       }
 
   pub end_err : (r : Result EndPlan Cause) (cause : Cause) → r ≡ Err cause → IsEndPlanned settings names_full m x r
@@ -107,7 +112,7 @@ module _ (settings : Settings) (names_full : Bool) (m : StorageState) (x : Servi
       → IsPlanned settings names_full m x (Ok (Storage plan))
   cell_ok r plan is h =
       let planned : IsCellPlanned settings names_full m x (Ok plan) = subst (IsCellPlanned settings names_full m x) is h in
-      storage_accepted plan planned.0 planned.1 (cell_light plan planned.2.none planned.2.few)
+      storage_accepted plan planned.0 planned.1 (cell_light plan planned.2.none planned.2.few) planned.3
 
   pub cell_err : (r : Result StoragePlan Cause) (cause : Cause) → r ≡ Err cause → IsCellPlanned settings names_full m x r
       → IsPlanned settings names_full m x (Err cause)
@@ -117,7 +122,7 @@ module _ (settings : Settings) (names_full : Bool) (m : StorageState) (x : Servi
       → IsPlanned settings names_full m x (Ok (Build plan))
   build_ok r plan is h =
       let planned : IsBuildPlanned settings names_full m x (Ok plan) = subst (IsBuildPlanned settings names_full m x) is h in
-      record { accepts = planned.0; accepted = λ id free. planned.1 id free.0 free.1; can = planned.2; light = omega (arith, planned.3, few_marks plan.settings.primary) }
+      record { accepts = planned.0; accepted = λ id free. planned.1 id free.0 free.1; can = planned.2; light = omega (arith, planned.3, few_marks plan.settings.primary); assigned = planned.4 }
 
   pub build_err : (r : Result BuildPlan Cause) (cause : Cause) → r ≡ Err cause → IsBuildPlanned settings names_full m x r
       → IsPlanned settings names_full m x (Err cause)
@@ -132,6 +137,7 @@ module _ (settings : Settings) (names_full : Bool) (m : StorageState) (x : Servi
         accepted = λ id _. planned.0;
         can = planned.1;
         light = omega (arith, planned.2);
+        assigned = λ id. none_assigned _;
       }
 
   pub delete_err : (r : Result DeletePlan Cause) (cause : Cause) → r ≡ Err cause → IsDeletePlanned settings names_full m x r

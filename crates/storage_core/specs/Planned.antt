@@ -21,6 +21,7 @@ use Rattle.storage_changes.specs.Changes.{Change, no_pages}
 use Rattle.storage_changes.specs.Meaning.{model_of}
 use Rattle.storage_plans.specs.declared.plan.Plan.{Plan as StoragePlan}
 use Rattle.storage_plans.specs.Plans.{change_in}
+pub use Rattle.storage_plans.specs.Plans.{Assigns}
 use Rattle.task_actions.specs.Ending.{ended_below, weight_ended}
 use Rattle.task_plans.specs.TaskPlans.{numbers, attach_change, end_change}
 use Rattle.task_plans.specs.TaskPlans.{CanBeAttached, CanBeEnded}
@@ -126,7 +127,8 @@ abbrev pub IsSpare : Parts → StorageState → Plan → Type 0
 IsSpare p m plan = IsSpareFor p (elements_needed m plan) (fresh_pages plan)
 
 -- The service is accepted, with the plan's reply, in the state that its change leads to, whatever id a cell pool that
--- comes has; the change can be made, and takes no more elements than the service's weight allows.
+-- comes has; the change can be made, takes no more elements than the service's weight allows, and has frames for just
+-- the pages that come to be assigned.
 pub record CanCarryOut (settings : Settings) (names_full : Bool) (m : StorageState) (x : Service) (plan : Plan)
     : Type 0 where
   pub accepts : outcome.IsAccepted (step settings names_full (model_of m) x)
@@ -135,6 +137,7 @@ pub record CanCarryOut (settings : Settings) (names_full : Bool) (m : StorageSta
       → ∥ IsAccepted settings names_full m x (change_for m id plan) (reply_of plan) ∥₁
   pub can : CanBeReserved m plan
   pub light : elements_needed m plan ≤ 32 + 8 * weight m x
+  pub assigned : (id : ℕ) → Assigns m (change_for m id plan) (fresh_pages plan)
 
 -- a service was planned; or it's refused for this cause
 abbrev pub IsPlanned : Settings → Bool → StorageState → Service → Result Plan Cause → Type 0

@@ -26,7 +26,8 @@ use Rattle.storage_actions.specs.Actions.{run_of, register_records}
 use Rattle.storage_actions.specs.Leads.{Leads, AreRegisters}
 use Rattle.storage_actions.proofs.Rows.{none_fresh, setting_leads}
 use Rattle.storage_plans.specs.declared.plan.Plan.{Plan}
-use Rattle.storage_plans.specs.Plans.{CarriesOut, change_in}
+use Rattle.storage_plans.specs.Plans.{Assigns, CarriesOut, change_in}
+use Rattle.storage_plans.proofs.Assigning.{none_assigned}
 
 pub no_registers : AreRegisters []
 no_registers = let below : (ℕ × ℕ) → Type 0 = λ row. row.0 < 16 in All-nil below
@@ -41,8 +42,8 @@ module _ (settings : Settings) (names_full : Bool) (m : StorageState) (x : Servi
       plan.emptied ≡ emptied → plan.records.items ≡ records → plan.blanks ≡ blanks → plan.fresh ≡ fresh →
       step settings names_full (model_of m) x ≡ Accepted t plan.reply → Leads settings m (change_from m.subpools emptied records blanks fresh) t →
       IfSome emptied (λ p. is_there m.subpools p ≡ true) → blanks ≤ 5 → fresh.start + fresh.len ≤ 2 ^ 20 →
-      ((page : ℕ) → inside page fresh ≡ true → m.unassigned page ≡ true) → CarriesOut settings names_full m x plan
-  carries_out_from plan emptied records blanks fresh t is_emptied is_records is_blanks is_fresh accepted leads there few range unassigned =
+      ((page : ℕ) → inside page fresh ≡ true → m.unassigned page ≡ true) → Assigns m (change_from m.subpools emptied records blanks fresh) fresh → CarriesOut settings names_full m x plan
+  carries_out_from plan emptied records blanks fresh t is_emptied is_records is_blanks is_fresh accepted leads there few range unassigned assigned =
       let change : change_in m plan ≡ change_from m.subpools emptied records blanks fresh =
       λ i. change_from m.subpools (is_emptied i) (is_records i) (is_blanks i) (is_fresh i) in
       let leads_to : Change → Type 0 = λ d. Leads settings m d t in
@@ -60,15 +61,17 @@ module _ (settings : Settings) (names_full : Bool) (m : StorageState) (x : Servi
         few = subst is_few (sym is_blanks) few;
         range = subst in_range (sym is_fresh) range;
         unassigned = subst are_unassigned (sym is_fresh) unassigned;
+        assigned = subst (λ (d : Change). Assigns m d plan.fresh) (sym change) (subst (λ (r : Run). Assigns m (change_from m.subpools emptied records blanks fresh) r) (sym is_fresh) assigned);
       }
 
   -- and with none
   pub carries_out : (plan : Plan) (records : List Record) (blanks : ℕ) (fresh : Run) (t : State) →
       plan.emptied ≡ None → plan.records.items ≡ records → plan.blanks ≡ blanks → plan.fresh ≡ fresh →
       step settings names_full (model_of m) x ≡ Accepted t plan.reply → Leads settings m (change_of records blanks fresh) t →
-      blanks ≤ 5 → fresh.start + fresh.len ≤ 2 ^ 20 → ((page : ℕ) → inside page fresh ≡ true → m.unassigned page ≡ true) → CarriesOut settings names_full m x plan
-  carries_out plan records blanks fresh t is_emptied is_records is_blanks is_fresh accepted leads few range unassigned =
-      carries_out_from plan None records blanks fresh t is_emptied is_records is_blanks is_fresh accepted leads tt few range unassigned
+      blanks ≤ 5 → fresh.start + fresh.len ≤ 2 ^ 20 → ((page : ℕ) → inside page fresh ≡ true → m.unassigned page ≡ true) → Assigns m (change_of records blanks fresh) fresh →
+      CarriesOut settings names_full m x plan
+  carries_out plan records blanks fresh t is_emptied is_records is_blanks is_fresh accepted leads few range unassigned assigned =
+      carries_out_from plan None records blanks fresh t is_emptied is_records is_blanks is_fresh accepted leads tt few range unassigned assigned
 
   -- what comes of a service whose first cause this is
   by_cause : (cause : Cause) → first_cause (causes settings names_full (model_of m) x) ≡ Some cause →
@@ -87,4 +90,4 @@ module _ (settings : Settings) (names_full : Bool) (m : StorageState) (x : Servi
       ∙ ap outcome (sym is_reply) in
       carries_out plan (register_records m ((15, 4) ∷ [])) 0 (run_of 0 0) after is_emptied is_records is_blanks is_fresh accepted
       (setting_leads settings m ((15, 4) ∷ []) sound (register_and 15 4 [] (omega arith) no_registers) (register_leaves_well_formed (model_of m) 15 4 settings (omega arith) (omega arith) sound.well_formed))
-      (omega arith) (omega arith) (none_fresh m)
+      (omega arith) (omega arith) (none_fresh m) (none_assigned _)

@@ -29,6 +29,7 @@ use Rattle.storage_actions.proofs.Emptying.{emptying_leads}
 use Rattle.storage_actions.proofs.Rows.{none_fresh}
 use Rattle.storage_plans.specs.declared.plan.Plan.{Plan}
 use Rattle.storage_plans.specs.Plans.{CarriesOut}
+use Rattle.storage_plans.proofs.Assigning.{none_assigned}
 use Rattle.storage_plans.proofs.Carried.{carries_out_from, no_registers, register_and}
 
 module _ (settings : Settings) (names_full : Bool) (m : StorageState) (number : ℕ) (stay : RowsOfTheOthersStay) (named : AreNamed m.subpools.cells)
@@ -61,7 +62,7 @@ module _ (settings : Settings) (names_full : Bool) (m : StorageState) (number : 
       (accepted ∙ ap outcome (sym reply))
       (emptying_leads stay settings m own ((15, 0) ∷ []) valid sound named (seen_is_there sound) (register_and 15 0 [] (omega arith) no_registers)
       (whole_release_leaves_well_formed settings names_full s after number (Returned 0) sound.well_formed accepted))
-      (seen_is_there sound) (omega arith) (omega arith) (none_fresh m)
+      (seen_is_there sound) (omega arith) (omega arith) (none_fresh m) (none_assigned _)
 
   pub emptying_carried_out : settings_valid settings ≡ true → ∥ IsSound settings m ∥₁ → (p : Subpool) → p ≡ seen_or_own (model_of m) number → (plan : Plan) → plan.emptied ≡ Some p →
       plan.records.items ≡ register_records m ((15, 0) ∷ []) → plan.blanks ≡ 1 → plan.fresh ≡ run_of 0 0 → plan.reply ≡ Returned 0 → ∥ CarriesOut settings names_full m (whole number) plan ∥₁

@@ -36,6 +36,7 @@ use Rattle.storage_plans.specs.declared.plan.Plan.{Plan}
 use Rattle.storage_plans.specs.declared.release.GivenBack.{GivenBack}
 use Rattle.storage_plans.specs.Plans.{CarriesOut}
 use Rattle.storage_plans.specs.Releases.{area_causes, IsGivenBack}
+use Rattle.storage_plans.proofs.Assigning.{none_assigned}
 use Rattle.storage_plans.proofs.Carried.{carries_out, no_registers, register_and}
 use Rattle.storage_plans.proofs.AskedLengths.{skip, stop, number_allowed}
 use Rattle.storage_plans.proofs.OwnedAreas.{not_one}
@@ -158,7 +159,7 @@ module _ (settings : Settings) (m : StorageState) (r : Release) where
         given.emptied given.records given.blanks given.fresh (accepted ∙ ap outcome (sym given.reply))
         (giving_back_leads settings m p d count pages.start pages.len ((15, 0) ∷ []) sound (register_and 15 0 [] (omega arith) no_registers) some high idle.1 taken idle.0
         (release_leaves_well_formed settings names_full s after r (Returned 0) sound.well_formed accepted))
-        (omega arith) (omega arith) (none_fresh m)
+        (omega arith) (omega arith) (none_fresh m) (none_assigned _)
 
   pub is_given_back : (names_full : Bool) (found : GivenBack) (plan : Plan) → ∥ IsSound settings m ∥₁ → first_cause (release_causes settings s r) ≡ None →
       found.subpool ≡ seen_or_own s r.number → found.area ≡ run_of (r.address / 8) (doublewords r.length) → 0 < found.area.len → found.area.start + found.area.len ≤ 2 ^ 29 →

@@ -1,5 +1,6 @@
 mod BlockBytes
 mod BytesRead
+pub mod Assigning
 pub mod Carried
 mod Obtained
 pub mod AskedLengths

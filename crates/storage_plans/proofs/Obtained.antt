@@ -49,6 +49,7 @@ use Rattle.storage_plans.specs.declared.plan.Plan.{Plan}
 use Rattle.storage_plans.specs.ObtainPlans.{reply_registers, obtain_records, place_address, place_blanks, place_pages, place_records}
 use Rattle.storage_plans.specs.Places.{place_of}
 use Rattle.storage_plans.specs.Plans.{CarriesOut}
+use Rattle.storage_plans.proofs.Assigning.{own_assigns, registers_keep}
 use Rattle.storage_plans.proofs.Carried.{carries_out, no_registers, register_and}
 use Rattle.storage_plans.proofs.AskedLengths.{is_somewhere}
 
@@ -240,3 +241,4 @@ module _ (settings : Settings) (names_full : Bool) (m : StorageState) (o : Obtai
       emptied (records ∙ ap (λ (p : Subpool). own_records p found.is_new ++ place_records p found.count found.place ++ register_records m rows) is.subpool) blanks fresh
       (accepted sound ∙ ap (λ r. Accepted after r) (sym reply)) leads (few_blanks found.place)
       (pages_in_range settings m o is.valid found.count some found.place its) (pages_unassigned settings m o is.valid found.count some sound found.place its)
+      (own_assigns _ own found.is_new found.count found.place (register_records m rows) (registers_keep m rows))

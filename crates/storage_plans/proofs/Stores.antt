@@ -30,6 +30,7 @@ use Rattle.storage_exchange.specs.Storage.{state_of, IsFrameless}
 use Rattle.storage_plans.specs.declared.plan.Plan.{Plan}
 use Rattle.storage_plans.specs.Plans.{CarriesOut}
 use Rattle.storage_plans.proofs.BytesRead.{byte_shown}
+use Rattle.storage_plans.proofs.Assigning.{none_assigned}
 use Rattle.storage_plans.proofs.Carried.{carries_out}
 
 -- the record of a block with the bytes of a store over it
@@ -108,4 +109,4 @@ store_carried settings names_full m address bytes plan there are emptied records
     carries_out settings names_full m (store address bytes) plan (write_records m address bytes) 0 (run_of 0 0) after emptied records blanks fresh (accepted ∙ ap outcome (sym reply))
     (writing_leads settings m address bytes h there
     (store_leaves_well_formed settings names_full (model_of m) after address bytes Stored are h.well_formed accepted))
-    (omega arith) (omega arith) (none_fresh m))
+    (omega arith) (omega arith) (none_fresh m) (none_assigned _))

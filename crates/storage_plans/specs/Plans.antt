@@ -1,7 +1,8 @@
 -- What the plan of a request comes to on the plain machine. Assembler Services Guide, "Virtual storage management",
 -- "Explicit requests for virtual storage" and "Subpool handling"; Assembler Services Reference, STORAGE, GETMAIN and
 -- FREEMAIN.
-use Rattle.std.specs.Prelude.{◌≡◌, ℕ, ◌+◌, ◌^◌, ◌≤◌, Bool, true, IfSome, Result, Ok, Err}
+use Rattle.std.specs.Prelude.{◌≡◌, ℕ, ◌+◌, ◌^◌, ◌≤◌, Bool, true, false, IfSome, Result, Ok, Err}
+use Rattle.run_set.specs.declared.run.Run.{Run}
 use Rattle.run_set.specs.Runs.{inside}
 use Rattle.vsm_model.specs.declared.causes.Cause.{Cause}
 use Rattle.vsm_model.specs.declared.limits.Settings.{Settings}
@@ -20,6 +21,10 @@ use Rattle.storage_plans.specs.declared.plan.Plan.{Plan}
 abbrev pub change_in : StorageState → Plan → Change
 change_in m plan = change_from m.subpools plan.emptied plan.records.items plan.blanks plan.fresh
 
+-- each page of the run comes to be assigned by the change
+abbrev pub Assigns : StorageState → Change → Run → Type 0
+Assigns m d run = (page : ℕ) → inside page run ≡ true → (overlay m d).unassigned page ≡ false
+
 -- The service is accepted with this reply, in the state that the change leads to. The change fits, and leads to a sound
 -- storage.
 pub record IsAccepted (settings : Settings) (names_full : Bool) (m : StorageState) (x : Service) (d : Change)
@@ -29,7 +34,7 @@ pub record IsAccepted (settings : Settings) (names_full : Bool) (m : StorageStat
   pub sound : IsSound settings (overlay m d)
 
 -- The service is accepted with the plan's reply, in the state that the plan's change leads to. The change fits, and
--- leads to a sound storage.
+-- leads to a sound storage, in which just those pages came to be assigned for which it has frames.
 pub record CarriesOut (settings : Settings) (names_full : Bool) (m : StorageState) (x : Service) (plan : Plan)
     : Type 0 where
   pub accepted : step settings names_full (model_of m) x ≡ Accepted (model_of (overlay m (change_in m plan))) plan.reply
@@ -39,6 +44,7 @@ pub record CarriesOut (settings : Settings) (names_full : Bool) (m : StorageStat
   pub few : plan.blanks ≤ 5
   pub range : plan.fresh.start + plan.fresh.len ≤ 2 ^ 20
   pub unassigned : (page : ℕ) → inside page plan.fresh ≡ true → m.unassigned page ≡ true
+  pub assigned : Assigns m (change_in m plan) plan.fresh
 
 -- A service was planned; or it's refused for this cause.
 abbrev pub IsPlanned : Settings → Bool → StorageState → Service → Result Plan Cause → Type 0

@@ -19,6 +19,7 @@ use Rattle.storage_actions.specs.Actions.{run_of}
 use Rattle.storage_actions.proofs.Rows.{none_fresh}
 use Rattle.storage_plans.specs.declared.plan.Plan.{Plan}
 use Rattle.storage_plans.specs.Plans.{CarriesOut}
+use Rattle.storage_plans.proofs.Assigning.{none_assigned}
 use Rattle.storage_plans.proofs.Carried.{carries_out}
 use Rattle.task_actions.specs.Attaching.{turn_records}
 use Rattle.task_actions.specs.Laws.{TurningLeads}
@@ -47,4 +48,4 @@ module _ (settings : Settings) (names_full : Bool) (m : StorageState) (task : �
       ∥∥₁_map sound (λ h.
       carries_out settings names_full m (run task) plan (turn_records task) 0 (run_of 0 0) after emptied records blanks fresh (accepted ∙ ap outcome (sym reply))
       (law settings m task h there (run_leaves_well_formed settings names_full s after task (Turn task) h.well_formed accepted))
-      (omega arith) (omega arith) (none_fresh m))
+      (omega arith) (omega arith) (none_fresh m) (none_assigned _))

@@ -120,6 +120,7 @@ module _ (m : MachineState) (x : Act) (service : Service) (is : Some service ≡
     accepted = λ id free. ∥∥₁_map (carried.accepted id free) (λ a. accepted_by p id a sound named_by);
     can = carried.can;
     light = subst (λ o. elements_needed m.storage p.plan ≤ 32 + 8 * weight_served m.storage o) is carried.light;
+    assigned = carried.assigned;
   }
 
   pub refused_by : (cause : Cause) (e : Refusal) →

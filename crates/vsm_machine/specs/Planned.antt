@@ -8,7 +8,7 @@ use Rattle.vsm_model.specs.Standing as outcome
 use Rattle.vsm_model.specs.Standing.{Accepted, Refused}
 use Rattle.macro_statements.specs.Requests.{Act}
 use Rattle.storage_core.specs.Meaning.{state_in_place}
-pub use Rattle.storage_core.specs.Planned.{CanBeReserved, IsIdFor, change_for, elements_needed, reply_of}
+pub use Rattle.storage_core.specs.Planned.{Assigns, CanBeReserved, IsIdFor, change_for, elements_needed, fresh_pages, reply_of}
 use Rattle.storage_core.specs.Weight.{weight}
 use Rattle.storage_changes.specs.State.{StorageState}
 use Rattle.storage_swap.specs.Reserve.{Reserves}
@@ -59,13 +59,14 @@ weight_served m (Some service) = weight m service
 abbrev pub weight_asked : MachineState → Act → ℕ
 weight_asked m x = weight_served m.storage (service_asked (named_of m) x)
 
--- It's accepted, under whatever id that a cell pool that comes can have; the change can be made, and takes no more
--- elements than the statement's weight allows.
+-- It's accepted, under whatever id that a cell pool that comes can have; the change can be made, takes no more elements
+-- than the statement's weight allows, and has frames for just the pages that come to be assigned.
 pub record CanCarryOut (m : MachineState) (x : Act) (p : Planned) : Type 0 where
   pub accepts : outcome.IsAccepted (statement_step m.settings (named_of m) x)
   pub accepted : (id : ℕ) → IsIdFor m.storage p.plan id → ∥ IsAcceptedBy m x p id ∥₁
   pub can : CanBeReserved m.storage p.plan
   pub light : elements_needed m.storage p.plan ≤ 32 + 8 * weight_asked m x
+  pub assigned : (id : ℕ) → Assigns m.storage (change_for m.storage id p.plan) (fresh_pages p.plan)
 
 -- A statement was planned; or it is refused for this.
 abbrev pub IsPlanned : MachineState → Act → Result Planned Refusal → Type 0
