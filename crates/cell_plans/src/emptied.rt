@@ -1,5 +1,5 @@
 //! Which pages an extent of a cell pool empties, once those before it are given back.
-ghost use Rattle.std.specs.Prelude.{◌≡◌, ◌+◌, ◌/◌, ◌^◌, ◌<◌, ◌≤◌};
+ghost use Rattle.std.specs.Prelude.{◌≡◌, ℕ, ◌+◌, ◌/◌, ◌^◌, ◌<◌, ◌≤◌, true, false};
 ghost use Rattle.run_set.specs.Runs.{contains, inside};
 ghost use Rattle.vsm_model.specs.Regions.{pages_for};
 ghost use Rattle.vsm_model.specs.Search.{all_pass};
@@ -44,7 +44,21 @@ fn free_end(storage: &Storage, subpool: Subpool, doubleword: u32) -> u32
     doubleword
 }
 
-// The end of the first of these extents that has the doubleword, or the doubleword itself where none has it.
+// The end of the area where it has the doubleword, or the doubleword itself.
+fn end_behind(area: Run, doubleword: u32) -> u32
+    requires { area.start + area.len ≤ 2 ^ 29 }
+    ensures from { doubleword ≤ result }
+    ensures each { (d : ℕ) → doubleword ≤ d → d < result → inside d area ≡ true }
+    ensures none { result ≡ doubleword → inside doubleword area ≡ false }
+{
+    if has(area, doubleword) {
+        return area.start + area.len;
+    }
+    doubleword
+}
+
+// The end of the doublewords of these extents that begin with this one, as far as one walk over them finds it; the
+// doubleword itself where none has it.
 fn given_end(storage: &Storage, given: FirstExtents, doubleword: u32) -> u32
     requires stands { Stand storage.now }
     requires can { CanBeDeleted (state_of storage.now) (record { pool = given.pool }) }
@@ -52,17 +66,16 @@ fn given_end(storage: &Storage, given: FirstExtents, doubleword: u32) -> u32
 {
     let mut place = first_place(storage, given.pool);
     let mut left = given.count;
+    let mut end = doubleword;
     while left > 0 {
         let Some((area, next)) = next_area(storage, place) else {
-            return doubleword;
+            return end;
         };
-        if has(area, doubleword) {
-            return area.start + area.len;
-        }
+        end = end_behind(area, end);
         left -= 1;
         place = next;
     }
-    doubleword
+    end
 }
 
 // The end of free doublewords of the subpool, with the extents that were given back, that begin with this one; the

@@ -1,4 +1,4 @@
-use Rattle.std.proofs.Common.{◌≡◌, ℕ, true, take}
+use Rattle.std.proofs.Common.{◌≡◌, ◌<◌, ◌≤◌, ℕ, true, take}
 use Rattle.run_set.specs.Runs.{contains}
 use Rattle.storage_exchange.specs.Storage.{state_of}
 use Rattle.cell_plans.specs.Areas.{areas_left, first_areas, IsAreaPlace}
@@ -10,7 +10,9 @@ invariant-loop-left l =
     let behind = take l.left (areas_left l.storage.elements l.place) in
     record {
       place : IsAreaPlace l.storage.elements l.place;
-      rest : contains l.doubleword behind ≡ contains l.doubleword given;
+      from : l.doubleword ≤ l.end;
+      each : (d : ℕ) → l.doubleword ≤ d → d < l.end → contains d given ≡ true;
+      rest : l.end ≡ l.doubleword → contains l.doubleword behind ≡ contains l.doubleword given;
       own : (d : ℕ) → contains d behind ≡ true → contains d given ≡ true;
     }
 
