@@ -1,6 +1,6 @@
 -- Laws of cell pools.
 use Rattle.std.specs.Prelude.{◌≡◌, ℕ, ◌<◌, ◌^◌, Bool, true, List, ◌∷◌, map, Option, Some}
-use Rattle.vsm_elements.specs.Store.{Store, SameElements, Distinct}
+use Rattle.vsm_elements.specs.Store.{Store, at, among, SameElements, Distinct}
 use Rattle.vsm_elements.specs.Ownership.{Owns, Leaves, Apart}
 use Rattle.cell_pool.specs.declared.pools.CellPools.{CellPools}
 use Rattle.cell_pool.specs.Pools.{Pool, HasCells, without_first, uses, id_in, pool_in, extended, retracted}
@@ -25,6 +25,11 @@ pub record AreSame (s t : Store) (q : CellPools) : Type 0 where
   pub names : (n : List ℕ) → pool t q n ≡ pool s q n
   pub ids : (i : ℕ) → by_id t q i ≡ by_id s q i
   pub elements : owned t q ≡ owned s q
+
+-- cell pools whose elements are as they were are what they were
+abbrev pub PoolsKept : Type 0
+PoolsKept = (s t : Store) (q : CellPools) → IsCellPools s q
+    → ((id : ℕ) → among id (owned s q) ≡ true → at t id ≡ at s id) → AreSame s t q
 
 -- cell pools that stand apart from what a call owns are as they were
 abbrev pub PoolsStay : Type 0

@@ -1,7 +1,7 @@
 //! Laws of cell pools. Each is the contract of a function that does nothing.
 
 ghost use Rattle.cell_pool.specs.Laws.{PoolsAreOne, PoolsOwn, PoolsStay, GrowthKeepsPools, RetractsBack};
-ghost use Rattle.cell_pool.specs.Laws.{ParkedPoolsComeBack, PoolsHaveCells, FirstCellIsUsed, IdsAreSmall};
+ghost use Rattle.cell_pool.specs.Laws.{PoolsKept, ParkedPoolsComeBack, PoolsHaveCells, FirstCellIsUsed, IdsAreSmall};
 ghost use Rattle.cell_pool.specs.Laws.{NamesAreSingle, PoolsAreListed};
 
 /// The pool of a name is the pool of its id, and the other way round.
@@ -12,6 +12,11 @@ pub fn pools_are_one()
 /// Cell pools own their elements: live ones, each once.
 pub fn pools_own()
     ensures { PoolsOwn }
+{}
+
+/// Cell pools whose elements are as they were are what they were.
+pub fn pools_kept()
+    ensures { PoolsKept }
 {}
 
 /// A call that leaves what it doesn't own leaves all cell pools that stand apart.

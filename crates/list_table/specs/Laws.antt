@@ -1,6 +1,6 @@
 -- Laws of tables of lists.
-use Rattle.std.specs.Prelude.{◌≡◌, ℕ, List, map, ◌++◌}
-use Rattle.vsm_elements.specs.Store.{Store, SameElements, Distinct}
+use Rattle.std.specs.Prelude.{◌≡◌, ℕ, true, List, map, ◌++◌}
+use Rattle.vsm_elements.specs.Store.{Store, at, among, SameElements, Distinct}
 use Rattle.vsm_elements.specs.Chain.{IsChain}
 use Rattle.vsm_elements.specs.Chain
 use Rattle.vsm_elements.specs.declared.chain.Chain.{Chain}
@@ -12,6 +12,12 @@ use Rattle.list_table.specs.ListTable.{entries, earlier, later, owned, owned_but
 -- a table that stands owns its elements
 abbrev pub TablesOwn : Type 0
 TablesOwn = (s : Store) (q : ListTable) → IsTable s q → Owns s (owned s q)
+
+-- a table whose elements are as they were is as it was
+abbrev pub TablesKept : Type 0
+TablesKept = (s t : Store) (q : ListTable) → IsTable s q
+    → ((id : ℕ) → among id (owned s q) ≡ true → at t id ≡ at s id)
+    → IsTable t q × (entries t q ≡ entries s q) × (owned t q ≡ owned s q)
 
 -- a table that stands apart from what a call owns is as it was
 abbrev pub TablesStay : Type 0
