@@ -1,5 +1,6 @@
 //! Plans of CPOOL DELETE.
 ghost use Rattle.std.specs.Prelude.{◌≡◌, ℕ, ◌+◌, ◌≤◌, true, Bool, length, IsOk, OnOk, IfOk, IfErr};
+ghost use Rattle.vsm_elements.specs.Store.{live_count};
 ghost use Rattle.vsm_model.specs.declared.limits.Settings.{Settings};
 ghost use Rattle.vsm_model.specs.Regions.{settings_valid};
 ghost use Rattle.vsm_model.specs.Services.{delete};
@@ -67,6 +68,8 @@ impl DeletePlan {
         ensures grown { IfErr result (λ _. Grown storage.old storage.new) }
         ensures uses { IfOk result (λ _. let d = delete_change (state_of storage.old) self in
             storage.old.elements.spare ≤ storage.new.elements.spare + (length d.records + d.blanks)) }
+        ensures live { IfOk result (λ _. let d = delete_change (state_of storage.old) self in
+            live_count storage.new.elements ≤ live_count storage.old.elements + (length d.records + d.blanks)) }
         ensures needless { let d = delete_change (state_of storage.old) self in
             length d.records + d.blanks ≤ storage.old.elements.spare → IsOk result }
     {

@@ -1,3 +1,4 @@
+pub mod AssignedPages
 pub mod ByteWords
 pub mod Cases
 pub mod SetSteps

@@ -1,5 +1,5 @@
 -- Laws of changes, and of what a state of the storage is on the plain machine.
-use Rattle.std.specs.Prelude.{◌≡◌, ℕ, ◌/◌, ◌≤◌, true, false, not, if◌then◌else◌, Some, None, is_some}
+use Rattle.std.specs.Prelude.{◌≡◌, ℕ, ◌*◌, ◌/◌, ◌≤◌, true, false, not, if◌then◌else◌, Some, None, is_some, IsSome}
 use Rattle.run_set.specs.declared.run.Run.{Run}
 use Rattle.run_set.specs.Runs.{inside}
 use Rattle.vsm_model.specs.declared.Subpool.{Subpool}
@@ -74,3 +74,8 @@ FreeStorageIsFree = (settings : Settings) (m : StorageState) → IsSound setting
 abbrev pub UnassignedPagesAreNobodys : Type 0
 UnassignedPagesAreNobodys = (settings : Settings) (m : StorageState) → IsSound settings m
     → (page : ℕ) → in_a_region settings page ≡ true → m.unassigned page ≡ not (is_some ((model_of m).pages page))
+
+-- each page that a change comes to assign has a frame that the change brings
+abbrev pub AssignedPagesAreBrought : Type 0
+AssignedPagesAreBrought = (m : StorageState) (d : Change) (page : ℕ) → Fit m d
+    → m.unassigned page ≡ true → (overlay m d).unassigned page ≡ false → IsSome (d.frames (4096 * page))

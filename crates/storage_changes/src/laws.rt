@@ -2,12 +2,17 @@
 
 ghost use Rattle.storage_changes.specs.Laws.{ChangesLeadBack, PagesAreNamed, NamedPagesAreThere, JoinedPagesAreNamed};
 ghost use Rattle.storage_changes.specs.Laws.{LeftPagesAreNobodys, AreasAreTaken, AreasAreFreed};
-ghost use Rattle.storage_changes.specs.Laws.{FreeStorageIsFree, UnassignedPagesAreNobodys};
+ghost use Rattle.storage_changes.specs.Laws.{FreeStorageIsFree, UnassignedPagesAreNobodys, AssignedPagesAreBrought};
 
 /// A change that fits leads to a state at which the exchanged change fits. That one leads back, and its own exchange
 /// gives the change again.
 pub fn changes_lead_back()
     ensures { ChangesLeadBack }
+{}
+
+/// Each page that a change comes to assign has a frame that the change brings.
+pub fn assigned_pages_are_brought()
+    ensures { AssignedPagesAreBrought }
 {}
 
 /// Where no page is two subpools', the plain machine assigns a page to the subpool that has it.

@@ -1,3 +1,4 @@
+pub mod FramesBrought
 -- Lemmas on a storage and its changes.
 mod Counted
 mod Exchanged

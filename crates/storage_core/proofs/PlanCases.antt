@@ -25,6 +25,7 @@ use Rattle.cell_plans.specs.declared.delete.DeletePlan.{DeletePlan}
 use Rattle.cell_plans.specs.CellPlans.{IsBuildPlanned, IsCellPlanned, IsDeletePlanned}
 use Rattle.storage_core.specs.declared.plans.Plan.TheVariants.{Storage, Attach, End, Build, Delete}
 use Rattle.storage_core.specs.Weight.{weight, cells_weight}
+use Rattle.storage_core.proofs.FramesBrought.{only_by}
 use Rattle.storage_core.specs.Planned.{Assigns, CanCarryOut, HasRecords, IsAccepted, IsPlanned, change_for, extents_leaving, reply_of, storage_elements}
 
 -- the marks of cells take fewer elements than the cells, and one
@@ -55,6 +56,7 @@ module _ (settings : Settings) (names_full : Bool) (m : StorageState) (x : Servi
     can = has;
     light = light;
     assigned = λ id. assigned;
+    only = λ id _. only_by settings names_full m x id (Storage plan) plan.reply planned;
   }
 
   pub storage_ok : (r : Result StoragePlan Cause) (plan : StoragePlan) → r ≡ Ok plan → IsStoragePlanned settings names_full m x r
@@ -82,6 +84,7 @@ module _ (settings : Settings) (names_full : Bool) (m : StorageState) (x : Servi
         can = planned.1;
         light = omega (arith, planned.2);
         assigned = λ id. none_assigned _;
+        only = λ id _. only_by settings names_full m x id (Attach plan) (reply_of (Attach plan)) planned.0;
       }
 
   pub attach_err : (r : Result AttachPlan Cause) (cause : Cause) → r ≡ Err cause → IsAttachPlanned settings names_full m x r
@@ -98,6 +101,7 @@ module _ (settings : Settings) (names_full : Bool) (m : StorageState) (x : Servi
         can = planned.1;
         light = omega (arith, planned.2);
         assigned = λ id. none_assigned _;
+        only = λ id _. only_by settings names_full m x id (End plan) plan.reply planned.0;
       }
 
   pub end_err : (r : Result EndPlan Cause) (cause : Cause) → r ≡ Err cause → IsEndPlanned settings names_full m x r
@@ -122,7 +126,7 @@ module _ (settings : Settings) (names_full : Bool) (m : StorageState) (x : Servi
       → IsPlanned settings names_full m x (Ok (Build plan))
   build_ok r plan is h =
       let planned : IsBuildPlanned settings names_full m x (Ok plan) = subst (IsBuildPlanned settings names_full m x) is h in
-      record { accepts = planned.0; accepted = λ id free. planned.1 id free.0 free.1; can = planned.2; light = omega (arith, planned.3, few_marks plan.settings.primary); assigned = planned.4 }
+      record { accepts = planned.0; accepted = λ id free. planned.1 id free.0 free.1; can = planned.2; light = omega (arith, planned.3, few_marks plan.settings.primary); assigned = planned.4; only = λ id free. only_by settings names_full m x id (Build plan) plan.reply (planned.1 id free.0 free.1) }
 
   pub build_err : (r : Result BuildPlan Cause) (cause : Cause) → r ≡ Err cause → IsBuildPlanned settings names_full m x r
       → IsPlanned settings names_full m x (Err cause)
@@ -138,6 +142,7 @@ module _ (settings : Settings) (names_full : Bool) (m : StorageState) (x : Servi
         can = planned.1;
         light = omega (arith, planned.2);
         assigned = λ id. none_assigned _;
+        only = λ id _. only_by settings names_full m x id (Delete plan) (reply_of (Delete plan)) planned.0;
       }
 
   pub delete_err : (r : Result DeletePlan Cause) (cause : Cause) → r ≡ Err cause → IsDeletePlanned settings names_full m x r

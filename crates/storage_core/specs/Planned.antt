@@ -21,7 +21,7 @@ use Rattle.storage_changes.specs.Changes.{Change, no_pages}
 use Rattle.storage_changes.specs.Meaning.{model_of}
 use Rattle.storage_plans.specs.declared.plan.Plan.{Plan as StoragePlan}
 use Rattle.storage_plans.specs.Plans.{change_in}
-pub use Rattle.storage_plans.specs.Plans.{Assigns}
+pub use Rattle.storage_plans.specs.Plans.{Assigns, AssignsOnly}
 use Rattle.task_actions.specs.Ending.{ended_below, weight_ended}
 use Rattle.task_plans.specs.TaskPlans.{numbers, attach_change, end_change}
 use Rattle.task_plans.specs.TaskPlans.{CanBeAttached, CanBeEnded}
@@ -138,6 +138,7 @@ pub record CanCarryOut (settings : Settings) (names_full : Bool) (m : StorageSta
   pub can : CanBeReserved m plan
   pub light : elements_needed m plan ≤ 32 + 8 * weight m x
   pub assigned : (id : ℕ) → Assigns m (change_for m id plan) (fresh_pages plan)
+  pub only : (id : ℕ) → IsIdFor m plan id → AssignsOnly m (change_for m id plan) (fresh_pages plan)
 
 -- a service was planned; or it's refused for this cause
 abbrev pub IsPlanned : Settings → Bool → StorageState → Service → Result Plan Cause → Type 0

@@ -1,5 +1,6 @@
 //! The change by which a cell pool comes.
 ghost use Rattle.std.specs.Prelude.{◌≡◌, ℕ, None, ◌+◌, ◌^◌, ◌<◌, ◌≤◌, length, IsOk, OnErr, IfOk};
+ghost use Rattle.vsm_elements.specs.Store.{live_count};
 ghost use Rattle.cell_pool.specs.Pools.{mark_items};
 ghost use Rattle.storage_swap.specs.Reserve.{Reserves};
 ghost use Rattle.cell_plans.specs.CellPlans.{build_change, CanBeBuilt};
@@ -22,6 +23,8 @@ impl Storage {
         ensures frames { IfOk result (λ change. length change.frames ≡ plan.fresh.len) }
         ensures few { IfOk result (λ change. change.records.count + change.blanks.count ≤ 30) }
         ensures uses { IfOk result (λ _. self.old.parts.elements.spare ≤ self.new.parts.elements.spare
+            + (30 + (plan.settings.primary + mark_items plan.settings.primary))) }
+        ensures live { IfOk result (λ _. live_count self.new.parts.elements ≤ live_count self.old.parts.elements
             + (30 + (plan.settings.primary + mark_items plan.settings.primary))) }
         ensures err { OnErr result (Stays self.old.parts self.new.parts) }
         ensures needless { IsSpareFor self.old.parts

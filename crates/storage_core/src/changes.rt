@@ -1,5 +1,6 @@
 //! Changes of a storage: made of a plan, exchanged with it, and discarded.
 ghost use Rattle.std.specs.Prelude.{◌≡◌, ℕ, ◌+◌, ◌≤◌, length, IsOk, OnErr, IfOk};
+ghost use Rattle.vsm_elements.specs.Store.{live_count};
 ghost use Rattle.storage_changes.specs.Changes.{Fit, overlay};
 ghost use Rattle.storage_changes.specs.Meaning.{IsSound};
 ghost use Rattle.storage_plans.specs.Plans.{change_in};
@@ -43,6 +44,8 @@ impl Storage {
             ≤ elements_needed (state_in_place self.old) plan) }
         ensures uses { IfOk result (λ _. self.old.parts.elements.spare
             ≤ self.new.parts.elements.spare + elements_needed (state_in_place self.old) plan) }
+        ensures live { IfOk result (λ _. live_count self.new.parts.elements
+            ≤ live_count self.old.parts.elements + elements_needed (state_in_place self.old) plan) }
         ensures err { OnErr result (Stays self.old.parts self.new.parts) }
         ensures needless { IsSpare self.old.parts (state_in_place self.old) plan → IsOk result }
         ensures settings { settings_of self.new ≡ settings_of self.old }
@@ -66,6 +69,8 @@ impl Storage {
             ≤ storage_elements (state_in_place self.old) plan) }
         ensures uses { IfOk result (λ _. self.old.parts.elements.spare
             ≤ self.new.parts.elements.spare + storage_elements (state_in_place self.old) plan) }
+        ensures live { IfOk result (λ _. live_count self.new.parts.elements
+            ≤ live_count self.old.parts.elements + storage_elements (state_in_place self.old) plan) }
         ensures err { OnErr result (Stays self.old.parts self.new.parts) }
         ensures needless { IsSpareFor self.old.parts (storage_elements (state_in_place self.old) plan) plan.fresh
             → IsOk result }
@@ -90,6 +95,8 @@ impl Storage {
             ≤ elements_needed (state_in_place self.old) (Attach plan)) }
         ensures uses { IfOk result (λ _. self.old.parts.elements.spare
             ≤ self.new.parts.elements.spare + elements_needed (state_in_place self.old) (Attach plan)) }
+        ensures live { IfOk result (λ _. live_count self.new.parts.elements
+            ≤ live_count self.old.parts.elements + elements_needed (state_in_place self.old) (Attach plan)) }
         ensures err { OnErr result (Stays self.old.parts self.new.parts) }
         ensures needless { elements_needed (state_in_place self.old) (Attach plan) ≤ self.old.parts.elements.spare
             → IsOk result }
@@ -108,6 +115,8 @@ impl Storage {
             ≤ elements_needed (state_in_place self.old) (End plan)) }
         ensures uses { IfOk result (λ _. self.old.parts.elements.spare
             ≤ self.new.parts.elements.spare + elements_needed (state_in_place self.old) (End plan)) }
+        ensures live { IfOk result (λ _. live_count self.new.parts.elements
+            ≤ live_count self.old.parts.elements + elements_needed (state_in_place self.old) (End plan)) }
         ensures err { OnErr result (Stays self.old.parts self.new.parts) }
         ensures needless { elements_needed (state_in_place self.old) (End plan) ≤ self.old.parts.elements.spare
             → IsOk result }
@@ -126,6 +135,8 @@ impl Storage {
             ≤ elements_needed (state_in_place self.old) (Delete plan)) }
         ensures uses { IfOk result (λ _. self.old.parts.elements.spare
             ≤ self.new.parts.elements.spare + elements_needed (state_in_place self.old) (Delete plan)) }
+        ensures live { IfOk result (λ _. live_count self.new.parts.elements
+            ≤ live_count self.old.parts.elements + elements_needed (state_in_place self.old) (Delete plan)) }
         ensures err { OnErr result (Stays self.old.parts self.new.parts) }
         ensures needless { elements_needed (state_in_place self.old) (Delete plan) ≤ self.old.parts.elements.spare
             → IsOk result }

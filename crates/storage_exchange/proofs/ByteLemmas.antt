@@ -119,6 +119,7 @@ module _ (p : Storage) (r : BytesRecord) (region : Tables) (new : List ℕ) (swa
   bytes-exchanged given parked k = record {
     stands = record { storage = record { unassigned = k.storage.unassigned; subpools = k.storage.subpools; tasks = k.storage.tasks }; parked = k.parked; once = k.once };
     moves = moves-none p.elements p.elements (hold_with p parked) (λ i. refl);
+    as_many = refl;
     steps = λ kept le h. (
       le,
       walk-by-places (walk_of t given parked kept) (bytes_step (walk_of p given parked kept) r)

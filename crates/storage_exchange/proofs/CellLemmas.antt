@@ -1,7 +1,7 @@
 -- A record of what one subpool has, of a cell pool, of an extent of its or of a cell, changed sides with the storage.
 use Rattle.std.proofs.Common.{◌≡◌, ℕ, ◌+◌, ◌-◌, ◌*◌, ◌/◌, ◌^◌, ◌≤◌, ◌⊎◌, inl, inr, Bool, true, false, Some, None, Option, IfSome, if◌then◌else◌, List, refl, ap, sym, subst, ◌∙◌, arith}
 use Rattle.std.specs.Prelude.{nat_lt, slice_get}
-use Rattle.vsm_elements.specs.Store.{Store}
+use Rattle.vsm_elements.specs.Store.{Store, made}
 use Rattle.vsm_elements.specs.Owners.{Moves}
 use Rattle.raw_region.specs.Frames.{PageFrame}
 use Rattle.raw_region.specs.Pages.{byte_at}
@@ -36,7 +36,7 @@ module _ (p : Storage) (parked : Head) (k : StandsWith p parked) (e : Store) (q 
     (new : SubpoolStorage.Stands e q) (new-parked : SubpoolStorage.Stands e others) (is : subpools_of e q ≡ now) (parked-is : subpools_of e others ≡ parked-now)
     (moved : Moves p.elements e (λ i. SubpoolStorage.hold p.elements p.subpools i + SubpoolStorage.hold p.elements parked i) (λ i. SubpoolStorage.hold e q i + SubpoolStorage.hold e others i))
     (apart : (i : ℕ) → SubpoolStorage.hold e q i + SubpoolStorage.hold e others i ≤ 1)
-    (spares : e.spare ≡ p.elements.spare) where
+    (spares : e.spare ≡ p.elements.spare) (as-many : made e ≡ made p.elements) where
   abbrev t : Storage
   t = with-exchanged p parked k e q others moved new new-parked apart
 
@@ -54,6 +54,7 @@ module _ (p : Storage) (parked : Head) (k : StandsWith p parked) (e : Store) (q 
   changed-places given r h = record {
     stands = exchanged-stand p parked k e q others moved new new-parked apart;
     moves = exchanged-move p parked k e q others moved new new-parked apart;
+    as_many = as-many;
     steps = λ kept le fits. (omega (arith, le, spares), between given kept ∙ h kept);
     out = refl;
     tables = tables-same p.region;
@@ -66,7 +67,7 @@ module _ (p : Storage) (parked : Head) (k : StandsWith p parked) (e : Store) (q 
     (new : SubpoolStorage.Stands e q) (new-parked : SubpoolStorage.Stands e others)
     (moved : Moves p.elements e (λ i. SubpoolStorage.hold p.elements p.subpools i + SubpoolStorage.hold p.elements parked i) (λ i. SubpoolStorage.hold e q i + SubpoolStorage.hold e others i))
     (apart : (i : ℕ) → SubpoolStorage.hold e q i + SubpoolStorage.hold e others i ≤ 1)
-    (spares : e.spare ≡ p.elements.spare) where
+    (spares : e.spare ≡ p.elements.spare) (as-many : made e ≡ made p.elements) where
   abbrev had : Subpools
   had = subpools_of p.elements p.subpools
 
@@ -75,11 +76,11 @@ module _ (p : Storage) (parked : Head) (k : StandsWith p parked) (e : Store) (q 
 
   pub queues-exchanged : (r : QueuesRecord) → subpools_of e q ≡ with_storage_of had had-parked r.subpool → subpools_of e others ≡ with_storage_of had-parked had r.subpool
       → (given : List PageFrame) → Exchanges p (record p { elements = e; subpools = q }) given given parked others (Queues r)
-  queues-exchanged r is parked-is given = changed-places p parked k e q others (with_storage_of had had-parked r.subpool) (with_storage_of had-parked had r.subpool) new new-parked is parked-is moved apart spares given (Queues r) (λ kept. refl)
+  queues-exchanged r is parked-is given = changed-places p parked k e q others (with_storage_of had had-parked r.subpool) (with_storage_of had-parked had r.subpool) new new-parked is parked-is moved apart spares as-many given (Queues r) (λ kept. refl)
 
   pub pool-exchanged : (r : CellPoolRecord) → subpools_of e q ≡ with_pool_of had had-parked r.pool → subpools_of e others ≡ with_pool_of had-parked had r.pool
       → (given : List PageFrame) → Exchanges p (record p { elements = e; subpools = q }) given given parked others (CellPool r)
-  pool-exchanged r is parked-is given = changed-places p parked k e q others (with_pool_of had had-parked r.pool) (with_pool_of had-parked had r.pool) new new-parked is parked-is moved apart spares given (CellPool r) (λ kept. refl)
+  pool-exchanged r is parked-is given = changed-places p parked k e q others (with_pool_of had had-parked r.pool) (with_pool_of had-parked had r.pool) new new-parked is parked-is moved apart spares as-many given (CellPool r) (λ kept. refl)
 
 -- the last extent of a cell pool
 module _ (p : Storage) (e : Store) (q : Head) (pool start count : ℕ) where

@@ -90,6 +90,7 @@ module _ (p : Storage) (e : Store) (q : PageSet) (run : Run) (owned : Leaves p.e
     assigned = record {
       stands = pages-stand p parked k e q p.region moved new;
       moves = pages-move p parked k e q p.region moved new;
+      as_many = owned.as_many;
       steps = λ kept le h. (omega (arith, spares, le, h.room_after), assigned-steps kept le h);
       out = refl;
       tables = tables-same p.region;
@@ -205,6 +206,7 @@ module _ (p : Storage) (e : Store) (q : PageSet) (run : Run) (owned : Leaves p.e
     unassigned = record {
       stands = pages-stand p parked k e q region moved-out new;
       moves = pages-move p parked k e q region moved-out new;
+      as_many = owned.as_many;
       steps = λ kept le h. (omega (arith, spares, le, h.room), out-steps kept le h);
       out = omega (arith, counts.out_is, count, parks.count);
       tables = tables;

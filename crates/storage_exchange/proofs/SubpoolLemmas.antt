@@ -54,6 +54,7 @@ module _ (p : Storage) (e : Store) (q parked : Head) (k : StandsWith p parked) (
   exchanges given r h = record {
     stands = subpools-stand p parked k e q b.moves b.stands;
     moves = subpools-move p parked k e q b.moves b.stands;
+    as_many = b.as_many;
     steps = λ kept le fits. (let s = h kept le fits in (s.0, walk-now given kept ∙ s.1));
     out = refl;
     tables = tables-same p.region;

@@ -3,7 +3,7 @@ use Rattle.std.proofs.Common.{◌≡◌, ℕ, ◌+◌, ◌-◌, ◌/◌, ◌<◌
 use Rattle.std.specs.Prelude.{nat_lt}
 use Rattle.std.proofs.lemmas.Bool.{eqb-true, cases_lt, lt-ltb, ltb-true, le-ltb}
 use Rattle.run_set.specs.Runs.{inside}
-use Rattle.vsm_elements.specs.Store.{Store}
+use Rattle.vsm_elements.specs.Store.{Store, made}
 use Rattle.vsm_elements.specs.Owners.{times, Moves}
 use Rattle.vsm_elements.specs.Ownership.{Leaves}
 use Rattle.vsm_elements.proofs.MoveLemmas.{moves-of}
@@ -67,7 +67,7 @@ walk_with_tasks w tasks spare = record w { state = record w.state { tasks = task
 
 -- the tasks are these now
 module _ (p : Storage) (e : Store) (q : Tree) (now : Tasks) (new : IsTaskTree e q)
-    (moved : Moves p.elements e (λ i. times i (TaskTree.owned p.elements p.tasks)) (λ i. times i (TaskTree.owned e q)))
+    (moved : Moves p.elements e (λ i. times i (TaskTree.owned p.elements p.tasks)) (λ i. times i (TaskTree.owned e q))) (as-many : made e ≡ made p.elements)
     (is-current : current q ≡ now.current) (parents : (task : ℕ) → parent e q task ≡ now.parents task)
     (words : (task k : ℕ) → (if nat_lt k 16 then word e q task k else 0) ≡ now.words task k) where
   abbrev t : Storage
@@ -91,6 +91,7 @@ module _ (p : Storage) (e : Store) (q : Tree) (now : Tasks) (new : IsTaskTree e 
     tasks-exchanged r h = record {
       stands = tasks-stand p parked k e q moved new;
       moves = tasks-move p parked k e q moved new;
+      as_many = as-many;
       steps = λ kept le fits. (let s = h kept le fits in (s.0, tasks-now kept ∙ s.1));
       out = refl;
       tables = tables-same p.region;
@@ -108,7 +109,7 @@ module _ (p : Storage) (e : Store) (r : RegisterRecord) (low : r.register < 16) 
 
   pub register-exchanged : (given : List PageFrame) (parked : Head) → StandsWith p parked → Exchanges p (record p { elements = e }) given given parked parked (Register r)
   register-exchanged given parked k =
-      tasks-exchanged p e p.tasks with-register new (moves-of p.elements e (TaskTree.owned p.elements p.tasks) (TaskTree.owned e p.tasks) owned)
+      tasks-exchanged p e p.tasks with-register new (moves-of p.elements e (TaskTree.owned p.elements p.tasks) (TaskTree.owned e p.tasks) owned) owned.as_many
       refl parents
       (registers (λ task n. word p.elements p.tasks task n) (λ task n. word e p.tasks task n) (λ task n. (task == r.task) && (n == r.register)) (λ n. r.word) (not-one r.task r.register low) words)
       given parked k (Register r) (λ kept le fits. (omega (arith, le, spares), ap (walk_with_tasks (walk_of p given parked kept) with-register) (ap (λ (z : ℕ). z - kept) spares)))
@@ -127,7 +128,7 @@ module _ (p : Storage) (e : Store) (r : RegistersRecord) (high : r.first + 4 ≤
 
   pub registers-exchanged : (given : List PageFrame) (parked : Head) → StandsWith p parked → Exchanges p (record p { elements = e }) given given parked parked (Registers r)
   registers-exchanged given parked k =
-      tasks-exchanged p e p.tasks with-registers new (moves-of p.elements e (TaskTree.owned p.elements p.tasks) (TaskTree.owned e p.tasks) owned)
+      tasks-exchanged p e p.tasks with-registers new (moves-of p.elements e (TaskTree.owned p.elements p.tasks) (TaskTree.owned e p.tasks) owned) owned.as_many
       refl parents
       (registers (λ task n. word p.elements p.tasks task n) (λ task n. word e p.tasks task n) (λ task n. (task == r.task) && inside n (record { start = r.first; len = 4 }))
       (λ n. slice_index_or r.words (n - r.first) 0) (not-among r.task r.first high) words)
@@ -164,7 +165,7 @@ module _ (p : Storage) (e : Store) (q : Tree) (task under : ℕ) (zeros : (k : �
       → (given : List PageFrame) (parked : Head) → StandsWith p parked
       → Exchanges p (record p { elements = e; tasks = q }) given given parked parked (Task (task_record present))
   came-or-went present parents spares given parked k =
-      tasks-exchanged p e q (with-parents present) new (moves-of p.elements e (TaskTree.owned p.elements p.tasks) (TaskTree.owned e q) owned)
+      tasks-exchanged p e q (with-parents present) new (moves-of p.elements e (TaskTree.owned p.elements p.tasks) (TaskTree.owned e q) owned) owned.as_many
       is-current parents (words-stay (λ x n. word p.elements p.tasks x n) (λ x n. word e q x n) task zeros words)
       given parked k (Task (task_record present))
       (λ kept le fits. (let s = spares kept le fits.room in (s.0, ap (walk_with_tasks (walk_of p given parked kept) (with-parents present)) s.1)))

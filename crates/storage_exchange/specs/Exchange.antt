@@ -1,5 +1,6 @@
 -- A record that changed sides with the storage.
 use Rattle.std.specs.Prelude.{◌≡◌, ℕ, ◌+◌, ◌≤◌, List, length, IsSome, IsTrue}
+use Rattle.vsm_elements.specs.Store.{made}
 use Rattle.vsm_elements.specs.Owners.{Moves}
 use Rattle.raw_region.specs.Frames.{PageFrame}
 use Rattle.raw_region.specs.Pages.{Pages, has_table, SameTables}
@@ -20,12 +21,13 @@ pub record SameFrames (old new : Pages) : Type 0 where
   pub spare : new.spare ≡ old.spare
   pub made : new.made ≡ old.made
 
--- The storage took the record's step, whatever elements are kept. The frames that the change was given before and after
+-- The storage took the record's step, whatever elements are kept, and no element was made. The frames that the change was given before and after
 -- are `given` and `given'`, the subpools that it has parked `parked` and `parked'`.
 pub record Exchanges (p t : Storage) (given given' : List PageFrame) (parked parked' : SubpoolStorage) (r : Record)
     : Type 0 where
   pub stands : StandsWith t parked'
   pub moves : Moves p.elements t.elements (hold_with p parked) (hold_with t parked')
+  pub as_many : made t.elements ≡ made p.elements
   pub steps :
       (kept : ℕ) → kept ≤ p.elements.spare → Fits (walk_of p given parked kept) r
       → (kept ≤ t.elements.spare) × (walk_of t given' parked' kept ≡ step (walk_of p given parked kept) r)

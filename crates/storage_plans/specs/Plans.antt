@@ -25,6 +25,11 @@ change_in m plan = change_from m.subpools plan.emptied plan.records.items plan.b
 abbrev pub Assigns : StorageState → Change → Run → Type 0
 Assigns m d run = (page : ℕ) → inside page run ≡ true → (overlay m d).unassigned page ≡ false
 
+-- and no page that isn't of the run
+abbrev pub AssignsOnly : StorageState → Change → Run → Type 0
+AssignsOnly m d run =
+    (page : ℕ) → m.unassigned page ≡ true → (overlay m d).unassigned page ≡ false → inside page run ≡ true
+
 -- The service is accepted with this reply, in the state that the change leads to. The change fits, and leads to a sound
 -- storage.
 pub record IsAccepted (settings : Settings) (names_full : Bool) (m : StorageState) (x : Service) (d : Change)
@@ -34,7 +39,7 @@ pub record IsAccepted (settings : Settings) (names_full : Bool) (m : StorageStat
   pub sound : IsSound settings (overlay m d)
 
 -- The service is accepted with the plan's reply, in the state that the plan's change leads to. The change fits, and
--- leads to a sound storage, in which just those pages came to be assigned for which it has frames.
+-- leads to a sound storage, in which each page that it has a frame for came to be assigned.
 pub record CarriesOut (settings : Settings) (names_full : Bool) (m : StorageState) (x : Service) (plan : Plan)
     : Type 0 where
   pub accepted : step settings names_full (model_of m) x ≡ Accepted (model_of (overlay m (change_in m plan))) plan.reply

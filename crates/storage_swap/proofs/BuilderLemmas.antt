@@ -1,7 +1,7 @@
 -- A change is made record by record beside the storage.
 use Rattle.std.proofs.Common.{◌≡◌, ℕ, ◌+◌, ◌/◌, ◌<◌, ◌≤◌, if◌then◌else◌, List, [], ◌∷◌, ◌++◌, length, length-append, map, Some, None, Result, Ok, Err, IfOk, IfErr, IsSome, IsTrue, inl, inr, refl, sym, ap, ◌∙◌, arith, subst}
 use Rattle.std.proofs.lemmas.List.{append_assoc, append-nil}
-use Rattle.vsm_elements.specs.Store.{Store, SameElements, at}
+use Rattle.vsm_elements.specs.Store.{Store, SameElements, at, live_count}
 use Rattle.vsm_elements.specs.Chain.{Link, last_or, links, owned, ids, IsChain}
 use Rattle.vsm_elements.specs.Ownership.{Leaves}
 use Rattle.vsm_elements.specs.declared.chain.Chain.{Chain}
@@ -67,7 +67,7 @@ builds-none s a h = record {
 }
 
 pub pushes-none : (s : Storage) (a : ChangeBuilder) → Pushes s a [] s a
-pushes-none s a = record { records = sym (append-nil (records_in s a)); parked = refl; spare = omega arith }
+pushes-none s a = record { records = sym (append-nil (records_in s a)); parked = refl; spare = omega arith; live = omega arith }
 
 -- The records become others, or stay.
 module _ (s : Storage) (a : ChangeBuilder) (h : IsBuilding s a) (e : Store) (chain : Chain) (stand : IsChain e chain) (last : ℕ) (is-last : last ≡ last_or 0 (links e chain))
@@ -224,8 +224,8 @@ module _ (s : Storage) (a : ChangeBuilder) (h : IsBuilding s a) (e : Store) (sam
   pub grown-parked : parked_in (over s e) a ≡ parked_in s a
   grown-parked = records-parked s a h e a.records grown-chain.0 a.last (h.last ∙ sym (ap (last_or 0) grown-chain.1)) still
 
-  pub grown-pushes : s.elements.spare ≤ e.spare → Pushes s a [] (over s e) a
-  grown-pushes more = record { records = grown-records ∙ sym (append-nil (records_in s a)); parked = grown-parked; spare = omega (arith, more) }
+  pub grown-pushes : s.elements.spare ≤ e.spare → live_count e ≡ live_count s.elements → Pushes s a [] (over s e) a
+  grown-pushes more live = record { records = grown-records ∙ sym (append-nil (records_in s a)); parked = grown-parked; spare = omega (arith, more); live = omega (arith, live) }
 
   -- one record more, of a spare one
   module _ (added : Record) (end : Store) (chain : Chain) (stand : IsChain end chain) (last : ℕ) (is-last : last ≡ last_or 0 (links end chain)) (put : records_of end chain ≡ records_of e a.records ++ added ∷ [])
@@ -236,13 +236,14 @@ module _ (s : Storage) (a : ChangeBuilder) (h : IsBuilding s a) (e : Store) (sam
         builds-follow s (over s e) (over s end) a a (record { records = chain; last = last; parked = a.parked }) first
         (records-build (over s e) a first.building end chain stand last is-last (moves-of e end (owned e a.records) (owned end chain) f))
 
-    pub push-pushes : s.elements.spare ≤ e.spare → end.spare + 1 ≡ e.spare → Pushes s a (added ∷ []) (over s end) (record { records = chain; last = last; parked = a.parked })
-    push-pushes more less =
+    pub push-pushes : s.elements.spare ≤ e.spare → live_count e ≡ live_count s.elements → end.spare + 1 ≡ e.spare → Pushes s a (added ∷ []) (over s end) (record { records = chain; last = last; parked = a.parked })
+    push-pushes more live less =
         let first : Builds s a (over s e) a = grown-builds in
         record {
           records = put ∙ ap (λ (z : List Record). z ++ added ∷ []) grown-records;
           parked = records-parked (over s e) a first.building end chain stand last is-last (moves-of e end (owned e a.records) (owned end chain) f) ∙ grown-parked;
           spare = omega (arith, more, less);
+          live = omega (arith, live, less, f.as_many);
         }
 
   -- what is parked becomes something else
@@ -394,9 +395,10 @@ pub record Leads (s : Storage) (a : ChangeBuilder) (all : List Record) (t : Stor
   pub records : records_in t b ++ left ≡ records_in s a ++ all
   pub parked : parked_in t b ≡ parked_in s a
   pub spare : s.elements.spare + length left ≤ t.elements.spare + length all
+  pub live : live_count t.elements + length left ≤ live_count s.elements + length all
 
 pub leads-none : (s : Storage) (a : ChangeBuilder) (all : List Record) → IsBuilding s a → Leads s a all s a all
-leads-none s a all h = record { builds = builds-none s a h; records = refl; parked = refl; spare = omega arith }
+leads-none s a all h = record { builds = builds-none s a h; records = refl; parked = refl; spare = omega arith; live = omega arith }
 
 module _ (s t : Storage) (a b : ChangeBuilder) (all left : List Record) (l : Leads s a all t b left) where
   -- those in front come
@@ -406,6 +408,7 @@ module _ (s t : Storage) (a b : ChangeBuilder) (all left : List Record) (l : Lea
     records = ap (λ (z : List Record). z ++ rest) p.records ∙ append_assoc (records_in t b) one rest ∙ ap (λ (z : List Record). records_in t b ++ z) (sym is) ∙ l.records;
     parked = p.parked ∙ l.parked;
     spare = omega (arith, l.spare, p.spare, ap length is, length-append one rest);
+    live = omega (arith, l.live, p.live, ap length is, length-append one rest);
   }
 
   -- all came
@@ -414,6 +417,7 @@ module _ (s t : Storage) (a b : ChangeBuilder) (all left : List Record) (l : Lea
     records = sym (append-nil (records_in t b)) ∙ ap (λ (z : List Record). records_in t b ++ z) (sym is) ∙ l.records;
     parked = l.parked;
     spare = omega (arith, l.spare, ap length is);
+    live = omega (arith, l.live, ap length is);
   }
 
   -- there is room for what is left
@@ -425,4 +429,5 @@ pushes-follow s t u a b c xs ys p q = record {
   records = q.records ∙ ap (λ (z : List Record). z ++ ys) p.records ∙ append_assoc (records_in s a) xs ys;
   parked = q.parked ∙ p.parked;
   spare = omega (arith, p.spare, q.spare, length-append xs ys);
+  live = omega (arith, p.live, q.live, length-append xs ys);
 }

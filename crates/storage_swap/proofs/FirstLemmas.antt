@@ -82,6 +82,7 @@ module _ (p m : Storage) (e : Store) (given given' : List PageFrame) (q q' : Sub
     records = ap (map record_at) written ∙ ap (λ (z : List Link). record_at n' ∷ map record_at (drop 1 z)) kept-chain.1 ∙ ap (λ (z : Record). z ∷ map record_at (drop 1 (links p.elements c))) (is ∙ ap (turned (state_of p)) first.0) ∙ ap (λ (z : List Record). turned (state_of p) r ∷ z) first.1;
     same_ids = ids-new;
     steps = λ kept le h. go kept le h;
+    as_many = f.as_many ∙ x.as_many;
     out = x.out;
     tables = x.tables;
     frames = x.frames;

@@ -2,7 +2,7 @@
 use Rattle.std.proofs.Common.{◌≡◌, ℕ, ◌+◌, ◌<◌, ◌≤◌, ◌⊎◌, inl, inr, List, [], ◌∷◌, ◌++◌, length, map, take, drop, refl, sym, ap, ◌∙◌, arith, subst}
 use Rattle.std.specs.Prelude.{slice_get, unwrap_or}
 use Rattle.std.proofs.lemmas.List.{length-map}
-use Rattle.vsm_elements.specs.Store.{Store}
+use Rattle.vsm_elements.specs.Store.{Store, made}
 use Rattle.vsm_elements.specs.Chain.{Link, links, owned, ids, follow, IsChain, IsChainOf}
 use Rattle.vsm_elements.specs.Ownership.{Leaves, Apart}
 use Rattle.vsm_elements.specs.declared.chain.Chain.{Chain}
@@ -39,6 +39,7 @@ pub record Going (p : Storage) (given : List PageFrame) (q : SubpoolStorage) (c 
   pub leads : (kept : ℕ) → kept ≤ p.elements.spare → FitInTurn (walk_of p given q kept) (records_of p.elements c) → walk (walk_of s given' q' kept) (records_of s.elements rest) ≡ walk (walk_of p given q kept) (records_of p.elements c)
   pub back : (kept : ℕ) → kept ≤ p.elements.spare → FitInTurn (walk_of p given q kept) (records_of p.elements c)
       → back_onto (walk_of s given' q' kept) (records_of s.elements done) (records_of s.elements rest) ≡ back_onto (walk_of p given q kept) [] (records_of p.elements c)
+  pub as_many : made s.elements ≡ made p.elements
   pub out : s.region.out + length given ≡ p.region.out + length given'
   pub tables : SameTables p.region s.region
   pub frames : SameFrames p.region s.region
@@ -58,6 +59,7 @@ begins p given q c done b first count =
       fits = λ kept le h. (le, h);
       leads = λ kept le h. refl;
       back = λ kept le h. ap (λ (ns : List Link). back_onto (walk_of p given q kept) (map record_at ns) (records_of p.elements c)) none;
+      as_many = refl;
       out = refl;
       tables = record { tables = λ x. refl; segments = λ x. refl };
       frames = record { spare = refl; made = refl };
@@ -76,6 +78,7 @@ ends p s given given' q q' c rest done g count =
         ap (λ (ns : List Link). walk (walk_of s given' q' kept) (map record_at ns)) (sym none) ∙ g.leads kept le h,
         ap (λ (ns : List Link). back_onto (walk_of s given' q' kept) (records_of s.elements done) (map record_at ns)) (sym none) ∙ g.back kept le h,
       );
+      as_many = g.as_many;
       out = g.out;
       tables = g.tables;
       frames = g.frames;
@@ -191,6 +194,7 @@ module _ (p s m : Storage) (e : Store) (given given' given'' : List PageFrame) (
             ∙ ap (λ (z : List Record). back_onto (walk_of t given'' q'' kept) z rs) done-records
             ∙ ap (λ (w : Walk). back_onto w (turned (state_of s) r ∷ records_of s.elements done) rs) k.1
             ∙ ap (back_onto (walk_of s given' q' kept) (records_of s.elements done)) (sym l) ∙ g.back kept le h);
+        as_many = f.as_many ∙ x.as_many ∙ g.as_many;
         out = omega (arith, g.out, x.out);
         tables = record { tables = λ z. x.tables.tables z ∙ g.tables.tables z; segments = λ z. x.tables.segments z ∙ g.tables.segments z };
         frames = record { spare = x.frames.spare ∙ g.frames.spare; made = x.frames.made ∙ g.frames.made };

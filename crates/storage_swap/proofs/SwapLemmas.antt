@@ -188,6 +188,7 @@ module _ (p : Storage) (c : TheChange) (r : Ready p c) (fit : Fit (state_of p) (
             (moves-follow e s.elements end (hold_beside m c.parked c.records) (hold_beside s parked' records') (both_hold t d) w.moves
             (moves-by s.elements end no_ids (λ i. times i (owned end blanks')) (hold_beside s parked' records') (both_hold t d) filled (λ i. omega arith) (λ i. omega (arith, end-hold i, turned-ids i))));
         spare = spare;
+        as_many = g.as_many ∙ w.as_many ∙ f.as_many;
         out = omega (arith, w.out, out, ap length empty);
         tables = record { tables = λ x. w.tables.tables x ∙ tables.tables x; segments = λ x. w.tables.segments x ∙ tables.segments x };
         frames = record { spare = w.frames.spare ∙ counts.spare; made = w.frames.made ∙ counts.made };

@@ -1,6 +1,6 @@
 -- A chain of records beside the storage and parked subpools, and the exchange of its records.
 use Rattle.std.specs.Prelude.{◌≡◌, ℕ, ◌+◌, ◌≤◌, List, [], ◌∷◌, map, length}
-use Rattle.vsm_elements.specs.Store.{Store}
+use Rattle.vsm_elements.specs.Store.{Store, made}
 use Rattle.vsm_elements.specs.Owners.{times, Moves}
 use Rattle.vsm_elements.specs.Chain.{Link, links, owned, IsChain}
 use Rattle.vsm_elements.specs.declared.chain.Chain.{Chain}
@@ -33,11 +33,12 @@ pub record Beside (p : Storage) (q : SubpoolStorage) (c : Chain) : Type 0 where
   pub chain : IsChain p.elements c
   pub once : (i : ℕ) → hold_beside p q c i ≤ 1
 
--- the first record changed sides with the storage, and nothing else
+-- the first record changed sides with the storage, and nothing else; no element was made
 pub record SwapsFirst (p t : Storage) (given given' : List PageFrame) (q q' : SubpoolStorage) (c : Chain) (r : Record)
     (rs : List Record) : Type 0 where
   pub beside : Beside t q' c
   pub moves : Moves p.elements t.elements (hold_beside p q c) (hold_beside t q' c)
+  pub as_many : made t.elements ≡ made p.elements
   pub records : records_of t.elements c ≡ turned (state_of p) r ∷ rs
   pub same_ids : owned t.elements c ≡ owned p.elements c
   pub steps :
@@ -53,6 +54,7 @@ pub record SwapsAll (p t : Storage) (given given' : List PageFrame) (q q' : Subp
     : Type 0 where
   pub beside : Beside t q' c'
   pub moves : Moves p.elements t.elements (hold_beside p q c) (hold_beside t q' c')
+  pub as_many : made t.elements ≡ made p.elements
   pub steps :
       (kept : ℕ) → kept ≤ p.elements.spare → FitInTurn (walk_of p given q kept) (records_of p.elements c)
       → (kept ≤ t.elements.spare)

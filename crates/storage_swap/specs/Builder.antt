@@ -1,6 +1,6 @@
 -- A change that is being made: records behind one another, and the subpools that it has parked.
 use Rattle.std.specs.Prelude.{◌≡◌, ℕ, ◌+◌, ◌<◌, ◌≤◌, true, List, [], ◌++◌, length}
-use Rattle.vsm_elements.specs.Store.{at}
+use Rattle.vsm_elements.specs.Store.{at, live_count}
 use Rattle.vsm_elements.specs.Owners.{Moves}
 use Rattle.vsm_elements.specs.Chain.{last_or, links}
 use Rattle.vsm_model.specs.declared.Subpool.{Subpool}
@@ -59,12 +59,14 @@ pub record Pushes (s : Storage) (a : ChangeBuilder) (added : List Record) (t : S
   pub records : records_in t b ≡ records_in s a ++ added
   pub parked : parked_in t b ≡ parked_in s a
   pub spare : s.elements.spare ≤ t.elements.spare + length added
+  pub live : live_count t.elements ≤ live_count s.elements + length added
 
 -- An empty subpool of this name was parked, in one element.
 pub record Parks (s : Storage) (a : ChangeBuilder) (subpool : Subpool) (t : Storage) (b : ChangeBuilder) : Type 0 where
   pub records : records_in t b ≡ records_in s a
   pub parked : parked_in t b ≡ with_own (parked_in s a) subpool true
   pub spare : s.elements.spare ≤ t.elements.spare + 1
+  pub live : live_count t.elements ≤ live_count s.elements + 1
 
 -- The change is made, with so many blank elements and no frame, and the storage is as it was.
 pub record Finishes (s : Storage) (b : ChangeBuilder) (blanks : ℕ) (t : Storage) (c : TheChange) : Type 0 where

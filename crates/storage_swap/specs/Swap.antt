@@ -1,6 +1,6 @@
 -- A change beside the storage, and its exchange.
 use Rattle.std.specs.Prelude.{◌≡◌, ℕ, ◌+◌, ◌≤◌, true, length, None}
-use Rattle.vsm_elements.specs.Store.{Store}
+use Rattle.vsm_elements.specs.Store.{Store, made}
 use Rattle.vsm_elements.specs.Owners.{times, Moves}
 use Rattle.vsm_elements.specs.Chain.{owned, IsChain}
 use Rattle.vsm_elements.specs.declared.chain.Chain.{Chain}
@@ -52,7 +52,7 @@ pub record Ready (p : Storage) (c : TheChange) : Type 0 where
   pub places : HavePlaces p c.frames
 
 -- The storage is what the change means, and the change the one that leads back. Elements and frames went from the one
--- to the other, and nothing else changed: as many elements and frames are spare, and no frame was made.
+-- to the other, and nothing else changed: as many elements and frames are spare, and none was made.
 pub record Swaps (p : Storage) (c : TheChange) (t : Storage) (d : TheChange) : Type 0 where
   pub before : Ready p c
   pub after : Ready t d
@@ -60,12 +60,13 @@ pub record Swaps (p : Storage) (c : TheChange) (t : Storage) (d : TheChange) : T
   pub turned : means t.elements d ≡ inverse (state_of p) (means p.elements c)
   pub moves : Moves p.elements t.elements (both_hold p c) (both_hold t d)
   pub spare : t.elements.spare ≡ p.elements.spare
+  pub as_many : made t.elements ≡ made p.elements
   pub out : t.region.out + length c.frames ≡ p.region.out + length d.frames
   pub tables : SameTables p.region t.region
   pub frames : SameFrames p.region t.region
 
 -- The change's elements are spare and its frames too, and nothing else changed: just as many more of both are spare as
--- the change had.
+-- the change had, and none was made.
 pub record Discards (p : Storage) (c : TheChange) (t : Storage) : Type 0 where
   pub before : Ready p c
   pub same : t ≡ record p { elements = t.elements; region = t.region }
@@ -74,5 +75,6 @@ pub record Discards (p : Storage) (c : TheChange) (t : Storage) : Type 0 where
   pub tables : SameTables p.region t.region
   pub out : t.region.out + length c.frames ≡ p.region.out
   pub spare : GivenBack (change_holds p.elements c) p.elements t.elements
+  pub as_many : made t.elements ≡ made p.elements
   pub spare_frames : t.region.spare ≡ p.region.spare + length c.frames
   pub made : t.region.made ≡ p.region.made

@@ -1,6 +1,7 @@
 //! Changes that are made record by record, while the storage is read.
 
 ghost use Rattle.std.specs.Prelude.{◌≡◌, ℕ, ◌+◌, ◌<◌, ◌≤◌, [], ◌∷◌, None, length, IsOk, OnOk, IfOk, IfErr};
+ghost use Rattle.vsm_elements.specs.Store.{live_count};
 ghost use Rattle.subpool_storage.specs.Held.{GivenBack};
 ghost use Rattle.subpool_storage.specs.Subpools.{no_subpools};
 ghost use Rattle.storage_exchange.specs.declared.storage.Storage.{Storage as TheStorage};
@@ -95,6 +96,8 @@ impl ChangeBuilder {
         ensures ok { IfOk result (λ change. Finishes storage.old self blanks storage.new change) }
         ensures err { IfErr result (λ _. Keeps storage.old storage.new (builder_holds storage.old self) (λ i. 0)) }
         ensures uses { IfOk result (λ _. storage.old.elements.spare ≤ storage.new.elements.spare + blanks) }
+        ensures live { IfOk result (λ _. live_count storage.new.elements
+            ≤ live_count storage.old.elements + blanks) }
         ensures needless { blanks ≤ storage.old.elements.spare → IsOk result }
     {
         if let Err(refused) = storage.elements.reserve(blanks) {

@@ -2,6 +2,7 @@
 
 ghost use Rattle.std.specs.Prelude.{◌≡◌, ℕ, ◌+◌, ◌*◌, ◌^◌, ◌<◌, ◌≤◌, ◌∷◌, true, None, length, option_map, IsTrue, IsOk};
 ghost use Rattle.std.specs.Prelude.{IfOk, IfErr};
+ghost use Rattle.vsm_elements.specs.Store.{made, live_count};
 ghost use Rattle.vsm_elements.specs.Owners.{Moves};
 ghost use Rattle.run_set.specs.Runs.{inside};
 ghost use Rattle.raw_region.specs.Pages.{has_segment, HaveTables};
@@ -69,6 +70,8 @@ impl Change {
         ensures grown { IfErr result (λ _. Grown storage.old storage.new) }
         ensures uses { IfOk result (λ _. storage.old.elements.spare
             ≤ storage.new.elements.spare + elements_to_build pool.now (length records.now) blanks) }
+        ensures live { IfOk result (λ _. live_count storage.new.elements
+            ≤ live_count storage.old.elements + elements_to_build pool.now (length records.now) blanks) }
         ensures needless { elements_to_build pool.now (length records.now) blanks ≤ storage.old.elements.spare
             → fresh.len ≤ storage.old.region.spare → HaveTables storage.old.region fresh.start fresh.len
             → IsOk result }
@@ -104,6 +107,7 @@ fn make_building(
     ensures frames { length result.0.frames ≡ fresh.len }
     ensures spare { storage.new.elements.spare + elements_to_build pool.now (length records.now) blanks
         ≡ storage.old.elements.spare }
+    ensures as_many { made storage.new.elements ≡ made storage.old.elements }
 {
     pools_are_held();
     let (parked, id) = park_pool(&mut storage.elements, pool);
@@ -128,6 +132,7 @@ fn park_pool(elements: &mut Elements, pool: &NewPool<'_>) -> (SubpoolStorage, Ce
     ensures subpools { subpools_of elements.new result.0 ≡ with_new_pool no_subpools (pool_as pool.now result.1) }
     ensures moves { Moves elements.old elements.new (λ i. 0) (λ i. held_parked elements.new result.0 i) }
     ensures spares { elements.new.spare + pool_elements pool.now ≡ elements.old.spare }
+    ensures as_many { made elements.new ≡ made elements.old }
 {
     let mut parked = SubpoolStorage::new();
     let header = same_header(pool.header);

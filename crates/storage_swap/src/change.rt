@@ -1,4 +1,5 @@
-ghost use Rattle.std.specs.Prelude.{ℕ, ◌≤◌};
+ghost use Rattle.std.specs.Prelude.{◌≡◌, ℕ, ◌≤◌};
+ghost use Rattle.vsm_elements.specs.Store.{made};
 ghost use Rattle.vsm_elements.specs.Chain.{IsChain};
 ghost use Rattle.vsm_elements.specs.Owners.{Moves};
 ghost use Rattle.subpool_storage.specs.Held.{GivenBack};
@@ -81,6 +82,7 @@ pub(crate) fn discard_elements(
     requires once { (i : ℕ) → held_by elements.old records blanks parked i ≤ 1 }
     ensures moves { Moves elements.old elements.new (held_by elements.old records blanks parked) (λ i. 0) }
     ensures spares { GivenBack (held_by elements.old records blanks parked) elements.old elements.new }
+    ensures as_many { made elements.new ≡ made elements.old }
 {
     records.discard(elements);
     blanks.discard(elements);

@@ -3,6 +3,7 @@
 
 ghost use Rattle.std.specs.Prelude.{◌≡◌, ℕ, ◌+◌, ◌^◌, ◌<◌, ◌≤◌, true, None, Some, [], length, IsTrue, IsOk};
 ghost use Rattle.std.specs.Prelude.{OnOk, IfOk, IfErr, IfSome, if◌then◌else◌};
+ghost use Rattle.vsm_elements.specs.Store.{made, live_count};
 ghost use Rattle.vsm_elements.specs.Chain.{owned, IsChain};
 ghost use Rattle.vsm_elements.specs.Ownership.{Leaves};
 ghost use Rattle.vsm_elements.specs.Owners.{Moves};
@@ -66,6 +67,8 @@ impl Change {
         ensures grown { IfErr result (λ _. Grown storage.old storage.new) }
         ensures uses { IfOk result (λ _. storage.old.elements.spare ≤ storage.new.elements.spare
             + elements_for (state_of storage.old).subpools emptied (length records.now) blanks) }
+        ensures live { IfOk result (λ _. live_count storage.new.elements ≤ live_count storage.old.elements
+            + elements_for (state_of storage.old).subpools emptied (length records.now) blanks) }
         ensures needless { elements_for (state_of storage.old).subpools emptied (length records.now) blanks
             ≤ storage.old.elements.spare
             → fresh.len ≤ storage.old.region.spare → HaveTables storage.old.region fresh.start fresh.len
@@ -110,6 +113,7 @@ pub(crate) fn grow(storage: &mut Storage, elements: u32, fresh: Run) -> Result<(
     requires segments { (page : ℕ) → inside page fresh ≡ true → IsTrue (has_segment storage.old.region page) }
     ensures grown { Grown storage.old storage.new }
     ensures more { storage.old.elements.spare ≤ storage.new.elements.spare }
+    ensures live { live_count storage.new.elements ≡ live_count storage.old.elements }
     ensures elements { OnOk result (elements ≤ storage.new.elements.spare) }
     ensures frames { OnOk result (fresh.len ≤ storage.new.region.spare) }
     ensures tables { OnOk result (HaveTables storage.new.region fresh.start fresh.len) }
@@ -147,6 +151,7 @@ fn make(
     ensures spare { storage.new.elements.spare
         + elements_for (state_of storage.old).subpools emptied (length records.now) blanks
         ≡ storage.old.elements.spare }
+    ensures as_many { made storage.new.elements ≡ made storage.old.elements }
 {
     subpools_are_there();
     let extents = extents_emptied(storage, emptied);
@@ -182,6 +187,7 @@ fn park_empty(elements: &mut Elements, emptied: Option<Subpool>) -> SubpoolStora
     ensures subpools { subpools_of elements.new result ≡ parked_under emptied }
     ensures moves { Moves elements.old elements.new (λ i. 0) (λ i. held_parked elements.new result i) }
     ensures spare { elements.new.spare + length (emptying emptied []) ≡ elements.old.spare }
+    ensures as_many { made elements.new ≡ made elements.old }
 {
     let mut parked = SubpoolStorage::new();
     if let Some(subpool) = emptied {

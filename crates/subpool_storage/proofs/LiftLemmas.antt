@@ -1,6 +1,6 @@
 -- What a call on the set and its queues leaves of the whole, and what one on cell pools does.
 use Rattle.std.proofs.Common.{◌≡◌, ℕ, ◌+◌, ◌<◌, ◌≤◌, true, [], ◌++◌, Option, IsSome, Some, refl, sym, ap, ◌∙◌, arith, subst}
-use Rattle.vsm_elements.specs.Store.{Store, at, among}
+use Rattle.vsm_elements.specs.Store.{Store, at, among, made}
 use Rattle.vsm_elements.specs.Ownership.{Leaves}
 use Rattle.vsm_elements.specs.Owners.{times, Moves}
 use Rattle.vsm_elements.proofs.TimesLemmas.{times-append, times-some, some-from, times-once}
@@ -41,6 +41,7 @@ pub record SetSame (s t : Store) (q : SubpoolStorage) : Type 0 where
 pub record SetBecomes (s t : Store) (q r : SubpoolStorage) (m : Subpools) : Type 0 where
   pub stands : SetStands t r
   pub moves : Moves s t (hold_queues s q) (hold_queues t r)
+  pub as_many : made t ≡ made s
   pub sights : (a b : ℕ) → sight t r.set a b ≡ m.sight a b
   pub pages : (p : Subpool) (x : ℕ) → page_in t (pool t r.set p.number p.owner) x ≡ m.pages p x
   pub free : (p : Subpool) (d : ℕ) → free_in t (pool t r.set p.number p.owner) d ≡ m.free p d
@@ -106,6 +107,7 @@ lifted s t q r m h e cells b =
         apart = λ i. omega (arith, k.1 i, own i);
       };
       moves = moves-by s t (hold_queues s q) (hold_queues t r) (hold s q) (hold t r) b.moves (λ i. omega arith) (λ i. omega (arith, own i));
+      as_many = b.as_many;
       subpools = same_subpools (subpools_of t r) m b.sights b.pages b.free (λ id. ap (λ (z : CellPools). by_id t z id) e ∙ a.ids id ∙ cells id);
     }
 
@@ -120,6 +122,7 @@ cells_become s t q c m h stand leaves cells whole =
     record {
       stands = record { set = a.stands.set; queues = a.stands.queues; cells = stand; apart = λ i. omega (arith, k.1 i, a.count i) };
       moves = moves-by s t (λ i. times i (CellPools.owned s q.cells)) (λ i. times i (CellPools.owned t c)) (hold s q) (hold t (record { set = q.set; cells = c })) moves (λ i. omega arith) (λ i. omega (arith, a.count i));
+      as_many = leaves.as_many;
       subpools = same_subpools (subpools_of t (record { set = q.set; cells = c })) (record (subpools_of s q) { cells = m.cells }) a.sights a.pages a.free cells ∙ sym whole;
     }
 
@@ -128,6 +131,7 @@ pub follow : (s r t : Store) (a b c : SubpoolStorage) (m n : Subpools) → Becom
 follow s r t a b c m n first second = record {
   stands = second.stands;
   moves = moves-follow s r t (hold s a) (hold r b) (hold t c) first.moves second.moves;
+  as_many = second.as_many ∙ first.as_many;
   subpools = second.subpools;
 }
 

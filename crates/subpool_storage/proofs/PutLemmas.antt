@@ -125,6 +125,7 @@ module _ (s r : Store) (q : SubpoolStorage) (p : Subpool) (id : ℕ) (old new : 
     set_becomes = record {
       stands = record { set = k; queues = now s r q.set p.number p.owner id old new h.set h.queues there call.leaves call.stand t k sights pools own put };
       moves = moves s r q.set p.number p.owner id old new h.set h.queues there call.leaves call.stand t k sights pools own put;
+      as_many = own.as_many ∙ call.leaves.as_many;
       sights = seen s r q.set p.number p.owner id old new h.set h.queues there call.leaves call.stand t k sights pools own put;
       pages = λ m x. pages_now s r q.set p.number p.owner id old new h.set h.queues there call.leaves call.stand t k sights pools own put m.number m.owner x ∙ ap (λ (z : Bool). if same_subpool m p then z else page_in s (pool s q.set m.number m.owner) x) (call.pages_are x);
       free = λ m d. free_now s r q.set p.number p.owner id old new h.set h.queues there call.leaves call.stand t k sights pools own put m.number m.owner d ∙ ap (λ (z : Bool). if same_subpool m p then z else free_in s (pool s q.set m.number m.owner) d) (call.free_is d);

@@ -81,6 +81,7 @@ module _ (s t : Store) (q r : SubpoolStorage) (p : Subpool) (present : Bool) (x 
   set_becomes = record {
     stands = record { set = k; queues = now h.queues };
     moves = set_moves s t q.set r.set p.number p.owner x h.set h.queues k (now h.queues) own with bare bare_now;
+    as_many = own.as_many;
     sights = λ a b. sights a b ∙ ap (λ (z : Bool). if z then (if present then Some p.owner else None) else sight s q.set a b) (same_sym p.owner p.number a b);
     pages = λ m y. set_pages s t q.set r.set p.number p.owner x h.set h.queues k (now h.queues) own with no_page no_page_now m.number m.owner y;
     free = λ m y. set_free s t q.set r.set p.number p.owner x h.set h.queues k (now h.queues) own with none_free none_free_now m.number m.owner y;

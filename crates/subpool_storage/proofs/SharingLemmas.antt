@@ -84,6 +84,7 @@ sharer_becomes s t q r p task present e h k now own pools sights =
     lifted s t q r (with_sharer (subpools_of s q) p task present) h e (λ id. refl) (record {
       stands = record { set = k; queues = now h.queues };
       moves = same_moves s t q.set r.set h.set h.queues k (now h.queues) own there back;
+      as_many = own.as_many;
       sights = λ a b. sights a b ∙ ap (λ (z : Bool). if z then (if present then Some p.owner else None) else sight s q.set a b) (same_sym task p.number a b);
       pages = λ m y. ap (λ (z : Option Pool). page_in t z y) (pools m.number m.owner) ∙ page_same s t q.set r.set h.set h.queues k (now h.queues) own there back m.number m.owner y;
       free = λ m y. ap (λ (z : Option Pool). free_in t z y) (pools m.number m.owner) ∙ free_same s t q.set r.set h.set h.queues k (now h.queues) own there back m.number m.owner y;
@@ -164,6 +165,7 @@ passed_becomes s t q r p to e h k now own pools sights unseen =
     lifted s t q r (queues_passed (subpools_of s q) p to) h e (λ id. refl) (record {
       stands = record { set = k; queues = now h.queues };
       moves = same_moves s t q.set r.set h.set h.queues k (now h.queues) own there back;
+      as_many = own.as_many;
       sights = λ a b. sights a b ∙ given_sight (sight s q.set) p.number p.owner to a b;
       pages = λ m y. ap (λ (z : Option Pool). page_in t z y) (pools m.number m.owner)
           ∙ given_at (page_in t) (m.number == p.number) (m.owner == to) (m.owner == p.owner) (pool s q.set m.number p.owner) (pool s q.set m.number m.owner) y (page_in s (pool s q.set p.number p.owner) y) (page_in s (pool s q.set m.number m.owner) y) refl

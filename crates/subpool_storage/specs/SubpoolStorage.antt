@@ -2,7 +2,7 @@
 --
 -- The words are closed, so that nothing above depends on how the subpools stand in the elements.
 use Rattle.std.specs.Prelude.{◌≡◌, ℕ, ◌+◌, ◌≤◌, Bool, false, List, map, Option, Some, None}
-use Rattle.vsm_elements.specs.Store.{Store}
+use Rattle.vsm_elements.specs.Store.{Store, made}
 use Rattle.vsm_elements.specs.Owners.{times, Moves}
 use Rattle.descriptor_queue.specs.Extents.{has_page}
 use Rattle.free_queue.specs.FreeQueue.{is_free}
@@ -87,8 +87,9 @@ IsSharerPlace s q place = SubpoolSet.IsSharerPlace s q.set place
 unfoldable pub sharers_left : Store → SubpoolStorage → SharerPlace → Subpool → List ℕ
 sharers_left s q place p = SubpoolSet.sharers_left s q.set place p.number p.owner
 
--- the subpools are m, and no element but theirs changed
+-- the subpools are m, no element but theirs changed, and none was made
 pub record Becomes (s t : Store) (q r : SubpoolStorage) (m : Subpools) : Type 0 where
   pub stands : Stands t r
   pub moves : Moves s t (hold s q) (hold t r)
+  pub as_many : made t ≡ made s
   pub subpools : subpools_of t r ≡ m

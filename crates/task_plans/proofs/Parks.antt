@@ -3,6 +3,7 @@ use Rattle.std.proofs.Common.{◌≡◌, ℕ, suc, ◌+◌, ◌<◌, ◌≤◌, 
 use Rattle.std.specs.Prelude.{filter, if◌then◌else◌}
 use Rattle.std.specs.List.{All, AllPairs}
 use Rattle.std.proofs.lemmas.Bool.{and_parts, both_ways, eqb-true, false_from_ne_true}
+use Rattle.vsm_elements.specs.Store.{live_count}
 use Rattle.vsm_model.specs.declared.Subpool.{Subpool}
 use Rattle.vsm_model.specs.Search.{is_in}
 use Rattle.vsm_model.specs.Subpools.{same_subpool}
@@ -92,6 +93,7 @@ pub record ParksLead (top : ℕ) (s : Storage) (a : ChangeBuilder) (t : Storage)
   pub parked : parked_onto (parked_in t b) (owned_among (state_of s) top (subpools_left t.elements t.subpools place)) ≡ parked_onto (parked_in s a) (parks_all (state_of s) top)
   pub can : CanPark (parked_in t b) (owned_among (state_of s) top (subpools_left t.elements t.subpools place))
   pub spare : s.elements.spare + length (owned_among (state_of s) top (subpools_left t.elements t.subpools place)) ≤ t.elements.spare + length (parks_all (state_of s) top)
+  pub live : live_count t.elements + length (owned_among (state_of s) top (subpools_left t.elements t.subpools place)) ≤ live_count s.elements + length (parks_all (state_of s) top)
 
 module _ (top : ℕ) (s : Storage) (a : ChangeBuilder) where
   abbrev owned : List Subpool → List Subpool
@@ -108,14 +110,17 @@ module _ (top : ℕ) (s : Storage) (a : ChangeBuilder) where
         parked = ap (λ (xs : List Subpool). parked_onto (parked_in s a) (owned xs)) all;
         can = subst P (sym all) can;
         spare = omega (arith, ap (λ (xs : List Subpool). length (owned xs)) all);
+        live = omega (arith, ap (λ (xs : List Subpool). length (owned xs)) all);
       }
 
   module _ (t : Storage) (b : ChangeBuilder) (place : PoolPlace) (w : ParksLead top s a t b place) where
     pub parks_done : subpools_left t.elements t.subpools place ≡ [] → parked_in s a ≡ no_subpools
         → (parked_in t b ≡ empties (parks_all (state_of s) top)) × (s.elements.spare ≤ t.elements.spare + length (parks_all (state_of s) top))
+        × (live_count t.elements ≤ live_count s.elements + length (parks_all (state_of s) top))
     parks_done none began = (
       ap (λ (xs : List Subpool). parked_onto (parked_in t b) (owned xs)) (sym none) ∙ w.parked ∙ ap (λ (m : Subpools). parked_onto m (parks_all (state_of s) top)) began ∙ onto_none (parks_all (state_of s) top),
-      omega (arith, w.spare),
+      omega (arith, w.spare, ap (λ (xs : List Subpool). length (owned xs)) none),
+      omega (arith, w.live, ap (λ (xs : List Subpool). length (owned xs)) none),
     )
 
     -- the next one
@@ -133,8 +138,8 @@ module _ (top : ℕ) (s : Storage) (a : ChangeBuilder) where
       parks_room room = omega (arith, room, w.spare, ap length front, length-append added later)
 
       pub parks_more : (u : Storage) (c : ChangeBuilder) → IsSubpoolPlace t.elements t.subpools next → Builds t b u c → records_in u c ≡ records_in t b → parked_in u c ≡ parked_onto (parked_in t b) added
-          → t.elements.spare ≤ u.elements.spare + length added → ParksLead top s a u c next
-      parks_more u c there builds records parked spare =
+          → t.elements.spare ≤ u.elements.spare + length added → live_count u.elements ≤ live_count t.elements + length added → ParksLead top s a u c next
+      parks_more u c there builds records parked spare live =
           let k = place_kept t u _ _ builds.keeps w.builds.building.ready.stands.storage next there in
           let P : List Subpool → Type 0 = CanPark (parked_in t b) in
           let Q : List Subpool → Type 0 = λ xs. CanPark (parked_in u c) (owned xs) in
@@ -147,6 +152,7 @@ module _ (top : ℕ) (s : Storage) (a : ChangeBuilder) where
                 ∙ sym (onto-more (parked_in t b) added later) ∙ ap (parked_onto (parked_in t b)) (sym front) ∙ w.parked;
             can = subst Q (sym k.1) (subst R (sym parked) (can-rest (parked_in t b) added later (subst P front w.can)));
             spare = omega (arith, w.spare, spare, ap length front, length-append added later, ap (λ (xs : List Subpool). length (owned xs)) k.1);
+            live = omega (arith, w.live, live, ap length front, length-append added later, ap (λ (xs : List Subpool). length (owned xs)) k.1);
           }
 
       pub parks_less : (u : Storage) (c : ChangeBuilder) → IsSubpoolPlace t.elements t.subpools next → Builds t b u c

@@ -1,6 +1,7 @@
 //! Plans of tasks that come.
 
 ghost use Rattle.std.specs.Prelude.{◌≡◌, ℕ, ◌+◌, ◌≤◌, [], ◌∷◌, Bool, List, length, All, IsOk, OnOk, IfOk, IfErr};
+ghost use Rattle.vsm_elements.specs.Store.{live_count};
 ghost use Rattle.vsm_model.specs.declared.limits.Settings.{Settings};
 ghost use Rattle.vsm_model.specs.Services.{attach};
 ghost use Rattle.storage_exchange.specs.Storage.{hold, state_of, Stand, IsFrameless};
@@ -82,6 +83,8 @@ impl AttachPlan {
             length d.records + d.blanks ≤ storage.old.elements.spare → IsOk result }
         ensures uses { IfOk result (λ _. let d = attach_change (state_of storage.old) self in
             storage.old.elements.spare ≤ storage.new.elements.spare + (length d.records + d.blanks)) }
+        ensures live { IfOk result (λ _. let d = attach_change (state_of storage.old) self in
+            live_count storage.new.elements ≤ live_count storage.old.elements + (length d.records + d.blanks)) }
     {
         let mut builder = ChangeBuilder::new();
         match self.push_records(storage, &mut builder) {

@@ -3,6 +3,7 @@
 ghost use Rattle.std.specs.Prelude.{◌≡◌, ℕ, ◌+◌, ◌≤◌, ◌++◌, [], ◌∷◌, Bool, true, length, map, IsOk, OnOk, IfOk};
 ghost use Rattle.std.specs.Prelude.{IfErr};
 ghost use Rattle.std.specs.List.{flat_map};
+ghost use Rattle.vsm_elements.specs.Store.{live_count};
 ghost use Rattle.vsm_model.specs.declared.limits.Settings.{Settings};
 ghost use Rattle.vsm_model.specs.Regions.{settings_valid};
 ghost use Rattle.vsm_model.specs.Services.{detach, end_task};
@@ -136,6 +137,9 @@ impl EndPlan {
         ensures uses { IfOk result (λ _. let d = end_change (state_of storage.old) self in
             storage.old.elements.spare ≤ storage.new.elements.spare
             + (length (parks_all (state_of storage.old) self.top) + (length d.records + d.blanks))) }
+        ensures live { IfOk result (λ _. let d = end_change (state_of storage.old) self in
+            live_count storage.new.elements ≤ live_count storage.old.elements
+            + (length (parks_all (state_of storage.old) self.top) + (length d.records + d.blanks))) }
     {
         let mut builder = ChangeBuilder::new();
         match self.push_records(storage, &mut builder) {
@@ -166,6 +170,9 @@ impl EndPlan {
         ensures blanks { IfOk result (λ n. n ≡ (end_change (state_of storage.old) self).blanks) }
         ensures spare { OnOk result (storage.old.elements.spare
             ≤ storage.new.elements.spare + (length (parks_all (state_of storage.old) self.top)
+            + length (end_change (state_of storage.old) self).records)) }
+        ensures live { OnOk result (live_count storage.new.elements
+            ≤ live_count storage.old.elements + (length (parks_all (state_of storage.old) self.top)
             + length (end_change (state_of storage.old) self).records)) }
         ensures needless { length (parks_all (state_of storage.old) self.top)
             + length (end_change (state_of storage.old) self).records ≤ storage.old.elements.spare → IsOk result }
@@ -207,6 +214,8 @@ fn park_owned(storage: &mut Storage, builder: &mut ChangeBuilder, top: u8) -> Re
         ≡ empties (parks_all (state_of storage.old) top)) }
     ensures spare { OnOk result (storage.old.elements.spare
         ≤ storage.new.elements.spare + length (parks_all (state_of storage.old) top)) }
+    ensures live { OnOk result (live_count storage.new.elements
+        ≤ live_count storage.old.elements + length (parks_all (state_of storage.old) top)) }
     ensures needless { length (parks_all (state_of storage.old) top) ≤ storage.old.elements.spare → IsOk result }
 {
     subpools_are_there();
@@ -233,6 +242,8 @@ fn park_one(
         ≡ parked_onto (parked_in storage.old builder.old) (owned_among (state_of storage.old) top (subpool ∷ []))) }
     ensures spare { OnOk result (storage.old.elements.spare
         ≤ storage.new.elements.spare + length (owned_among (state_of storage.old) top (subpool ∷ []))) }
+    ensures live { OnOk result (live_count storage.new.elements
+        ≤ live_count storage.old.elements + length (owned_among (state_of storage.old) top (subpool ∷ []))) }
     ensures needless { length (owned_among (state_of storage.old) top (subpool ∷ []))
         ≤ storage.old.elements.spare → IsOk result }
 {

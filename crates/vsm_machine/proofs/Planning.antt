@@ -121,6 +121,7 @@ module _ (m : MachineState) (x : Act) (service : Service) (is : Some service ≡
     can = carried.can;
     light = subst (λ o. elements_needed m.storage p.plan ≤ 32 + 8 * weight_served m.storage o) is carried.light;
     assigned = carried.assigned;
+    only = carried.only;
   }
 
   pub refused_by : (cause : Cause) (e : Refusal) →

@@ -8,7 +8,8 @@ use Rattle.vsm_model.specs.Standing as outcome
 use Rattle.vsm_model.specs.Standing.{Accepted, Refused}
 use Rattle.macro_statements.specs.Requests.{Act}
 use Rattle.storage_core.specs.Meaning.{state_in_place}
-pub use Rattle.storage_core.specs.Planned.{Assigns, CanBeReserved, IsIdFor, change_for, elements_needed, fresh_pages, reply_of}
+pub use Rattle.storage_core.specs.Planned.{Assigns, AssignsOnly, CanBeReserved, IsIdFor, change_for}
+pub use Rattle.storage_core.specs.Planned.{elements_needed, fresh_pages, reply_of}
 use Rattle.storage_core.specs.Weight.{weight}
 use Rattle.storage_changes.specs.State.{StorageState}
 use Rattle.storage_swap.specs.Reserve.{Reserves}
@@ -67,6 +68,9 @@ pub record CanCarryOut (m : MachineState) (x : Act) (p : Planned) : Type 0 where
   pub can : CanBeReserved m.storage p.plan
   pub light : elements_needed m.storage p.plan ≤ 32 + 8 * weight_asked m x
   pub assigned : (id : ℕ) → Assigns m.storage (change_for m.storage id p.plan) (fresh_pages p.plan)
+  pub only :
+      (id : ℕ) → IsIdFor m.storage p.plan id
+      → AssignsOnly m.storage (change_for m.storage id p.plan) (fresh_pages p.plan)
 
 -- A statement was planned; or it is refused for this.
 abbrev pub IsPlanned : MachineState → Act → Result Planned Refusal → Type 0

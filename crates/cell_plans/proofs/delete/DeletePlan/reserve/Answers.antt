@@ -1,5 +1,6 @@
 use Rattle.std.proofs.Common.{◌≡◌, ◌+◌, ◌≤◌, ◌++◌, List, length, ap, ◌∙◌, arith}
 use Rattle.std.proofs.lemmas.Result.{IfOk-weaker}
+use Rattle.vsm_elements.specs.Store.{live_count}
 use Rattle.subpool_storage.specs.Subpools.{no_subpools}
 use Rattle.storage_changes.specs.declared.record.Record.{Record}
 use Rattle.storage_changes.specs.Changes.{change_of, no_pages}
@@ -32,3 +33,12 @@ returns-in-Ok-clause-uses c =
     let d = delete_change (state_of p) c.args.self in
     IfOk-weaker c.finish.result (λ _. t.elements.spare ≤ u.elements.spare + c.in-Ok.blanks) (λ _. p.elements.spare ≤ u.elements.spare + (length d.records + d.blanks))
     (λ change used. omega (arith, used, c.in-Ok.ensures.ok.spare, c.in-Ok.ensures.blanks)) c.finish.ensures.uses
+
+pub returns-in-Ok-clause-live : goal.returns-in-Ok-clause-live
+returns-in-Ok-clause-live c =
+    let p = c.args.storage.now in
+    let t = c.push_records.new.storage in
+    let u = c.finish.new.storage in
+    let d = delete_change (state_of p) c.args.self in
+    IfOk-weaker c.finish.result (λ _. live_count u.elements ≤ live_count t.elements + c.in-Ok.blanks) (λ _. live_count u.elements ≤ live_count p.elements + (length d.records + d.blanks))
+    (λ change more. omega (arith, more, c.in-Ok.ensures.ok.live, c.in-Ok.ensures.blanks)) c.finish.ensures.live

@@ -1,4 +1,5 @@
 use Rattle.std.proofs.Common.{arith}
+use Rattle.vsm_elements.specs.Store.{live_count}
 use Rattle.cell_plans.proofs.DeleteCounts.{delete-short}
 use Rattle.storage_core.specs.Meaning.{state_in_place}
 use Rattle.storage_core.proofs.Holding.{reserved_is_held}
@@ -35,3 +36,9 @@ returns-clause-uses c =
     let s = c.args.self.now in
     let m = state_in_place s in
     uses_within s.parts.elements.spare c.reserve.new.storage.elements.spare _ _ (omega (arith, delete-short m (m.subpools.cells c.args.plan.pool))) c.reserve.result c.reserve.ensures.uses
+
+pub returns-clause-live : goal.returns-clause-live
+returns-clause-live c =
+    let s = c.args.self.now in
+    let m = state_in_place s in
+    uses_within (live_count c.reserve.new.storage.elements) (live_count s.parts.elements) _ _ (omega (arith, delete-short m (m.subpools.cells c.args.plan.pool))) c.reserve.result c.reserve.ensures.live

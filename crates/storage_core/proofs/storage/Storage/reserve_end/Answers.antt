@@ -1,4 +1,5 @@
 use Rattle.std.proofs.Common.{arith}
+use Rattle.vsm_elements.specs.Store.{live_count}
 use Rattle.storage_core.specs.Meaning.{state_in_place}
 use Rattle.storage_core.proofs.Holding.{reserved_is_held}
 use Rattle.storage_core.proofs.Staying.{failed_stays}
@@ -31,3 +32,8 @@ returns-clause-uses c =
 
 pub returns-clause-needless : goal.returns-clause-needless
 returns-clause-needless c = λ spare. c.reserve.ensures.needless (omega (arith, spare, end-fits (state_in_place c.args.self.now) c.args.plan))
+
+pub returns-clause-live : goal.returns-clause-live
+returns-clause-live c =
+    let s = c.args.self.now in
+    uses_within (live_count c.reserve.new.storage.elements) (live_count s.parts.elements) _ _ (end-fits (state_in_place s) c.args.plan) c.reserve.result c.reserve.ensures.live

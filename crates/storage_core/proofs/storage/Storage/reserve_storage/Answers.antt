@@ -1,3 +1,4 @@
+use Rattle.vsm_elements.specs.Store.{live_count}
 use Rattle.storage_core.specs.Meaning.{state_in_place}
 use Rattle.storage_core.proofs.Counted.{few_answered, needed_for, uses_within}
 use Rattle.storage_core.proofs.Holding.{reserved_is_held, unassigned_in_region}
@@ -35,3 +36,10 @@ returns-clause-uses c =
     let plan = c.args.plan in
     uses_within s.parts.elements.spare c.reserve.new.storage.elements.spare _ _
     (needed_for (state_in_place s).subpools plan.emptied _ plan.blanks c.as_slice.ensures.fits) c.reserve.result c.reserve.ensures.uses
+
+pub returns-clause-live : goal.returns-clause-live
+returns-clause-live c =
+    let s = c.args.self.now in
+    let plan = c.args.plan in
+    uses_within (live_count c.reserve.new.storage.elements) (live_count s.parts.elements) _ _
+    (needed_for (state_in_place s).subpools plan.emptied _ plan.blanks c.as_slice.ensures.fits) c.reserve.result c.reserve.ensures.live

@@ -7,5 +7,5 @@ exchange_pool-requires-clause-single c = pool-single (walk_of c.args.self.now c.
 
 pub returns-clause-exchanges : goal.returns-clause-exchanges
 returns-clause-exchanges c = λ given. pool-exchanged c.args.self.now c.args.parked.now c.requires.stands c.exchange_pool.new.elements c.exchange_pool.new.self c.exchange_pool.new.others
-    c.exchange_pool.ensures.stands c.exchange_pool.ensures.others c.exchange_pool.ensures.moves c.exchange_pool.ensures.apart c.exchange_pool.ensures.spares
+    c.exchange_pool.ensures.stands c.exchange_pool.ensures.others c.exchange_pool.ensures.moves c.exchange_pool.ensures.apart c.exchange_pool.ensures.spares c.exchange_pool.ensures.as_many
     c.args.r c.exchange_pool.ensures.subpools c.exchange_pool.ensures.other_subpools given

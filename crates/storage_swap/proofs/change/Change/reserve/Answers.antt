@@ -39,3 +39,9 @@ returns-clause-uses c =
     let same = ap (λ (m : Subpools). elements_for m c.args.emptied (length c.args.records.now) c.args.blanks)
     (grown-subpools c.args.storage.now c.grow.new.storage c.requires.stands c.requires.once c.grow.ensures.grown) in
     omega (arith, same, c.grow.ensures.more, c.make.ensures.spare)
+
+pub returns-clause-live : goal.returns-clause-live
+returns-clause-live c =
+    let same = ap (λ (m : Subpools). elements_for m c.args.emptied (length c.args.records.now) c.args.blanks)
+    (grown-subpools c.args.storage.now c.grow.new.storage c.requires.stands c.requires.once c.grow.ensures.grown) in
+    omega (arith, same, c.grow.ensures.live, c.make.ensures.spare, c.make.ensures.as_many)
