@@ -57,7 +57,7 @@ pub record IsLight (m : StorageState) (x : Service) (plan : Plan) : Type 0 where
   pub none : plan.emptied ≡ None
   pub few : plan.blanks ≤ 7 + 8 * cells_weight m x
 
--- A cell that is handed out or given back was planned, with frames for just the pages that come to be assigned; or it's
+-- A cell that is handed out or given back was planned, with frames for pages that come to be assigned; or it's
 -- refused for this cause.
 abbrev pub IsCellPlanned : Settings → Bool → StorageState → Service → Result Plan Cause → Type 0
 IsCellPlanned settings names_full m x (Ok plan) =
@@ -85,7 +85,7 @@ pub record CanBeBuilt (m : StorageState) (plan : BuildPlan) : Type 0 where
   pub unassigned : (page : ℕ) → inside page plan.fresh ≡ true → m.unassigned page ≡ true
 
 -- A cell pool's coming was planned, under whatever id that none has, with no more cells than the service's weight, and
--- with frames for just the pages that come to be assigned; or it's refused for this cause. That it's accepted, and that
+-- with frames for pages that come to be assigned; or it's refused for this cause. That it's accepted, and that
 -- the pages are assigned, stands by itself, as it doesn't need such an id.
 abbrev pub IsBuildPlanned : Settings → Bool → StorageState → Service → Result BuildPlan Cause → Type 0
 IsBuildPlanned settings names_full m x (Ok plan) =

@@ -1,4 +1,3 @@
-pub mod FramesBrought
 -- Lemmas on a storage and its changes.
 mod Counted
 mod Exchanged
@@ -8,6 +7,7 @@ pub mod Staying
 mod Walking
 mod Leaving
 mod Made
+mod FramesBrought
 mod PlanCases
 mod TaskCounts
 mod CellPoolCounts

@@ -5,7 +5,8 @@ use Rattle.vsm_model.specs.declared.Subpool.{Subpool}
 use Rattle.subpool_set.specs.declared.places.PoolPlace.{PoolPlace}
 use Rattle.subpool_set.specs.declared.places.SharerPlace.{SharerPlace}
 use Rattle.subpool_storage.specs.declared.storage.SubpoolStorage.{SubpoolStorage}
-use Rattle.subpool_storage.specs.SubpoolStorage.{hold, Stands, IsSubpoolPlace, subpools_left, IsSharerPlace, sharers_left}
+use Rattle.subpool_storage.specs.SubpoolStorage.{hold, Stands, IsSubpoolPlace, subpools_left}
+use Rattle.subpool_storage.specs.SubpoolStorage.{IsSharerPlace, sharers_left}
 
 -- where the elements that it holds are as they were, a place stays one, with what is left behind it
 abbrev pub PlacesStay : Type 0
