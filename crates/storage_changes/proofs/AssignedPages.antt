@@ -1,5 +1,5 @@
 -- A page that comes to be assigned takes a frame that the change brings.
-use Rattle.std.proofs.Common.{◌≡◌, ℕ, ◌*◌, ◌/◌, Bool, true, false, not, if◌then◌else◌, List, [], ◌∷◌, Option, None, IsSome, refl, sym, ap, ◌∙◌, subst, arith}
+use Rattle.std.proofs.Common.{◌≡◌, ℕ, ◌*◌, ◌/◌, Bool, true, false, not, List, [], ◌∷◌, Option, None, IsSome, refl, sym, ap, ◌∙◌, subst, arith}
 use Rattle.run_set.specs.Runs.{inside}
 use Rattle.storage_changes.specs.declared.record.PagesRecord.{PagesRecord}
 use Rattle.storage_changes.specs.declared.record.Record.{Record}
@@ -25,18 +25,23 @@ taken w r page h its free =
     let P : Option ℕ → Type 0 = λ o. IsSome o in
     subst P (cond-in r.assigned (w.brought (4096 * page)) (w.state.bytes (4096 * page)) assigned) (h.frame (4096 * page) at).there
 
-comes : (w : Walk) (rs : List Record) (page : ℕ) → FitInTurn w rs → w.state.unassigned page ≡ true → (walk w rs).state.unassigned page ≡ false → IsSome (w.brought (4096 * page))
-comes w [] page h free none = cc
-comes w (Area r ∷ rs) page h free none = comes (step w (Area r)) rs page h.1 free none
-comes w (Extent r ∷ rs) page h free none = comes (step w (Extent r)) rs page h.1 free none
-comes w (Pages r ∷ rs) page h free none = go (inside page r.run) refl where
+-- or the page is still unassigned behind the record, which leaves its frame
+came : (w : Walk) (r : PagesRecord) (page : ℕ) → PagesFits w r → w.state.unassigned page ≡ true
+    → ((pages_step w r).state.unassigned page ≡ true → IsSome ((pages_step w r).brought (4096 * page))) → IsSome (w.brought (4096 * page))
+came w r page h free later = go (inside page r.run) refl where
   go : (b : Bool) → inside page r.run ≡ b → IsSome (w.brought (4096 * page))
-  go true its = taken w r page h.0 its free
+  go true its = taken w r page h its free
   go false out =
       let beside : inside ((4096 * page) / 4096) r.run ≡ false = ap (λ (x : ℕ). inside x r.run) (first-address page) ∙ out in
       let P : Option ℕ → Type 0 = λ o. IsSome o in
       subst P (cond-out (inside ((4096 * page) / 4096) r.run) None (w.brought (4096 * page)) beside)
-      (comes (step w (Pages r)) rs page h.1 (cond-out (inside page r.run) (not r.assigned) (w.state.unassigned page) out ∙ free) none)
+      (later (cond-out (inside page r.run) (not r.assigned) (w.state.unassigned page) out ∙ free))
+
+comes : (w : Walk) (rs : List Record) (page : ℕ) → FitInTurn w rs → w.state.unassigned page ≡ true → (walk w rs).state.unassigned page ≡ false → IsSome (w.brought (4096 * page))
+comes w [] page h free none = cc
+comes w (Area r ∷ rs) page h free none = comes (step w (Area r)) rs page h.1 free none
+comes w (Extent r ∷ rs) page h free none = comes (step w (Extent r)) rs page h.1 free none
+comes w (Pages r ∷ rs) page h free none = came w r page h.0 free (λ still. comes (step w (Pages r)) rs page h.1 still none)
 comes w (Own r ∷ rs) page h free none = comes (step w (Own r)) rs page h.1 free none
 comes w (Queues r ∷ rs) page h free none = comes (step w (Queues r)) rs page h.1 free none
 comes w (Register r ∷ rs) page h free none = comes (step w (Register r)) rs page h.1 free none
