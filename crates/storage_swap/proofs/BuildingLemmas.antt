@@ -1,5 +1,5 @@
 -- The id of a cell pool that comes is none's of the storage.
-use Rattle.std.proofs.Common.{◌≡◌, ℕ, ◌<◌, ◌==◌, Option, Some, None, refl, ap, ◌∙◌, arith}
+use Rattle.std.proofs.Common.{◌≡◌, ◌<◌, ◌==◌, Option, Some, None, refl, ap, ◌∙◌, arith}
 use Rattle.std.proofs.lemmas.Bool.{eq-eqb}
 use Rattle.cell_pool.specs.Pools.{Pool}
 use Rattle.subpool_storage.specs.Laws.{PoolsAreHeld}

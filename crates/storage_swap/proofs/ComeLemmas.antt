@@ -1,5 +1,5 @@
 -- For the test: a change by which a cell pool comes fits the first storage.
-use Rattle.std.proofs.Common.{◌≡◌, ℕ, ◌/◌, ◌==◌, Bool, true, false, if◌then◌else◌, List, [], Option, Some, None, IsSome, inl, inr, refl, sym, subst, ◌∙◌}
+use Rattle.std.proofs.Common.{◌≡◌, ℕ, ◌/◌, ◌==◌, Bool, true, false, if◌then◌else◌, [], Option, Some, None, IsSome, inl, inr, refl, sym, subst, ◌∙◌}
 use Rattle.std.proofs.lemmas.Bool.{eq-eqb, eqb-true}
 use Rattle.run_set.specs.Runs.{inside}
 use Rattle.vsm_model.specs.declared.limits.Settings.{Settings}

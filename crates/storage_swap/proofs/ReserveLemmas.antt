@@ -1,5 +1,5 @@
 -- A change is made of what is spare.
-use Rattle.std.proofs.Common.{◌≡◌, ℕ, zero, suc, ◌+◌, ◌/◌, ◌%◌, ◌<◌, ◌≤◌, Bool, true, false, if◌then◌else◌, List, [], ◌++◌, length, map, get_or, replicate, Option, Some, None, IsSome, IfSome, IsTrue, ◌==◌, inl, inr, refl, sym, ap, ◌∙◌, arith, subst}
+use Rattle.std.proofs.Common.{◌≡◌, ℕ, zero, suc, ◌+◌, ◌/◌, ◌%◌, ◌<◌, ◌≤◌, Bool, true, false, if◌then◌else◌, List, [], ◌++◌, length, map, get_or, replicate, Option, Some, None, IsSome, IfSome, IsTrue, ◌==◌, refl, sym, ap, ◌∙◌, arith, subst}
 use Rattle.vsm_elements.specs.Store.{Store, at}
 use Rattle.vsm_elements.specs.Chain.{Link, links, owned, ids, IsChain}
 use Rattle.vsm_elements.specs.Ownership.{Leaves}

@@ -1,5 +1,5 @@
 -- A change that was reserved.
-use Rattle.std.specs.Prelude.{◌≡◌, ℕ, ◌+◌, ◌*◌, ◌≤◌, true, List, [], ◌∷◌, length, IsTrue}
+use Rattle.std.specs.Prelude.{◌≡◌, ℕ, ◌+◌, ◌*◌, true, List, [], ◌∷◌, length, IsTrue}
 use Rattle.std.specs.Prelude.{Option, Some, None}
 use Rattle.vsm_elements.specs.Store.{SameElements}
 use Rattle.vsm_elements.specs.Owners.{Moves}
