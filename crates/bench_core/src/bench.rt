@@ -1,10 +1,11 @@
 //! A bench: a machine, and the history that it moves along.
 ghost use Rattle.std.specs.Prelude.{◌≡◌, Ok, length, IfErr, OnErr, OnOk};
 ghost use Rattle.vsm_machine.specs.Meaning.{settings_of};
-ghost use Rattle.macro_statements.specs.Requests.{written_in, act_in, IsValue, IsValidAct};
+ghost use Rattle.macro_statements.specs.Requests.{Act, written_in, act_in, IsValue, IsValidAct};
 ghost use Rattle.std.proofs.Props.{props};
 ghost use Rattle.vsm_machine.specs.Changes.{machine_fits as fit, machine_fits_prop as fit_prop, DefineNone};
-ghost use Rattle.vsm_machine.specs.Changes.{UndefineNone, IsWhole, IsWhole-prop as whole_prop};
+ghost use Rattle.vsm_machine.specs.Changes.{UndefineNone, IsWhole, IsWhole-prop as whole_prop, shown};
+ghost use Rattle.vsm_machine.specs.Planned.{CanCarryOut};
 ghost use Rattle.vsm_machine.specs.Machine.{shown_at};
 ghost use Rattle.vsm_machine.specs.Refusals.{IsRefusedFor};
 ghost use Rattle.vsm_machine.specs.Supplies.{FindsMemory, IsSupplied};
@@ -16,7 +17,7 @@ use std::alloc::Global;
 use step_history::{History, Reversible, TooFar, TooFarAhead};
 use storage_swap::laws::first_is_first;
 use vsm_machine::{
-    Machine, NewFault, Refusal, Reply, Settings, Storage, look_up, plan_of, reserve,
+    Machine, NewFault, Planned, Refusal, Reply, Settings, Storage, look_up, plan_of, reserve,
 };
 
 /// A bench over one private region.
@@ -78,10 +79,24 @@ impl Bench {
         ensures settings { settings_in self.new ≡ settings_in self.old }
         ensures needless { IsSupplied self.old.machine (act_in statement.now) → FindsMemory result }
     {
-        let planned = match plan_of(&self.machine, statement) {
-            Ok(planned) => planned,
-            Err(refusal) => return Err(refusal),
-        };
+        match plan_of(&self.machine, statement) {
+            Ok(planned) => self.carry_out(planned),
+            Err(refusal) => Err(refusal),
+        }
+    }
+
+    // Carries out what was planned for a statement. It's a call of its own, so that a statement which is refused
+    // doesn't pay for the room that a change takes.
+    #[inline(never)]
+    fn carry_out(&mut self, planned: Planned) -> Result<Reply, Refusal>
+        requires { (x : Act) × CanCarryOut (shown self.old.machine) x planned }
+        ensures keeps { (x : Act) → CanCarryOut (shown self.old.machine) x planned
+            → Keeps (statement_step (settings_in self.old)) (settings_in self.old).history (bench_of self.old)
+            (Apply x) (answer_to_apply result) (bench_of self.new) }
+        ensures settings { settings_in self.new ≡ settings_in self.old }
+        ensures needless { (x : Act) → CanCarryOut (shown self.old.machine) x planned
+            → IsSupplied self.old.machine x → FindsMemory result }
+    {
         let reply = planned.plan.reply();
         self.history.reserve_place()?;
         let mut change = match reserve(&mut self.machine, planned) {
