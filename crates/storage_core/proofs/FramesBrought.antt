@@ -18,12 +18,12 @@ use Rattle.storage_core.specs.declared.plans.Plan.TheVariants.{Storage, Attach, 
 use Rattle.storage_core.specs.Planned.{AssignsOnly, IsAccepted, change_for, fresh_pages}
 
 -- by the page's first address
-some_inside : (run : Run) (page : ℕ) → IsSome (if inside ((4096 * page) / 4096) run then Some 0 else None) → inside page run ≡ true
+some_inside : (run : Run) (page : ℕ) → IsSome {T = ℕ} (if inside ((4096 * page) / 4096) run then Some 0 else None) → inside page run ≡ true
 some_inside run page some = sym (ap (λ (x : ℕ). inside x run) first) ∙ go (inside ((4096 * page) / 4096) run) some where
   first : (4096 * page) / 4096 ≡ page
   first = omega arith
 
-  go : (b : Bool) → IsSome (if b then Some 0 else None) → b ≡ true
+  go : (b : Bool) → IsSome {T = ℕ} (if b then Some 0 else None) → b ≡ true
   go true s = refl
   go false s = cc
 
