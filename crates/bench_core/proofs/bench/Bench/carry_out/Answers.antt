@@ -16,13 +16,13 @@ reserve-requires c = c.requires.1.can
 
 -- where no memory is there, all is as it was
 
-pub invariant_of-self-in-Err-reserve : goal.invariant_of-self-in-Err-reserve
-invariant_of-self-in-Err-reserve c =
+pub invariant_of-self-in-Err : goal.invariant_of-self-in-Err
+invariant_of-self-in-Err c =
     let b = c.args.self.now in
     let r = c.reserve.new.machine in
     let h = c.reserve_place.new.self in
     let e = c.reserve_place.ensures in
-    let left = c.in-Err-reserve.ensures in
+    let left = c.in-Err.ensures in
     let same = stays_readied b.machine r left.settings left.rows left.stays in
     let fits = unchanged_fits b.machine r same left.same b.history.kept b.history.undone b.fits in
     record {
@@ -33,12 +33,12 @@ invariant_of-self-in-Err-reserve c =
       limit = e.limit ∙ b.limit ∙ sym (ap (λ s. s.history) left.settings);
     }
 
-pub returns-in-Err-reserve-clause-keeps : goal.returns-in-Err-reserve-clause-keeps
-returns-in-Err-reserve-clause-keeps c = λ x planned.
+pub returns-in-Err-clause-keeps : goal.returns-in-Err-clause-keeps
+returns-in-Err-clause-keeps c = λ x planned.
     let b = c.args.self.now in
     let r = c.reserve.new.machine in
     let e = c.reserve_place.ensures in
-    let left = c.in-Err-reserve.ensures in
+    let left = c.in-Err.ensures in
     let same = stays_readied b.machine r left.settings left.rows left.stays in (
       planned.accepts,
       (λ i. bench_at (e.kept i) r (e.undone i)) ∙ unchanged_bench b.machine r same left.same b.history.kept b.history.undone b.fits,
@@ -52,8 +52,8 @@ swap-requires c =
     let r = c.reserve.new.machine in
     let h = c.reserve_place.new.self in
     let e = c.reserve_place.ensures in
-    let change = c.in-Ok-reserve.change in
-    let made = c.in-Ok-reserve.ensures in
+    let change = c.in-Ok.change in
+    let made = c.in-Ok.ensures in
     can_swap h.kept h.undone b.machine r change
     (reserved_of b.machine r made.settings made.rows c.args.planned change made.is c.requires.0
     b.history.kept b.history.undone h.kept h.undone e.kept e.undone b.fits b.whole b.kept_define_none c.requires.1 made.can)
@@ -64,8 +64,8 @@ push_reserved-requires-clause-fits c =
     let r = c.reserve.new.machine in
     let h = c.reserve_place.new.self in
     let e = c.reserve_place.ensures in
-    let change = c.in-Ok-reserve.change in
-    let made = c.in-Ok-reserve.ensures in
+    let change = c.in-Ok.change in
+    let made = c.in-Ok.ensures in
     applied_fits h.kept h.undone b.machine r c.swap.new.self change c.swap.new.c
     (reserved_of b.machine r made.settings made.rows c.args.planned change made.is c.requires.0
     b.history.kept b.history.undone h.kept h.undone e.kept e.undone b.fits b.whole b.kept_define_none c.requires.1 made.can)
@@ -77,8 +77,8 @@ push_reserved-requires-clause-apart c =
     let r = c.reserve.new.machine in
     let h = c.reserve_place.new.self in
     let e = c.reserve_place.ensures in
-    let change = c.in-Ok-reserve.change in
-    let made = c.in-Ok-reserve.ensures in
+    let change = c.in-Ok.change in
+    let made = c.in-Ok.ensures in
     applied_apart h.kept h.undone b.machine r c.swap.new.self change c.swap.new.c
     (reserved_of b.machine r made.settings made.rows c.args.planned change made.is c.requires.0
     b.history.kept b.history.undone h.kept h.undone e.kept e.undone b.fits b.whole b.kept_define_none c.requires.1 made.can)
@@ -90,8 +90,8 @@ invariant_of-self-2 c =
     let r = c.reserve.new.machine in
     let h = c.reserve_place.new.self in
     let e = c.reserve_place.ensures in
-    let change = c.in-Ok-reserve.change in
-    let made = c.in-Ok-reserve.ensures in
+    let change = c.in-Ok.change in
+    let made = c.in-Ok.ensures in
     let reserved = reserved_of b.machine r made.settings made.rows c.args.planned change made.is c.requires.0
     b.history.kept b.history.undone h.kept h.undone e.kept e.undone b.fits b.whole b.kept_define_none c.requires.1 made.can in
     let t = c.swap.new.self in
@@ -117,8 +117,8 @@ returns-clause-settings c =
     let r = c.reserve.new.machine in
     let h = c.reserve_place.new.self in
     let e = c.reserve_place.ensures in
-    let change = c.in-Ok-reserve.change in
-    let made = c.in-Ok-reserve.ensures in
+    let change = c.in-Ok.change in
+    let made = c.in-Ok.ensures in
     discards_settings _ c.swap.new.self c.push_reserved.new.s c.push_reserved.ensures.discarded
     ∙ applied_settings h.kept h.undone b.machine r c.swap.new.self change c.swap.new.c
     (reserved_of b.machine r made.settings made.rows c.args.planned change made.is c.requires.0
@@ -131,8 +131,8 @@ returns-clause-keeps c = λ x planned.
     let r = c.reserve.new.machine in
     let h = c.reserve_place.new.self in
     let e = c.reserve_place.ensures in
-    let change = c.in-Ok-reserve.change in
-    let made = c.in-Ok-reserve.ensures in
+    let change = c.in-Ok.change in
+    let made = c.in-Ok.ensures in
     let reserved = reserved_of b.machine r made.settings made.rows c.args.planned change made.is x
     b.history.kept b.history.undone h.kept h.undone e.kept e.undone b.fits b.whole b.kept_define_none planned made.can in
     let t = c.swap.new.self in
@@ -156,7 +156,7 @@ returns-clause-keeps c = λ x planned.
 
 -- where there is memory already
 
-pub returns-in-Err-reserve-clause-needless : goal.returns-in-Err-reserve-clause-needless
-returns-in-Err-reserve-clause-needless c = λ x planned supplied.
+pub returns-in-Err-clause-needless : goal.returns-in-Err-clause-needless
+returns-in-Err-clause-needless c = λ x planned supplied.
     let ok : IsOk c.reserve.result = c.reserve.ensures.needless (omega (arith, planned.light, supplied.elements)) (supplied.plans c.args.planned planned) in
-    failed_isnt_ok c.in-Err-reserve.field-0 c.reserve.result c.in-Err-reserve.is ok
+    failed_isnt_ok c.in-Err.field-0 c.reserve.result c.in-Err.is ok
