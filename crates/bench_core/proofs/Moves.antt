@@ -15,7 +15,7 @@ use Rattle.step_history.specs.declared.too_far.TooFar.{TooFar}
 use Rattle.step_history.specs.declared.too_far.TooFarAhead.{TooFarAhead}
 use Rattle.vsm_machine.specs.Machine.{statement_step}
 use Rattle.vsm_machine.specs.NameSteps.{turned_by, defines_none, undefines_none}
-use Rattle.vsm_machine.specs.Changes.{named_of, shown, step_of, Swaps, Discards, machine_fits, machine_states, machine_laws, DefineNone, UndefineNone}
+use Rattle.vsm_machine.specs.Changes.{named_of, shown, step_of, HasSameMemory, Swaps, Discards, machine_fits, machine_states, machine_laws, DefineNone, UndefineNone}
 use Rattle.bench_core.specs.Stands.{bench_at, answer_to_back, answer_to_forward}
 use Rattle.vsm_machine.specs.declared.machine.Machine.{Machine}
 use Rattle.vsm_machine.specs.declared.machine.Change.{Change}
@@ -124,6 +124,40 @@ module _ (n : ℕ) (old new : Log Change) (s t : Machine) (h : Directed old.kept
       OnOk r (Times (StepsForward Swaps) n (moment old.kept s old.undone) (moment new.kept t new.undone)) → OnErr r ((new ≡ old) × (t ≡ s)) → Stays new s t
   forward_stays (Ok u) steps same = all_forward n _ _ steps h
   forward_stays (Err e) steps same = unmoved same
+
+-- after steps, or a refusal of them: the memory
+
+memory_same : (s : Machine) → HasSameMemory s s
+memory_same s = record { as_many = refl; spare = refl; frames = record { spare = refl; made = refl } }
+
+memory_then : (s t u : Machine) (c d : Change) → HasSameMemory s t → Swaps t c u d → HasSameMemory s u
+memory_then s t u c d k w = record {
+  as_many = w.storage.as_many ∙ k.as_many;
+  spare = w.storage.spare ∙ k.spare;
+  frames = record { spare = w.storage.frames.spare ∙ k.frames.spare; made = w.storage.frames.made ∙ k.frames.made };
+}
+
+memory_back : (n : ℕ) (p q : Moment Machine Change) → Times (StepsBack Swaps) n p q → HasSameMemory p.state q.state
+memory_back zero p q e = subst (λ (z : Moment Machine Change). HasSameMemory p.state z.state) e (memory_same p.state)
+memory_back (suc n) p q (m, steps, step) = memory_then p.state m.state q.state step.change step.inverse (memory_back n p m steps) step.swapped
+
+memory_forward : (n : ℕ) (p q : Moment Machine Change) → Times (StepsForward Swaps) n p q → HasSameMemory p.state q.state
+memory_forward zero p q e = subst (λ (z : Moment Machine Change). HasSameMemory p.state z.state) e (memory_same p.state)
+memory_forward (suc n) p q (m, steps, step) = memory_then p.state m.state q.state step.change step.inverse (memory_forward n p m steps) step.swapped
+
+module _ (n : ℕ) (old new : Log Change) (s t : Machine) where
+  stays_same : t ≡ s → HasSameMemory s t
+  stays_same same = subst (HasSameMemory s) (sym same) (memory_same s)
+
+  pub back_memory : (r : Result (Unit {0}) TooFar) →
+      OnOk r (Times (StepsBack Swaps) n (moment old.kept s old.undone) (moment new.kept t new.undone)) → OnErr r ((new ≡ old) × (t ≡ s)) → HasSameMemory s t
+  back_memory (Ok u) steps same = memory_back n _ _ steps
+  back_memory (Err e) steps same = stays_same same.1
+
+  pub forward_memory : (r : Result (Unit {0}) TooFarAhead) →
+      OnOk r (Times (StepsForward Swaps) n (moment old.kept s old.undone) (moment new.kept t new.undone)) → OnErr r ((new ≡ old) × (t ≡ s)) → HasSameMemory s t
+  forward_memory (Ok u) steps same = memory_forward n _ _ steps
+  forward_memory (Err e) steps same = stays_same same.1
 
 -- discarded changes leave the settings as they were
 pub discards_settings : (cs : List Change) (s t : Machine) → DiscardsAll Discards cs s t → settings_of t.storage ≡ settings_of s.storage

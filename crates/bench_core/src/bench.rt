@@ -4,7 +4,7 @@ ghost use Rattle.vsm_machine.specs.Meaning.{settings_of};
 ghost use Rattle.macro_statements.specs.Requests.{Act, written_in, act_in, IsValue, IsValidAct};
 ghost use Rattle.std.proofs.Props.{props};
 ghost use Rattle.vsm_machine.specs.Changes.{machine_fits as fit, machine_fits_prop as fit_prop, DefineNone};
-ghost use Rattle.vsm_machine.specs.Changes.{UndefineNone, IsWhole, IsWhole-prop as whole_prop, shown};
+ghost use Rattle.vsm_machine.specs.Changes.{UndefineNone, IsWhole, IsWhole-prop as whole_prop, shown, HasSameMemory};
 ghost use Rattle.vsm_machine.specs.Planned.{CanCarryOut};
 ghost use Rattle.vsm_machine.specs.Machine.{shown_at};
 ghost use Rattle.vsm_machine.specs.Refusals.{IsRefusedFor};
@@ -130,20 +130,23 @@ impl Bench {
         }
     }
 
-    /// Undoes the last `n` changes, or none where fewer are kept.
+    /// Undoes the last `n` changes, or none where fewer are kept. No element and no frame is made, and as many are spare.
     pub fn back(&mut self, n: u32) -> Result<(), TooFar>
         ensures keeps { Keeps (statement_step (settings_in self.old)) (settings_in self.old).history (bench_of self.old)
             (Back n) (answer_to_back result) (bench_of self.new) }
         ensures settings { settings_in self.new ≡ settings_in self.old }
+        ensures memory { HasSameMemory self.old.machine self.new.machine }
     {
         self.history.back(&mut self.machine, n)
     }
 
-    /// Makes the first `n` undone changes again, or none where fewer are undone.
+    /// Makes the first `n` undone changes again, or none where fewer are undone. No element and no frame is made, and as
+    /// many are spare.
     pub fn forward(&mut self, n: u32) -> Result<(), TooFarAhead>
         ensures keeps { Keeps (statement_step (settings_in self.old)) (settings_in self.old).history (bench_of self.old)
             (Forward n) (answer_to_forward result) (bench_of self.new) }
         ensures settings { settings_in self.new ≡ settings_in self.old }
+        ensures memory { HasSameMemory self.old.machine self.new.machine }
     {
         self.history.forward(&mut self.machine, n)
     }

@@ -1,15 +1,15 @@
 -- What a change that was made and discarded leaves, and one that could not be made: all as it was.
-use Rattle.std.proofs.Common.{◌≡◌, ℕ, [], ◌∷◌, List, IsSome, Option, Result, Ok, Err, IfErr, OnErr, ap, sym, subst, ◌∙◌, arith}
+use Rattle.std.proofs.Common.{◌≡◌, ℕ, [], ◌∷◌, List, IsSome, Option, Result, Ok, Err, IfErr, OnErr, refl, ap, sym, subst, ◌∙◌, arith}
 use Rattle.vsm_elements.specs.declared.element.Element.{Element}
 use Rattle.vsm_elements.specs.Owners.{Moves}
-use Rattle.vsm_elements.proofs.MoveLemmas.{moves-none}
+use Rattle.vsm_elements.proofs.MoveLemmas.{moves-none, moves-follow}
 use Rattle.storage_changes.specs.State.{StorageState}
 use Rattle.storage_changes.specs.Changes.{Change as Meaning}
 use Rattle.storage_exchange.specs.declared.storage.Storage.{Storage as Parts}
 use Rattle.storage_exchange.specs.Storage.{hold, state_of, Stand}
 use Rattle.storage_swap.specs.declared.change.Change.{Change}
 use Rattle.storage_swap.specs.Reserve.{Grown, Reserves}
-use Rattle.storage_swap.specs.Swap.{Discards}
+use Rattle.storage_swap.specs.Swap.{change_holds, Discards}
 use Rattle.storage_history.specs.Apart.{AreApart, AreWhole}
 use Rattle.storage_history.specs.Kept.{moved-hold, moved-stand, moved-state, left, AllLeft, all-left}
 use Rattle.storage_history.specs.Reserved.{reserve-others, reserve-apart, reserve-whole}
@@ -19,6 +19,7 @@ use Rattle.storage_core.specs.Stays.{Stays}
 pub discard_stays : (p t u : Parts) (d : Meaning) (c : Change) → Reserves p d c t → Discards t c u → Stays p u
 discard_stays p t u d c made gone = record {
   shows = storage_steps.discard_shows (record { storage = t }) (record { storage = u }) c gone ∙ made.shows;
+  elements = λ i. (moves-follow p.elements t.elements u.elements (λ j. 0) (change_holds t.elements c) (λ j. 0) made.moves gone.moves).others i refl refl;
   meaning = λ x h.
       storage_steps.discard_others (record { storage = t }) (record { storage = u }) c x (reserve-apart p t d c made (x ∷ []) h) gone
       ∙ reserve-others p t d c made x h;
@@ -78,6 +79,7 @@ module _ (p t : Parts) (stands : Stand p) (grown : Grown p t) where
   pub grown_stays : Stays p t
   grown_stays = record {
     shows = same-state;
+    elements = grown.elements;
     meaning = λ x h.
         (left p t (λ i. 0) (λ i. 0) unmoved grown.tables.tables x h.changes.0 (λ i. omega (arith, h.once i))).meant;
     apart = same-apart;

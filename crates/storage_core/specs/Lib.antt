@@ -4,3 +4,4 @@ pub mod Planned
 pub mod Stays
 pub mod Walks
 pub mod Weight
+pub mod Memory

@@ -1,14 +1,17 @@
 -- A storage that stays as it is, with all changes beside it.
 use Rattle.std.specs.Prelude.{◌≡◌, List, [], ◌∷◌}
+use Rattle.vsm_elements.specs.Store.{SameElements}
 use Rattle.storage_exchange.specs.declared.storage.Storage.{Storage as Parts}
 use Rattle.storage_exchange.specs.Storage.{state_of}
 use Rattle.storage_swap.specs.declared.change.Change.{Change}
 use Rattle.storage_swap.specs.Swap.{means}
 use Rattle.storage_history.specs.Apart.{AreApart, AreWhole}
 
--- Its state is the same, each change means what it meant, and what was apart or whole is.
+-- Its state is the same, just the same elements are live, each change means what it meant, and what was apart or whole
+-- is.
 pub record Stays (p t : Parts) : Type 0 where
   pub shows : state_of t ≡ state_of p
+  pub elements : SameElements p.elements t.elements
   pub meaning : (x : Change) → AreApart p (x ∷ []) → means t.elements x ≡ means p.elements x
   pub apart : (xs : List Change) → AreApart p xs → AreApart t xs
   pub whole : (xs : List Change) → AreWhole p xs → AreWhole t xs

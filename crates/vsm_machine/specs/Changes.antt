@@ -20,6 +20,7 @@ use Rattle.storage_history.specs.declared.steps.Steps.{Steps}
 use Rattle.storage_history.specs.Apart.{AreApart, AreWhole}
 use Rattle.storage_history.specs.Props.{AreApart-prop, AreWhole-prop}
 use Rattle.storage_history.specs.Steps.{storage_steps}
+use Rattle.storage_core.specs.Memory.{SameMemory}
 use Rattle.storage_core.specs.Meaning.{state_in_place, settings_of}
 use Rattle.step_history.specs.Laws.{ReversibleLaws}
 use Rattle.step_history.specs.Single.{SingleSteps, steps_fit, steps_states, steps_laws}
@@ -124,6 +125,10 @@ pub record Swaps (m : Machine) (c : Change) (n : Machine) (d : Change) : Type 0 
   pub inverse_step : step_of d ≡ turned_by (rows_of m.names) (step_of c)
   pub same : (name : List ℕ) → knows n.names name ≡ knows m.names name
   pub ready : is_ready n.names (step_of d) ≡ true
+
+-- no element and no frame was made, and as many are spare
+abbrev pub HasSameMemory : Machine → Machine → Type 0
+HasSameMemory m n = SameMemory m.storage.parts n.storage.parts
 
 -- What the change held of the storage is spare, and all else is as it was.
 pub record Discards (m : Machine) (c : Change) (n : Machine) : Type 0 where

@@ -1,6 +1,6 @@
 use Rattle.std.proofs.Common.{sym, ◌∙◌, ap}
 use Rattle.bench_core.specs.Stands.{settings_in}
-use Rattle.bench_core.proofs.Moves.{directed_of, back_stays, back_keeps}
+use Rattle.bench_core.proofs.Moves.{directed_of, back_memory, back_stays, back_keeps}
 use Rattle.bench_core.proofs.bench.Bench.back.Goals as goal
 
 pub back-requires : goal.back-requires
@@ -30,3 +30,8 @@ pub returns-clause-settings : goal.returns-clause-settings
 returns-clause-settings c =
     let b = c.args.self.now in
     (back_stays _ b.history c.back.new.self b.machine c.back.new.s (directed_of b) c.back.result c.back.ensures.ok c.back.ensures.unchanged).0
+
+pub returns-clause-memory : goal.returns-clause-memory
+returns-clause-memory c =
+    let b = c.args.self.now in
+    back_memory _ b.history c.back.new.self b.machine c.back.new.s c.back.result c.back.ensures.ok c.back.ensures.unchanged

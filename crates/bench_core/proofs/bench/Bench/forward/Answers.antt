@@ -1,6 +1,6 @@
 use Rattle.std.proofs.Common.{sym, ◌∙◌, ap}
 use Rattle.bench_core.specs.Stands.{settings_in}
-use Rattle.bench_core.proofs.Moves.{directed_of, forward_stays, forward_keeps}
+use Rattle.bench_core.proofs.Moves.{directed_of, forward_memory, forward_stays, forward_keeps}
 use Rattle.bench_core.proofs.bench.Bench.forward.Goals as goal
 
 pub forward-requires : goal.forward-requires
@@ -30,3 +30,8 @@ pub returns-clause-settings : goal.returns-clause-settings
 returns-clause-settings c =
     let b = c.args.self.now in
     (forward_stays _ b.history c.forward.new.self b.machine c.forward.new.s (directed_of b) c.forward.result c.forward.ensures.ok c.forward.ensures.unchanged).0
+
+pub returns-clause-memory : goal.returns-clause-memory
+returns-clause-memory c =
+    let b = c.args.self.now in
+    forward_memory _ b.history c.forward.new.self b.machine c.forward.new.s c.forward.result c.forward.ensures.ok c.forward.ensures.unchanged
