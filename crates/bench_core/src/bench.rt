@@ -130,7 +130,8 @@ impl Bench {
         }
     }
 
-    /// Undoes the last `n` changes, or none where fewer are kept. No element and no frame is made, and as many are spare.
+    /// Undoes the last `n` changes, or none where fewer are kept. No element and no frame is made, and as many are
+    /// spare.
     pub fn back(&mut self, n: u32) -> Result<(), TooFar>
         ensures keeps { Keeps (statement_step (settings_in self.old)) (settings_in self.old).history (bench_of self.old)
             (Back n) (answer_to_back result) (bench_of self.new) }
@@ -140,8 +141,8 @@ impl Bench {
         self.history.back(&mut self.machine, n)
     }
 
-    /// Makes the first `n` undone changes again, or none where fewer are undone. No element and no frame is made, and as
-    /// many are spare.
+    /// Makes the first `n` undone changes again, or none where fewer are undone. No element and no frame is made, and
+    /// as many are spare.
     pub fn forward(&mut self, n: u32) -> Result<(), TooFarAhead>
         ensures keeps { Keeps (statement_step (settings_in self.old)) (settings_in self.old).history (bench_of self.old)
             (Forward n) (answer_to_forward result) (bench_of self.new) }
