@@ -1,1 +1,2 @@
 pub mod Planning
+mod BackLemmas

@@ -1,5 +1,6 @@
 pub mod NameSteps
 pub mod Changes
+pub mod Laws
 pub mod Machine
 pub mod Planned
 pub mod Refusals

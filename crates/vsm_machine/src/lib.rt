@@ -6,6 +6,7 @@
 //! back.
 #![tactic(auto)]
 
+pub mod laws;
 mod machine;
 mod plans;
 mod refusals;

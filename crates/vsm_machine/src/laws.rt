@@ -1,0 +1,10 @@
+//! What follows from the definitions. Each law is the contract of a function that does nothing.
+
+ghost use Rattle.vsm_machine.specs.Laws.{SwapsLeadBack};
+
+/// A change that was exchanged with the machine can be exchanged back. The machine then has the settings, the storage
+/// and the defined names with their words that it had, and the change means what it meant, to the storage and to the
+/// names.
+pub fn swaps_lead_back()
+    ensures { SwapsLeadBack }
+{}
