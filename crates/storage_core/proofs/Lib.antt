@@ -7,7 +7,8 @@ pub mod Staying
 mod Walking
 mod Leaving
 mod Made
-mod FramesBrought
+pub mod FramesBrought
+pub mod GivenFrames
 mod PlanCases
 mod TaskCounts
 mod CellPoolCounts

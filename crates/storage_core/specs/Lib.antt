@@ -1,3 +1,4 @@
+pub mod Frames
 pub mod Held
 pub mod Meaning
 pub mod Planned
