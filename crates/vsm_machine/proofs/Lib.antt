@@ -1,2 +1,3 @@
 pub mod Planning
 mod BackLemmas
+mod FrameLemmas

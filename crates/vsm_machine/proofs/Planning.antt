@@ -16,8 +16,9 @@ use Rattle.vsm_model.specs.Step.{step}
 use Rattle.macro_statements.specs.Requests.{Act}
 use Rattle.storage_changes.specs.Changes as storage
 use Rattle.storage_changes.specs.Meaning.{model_of, IsSound}
-use Rattle.storage_core.specs.Planned.{IsAccepted, change_for, elements_needed, reply_of}
+use Rattle.storage_core.specs.Planned.{Assigns, IsAccepted, change_for, elements_needed, fresh_pages, reply_of}
 use Rattle.storage_core.specs.Planned as planned
+use Rattle.storage_core.proofs.FramesBrought.{assigns_frames}
 use Rattle.name_table.specs.Steps.{define, reword, step_to}
 use Rattle.name_table.proofs.StepsBack.{step_to_can, step_to_rows}
 use Rattle.name_table.proofs.SameName.{same_name-self}
@@ -96,8 +97,9 @@ formed_accepted family service names name (Refused cause) h = absurd h
 
 module _ (m : MachineState) (x : Act) (service : Service) (is : Some service ≡ service_asked (named_of m) x) where
   accepted_by : (p : Planned) (id : ℕ) → IsAccepted m.settings (is_one_too_many m.names (name_asked x)) m.storage service (change_for m.storage id p.plan) (reply_of p.plan) →
-      ∥ IsSound m.settings m.storage ∥₁ → step_planned p ≡ step_for m.names (name_asked x) (reply_of p.plan) → IsAcceptedBy m x p id
-  accepted_by p id carried sound named_by =
+      ∥ IsSound m.settings m.storage ∥₁ → Assigns m.storage (change_for m.storage id p.plan) (fresh_pages p.plan) →
+      step_planned p ≡ step_for m.names (name_asked x) (reply_of p.plan) → IsAcceptedBy m x p id
+  accepted_by p id carried sound assigns named_by =
       let reply = reply_of p.plan in
       let names : names_after m.names (name_asked x) reply ≡ stepped_by m.names (step_planned p) =
       sym (names_stepped m.names (name_asked x) reply) ∙ ap (stepped_by m.names) (sym named_by) in
@@ -106,7 +108,7 @@ module _ (m : MachineState) (x : Act) (service : Service) (is : Some service ≡
             ap (served m.settings (named_of m) x) (sym is)
             ∙ ap (λ o. or_abend (with_code (family_asked x) service (named m.names (name_asked x) o))) carried.accepted
             ∙ (λ i. Accepted (record { storage = model_of (storage.overlay m.storage (change_for m.storage id p.plan)); names = names i }) reply);
-        fits = record { fits = carried.fits; before = sound; after = ∣ carried.sound ∣₁ };
+        fits = record { fits = carried.fits; before = sound; after = ∣ carried.sound ∣₁; frames = assigns_frames m.storage id p.plan assigns };
         can = subst (CanStepBy m.names (λ name. true)) (sym named_by) (can_step m.names (name_asked x) reply);
         gives = ap undefines_none named_by ∙ gives m.names (name_asked x) reply;
       }
@@ -117,7 +119,7 @@ module _ (m : MachineState) (x : Act) (service : Service) (is : Some service ≡
     accepts =
         subst (λ o. outcome.IsAccepted (served m.settings (named_of m) x o)) is
         (formed_accepted (family_asked x) service m.names (name_asked x) (step m.settings (is_one_too_many m.names (name_asked x)) (model_of m.storage) service) carried.accepts);
-    accepted = λ id free. ∥∥₁_map (carried.accepted id free) (λ a. accepted_by p id a sound named_by);
+    accepted = λ id free. ∥∥₁_map (carried.accepted id free) (λ a. accepted_by p id a sound (carried.assigned id) named_by);
     can = carried.can;
     light = subst (λ o. elements_needed m.storage p.plan ≤ 32 + 8 * weight_served m.storage o) is carried.light;
     assigned = carried.assigned;

@@ -4,6 +4,7 @@ use Rattle.std.specs.Prelude.{◌≡◌, ℕ, Bool, true, ◌&&◌, Option, List
 use Rattle.std.specs.Option.{option_map}
 use Rattle.std.specs.List.{AllByRecursion}
 use Rattle.std.proofs.Common.{sym, subst, ap}
+use Rattle.std.proofs.Props.{props}
 use Rattle.std.proofs.lemmas.Bool.{and_parts, and_from}
 use Rattle.std.proofs.lemmas.List.{map-append}
 use Rattle.vsm_model.specs.declared.limits.Settings.{Settings}
@@ -20,8 +21,10 @@ use Rattle.storage_history.specs.declared.steps.Steps.{Steps}
 use Rattle.storage_history.specs.Apart.{AreApart, AreWhole}
 use Rattle.storage_history.specs.Props.{AreApart-prop, AreWhole-prop}
 use Rattle.storage_history.specs.Steps.{storage_steps}
+use Rattle.storage_core.specs.Frames.{AssignsItsFrames}
 use Rattle.storage_core.specs.Memory.{SameMemory}
 use Rattle.storage_core.specs.Meaning.{state_in_place, settings_of}
+use Rattle.storage_core.proofs.GivenFrames.{frames_back}
 use Rattle.step_history.specs.Laws.{ReversibleLaws}
 use Rattle.step_history.specs.Single.{SingleSteps, steps_fit, steps_states, steps_laws}
 use Rattle.step_history.specs.Chain.{FitsBefore, FitsAfter, start}
@@ -74,11 +77,13 @@ means m c = record {
   known = is_ready m.names (step_of c);
 }
 
--- A change of the storage fits, and leads from a sound state to a sound one.
+-- A change of the storage fits, leads from a sound state to a sound one, and has frames for no page but those that it
+-- leaves assigned.
 pub record StorageFits (settings : Settings) (m : StorageState) (d : StorageChange) : Type 0 where
   pub fits : Fit m d
   pub before : ∥ IsSound settings m ∥₁
   pub after : ∥ IsSound settings (storage.overlay m d) ∥₁
+  pub frames : AssignsItsFrames m d
 
 -- A difference fits a state where its two parts do; it leads to another state, from which its inverse leads back.
 abbrev pub fit : MachineState → Difference → Type 0
@@ -161,6 +166,7 @@ fits_back m d f =
         fits = back.0;
         before = f.0.after;
         after = subst (λ (s : StorageState). ∥ IsSound m.settings s ∥₁) (sym back.1) f.0.before;
+        frames = frames_back m.storage d.storage f.0.fits f.0.frames;
       },
       and_from (can_take_by (stepped_by m.names d.step) true (turned_by m.names d.step)) true
           (name_fits_back m.names d.known d.step (names_fit m d f).0) refl,
@@ -248,7 +254,7 @@ pub machine_laws : ReversibleLaws shown machine_fits machine_states Apart Whole 
 machine_laws = steps_laws fit overlay shown means Apart machine_steps
 
 StorageFits-prop : (settings : Settings) (m : StorageState) (d : StorageChange) → IsProp (StorageFits settings m d)
-StorageFits-prop settings m d = hlevel (Fit-prop m d)
+StorageFits-prop settings m d = hlevel (Fit-prop m d, props)
 
 fit-prop : (m : MachineState) (d : Difference) → IsProp (fit m d)
 fit-prop m d = ×_prop (StorageFits-prop m.settings m.storage d.storage) (Bool-set _ _)

@@ -1,10 +1,16 @@
 //! What follows from the definitions. Each law is the contract of a function that does nothing.
 
-ghost use Rattle.vsm_machine.specs.Laws.{SwapsLeadBack};
+ghost use Rattle.vsm_machine.specs.Laws.{FramesAreExact, SwapsLeadBack};
 
 /// A change that was exchanged with the machine can be exchanged back. The machine then has the settings, the storage
 /// and the defined names with their words that it had, and the change means what it meant, to the storage and to the
 /// names.
 pub fn swaps_lead_back()
     ensures { SwapsLeadBack }
+{}
+
+/// A change that fits has a frame for each page that comes to be assigned by it, and for no other. So have the changes
+/// that a bench keeps, those that are undone, and one that leads back.
+pub fn frames_are_exact()
+    ensures { FramesAreExact }
 {}
