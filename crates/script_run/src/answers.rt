@@ -36,7 +36,9 @@ fn carry_out(bench: &mut Bench, statement: &Statement) -> Response
     }
 }
 
-/// Shows the bytes at an address, as many as are asked for.
+/// Shows the bytes at an address, as many as are asked for. It's a call of its own, so that no other line pays for its
+/// room.
+#[inline(never)]
 fn show(bench: &Bench, address: Value, count: u16) -> Response
     requires { IsValidAsked (peek (written_in address) count) }
     ensures { result ≡ reading_response (shown_at (bench_of bench.now).present (written_in address) count) }
