@@ -1,3 +1,4 @@
 pub mod Headline
+pub mod Reached
 pub mod Options
 pub mod Command
