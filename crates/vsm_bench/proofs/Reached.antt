@@ -19,14 +19,14 @@ use Rattle.vsm_model.specs.Regions.{settings_valid}
 use Rattle.vsm_model.specs.Services as services
 use Rattle.vsm_model.specs.Services.{Service}
 use Rattle.vsm_model.specs.Standing.{Outcome, Accepted, Refused, Call, Apply, Back, Forward, Look, Answer, Replied, RefusedFor, NoMemory, Moved, TooFar, Shown, Heard, Bench, new_bench, moved_back, moved_forward, state_after, alone, Keeps, Leads}
-use Rattle.vsm_model.specs.Names.{NamedState, first_named_state, NamedService, named_step}
+use Rattle.vsm_model.specs.Names.{NamedState, first_named_state, named_step}
 use Rattle.vsm_model.specs.WellFormed.{IsWellFormedNamed}
 use Rattle.vsm_model.proofs.First.{first_is_well_formed}
 use Rattle.machine_laws.specs.Reached.{IsRegister, IsStatement}
 use Rattle.machine_laws.proofs.Reached.{statement_leaves_well_formed}
-use Rattle.macro_reader.specs.Written.{Target, in_name, in_register, Stored, spelled, word, IsTarget, HasBytes}
+use Rattle.macro_reader.specs.Written.{Target, in_name, in_register, spelled, word, IsTarget}
 use Rattle.macro_reader.specs.Requests.{Act, obtain, release, whole, build, get, free, delete, attach, detach, run, end_task, poke}
-use Rattle.script_run.specs.Machine.{Why, register_in, name_in, with_three, with_bytes, with_lengths, area_asked, area_back, cell_asked, with_passed, service_asked, name_asked, family_asked, or_abend, served, statement_step, looked_up, lengths_asked, left_or_looked_up, with_cells, passed_asked}
+use Rattle.script_run.specs.Machine.{Why, register_in, name_in, with_three, with_bytes, with_lengths, area_asked, area_back, with_passed, service_asked, name_asked, family_asked, or_abend, served, statement_step, looked_up, lengths_asked, left_or_looked_up, with_cells, passed_asked}
 use Rattle.vsm_bench.specs.Reached.{IsGiven, IsGivenCall, HasWellFormed, AcceptedLeavesWellFormed, ReachedIsWellFormed, BenchIsWellFormed}
 
 same_register : (r n : ℕ) → ◌≡◌ {A = Option ℕ} (Some r) (Some n) → r ≡ n

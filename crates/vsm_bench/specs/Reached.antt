@@ -9,7 +9,8 @@ use Rattle.vsm_model.specs.WellFormed.{IsWellFormedNamed}
 use Rattle.macro_reader.specs.Requests.{Act, act, IsValidAct, AskedHasBytes}
 use Rattle.script_run.specs.Machine.{Why, statement_step}
 
--- A statement as a bench is given it: it can be written, and what it stores are bytes.
+-- A statement as a bench is given it: it can be written, and what it stores are bytes, as with each statement of the
+-- code (`laws::stores_bytes`).
 pub record IsGiven (x : Act) : Type 0 where
   pub valid : IsValidAct x
   pub has_bytes : AskedHasBytes (act x)

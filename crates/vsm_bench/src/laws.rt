@@ -1,6 +1,10 @@
 //! What holds after any list of statements and steps.
+ghost use Rattle.macro_reader.specs.Written.{spelled, stored_in, HasBytes};
+ghost use Rattle.macro_reader.specs.Requests.{act, act_in, AskedHasBytes};
 ghost use Rattle.vsm_bench.specs.Headline.{RunsAlone, StaysWithinLimit, ForwardGivesBack};
 ghost use Rattle.vsm_bench.specs.Reached.{AcceptedLeavesWellFormed, ReachedIsWellFormed, BenchIsWellFormed};
+
+use macro_reader::{Content, Statement};
 
 /// After any list of calls of `apply`, `back` and `forward` on a new bench, whose answers keep the relation of one call
 /// that is their contract, the whole state and the replies of the statements that stand are those of the standing
@@ -14,11 +18,35 @@ pub fn standing()
 {}
 
 /// Under valid settings, an accepted statement leaves a well-formed state well-formed, if it can be written and what it
-/// stores are bytes. So the state after any list of such statements run alone is well-formed, and so are all states of a
-/// bench after any list of calls with such statements: the present one, and those that it can go back and forward to.
-/// Names in a statement are looked up in its state, and refused calls may stand among the others.
+/// stores are bytes. So the state after any list of such statements run alone is well-formed, as `standing` runs those
+/// that stand; and so are all states of a bench after any list of calls with such statements, also with refused ones:
+/// the present state, and those that it can go back and forward to.
 pub fn reached_is_well_formed()
     ensures accepted { AcceptedLeavesWellFormed }
     ensures alone { ReachedIsWellFormed }
     ensures bench { BenchIsWellFormed }
 {}
+
+// The elements of a slice of bytes are below 256.
+fn are_bytes(bytes: &[u8])
+    ensures { HasBytes (spelled bytes.now) }
+{}
+
+// So are those of what is stored.
+fn has_bytes(content: &Content)
+    ensures { HasBytes (stored_in content.now) }
+{
+    if let Content::Spelled(bytes) = content {
+        are_bytes(bytes.as_slice());
+    }
+}
+
+/// What a statement of the code stores are bytes, so one that can be written, as `Bench::apply` asks, is such a
+/// statement.
+pub fn stores_bytes(statement: &Statement)
+    ensures { AskedHasBytes (act (act_in statement.now)) }
+{
+    if let Statement::Poke { content, .. } = statement {
+        has_bytes(content);
+    }
+}
