@@ -51,7 +51,7 @@ module _ (m : MachineState) (x : Act) (p : Planned) (h : CanCarryOut m x p) (id 
   accepted_of = ∥∥₁_elim (h.accepted id free) (Outcome-set NamedState-set Reply-set Why-set _ _) (λ a. a.accepted)
 
   pub fits_of : StorageFits m.settings m.storage (change_for m.storage id p.plan)
-  fits_of = ∥∥₁_elim (h.accepted id free) (hlevel (Fit-prop m.storage (change_for m.storage id p.plan))) (λ a. a.fits)
+  fits_of = ∥∥₁_elim (h.accepted id free) (hlevel (Fit-prop m.storage (change_for m.storage id p.plan), props)) (λ a. a.fits)
 
   pub can_of : CanStepBy m.names (λ name. true) (step_planned p)
   can_of = taken_step m.names (step_planned p) (∥∥₁_elim (h.accepted id free) (Bool-set _ _) (λ a. step_taken m.names (step_planned p) a.can))
