@@ -23,7 +23,8 @@ fn with_room(bytes: &[u8]) -> ArrayVec<u8, 256>
     room
 }
 
-/// Carries out a statement, or refuses it.
+/// Carries out a statement, or refuses it. It's a call of its own, so that no other line pays for the room of a plan.
+#[inline(never)]
 fn carry_out(bench: &mut Bench, statement: &Statement) -> Response
     requires { IsValidAct (act_in statement.now) }
     ensures responds { Responds (settings_in bench.old) (bench_of bench.old) (Ok (act (act_in statement.now))) result
