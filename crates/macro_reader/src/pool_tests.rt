@@ -54,7 +54,7 @@ fn delete() -> Request {
 
 #[test]
 fn reads_build(rt: HostRuntime) {
-    let lines: [(&[u8], Request); 8] = [
+    let lines: [(&[u8], Request); 5] = [
         (b" CPOOL BUILD,PCELLCT=2,CSIZE=16,CPID=P", plain()),
         (b" cpool build,cpid=p,csize=x'10',pcellct=b'10'", plain()),
         (
@@ -70,6 +70,19 @@ fn reads_build(rt: HostRuntime) {
             b" CPOOL BUILD,PCELLCT=2,CSIZE=16,CPID=P,SCELLCT=(5),SP=q,LOC=BELOW",
             build(None, Some(Value::Register(5)), named("Q"), Location::Low),
         ),
+        (
+            b" CPOOL BUILD,RELATED=X,PCELLCT=2,CSIZE=16,LINKAGE=Y,CPID=P,REGS=Z",
+            plain(),
+        ),
+    ];
+    for (line, want) in lines {
+        feed(&rt, line, Ok(want));
+    }
+}
+
+#[test]
+fn reads_headers(rt: HostRuntime) {
+    let lines: [(&[u8], Request); 3] = [
         // The letters of a header stay as they are; blanks, commas and parentheses stand in it.
         (
             b" CPOOL BUILD,PCELLCT=2,CSIZE=16,CPID=P,HDR='My, (own ~'",
@@ -92,10 +105,6 @@ fn reads_build(rt: HostRuntime) {
                 Value::Number(0),
                 Location::Caller,
             ),
-        ),
-        (
-            b" CPOOL BUILD,RELATED=X,PCELLCT=2,CSIZE=16,LINKAGE=Y,CPID=P,REGS=Z",
-            plain(),
         ),
     ];
     for (line, want) in lines {

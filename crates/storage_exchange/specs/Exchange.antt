@@ -21,8 +21,8 @@ pub record SameFrames (old new : Pages) : Type 0 where
   pub spare : new.spare ≡ old.spare
   pub made : new.made ≡ old.made
 
--- The storage took the record's step, whatever elements are kept, and no element was made. The frames that the change was given before and after
--- are `given` and `given'`, the subpools that it has parked `parked` and `parked'`.
+-- The storage took the record's step, whatever elements are kept, and no element was made. The frames that the change
+-- was given before and after are `given` and `given'`, the subpools that it has parked `parked` and `parked'`.
 pub record Exchanges (p t : Storage) (given given' : List PageFrame) (parked parked' : SubpoolStorage) (r : Record)
     : Type 0 where
   pub stands : StandsWith t parked'
