@@ -72,6 +72,9 @@ impl Bench {
     /// A statement that defines no name is refused with `NoMemory` only where fewer than 32 elements are spare, and 8
     /// for each of what it weighs (subpools that it gives or shares, cells that it makes, and what leaves by it), or
     /// fewer frames, or tables, than it newly assigns pages.
+    ///
+    /// It's a call of its own, so that no other line of a script pays for the room of a plan.
+    #[inline(never)]
     pub fn apply(&mut self, statement: &Statement) -> Result<Reply, Refusal>
         requires valid { IsValidAct (act_in statement.now) }
         ensures keeps { Keeps (statement_step (settings_in self.old)) (settings_in self.old).history (bench_of self.old)

@@ -23,8 +23,7 @@ fn with_room(bytes: &[u8]) -> ArrayVec<u8, 256>
     room
 }
 
-/// Carries out a statement, or refuses it. It's a call of its own, so that no other line pays for the room of a plan.
-#[inline(never)]
+/// Carries out a statement, or refuses it.
 fn carry_out(bench: &mut Bench, statement: &Statement) -> Response
     requires { IsValidAct (act_in statement.now) }
     ensures responds { Responds (settings_in bench.old) (bench_of bench.old) (Ok (act (act_in statement.now))) result
@@ -37,9 +36,7 @@ fn carry_out(bench: &mut Bench, statement: &Statement) -> Response
     }
 }
 
-/// Shows the bytes at an address, as many as are asked for. It's a call of its own, so that no other line pays for its
-/// room.
-#[inline(never)]
+/// Shows the bytes at an address, as many as are asked for.
 fn show(bench: &Bench, address: Value, count: u16) -> Response
     requires { IsValidAsked (peek (written_in address) count) }
     ensures { result ≡ reading_response (shown_at (bench_of bench.now).present (written_in address) count) }
