@@ -139,14 +139,13 @@ impl CellPools {
             secondary,
             location,
         } = settings;
-        let named = label_of_name(name);
         let form = form_of(location, primary, secondary, &header);
         let number = u32::from(subpool.number);
         let owner = u32::from(subpool.owner);
         self.table.push(elements, [number, size, owner, 0, 0]);
         let mut row = self.table.row(elements, 0, 0);
         let mut list = row.list;
-        put_texts(&mut list, elements, named, form);
+        put_texts(&mut list, elements, label_of_name(name), form);
         row.list = list;
         self.table.write(elements, row);
         row.id

@@ -234,21 +234,12 @@ impl Record {
         ensures { result ≡ record_of words }
     {
         let subpool = subpool_of(words);
-        let run = run_of(words);
         let value = words[5] == 1;
         match words[0] {
-            AREA => Record::Area(AreaRecord {
-                subpool,
-                area: run,
-                free: value,
-            }),
-            EXTENT => Record::Extent(ExtentRecord {
-                subpool,
-                run,
-                present: value,
-            }),
+            AREA => Record::Area(area_of(words)),
+            EXTENT => Record::Extent(extent_of(words)),
             PAGES => Record::Pages(PagesRecord {
-                run,
+                run: run_of(words),
                 assigned: value,
             }),
             OWN => Record::Own(OwnRecord {
@@ -272,11 +263,7 @@ impl Record {
                 present: value,
             }),
             CELL_EXTENT => Record::CellExtent(cell_extent_of(words)),
-            CELL => Record::Cell(CellRecord {
-                pool: words[1],
-                cell: words[3],
-                free: value,
-            }),
+            CELL => Record::Cell(cell_of(words)),
             _ => Record::Bytes(BytesRecord {
                 block: words[1],
                 bytes: bytes_of(words),
@@ -398,6 +385,36 @@ fn one_cell(cell: u32) -> Run
     Run {
         start: cell,
         len: 0,
+    }
+}
+
+fn area_of(words: [u32; 7]) -> AreaRecord
+    ensures { result ≡ record { subpool = subpool_in words; area = run_in words; free = word words 5 == 1 } }
+{
+    AreaRecord {
+        subpool: subpool_of(words),
+        area: run_of(words),
+        free: words[5] == 1,
+    }
+}
+
+fn extent_of(words: [u32; 7]) -> ExtentRecord
+    ensures { result ≡ record { subpool = subpool_in words; run = run_in words; present = word words 5 == 1 } }
+{
+    ExtentRecord {
+        subpool: subpool_of(words),
+        run: run_of(words),
+        present: words[5] == 1,
+    }
+}
+
+fn cell_of(words: [u32; 7]) -> CellRecord
+    ensures { result ≡ record { pool = word words 1; cell = word words 3; free = word words 5 == 1 } }
+{
+    CellRecord {
+        pool: words[1],
+        cell: words[3],
+        free: words[5] == 1,
     }
 }
 

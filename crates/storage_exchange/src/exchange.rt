@@ -68,10 +68,7 @@ impl Storage {
                     ..r
                 })
             }
-            Record::Queues(r) => {
-                self.exchange_queues(parked, r);
-                Record::Queues(r)
-            }
+            Record::Queues(r) => Record::Queues(self.exchange_queues(parked, r)),
             Record::Register(r) => Record::Register(self.exchange_register(r)),
             Record::Registers(r) => Record::Registers(self.exchange_registers(r)),
             Record::Task(r) => Record::Task(self.exchange_task(r)),
@@ -177,13 +174,16 @@ impl Storage {
     }
 
     // The pages, the free storage and the cell pools of a subpool change places with what is parked under its name.
-    fn exchange_queues(&mut self, parked: &mut SubpoolStorage, r: QueuesRecord)
+    fn exchange_queues(&mut self, parked: &mut SubpoolStorage, r: QueuesRecord) -> QueuesRecord
         requires stands { StandsWith self.old parked.old }
         requires fits { (given : List PageFrame) × (kept : ℕ) × QueuesFits (walk_of self.old given parked.old kept) r }
-        ensures { (given : List PageFrame) → Exchanges self.old self.new given given parked.old parked.new (Queues r) }
+        ensures exchanges { (given : List PageFrame)
+            → Exchanges self.old self.new given given parked.old parked.new (Queues r) }
+        ensures turned { result ≡ r }
     {
         self.subpools
             .exchange_storage(&mut self.elements, parked, r.subpool);
+        r
     }
 
     // The register gets the word, and the record with its old one is answered.

@@ -20,7 +20,7 @@ returns-in-Own-clause-exchanges c = exchanges-as c.args.self.now _ c.args.given.
 
 pub returns-in-Queues-clause-exchanges : goal.returns-in-Queues-clause-exchanges
 returns-in-Queues-clause-exchanges c = exchanges-as c.args.self.now _ c.args.given.now c.args.given.now c.args.parked.now c.exchange_queues.new.parked _ c.args.change (sym c.in-Queues.is)
-    (c.exchange_queues.ensures c.args.given.now)
+    (c.exchange_queues.ensures.exchanges c.args.given.now)
 
 pub returns-in-Register-clause-exchanges : goal.returns-in-Register-clause-exchanges
 returns-in-Register-clause-exchanges c = exchanges-as c.args.self.now _ c.args.given.now c.args.given.now c.args.parked.now c.args.parked.now _ c.args.change (sym c.in-Register.is)
