@@ -88,9 +88,7 @@ impl Bench {
         }
     }
 
-    // Carries out what was planned for a statement. It's a call of its own, so that a statement which is refused
-    // doesn't pay for the room that a change takes.
-    #[inline(never)]
+    // Carries out what was planned for a statement.
     fn carry_out(&mut self, planned: Planned) -> Result<Reply, Refusal>
         requires { (x : Act) × CanCarryOut (shown self.old.machine) x planned }
         ensures keeps { (x : Act) → CanCarryOut (shown self.old.machine) x planned

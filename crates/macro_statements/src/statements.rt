@@ -165,6 +165,7 @@ pub fn is_misplaced(card: &[u8]) -> bool
 /// Else the first fault, in this order: `Column` where the first line is misplaced; `Operation` where its operation
 /// isn't known; `Operand` where an apostrophe or parenthesis of the field isn't closed or is closed too often; and then
 /// that of the leftmost operand that has one, or `Missing`.
+#[inline(never)]
 pub fn statement_with(card: &[u8], text: &[u8]) -> Result<Request, FaultKind>
     ensures value { seen result ≡ statement_with card.now text.now }
     ensures valid { IfOk result (λ r. IsValidAsked (asked_in r)) }

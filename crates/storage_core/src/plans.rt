@@ -1,8 +1,8 @@
 //! The plan of any service.
-ghost use Rattle.std.specs.Prelude.{◌≡◌, ◌≤◌, Bool, IfOk};
+ghost use Rattle.std.specs.Prelude.{◌≡◌, ◌≤◌, Bool, IfOk, option_map};
 ghost use Rattle.vsm_model.specs.declared.limits.Settings.{Settings};
 ghost use Rattle.vsm_model.specs.Meaning.{service_in};
-ghost use Rattle.vsm_model.specs.Services.{Service as Asked};
+ghost use Rattle.vsm_model.specs.Services.{Service as Asked, obtain, release, whole, run, store, build, get, free};
 ghost use Rattle.storage_changes.specs.State.{StorageState};
 ghost use Rattle.storage_plans.specs.Plans.{IsPlanned as IsStoragePlanned};
 ghost use Rattle.task_plans.specs.TaskPlans.{IsAttachPlanned, IsEndPlanned};
@@ -15,7 +15,7 @@ use crate::storage::Storage;
 use cell_plans::{BuildPlan, DeletePlan, plan_build, plan_delete, plan_free, plan_get};
 use storage_plans::{Plan as StoragePlan, plan_obtain, plan_release, plan_store, plan_whole};
 use task_plans::{AttachPlan, EndPlan, plan_attach, plan_detach, plan_end_task, plan_run};
-use vsm_model::{Cause, Reply, Service};
+use vsm_model::{Build, Cause, Get, Obtain, Release, Reply, Service};
 
 /// What an accepted request will do. It was found by reading alone, and nothing is changed yet.
 #[derive(Drop)]
@@ -61,7 +61,6 @@ fn storage_planned(planned: Result<StoragePlan, Cause>) -> Result<Plan, Cause>
 }
 
 // The plan of a task that comes.
-#[inline(never)]
 fn attach_planned(planned: Result<AttachPlan, Cause>) -> Result<Plan, Cause>
     ensures { (settings : Settings) (names_full : Bool) (m : StorageState) (x : Asked)
         → IsAttachPlanned settings names_full m x planned → IsPlanned settings names_full m x result }
@@ -73,7 +72,6 @@ fn attach_planned(planned: Result<AttachPlan, Cause>) -> Result<Plan, Cause>
 }
 
 // The plan of tasks that end.
-#[inline(never)]
 fn end_planned(planned: Result<EndPlan, Cause>) -> Result<Plan, Cause>
     ensures { (settings : Settings) (names_full : Bool) (m : StorageState) (x : Asked)
         → IsEndPlanned settings names_full m x planned → IsPlanned settings names_full m x result }
@@ -85,7 +83,6 @@ fn end_planned(planned: Result<EndPlan, Cause>) -> Result<Plan, Cause>
 }
 
 // The plan of a cell that is handed out or given back.
-#[inline(never)]
 fn cell_planned(planned: Result<StoragePlan, Cause>) -> Result<Plan, Cause>
     ensures { (settings : Settings) (names_full : Bool) (m : StorageState) (x : Asked)
         → IsCellPlanned settings names_full m x planned → IsPlanned settings names_full m x result }
@@ -97,7 +94,6 @@ fn cell_planned(planned: Result<StoragePlan, Cause>) -> Result<Plan, Cause>
 }
 
 // The plan of a cell pool that comes.
-#[inline(never)]
 fn build_planned(planned: Result<BuildPlan, Cause>) -> Result<Plan, Cause>
     ensures { (settings : Settings) (names_full : Bool) (m : StorageState) (x : Asked)
         → IsBuildPlanned settings names_full m x planned → IsPlanned settings names_full m x result }
@@ -109,7 +105,6 @@ fn build_planned(planned: Result<BuildPlan, Cause>) -> Result<Plan, Cause>
 }
 
 // The plan of a cell pool that goes.
-#[inline(never)]
 fn delete_planned(planned: Result<DeletePlan, Cause>) -> Result<Plan, Cause>
     ensures { (settings : Settings) (names_full : Bool) (m : StorageState) (x : Asked)
         → IsDeletePlanned settings names_full m x planned → IsPlanned settings names_full m x result }
@@ -134,32 +129,92 @@ impl Storage {
             result }
     {
         match service {
-            Service::Obtain(o) => {
-                storage_planned(plan_obtain(&self.parts, self.settings, o, names_full))
-            }
-            Service::Release(r) => storage_planned(plan_release(&self.parts, self.settings, r)),
-            Service::Whole { number } => storage_planned(plan_whole(&self.parts, number)),
-            Service::Store { address, bytes } => {
-                storage_planned(plan_store(&self.parts, address, bytes))
-            }
+            Service::Obtain(o) => self.plan_obtain(o, names_full),
+            Service::Release(r) => self.plan_release(r),
+            Service::Whole { number } => self.plan_whole(number),
+            Service::Store { address, bytes } => self.plan_store(address, bytes),
             Service::Attach(a) => attach_planned(plan_attach(&self.parts, a)),
             Service::Detach { task } => end_planned(plan_detach(&self.parts, task)),
             Service::EndTask => end_planned(plan_end_task(&self.parts)),
-            Service::Run { task } => storage_planned(plan_run(&self.parts, task)),
+            Service::Run { task } => self.plan_run(task),
             Service::Build {
                 name,
                 header,
                 numbers,
-            } => build_planned(plan_build(&self.parts, self.settings, name, header, numbers)),
-            Service::Get { name, operands } => cell_planned(plan_get(
-                &self.parts,
-                self.settings,
-                name,
-                operands,
-                names_full,
-            )),
-            Service::Free { name, cell } => cell_planned(plan_free(&self.parts, name, cell)),
+            } => self.plan_build(name, header, numbers),
+            Service::Get { name, operands } => self.plan_get(name, operands, names_full),
+            Service::Free { name, cell } => self.plan_free(name, cell),
             Service::Delete { name } => delete_planned(plan_delete(&self.parts, name)),
         }
+    }
+
+    // Each of the services whose plans are large is planned by a call of its own, so that a statement makes room for
+    // the answer of its service alone.
+
+    #[inline(never)]
+    fn plan_obtain(&self, o: Obtain, names_full: bool) -> Result<Plan, Cause>
+        requires { CanBePlanned (obtain o) }
+        ensures { IsPlanned (settings_of self.now) names_full (state_in_place self.now) (obtain o) result }
+    {
+        storage_planned(plan_obtain(&self.parts, self.settings, o, names_full))
+    }
+
+    #[inline(never)]
+    fn plan_release(&self, r: Release) -> Result<Plan, Cause>
+        ensures { (names_full : Bool)
+            → IsPlanned (settings_of self.now) names_full (state_in_place self.now) (release r) result }
+    {
+        storage_planned(plan_release(&self.parts, self.settings, r))
+    }
+
+    #[inline(never)]
+    fn plan_whole(&self, number: u32) -> Result<Plan, Cause>
+        ensures { (names_full : Bool)
+            → IsPlanned (settings_of self.now) names_full (state_in_place self.now) (whole number) result }
+    {
+        storage_planned(plan_whole(&self.parts, number))
+    }
+
+    #[inline(never)]
+    fn plan_store(&self, address: u32, bytes: &[u8]) -> Result<Plan, Cause>
+        requires { CanBePlanned (store address bytes.now) }
+        ensures { (names_full : Bool)
+            → IsPlanned (settings_of self.now) names_full (state_in_place self.now) (store address bytes.now) result }
+    {
+        storage_planned(plan_store(&self.parts, address, bytes))
+    }
+
+    #[inline(never)]
+    fn plan_run(&self, task: u32) -> Result<Plan, Cause>
+        ensures { (names_full : Bool)
+            → IsPlanned (settings_of self.now) names_full (state_in_place self.now) (run task) result }
+    {
+        storage_planned(plan_run(&self.parts, task))
+    }
+
+    #[inline(never)]
+    fn plan_build(&self, name: &str, header: Option<&str>, numbers: Build) -> Result<Plan, Cause>
+        requires { CanBePlanned (build name.now (option_map (λ text. text.now) header) numbers) }
+        ensures { (names_full : Bool) → IsPlanned (settings_of self.now) names_full (state_in_place self.now)
+            (build name.now (option_map (λ text. text.now) header.entry) numbers) result }
+    {
+        build_planned(plan_build(&self.parts, self.settings, name, header, numbers))
+    }
+
+    #[inline(never)]
+    fn plan_get(&self, name: &str, operands: Get, names_full: bool) -> Result<Plan, Cause>
+        requires { CanBePlanned (get name.now operands) }
+        ensures { IsPlanned (settings_of self.now) names_full (state_in_place self.now) (get name.now operands) result }
+    {
+        cell_planned(plan_get(&self.parts, self.settings, name, operands, names_full))
+    }
+
+    #[inline(never)]
+    fn plan_free(&self, name: &str, cell: u32) -> Result<Plan, Cause>
+        requires { CanBePlanned (free name.now cell) }
+        ensures { (names_full : Bool)
+            → IsPlanned (settings_of self.now) names_full (state_in_place self.now) (free name.now cell) result }
+    {
+        cell_planned(plan_free(&self.parts, name, cell))
     }
 }

@@ -24,7 +24,7 @@ use Rattle.storage_swap.specs.Swap.{change_holds, Ready}
 use Rattle.storage_swap.specs.Reserve.{Grown, MoreTables, Reserves}
 use Rattle.storage_swap.specs.Builder.{so_far, records_in, parked_in, meaning_with, builder_holds, IsBuilding, Keeps, Builds, Pushes, Finishes}
 use Rattle.storage_swap.proofs.Below.{storage-owns, storage-stays}
-use Rattle.storage_swap.proofs.ParkingLemmas.{nowhere}
+use Rattle.storage_swap.proofs.FrameLemmas.{nowhere}
 use Rattle.storage_swap.proofs.ThreeLemmas.{no_ids}
 use Rattle.storage_swap.proofs.KeptLemmas.{over, holds-live, same-hold, same-stands, same-state, same-unassigned, kept-hold, kept-parked-hold, kept-stands, kept-state, kept-unassigned, kept-parked}
 

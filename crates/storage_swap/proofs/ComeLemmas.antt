@@ -14,7 +14,7 @@ use Rattle.storage_swap.specs.declared.change.Change.{Change as TheChange}
 use Rattle.storage_swap.specs.Swap.{means}
 use Rattle.storage_swap.specs.Fresh.{first_storage, IsFresh}
 use Rattle.storage_swap.specs.Reserve.{Reserves}
-use Rattle.storage_swap.proofs.ParkingLemmas.{nowhere}
+use Rattle.storage_swap.proofs.FrameLemmas.{nowhere}
 
 -- the cell pool alone comes
 abbrev pub coming : Pool → Change

@@ -1,11 +1,20 @@
 -- The bytes of a region and of frames, page by page and address by address.
-use Rattle.std.proofs.Common.{◌≡◌, ℕ, ◌*◌, ◌/◌, ◌%◌, List, Option, Some, None, IsSome, is_some, refl, sym, ap, ◌∙◌, arith}
+use Rattle.std.proofs.Common.{◌≡◌, ℕ, ◌+◌, ◌*◌, ◌/◌, ◌%◌, ◌<◌, ◌≤◌, Bool, true, false, List, Option, Some, None, IsSome, is_some, refl, sym, ap, ◌∙◌, arith}
 use Rattle.std.specs.Option.{option_or}
+use Rattle.run_set.specs.Runs.{inside}
+use Rattle.run_set.proofs.RunLemmas.{inside_true}
 use Rattle.raw_region.specs.Frames.{PageFrame}
 use Rattle.raw_region.specs.Pages.{Pages, byte_of, bytes_at, byte_at}
 use Rattle.raw_region.specs.Parked.{held_at}
 use Rattle.raw_region.proofs.ForCallers.{byte_at-assigned}
+use Rattle.storage_changes.specs.Changes.{no_pages}
 use Rattle.storage_exchange.specs.Storage.{byte_held}
+
+pub nowhere : (page : ℕ) → inside page no_pages ≡ false
+nowhere page = go (inside page no_pages) refl where
+  go : (b : Bool) → inside page no_pages ≡ b → b ≡ false
+  go true i = (let h : (0 ≤ page) × (page < 0 + 0) = inside_true page no_pages i in absurd (omega (arith, h.1)))
+  go false i = refl
 
 pub none-some : {A : Type 0} (o : Option A) → o ≡ None → IsSome o → ⊥
 none-some None e h = cc

@@ -8,12 +8,10 @@ mod DiscardLemmas
 mod AppendLemmas
 mod ThreeLemmas
 pub mod ReserveLemmas
-mod ParkingLemmas
 mod BuildingLemmas
 mod SettingsLemmas
 pub mod FreshLemmas
 pub mod BackLemmas
 mod ObtainLemmas
-mod TakenLemmas
 mod ComeLemmas
 pub mod BuilderLemmas

@@ -9,7 +9,6 @@ mod chains;
 mod change;
 mod ending;
 pub mod laws;
-mod parking;
 mod records;
 mod reserve;
 

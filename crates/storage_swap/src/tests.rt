@@ -1,10 +1,10 @@
-//! Three pages of the first subpool, obtained, undone and redone; and its whole storage, which a change takes over and
-//! hands back; and a cell pool that comes, goes and is let go. All elements and frames are given back.
+//! Three pages of the first subpool, obtained, undone and redone; and a cell pool that comes, goes and is let go. All
+//! elements and frames are given back.
 
 use super::*;
 use run_set::Run;
 use std::test::Fail;
-use storage_changes::{AreaRecord, ExtentRecord, PagesRecord, QueuesRecord, Record};
+use storage_changes::{AreaRecord, ExtentRecord, PagesRecord, Record};
 use subpool_storage::{CellSettings, Header, Name};
 use vsm_model::{Residence, Settings, Subpool};
 
@@ -63,35 +63,6 @@ fn obtained_pages_come_and_go(rt: HostRuntime) -> Result<(), Fail> {
     change.discard(&mut storage);
     assert_eq!(rt; storage.elements.spare(), 121);
     assert_eq!(rt; storage.region.spare_frames(), 3);
-    let released = release(storage);
-    assert_eq!(rt; released.blocks, 1);
-    assert_eq!(rt; released.frames, 3);
-    Ok(())
-}
-
-#[test]
-fn a_change_takes_a_subpools_storage_over(rt: HostRuntime) -> Result<(), Fail> {
-    let taken = [
-        Record::Queues(QueuesRecord { subpool: FIRST }),
-        Record::Pages(PagesRecord {
-            run: RUN,
-            assigned: false,
-        }),
-    ];
-    let mut storage = fresh(rt.alloc(), SETTINGS)?;
-    let mut obtained = Change::reserve(&mut storage, None, &OBTAIN, 4, RUN)?;
-    obtained.swap(&mut storage);
-    let mut change = Change::reserve_parking(&mut storage, &[FIRST], &taken, 2)?;
-    let extents = storage.subpools.extents(&storage.elements, FIRST);
-    assert!(rt; extents.count() == 1 && storage.region.assigned(6));
-    change.swap(&mut storage);
-    let extents = storage.subpools.extents(&storage.elements, FIRST);
-    assert!(rt; extents.count() == 0 && !storage.region.assigned(6));
-    change.swap(&mut storage);
-    let extents = storage.subpools.extents(&storage.elements, FIRST);
-    assert!(rt; extents.count() == 1 && storage.region.assigned(6));
-    change.discard(&mut storage);
-    assert_eq!(rt; storage.elements.spare(), 114);
     let released = release(storage);
     assert_eq!(rt; released.blocks, 1);
     assert_eq!(rt; released.frames, 3);

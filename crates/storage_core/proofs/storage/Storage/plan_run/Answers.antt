@@ -1,0 +1,7 @@
+use Rattle.vsm_model.specs.Services.{run}
+use Rattle.storage_core.specs.Meaning.{state_in_place, settings_of}
+use Rattle.storage_core.proofs.Leaving.{none_leaves}
+use Rattle.storage_core.proofs.storage.Storage.plan_run.Goals as goal
+
+pub returns : goal.returns
+returns c = λ full. let s = c.args.self.now in c.storage_planned.ensures (settings_of s) full (state_in_place s) _ (c.plan_run.ensures.planned s.settings full (record { stands = s.held.stands; sound = s.held.sound })) (none_leaves (state_in_place s) (run c.args.task) c.plan_run.result c.plan_run.ensures.emptied)
