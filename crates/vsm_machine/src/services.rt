@@ -2,6 +2,7 @@
 ghost use Rattle.std.specs.Prelude.{◌≡◌, ◌≤◌, IfSome, length, true};
 ghost use Rattle.std.specs.Option.{option_map};
 ghost use Rattle.vsm_model.specs.Meaning.{service_in};
+ghost use Rattle.vsm_model.specs.Services.{whole, detach, run};
 ghost use Rattle.storage_core.specs.Planned.{CanBePlanned};
 ghost use Rattle.macro_statements.specs.Requests.{act_in, build_in, length_in, subpools_in, target_in};
 ghost use Rattle.macro_statements.specs.Requests.{written_in, stored_in};
@@ -14,7 +15,7 @@ ghost use Rattle.vsm_machine.specs.Machine.{with_passed, with_three};
 
 use crate::machine::Machine;
 use crate::values::{bytes_of, look_up};
-use macro_statements::{Family, Header, Length, NewCellPool, Statement, Subpools};
+use macro_statements::{Family, Form, Header, Length, NewCellPool, Statement, Subpools};
 use operand_texts::{Content, Name, Place, Value};
 use storage_core::{Attach, Boundary, Lengths, Location, Obtain, Passed, Release, Service};
 use vsm_model::{Build, Get};
@@ -86,13 +87,13 @@ fn obtain_of<'a>(
     place: &Option<Place>,
     boundary: Boundary,
     location: Location,
-    conditional: bool,
+    form: &Form,
 ) -> Option<Service<'a>>
     requires length { IsLength (length_in length.now) }
     requires subpool { IsValue (written_in subpool.now) }
     requires place { IfSome (option_map target_in place.now) IsTarget }
     ensures is { option_map service_in result ≡ with_lengths
-        (area_asked (register_in (option_map target_in place.now)) boundary location conditional)
+        (area_asked (register_in (option_map target_in place.now)) boundary location form.now.conditional)
         (lengths_asked (plain_of machine.now) (length_in length.now))
         (looked_up (plain_of machine.now) (written_in subpool.now)) }
     ensures bounds { IfSome result (λ service. CanBePlanned (service_in service)) }
@@ -103,7 +104,7 @@ fn obtain_of<'a>(
         boundary,
         location,
         register: register_of(place),
-        conditional,
+        conditional: form.conditional,
     }))
 }
 
@@ -222,6 +223,39 @@ fn get_of<'a>(pool: &'a Name, place: &Option<Place>, conditional: bool) -> Servi
     }
 }
 
+/// The release of a whole subpool; `None` where a name in the value isn't defined.
+fn whole_of<'a>(machine: &Machine, subpool: &Value) -> Option<Service<'a>>
+    requires { IsValue (written_in subpool.now) }
+    ensures is { option_map service_in result
+        ≡ option_map whole (looked_up (plain_of machine.now) (written_in subpool.now)) }
+    ensures bounds { IfSome result (λ service. CanBePlanned (service_in service)) }
+{
+    let number = look_up(machine, subpool)?;
+    Some(Service::Whole { number })
+}
+
+/// The end of a task; `None` where a name in the value isn't defined.
+fn detach_of<'a>(machine: &Machine, task: &Value) -> Option<Service<'a>>
+    requires { IsValue (written_in task.now) }
+    ensures is { option_map service_in result
+        ≡ option_map detach (looked_up (plain_of machine.now) (written_in task.now)) }
+    ensures bounds { IfSome result (λ service. CanBePlanned (service_in service)) }
+{
+    let task = look_up(machine, task)?;
+    Some(Service::Detach { task })
+}
+
+/// The turn of a task; `None` where a name in the value isn't defined.
+fn run_of<'a>(machine: &Machine, task: &Value) -> Option<Service<'a>>
+    requires { IsValue (written_in task.now) }
+    ensures is { option_map service_in result
+        ≡ option_map run (looked_up (plain_of machine.now) (written_in task.now)) }
+    ensures bounds { IfSome result (λ service. CanBePlanned (service_in service)) }
+{
+    let task = look_up(machine, task)?;
+    Some(Service::Run { task })
+}
+
 /// The service that a statement asks for, with the words of its values; `None` where a name in one of them isn't
 /// defined. A value that is stored is written into `room`.
 pub(crate) fn service_of<'a>(
@@ -241,24 +275,14 @@ pub(crate) fn service_of<'a>(
             boundary,
             location,
             form,
-        } => obtain_of(
-            machine,
-            length,
-            subpool,
-            place,
-            *boundary,
-            *location,
-            form.conditional,
-        ),
+        } => obtain_of(machine, length, subpool, place, *boundary, *location, form),
         Statement::Release {
             length,
             address,
             subpool,
             form,
         } => release_of(machine, length, address, subpool, form.conditional),
-        Statement::Whole { subpool, .. } => Some(Service::Whole {
-            number: look_up(machine, subpool)?,
-        }),
+        Statement::Whole { subpool, .. } => whole_of(machine, subpool),
         Statement::Build(cells) => build_of(machine, cells),
         Statement::GetCell {
             pool,
@@ -277,12 +301,8 @@ pub(crate) fn service_of<'a>(
             shared,
             shares_zero,
         } => attach_of(machine, given, shared, *shares_zero),
-        Statement::Detach { task } => Some(Service::Detach {
-            task: look_up(machine, task)?,
-        }),
-        Statement::Run { task } => Some(Service::Run {
-            task: look_up(machine, task)?,
-        }),
+        Statement::Detach { task } => detach_of(machine, task),
+        Statement::Run { task } => run_of(machine, task),
         Statement::EndTask => Some(Service::EndTask),
         Statement::Poke { address, content } => store_of(machine, address, content, room),
     }
