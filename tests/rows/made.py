@@ -103,14 +103,16 @@ def column_72_row(name, next_line, continued, alone):
 
 
 def byte_rows():
-    """Each byte in the columns where a byte decides. A line feed there ends the line, and what stands behind it is the next."""
+    """Each byte in the columns where a byte decides, and behind them, where none does. A line feed there ends the line."""
     front = b" BACK 0".ljust(71)
+    behind = [front + b" " + bytes([byte]) * 18 + b"\n" for byte in OTHER_BYTES]
     remark = b"               R\n"
     return [
         column_row("any-byte-in-column-1", b"", b" BACK 0\n", answer_in_column_1),
         column_row("any-byte-in-column-2", b" ", b"BACK 0\n", answer_in_column_2),
         column_72_row("any-byte-in-column-72", b" BACK 0\n", "FAULT CONTINUATION", ("KEPT=0", "KEPT=0")),
         column_72_row("any-byte-in-column-72-before-a-remark", remark, "KEPT=0", ("KEPT=0", "FAULT OPERATION")),
+        Row("any-byte-behind-column-72", behind, lines_of((at + 1, "KEPT=0") for at in range(len(behind)))),
         Row("line-feed-in-column-1", [b"\n BACK 0\n"], b"0000002 KEPT=0\n"),
         Row("line-feed-in-column-2", [b" \nBACK 0\n"], b"0000002 FAULT OPERATION\n", 4),
         Row("line-feed-in-column-72", [front, b"\n\n BACK 0\n"], b"0000001 KEPT=0\n0000003 KEPT=0\n"),

@@ -19,14 +19,6 @@ pub use operand_texts::{
 pub use reading::{Fault, Fed, Reader};
 
 #[cfg(test)]
-mod edge_tests;
+mod reader_tests;
 #[cfg(test)]
-mod form_tests;
-#[cfg(test)]
-mod map_tests;
-#[cfg(test)]
-mod pool_tests;
-#[cfg(test)]
-mod task_tests;
-#[cfg(test)]
-mod tests;
+mod spelled_tests;
