@@ -1,6 +1,6 @@
 use Rattle.std.proofs.Common.{◌≡◌, ℕ, ◌+◌, ◌<◌, ◌≤◌, None, IsSome}
 use Rattle.raw_region.specs.Pages.{bytes_at, HaveTables}
-use Rattle.raw_region.proofs.tests.with_many_pages.Given as goal
+use Rattle.element_tests.proofs.raw_region.with_many_pages.Given as goal
 
 abbrev pub invariant-loop-k : goal.invariant-loop-k
 invariant-loop-k l = record {

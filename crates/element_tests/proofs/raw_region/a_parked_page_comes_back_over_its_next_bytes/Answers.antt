@@ -1,6 +1,6 @@
 use Rattle.std.proofs.Common.{◌≡◌, ℕ, ◌+◌, ◌<◌, ◌≤◌, true, is_some, ap, arith, ◌∙◌}
 use Rattle.raw_region.specs.Pages.{Pages, bytes_at}
-use Rattle.raw_region.proofs.tests.a_parked_page_comes_back_over_its_next_bytes.Goals as goal
+use Rattle.element_tests.proofs.raw_region.a_parked_page_comes_back_over_its_next_bytes.Goals as goal
 
 -- a run of one page
 only_page : (s : Pages) (page : ℕ) → is_some (bytes_at s page) ≡ true → (p : ℕ) → page ≤ p → p < page + 1 → is_some (bytes_at s p) ≡ true

@@ -1,7 +1,7 @@
 ghost use Rattle.std.specs.Prelude.{◌≡◌, ℕ, ◌+◌, ◌<◌, ◌≤◌, None, IsSome, IfOk, length};
 ghost use Rattle.raw_region.specs.Pages.{bytes_at, HaveTables, IsFresh};
 
-use super::*;
+use raw_region::{Geometry, MAX_HIGH_PAGES, MAX_LOW_PAGES, Parked, Region, Unassigned};
 use std::alloc::{AllocError, Global};
 use std::test::Fail;
 

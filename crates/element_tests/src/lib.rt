@@ -1,0 +1,5 @@
+//! Tests of frames, and of rows, subpools, tasks and cell pools in elements, that need a Rust caller.
+#![tactic(auto)]
+
+#[cfg(test)]
+mod raw_region;
