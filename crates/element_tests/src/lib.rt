@@ -3,3 +3,5 @@
 
 #[cfg(test)]
 mod raw_region;
+#[cfg(test)]
+mod subpool_set;

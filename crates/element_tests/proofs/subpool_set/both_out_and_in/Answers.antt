@@ -9,7 +9,7 @@ use Rattle.subpool_set.specs.Pools.{Sight, is_owner, sight_of_pool, sight_withou
 use Rattle.subpool_set.specs.SubpoolSet.{sight, pool, owned, number_of, owner_of, parked_sight, parked_owned}
 use Rattle.subpool_set.proofs.HeadLemmas.{Apart-swap, Apart-left, Apart-right, in_either}
 use Rattle.subpool_set.proofs.LawLemmas.{put_back, sets_stand}
-use Rattle.subpool_set.proofs.tests.both_out_and_in.Goals as goal
+use Rattle.element_tests.proofs.subpool_set.both_out_and_in.Goals as goal
 
 -- who owns live elements, none of them the call's, has none of those that the call gained
 still_apart : (s t : Store) (had has mine : List ℕ) → Leaves s t had has → Owns s mine → Apart mine had → Apart mine has

@@ -2,8 +2,8 @@
 
 ghost use Rattle.subpool_set.specs.SubpoolSet.{IsSubpoolSet, IsPoolPlace, QueuesStand};
 
-use super::*;
-use laws::{discards_keep, put_back, sets_stay};
+use subpool_set::{PoolId, PoolPlace, SubpoolSet};
+use subpool_set::laws::{discards_keep, put_back, sets_stay};
 use std::process::Abort;
 use std::test::Fail;
 use vsm_elements::Elements;

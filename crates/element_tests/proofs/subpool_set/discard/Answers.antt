@@ -2,7 +2,7 @@ use Rattle.std.proofs.Common.{Option, IsSome, ◌∙◌, subst}
 use Rattle.subpool_set.specs.Pools.{Pool}
 use Rattle.subpool_set.specs.SubpoolSet.{sight, pool, number_of, owner_of}
 use Rattle.subpool_set.proofs.LawLemmas.{put_back}
-use Rattle.subpool_set.proofs.tests.discard.Goals as goal
+use Rattle.element_tests.proofs.subpool_set.discard.Goals as goal
 
 pub returns-in-Some-clause-queues : goal.returns-in-Some-clause-queues
 returns-in-Some-clause-queues g c =

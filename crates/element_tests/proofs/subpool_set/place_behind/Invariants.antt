@@ -1,6 +1,6 @@
 use Rattle.std.proofs.Common.{length}
 use Rattle.subpool_set.specs.SubpoolSet.{IsPoolPlace, pools_left}
-use Rattle.subpool_set.proofs.tests.place_behind.Given as goal
+use Rattle.element_tests.proofs.subpool_set.place_behind.Given as goal
 
 abbrev pub invariant-loop-pool : goal.invariant-loop-pool
 invariant-loop-pool l = IsPoolPlace l.elements l.set l.place
