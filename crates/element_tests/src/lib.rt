@@ -2,6 +2,8 @@
 #![tactic(auto)]
 
 #[cfg(test)]
+mod cell_pool;
+#[cfg(test)]
 mod raw_region;
 #[cfg(test)]
 mod subpool_set;

@@ -2,7 +2,7 @@ use Rattle.std.proofs.Common.{[]}
 use Rattle.list_table.proofs.ListLemmas.{Apart-sym}
 use Rattle.cell_pool.specs.CellPools.{owned, parked_owned}
 use Rattle.cell_pool.proofs.LawLemmas.{pools_stay}
-use Rattle.cell_pool.proofs.tests.the_pools_of_a_subpool_are_parked_and_restored.Goals as goal
+use Rattle.element_tests.proofs.cell_pool.the_pools_of_a_subpool_are_parked_and_restored.Goals as goal
 
 pub park_pools-rest-requires : goal.park_pools-rest-requires
 park_pools-rest-requires g c =

@@ -3,7 +3,7 @@
 ghost use Rattle.std.specs.Prelude.{◌≡◌, IsSome};
 ghost use Rattle.cell_pool.specs.CellPools.{by_id, IsCellPools};
 
-use super::*;
+use cell_pool::{CellId, CellPools, Header, Name, Settings};
 use std::process::Abort;
 use std::test::Fail;
 use vsm_elements::Elements;
