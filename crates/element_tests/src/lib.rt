@@ -1,9 +1,15 @@
-//! Tests of frames, and of rows, subpools, tasks and cell pools in elements, that need a Rust caller.
+//! Tests of frames, and of subpools, their storage and cell pools in elements, that need a Rust caller.
 #![tactic(auto)]
 
 #[cfg(test)]
-mod cell_pool;
+mod cells;
 #[cfg(test)]
-mod raw_region;
+mod frames;
 #[cfg(test)]
-mod subpool_set;
+mod subpool_storage_cells;
+#[cfg(test)]
+mod subpool_storage_pages;
+#[cfg(test)]
+mod subpool_storage_sharing;
+#[cfg(test)]
+mod subpools;

@@ -13,10 +13,3 @@ mod storage;
 pub use cell_pool::{CellId, CellPools, Header, Name, Settings as CellSettings};
 pub use storage::SubpoolStorage;
 pub use subpool_set::{PoolPlace, SharerPlace};
-
-#[cfg(test)]
-mod cell_tests;
-#[cfg(test)]
-mod sharing_tests;
-#[cfg(test)]
-mod tests;

@@ -1,0 +1,361 @@
+//! Subpools made, filled, emptied and removed: each call does what it may, and every element is given back.
+
+ghost use Rattle.std.specs.Prelude.{◌≡◌, ℕ, ◌+◌, ◌≤◌};
+ghost use Rattle.subpool_storage.specs.Subpools.{CanExchange};
+ghost use Rattle.subpool_storage.specs.SubpoolStorage.{subpools_of, hold, Stands};
+
+use descriptor_queue::{Extents, Run};
+use free_queue::{Area, Cover, FreeQueue};
+use std::process::Abort;
+use std::test::Fail;
+use subpool_storage::SubpoolStorage;
+use vsm_elements::Elements;
+use vsm_model::Subpool;
+
+const FIRST: Subpool = Subpool {
+    number: 1,
+    owner: 1,
+};
+
+const SECOND: Subpool = Subpool {
+    number: 2,
+    owner: 3,
+};
+
+fn create(rt: &impl Abort, elements: &mut Elements, storage: &mut SubpoolStorage, subpool: Subpool)
+    requires { Stands elements.old storage.old }
+    ensures { Stands elements.new storage.new }
+{
+    assert!(rt; subpool.owner >= 1 && subpool.owner <= 64 && subpool.number <= 127);
+    assert!(rt; elements.spare() > 0);
+    assert!(rt;
+        storage
+            .owner_seen(elements, subpool.owner, subpool.number)
+            .is_none()
+    );
+    storage.create(elements, subpool);
+}
+
+// The page becomes the subpool's, and its doublewords free storage.
+fn fill(
+    rt: &impl Abort,
+    elements: &mut Elements,
+    storage: &SubpoolStorage,
+    subpool: Subpool,
+    page: u32,
+)
+    requires { Stands elements.old storage.now }
+    ensures { Stands elements.new storage.now }
+{
+    assert!(rt; page < 1_048_576);
+    assert!(rt; storage.has_subpool(elements, subpool));
+    assert!(rt; !storage.has_page(elements, subpool, page));
+    assert!(rt; elements.spare() > 0);
+    storage.insert_run(
+        elements,
+        subpool,
+        Run {
+            start: page,
+            len: 1,
+        },
+    );
+    assert!(rt; storage.has_page(elements, subpool, page));
+    assert_eq!(rt; storage.subpool_of_page(elements, page), Some(subpool));
+    free(
+        rt,
+        elements,
+        storage,
+        subpool,
+        Area {
+            start: 512 * page,
+            len: 512,
+        },
+    );
+}
+
+fn free(
+    rt: &impl Abort,
+    elements: &mut Elements,
+    storage: &SubpoolStorage,
+    subpool: Subpool,
+    area: Area,
+)
+    requires { Stands elements.old storage.now }
+    ensures { Stands elements.new storage.now }
+{
+    assert!(rt; area.len > 0 && area.len <= 512 && area.start <= 536_870_400);
+    assert!(rt; storage.has_subpool(elements, subpool));
+    match storage.covers(elements, subpool, area) {
+        Cover::None => {}
+        _ => assert!(rt; false),
+    }
+    assert!(rt; elements.spare() > 0);
+    storage.free_area(elements, subpool, area);
+}
+
+fn carve(
+    rt: &impl Abort,
+    elements: &mut Elements,
+    storage: &SubpoolStorage,
+    subpool: Subpool,
+    area: Area,
+)
+    requires { Stands elements.old storage.now }
+    ensures { Stands elements.new storage.now }
+{
+    assert!(rt; area.len > 0 && area.len <= 512 && area.start <= 536_870_400);
+    assert!(rt; storage.has_subpool(elements, subpool));
+    match storage.covers(elements, subpool, area) {
+        Cover::All => {}
+        _ => assert!(rt; false),
+    }
+    assert!(rt; elements.spare() > 0);
+    storage.carve_area(elements, subpool, area);
+}
+
+// The page, whose doublewords are free storage, leaves the subpool.
+fn empty(
+    rt: &impl Abort,
+    elements: &mut Elements,
+    storage: &SubpoolStorage,
+    subpool: Subpool,
+    page: u32,
+)
+    requires { Stands elements.old storage.now }
+    ensures { Stands elements.new storage.now }
+{
+    assert!(rt; page < 1_048_576);
+    carve(
+        rt,
+        elements,
+        storage,
+        subpool,
+        Area {
+            start: 512 * page,
+            len: 512,
+        },
+    );
+    assert!(rt; storage.has_subpool(elements, subpool));
+    assert!(rt; storage.has_page(elements, subpool, page));
+    assert!(rt; elements.spare() > 0);
+    storage.remove_run(
+        elements,
+        subpool,
+        Run {
+            start: page,
+            len: 1,
+        },
+    );
+    assert!(rt; !storage.has_page(elements, subpool, page));
+}
+
+// A part of two pages that are free storage is carved out, and freed again.
+fn carve_out(rt: &impl Abort, elements: &mut Elements, storage: &SubpoolStorage)
+    requires { Stands elements.old storage.now }
+    ensures { Stands elements.new storage.now }
+{
+    let region = Area {
+        start: 0,
+        len: 10_000,
+    };
+    let part = Area {
+        start: 2600,
+        len: 100,
+    };
+    assert_eq!(rt; storage.longest(elements, FIRST, 512, region), 1024);
+    carve(rt, elements, storage, FIRST, part);
+    assert_eq!(rt; elements.spare(), 121);
+    let fit = storage.least_fit(elements, FIRST, 41, 1, region);
+    assert_eq!(rt; fit, Some(2700));
+    let fit = storage.least_fit(elements, FIRST, 40, 1, region);
+    assert_eq!(rt; fit, Some(2560));
+    let fit = storage.least_fit(elements, SECOND, 1, 1, region);
+    assert_eq!(rt; fit, Some(3584));
+    assert_eq!(rt; storage.longest(elements, FIRST, 512, region), 512);
+    free(rt, elements, storage, FIRST, part);
+}
+
+// The extent of a subpool that has one; `None` where it has none or more.
+fn only_extent(elements: &Elements, storage: &SubpoolStorage, subpool: Subpool) -> Option<Run>
+    requires { Stands elements.now storage.now }
+{
+    let extents = storage.extents(elements, subpool);
+    let (run, _) = extents.next_run(elements, Extents::first_place())?;
+    (extents.count() == 1).then_some(run)
+}
+
+// The free area of a subpool that has one; `None` where it has none or more.
+fn only_area(elements: &Elements, storage: &SubpoolStorage, subpool: Subpool) -> Option<Area>
+    requires { Stands elements.now storage.now }
+{
+    let areas = storage.free_areas(elements, subpool);
+    let (area, _) = areas.next_area(elements, FreeQueue::first_place())?;
+    (areas.count() == 1).then_some(area)
+}
+
+// The two subpools come in order, on a walk as by position, and nobody shares the first.
+fn in_order(rt: &impl Abort, elements: &Elements, storage: &SubpoolStorage)
+    requires { Stands elements.now storage.now }
+{
+    let front = SubpoolStorage::first_subpool_place();
+    let Some((subpool, place)) = storage.next_subpool(elements, front) else {
+        assert!(rt; false);
+        return;
+    };
+    assert_eq!(rt; subpool, FIRST);
+    assert_eq!(rt;
+        storage.extents_at(elements, place),
+        storage.extents(elements, FIRST)
+    );
+    assert_eq!(rt;
+        storage.free_areas_at(elements, place),
+        storage.free_areas(elements, FIRST)
+    );
+    let sharers = SubpoolStorage::first_sharer_place(place);
+    assert_eq!(rt; storage.next_sharer(elements, FIRST, sharers), None);
+    assert_eq!(rt; storage.sharer_at(elements, FIRST, 0), None);
+    let Some((subpool, place)) = storage.next_subpool(elements, place) else {
+        assert!(rt; false);
+        return;
+    };
+    assert_eq!(rt; subpool, SECOND);
+    assert_eq!(rt; storage.next_subpool(elements, place), None);
+    assert_eq!(rt; storage.subpool_at(elements, 0), Some(FIRST));
+    assert_eq!(rt; storage.subpool_at(elements, 1), Some(SECOND));
+    assert_eq!(rt; storage.subpool_at(elements, 2), None);
+}
+
+#[test]
+fn pages_and_areas_come_and_go(rt: HostRuntime) -> Result<(), Fail> {
+    let mut elements = Elements::new(rt.alloc());
+    elements.reserve(64)?;
+    let mut storage = SubpoolStorage::new();
+    create(&rt, &mut elements, &mut storage, FIRST);
+    create(&rt, &mut elements, &mut storage, SECOND);
+    assert_eq!(rt; elements.spare(), 126);
+    fill(&rt, &mut elements, &storage, FIRST, 5);
+    fill(&rt, &mut elements, &storage, SECOND, 7);
+    fill(&rt, &mut elements, &storage, FIRST, 6);
+    assert_eq!(rt; elements.spare(), 122);
+    assert_eq!(rt;
+        only_extent(&elements, &storage, FIRST),
+        Some(Run { start: 5, len: 2 })
+    );
+    assert_eq!(rt;
+        only_extent(&elements, &storage, SECOND),
+        Some(Run { start: 7, len: 1 })
+    );
+    let area = Area {
+        start: 2560,
+        len: 1024,
+    };
+    assert_eq!(rt; only_area(&elements, &storage, FIRST), Some(area));
+    in_order(&rt, &elements, &storage);
+    carve_out(&rt, &mut elements, &storage);
+    empty(&rt, &mut elements, &storage, FIRST, 5);
+    empty(&rt, &mut elements, &storage, SECOND, 7);
+    empty(&rt, &mut elements, &storage, FIRST, 6);
+    assert_eq!(rt; elements.spare(), 126);
+    assert_eq!(rt; storage.owner_seen(&elements, 3, 2), Some(3));
+    assert_eq!(rt; storage.owner_seen(&elements, 1, 2), None);
+    assert_eq!(rt; storage.subpool_of_page(&elements, 5), None);
+    assert_eq!(rt; only_extent(&elements, &storage, FIRST), None);
+    Ok(())
+}
+
+// A subpool is made, has a page whose doublewords are free storage, is emptied and removed.
+fn live(rt: &impl Abort, elements: &mut Elements, subpool: Subpool, page: u32) {
+    assert!(rt; subpool.owner >= 1 && subpool.owner <= 64 && subpool.number <= 127);
+    assert!(rt; page < 1_048_576 && elements.spare() > 0);
+    let mut storage = SubpoolStorage::new();
+    storage.create(elements, subpool);
+    let run = Run {
+        start: page,
+        len: 1,
+    };
+    assert!(rt; storage.has_subpool(elements, subpool) && elements.spare() > 0);
+    assert!(rt; !storage.has_page(elements, subpool, page));
+    storage.insert_run(elements, subpool, run);
+    let area = Area {
+        start: 512 * page,
+        len: 512,
+    };
+    assert!(rt; storage.has_subpool(elements, subpool) && elements.spare() > 0);
+    assert!(rt; storage.covers(elements, subpool, area) == Cover::None);
+    storage.free_area(elements, subpool, area);
+    assert!(rt; storage.has_subpool(elements, subpool) && elements.spare() > 0);
+    assert!(rt; storage.covers(elements, subpool, area) == Cover::All);
+    storage.carve_area(elements, subpool, area);
+    assert!(rt; storage.has_subpool(elements, subpool) && elements.spare() > 0);
+    assert!(rt; storage.has_page(elements, subpool, page));
+    storage.remove_run(elements, subpool, run);
+    assert!(rt; storage.has_subpool(elements, subpool));
+    storage.remove(elements, subpool);
+    assert!(rt; !storage.has_subpool(elements, subpool));
+}
+
+#[test]
+fn every_element_is_given_back(rt: HostRuntime) -> Result<(), Fail> {
+    let mut elements = Elements::new(rt.alloc());
+    elements.reserve(64)?;
+    live(&rt, &mut elements, FIRST, 9);
+    live(&rt, &mut elements, SECOND, 1_048_575);
+    assert_eq!(rt; elements.spare(), 128);
+    assert_eq!(rt; elements.release(), 1);
+    Ok(())
+}
+
+// What the subpool has in one goes over to the other, and comes back.
+fn there_and_back(
+    rt: &impl Abort,
+    elements: &mut Elements,
+    one: &mut SubpoolStorage,
+    other: &mut SubpoolStorage,
+    subpool: Subpool,
+    page: u32,
+)
+    requires stands { Stands elements.old one.old }
+    requires other { Stands elements.old other.old }
+    requires apart { (i : ℕ) → hold elements.old one.old i + hold elements.old other.old i ≤ 1 }
+    requires names { CanExchange (subpools_of elements.old one.old) (subpools_of elements.old other.old) subpool }
+{
+    assert!(rt; one.has_subpool(elements, subpool) && other.has_subpool(elements, subpool));
+    one.exchange_storage(elements, other, subpool);
+    assert!(rt; !one.has_page(elements, subpool, page) && other.has_page(elements, subpool, page));
+    let region = Area {
+        start: 0,
+        len: 10_000,
+    };
+    assert_eq!(rt; one.longest(elements, subpool, 1, region), 0);
+    assert_eq!(rt; other.longest(elements, subpool, 1, region), 512);
+    assert!(rt; one.has_subpool(elements, subpool) && other.has_subpool(elements, subpool));
+    other.exchange_storage(elements, one, subpool);
+    assert!(rt; one.has_page(elements, subpool, page) && !other.has_page(elements, subpool, page));
+}
+
+fn beside(
+    rt: &impl Abort,
+    elements: &mut Elements,
+    one: &mut SubpoolStorage,
+    subpool: Subpool,
+    page: u32,
+)
+    requires { Stands elements.old one.old }
+{
+    assert!(rt; subpool.owner >= 1 && subpool.owner <= 64 && subpool.number <= 127);
+    assert!(rt; elements.spare() > 0);
+    let mut other = SubpoolStorage::new();
+    other.create(elements, subpool);
+    there_and_back(rt, elements, one, &mut other, subpool, page);
+}
+
+#[test]
+fn what_a_subpool_has_goes_over_and_comes_back(rt: HostRuntime) -> Result<(), Fail> {
+    let mut elements = Elements::new(rt.alloc());
+    elements.reserve(64)?;
+    let mut storage = SubpoolStorage::new();
+    create(&rt, &mut elements, &mut storage, FIRST);
+    fill(&rt, &mut elements, &storage, FIRST, 5);
+    beside(&rt, &mut elements, &mut storage, FIRST, 5);
+    Ok(())
+}

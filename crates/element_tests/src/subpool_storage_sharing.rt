@@ -1,0 +1,135 @@
+//! A subpool with a page and an area is shared, passes to another task, and comes back.
+
+ghost use Rattle.subpool_storage.specs.SubpoolStorage.{Stands};
+
+use descriptor_queue::Run;
+use free_queue::Area;
+use std::process::Abort;
+use std::test::Fail;
+use subpool_storage::SubpoolStorage;
+use vsm_elements::Elements;
+use vsm_model::Subpool;
+
+const PAGE: Run = Run { start: 5, len: 1 };
+
+const AREA: Area = Area {
+    start: 2560,
+    len: 512,
+};
+
+const GIVERS: Subpool = Subpool {
+    number: 9,
+    owner: 1,
+};
+
+const TAKERS: Subpool = Subpool {
+    number: 9,
+    owner: 3,
+};
+
+const SHARER: u8 = 2;
+
+// A subpool of the giver has a page, whose doublewords are free storage.
+fn made(rt: &impl Abort, elements: &mut Elements) -> SubpoolStorage
+    ensures { Stands elements.new result }
+{
+    let mut storage = SubpoolStorage::new();
+    assert!(rt; elements.spare() > 0);
+    storage.create(elements, GIVERS);
+    assert!(rt; storage.has_subpool(elements, GIVERS) && elements.spare() > 0);
+    assert!(rt; !storage.has_page(elements, GIVERS, PAGE.start));
+    storage.insert_run(elements, GIVERS, PAGE);
+    assert!(rt; storage.has_subpool(elements, GIVERS) && elements.spare() > 0);
+    assert!(rt; storage.covers(elements, GIVERS, AREA) == free_queue::Cover::None);
+    storage.free_area(elements, GIVERS, AREA);
+    storage
+}
+
+fn share(rt: &impl Abort, elements: &mut Elements, storage: &mut SubpoolStorage, subpool: Subpool)
+    requires { Stands elements.old storage.old }
+    ensures { Stands elements.new storage.new }
+{
+    assert!(rt; storage.has_subpool(elements, subpool) && elements.spare() > 0);
+    assert!(rt;
+        storage
+            .owner_seen(elements, SHARER, subpool.number)
+            .is_none()
+    );
+    storage.share(elements, subpool, SHARER);
+}
+
+fn unshare(rt: &impl Abort, elements: &mut Elements, storage: &mut SubpoolStorage, subpool: Subpool)
+    requires { Stands elements.old storage.old }
+    ensures { Stands elements.new storage.new }
+{
+    assert!(rt; subpool.owner != SHARER);
+    assert!(rt; storage.owner_seen(elements, SHARER, subpool.number) == Some(subpool.owner));
+    storage.unshare(elements, subpool, SHARER);
+}
+
+fn pass(
+    rt: &impl Abort,
+    elements: &mut Elements,
+    storage: &mut SubpoolStorage,
+    subpool: Subpool,
+    to: u8,
+)
+    requires { Stands elements.old storage.old }
+    ensures { Stands elements.new storage.new }
+{
+    assert!(rt; storage.has_subpool(elements, subpool) && to >= 1 && to <= 64);
+    assert!(rt; storage.owner_seen(elements, to, subpool.number).is_none());
+    storage.pass(elements, subpool, to);
+}
+
+// The page and the area are just the first subpool's, whose owner sees it, and so does the sharer.
+fn is_at(
+    rt: &impl Abort,
+    elements: &Elements,
+    storage: &SubpoolStorage,
+    here: Subpool,
+    elsewhere: Subpool,
+)
+    requires { Stands elements.now storage.now }
+{
+    let region = Area {
+        start: 0,
+        len: 10_000,
+    };
+    assert_eq!(rt; storage.subpool_of_page(elements, PAGE.start), Some(here));
+    assert_eq!(rt; storage.longest(elements, here, 1, region), AREA.len);
+    assert_eq!(rt; storage.longest(elements, elsewhere, 1, region), 0);
+    assert_eq!(rt; storage.subpool_at(elements, 0), Some(here));
+    assert_eq!(rt; storage.subpool_at(elements, 1), None);
+    assert_eq!(rt;
+        storage.owner_seen(elements, here.owner, 9),
+        Some(here.owner)
+    );
+    assert_eq!(rt; storage.owner_seen(elements, elsewhere.owner, 9), None);
+    assert_eq!(rt; storage.owner_seen(elements, SHARER, 9), Some(here.owner));
+    assert_eq!(rt; storage.sharer_at(elements, here, 0), Some(SHARER));
+}
+
+#[test]
+fn a_shared_subpool_passes_and_comes_back(rt: HostRuntime) -> Result<(), Fail> {
+    let mut elements = Elements::new(rt.alloc());
+    elements.reserve(64)?;
+    let mut storage = made(&rt, &mut elements);
+    assert_eq!(rt; elements.spare(), 125);
+    share(&rt, &mut elements, &mut storage, GIVERS);
+    assert_eq!(rt; elements.spare(), 124);
+    is_at(&rt, &elements, &storage, GIVERS, TAKERS);
+    pass(&rt, &mut elements, &mut storage, GIVERS, TAKERS.owner);
+    assert_eq!(rt; elements.spare(), 124);
+    is_at(&rt, &elements, &storage, TAKERS, GIVERS);
+    pass(&rt, &mut elements, &mut storage, TAKERS, GIVERS.owner);
+    is_at(&rt, &elements, &storage, GIVERS, TAKERS);
+    unshare(&rt, &mut elements, &mut storage, GIVERS);
+    assert_eq!(rt; elements.spare(), 125);
+    assert_eq!(rt; storage.owner_seen(&elements, SHARER, 9), None);
+    assert_eq!(rt; storage.sharer_at(&elements, GIVERS, 0), None);
+    storage.discard(&mut elements);
+    assert_eq!(rt; elements.spare(), 128);
+    assert_eq!(rt; elements.release(), 1);
+    Ok(())
+}

@@ -1,0 +1,320 @@
+//! A set beside the plain slow program: the owner that each task sees at each number.
+
+ghost use Rattle.subpool_set.specs.SubpoolSet.{IsSubpoolSet, IsPoolPlace, QueuesStand};
+
+use std::process::Abort;
+use std::test::Fail;
+use subpool_set::laws::{discards_keep, put_back, sets_stay};
+use subpool_set::{PoolId, PoolPlace, SubpoolSet};
+use vsm_elements::Elements;
+
+// The owner that each of four tasks sees at each of three numbers; 0 where it sees none.
+type Seen = [[u8; 3]; 4];
+
+fn compare(rt: &impl Abort, elements: &Elements, set: &SubpoolSet, seen: &Seen)
+    requires { IsSubpoolSet elements.now set.now }
+{
+    for task in 0..4u8 {
+        for number in 0..3u8 {
+            let owner = match set.visible(elements, task + 1, number) {
+                Some(id) => set.owner(elements, id),
+                None => 0,
+            };
+            assert_eq!(rt; owner, seen[usize::from(task)][usize::from(number)]);
+        }
+    }
+}
+
+// The subpools have these numbers and owners, in this order, on a walk as by position.
+fn list_subpools(rt: &impl Abort, elements: &Elements, set: &SubpoolSet, want: &[(u8, u8)])
+    requires { IsSubpoolSet elements.now set.now }
+{
+    let mut place = SubpoolSet::first_place();
+    let mut i = 0u32;
+    for subpool in want {
+        match set.next_pool(elements, place) {
+            Some((id, behind)) => {
+                let named = (set.number(elements, id), set.owner(elements, id));
+                assert_eq!(rt; named, *subpool);
+                assert_eq!(rt; behind.pool(), id);
+                assert_eq!(rt; set.pool_at(elements, i), Some(id));
+                place = behind;
+            }
+            None => assert!(rt; false),
+        }
+        i = i.saturating_add(1);
+    }
+    assert_eq!(rt; set.next_pool(elements, place), None);
+    assert_eq!(rt; set.pool_at(elements, i), None);
+    assert_eq!(rt; set.pool_at(elements, i.saturating_add(1)), None);
+}
+
+// The place behind the subpool, or behind the last one.
+fn place_behind(elements: &Elements, set: &SubpoolSet, id: PoolId) -> PoolPlace
+    requires { IsSubpoolSet elements.now set.now }
+    ensures { IsPoolPlace elements.now set.now result }
+{
+    let mut place = SubpoolSet::first_place();
+    while let Some((pool, behind)) = set.next_pool(elements, place) {
+        if pool == id {
+            return behind;
+        }
+        place = behind;
+    }
+    place
+}
+
+// These tasks share the subpool of this number with its owner, in this order, on a walk as by position.
+fn list_sharers(
+    rt: &impl Abort,
+    elements: &Elements,
+    set: &SubpoolSet,
+    owner: u8,
+    number: u8,
+    want: &[u8],
+)
+    requires { IsSubpoolSet elements.now set.now }
+{
+    let Some(id) = set.visible(elements, owner, number) else {
+        assert!(rt; false);
+        return;
+    };
+    let mut place = SubpoolSet::first_sharer(place_behind(elements, set, id));
+    let mut i = 0u32;
+    for sharer in want {
+        match set.next_sharer(elements, number, owner, place) {
+            Some((task, behind)) => {
+                assert_eq!(rt; task, *sharer);
+                assert_eq!(rt; set.sharer_at(elements, id, i), Some(*sharer));
+                place = behind;
+            }
+            None => assert!(rt; false),
+        }
+        i = i.saturating_add(1);
+    }
+    assert_eq!(rt; set.next_sharer(elements, number, owner, place), None);
+    assert_eq!(rt; set.sharer_at(elements, id, i), None);
+    assert_eq!(rt; set.sharer_at(elements, id, i.saturating_add(1)), None);
+}
+
+fn create(rt: &impl Abort, elements: &mut Elements, set: &mut SubpoolSet, task: u8, number: u8)
+    requires set { IsSubpoolSet elements.old set.old }
+    requires queues { QueuesStand elements.old set.old }
+    ensures set { IsSubpoolSet elements.new set.new }
+    ensures queues { QueuesStand elements.new set.new }
+{
+    assert!(rt; task >= 1 && task <= 64 && number <= 127);
+    assert!(rt; elements.spare() > 0);
+    assert!(rt; set.visible(elements, task, number).is_none());
+    let _id = set.create(elements, task, number);
+}
+
+// The task shares the subpool of this number that another sees.
+fn share(
+    rt: &impl Abort,
+    elements: &mut Elements,
+    set: &mut SubpoolSet,
+    task: u8,
+    from: u8,
+    number: u8,
+)
+    requires set { IsSubpoolSet elements.old set.old }
+    requires queues { QueuesStand elements.old set.old }
+    ensures set { IsSubpoolSet elements.new set.new }
+    ensures queues { QueuesStand elements.new set.new }
+{
+    assert!(rt; task >= 1 && task <= 64);
+    assert!(rt; elements.spare() > 0);
+    assert!(rt; set.visible(elements, task, number).is_none());
+    match set.visible(elements, from, number) {
+        Some(id) => set.share(elements, task, id),
+        None => assert!(rt; false),
+    }
+}
+
+fn pass(
+    rt: &impl Abort,
+    elements: &mut Elements,
+    set: &mut SubpoolSet,
+    giver: u8,
+    number: u8,
+    to: u8,
+)
+    requires set { IsSubpoolSet elements.old set.old }
+    requires queues { QueuesStand elements.old set.old }
+    ensures set { IsSubpoolSet elements.new set.new }
+    ensures queues { QueuesStand elements.new set.new }
+{
+    assert!(rt; to >= 1 && to <= 64);
+    assert!(rt; set.visible(elements, to, number).is_none());
+    match set.visible(elements, giver, number) {
+        Some(id) => set.pass(elements, id, to),
+        None => assert!(rt; false),
+    }
+}
+
+// The subpool goes and comes back; `without` is seen in between.
+fn out_and_in(
+    rt: &impl Abort,
+    elements: &mut Elements,
+    set: &mut SubpoolSet,
+    task: u8,
+    number: u8,
+    without: &Seen,
+)
+    requires set { IsSubpoolSet elements.old set.old }
+    requires queues { QueuesStand elements.old set.old }
+    ensures set { IsSubpoolSet elements.new set.new }
+    ensures queues { QueuesStand elements.new set.new }
+{
+    match set.visible(elements, task, number) {
+        Some(id) => {
+            let spare = elements.spare();
+            let parked = set.unplug(elements, id);
+            compare(rt, elements, set, without);
+            put_back();
+            set.replug(elements, parked);
+            assert!(rt; elements.spare() == spare);
+        }
+        None => assert!(rt; false),
+    }
+}
+
+// Two subpools go, one after the other, and come back as one; `without` is seen in between.
+fn both_out_and_in(
+    rt: &impl Abort,
+    elements: &mut Elements,
+    set: &mut SubpoolSet,
+    first: (u8, u8),
+    second: (u8, u8),
+    without: &Seen,
+)
+    requires set { IsSubpoolSet elements.old set.old }
+    requires queues { QueuesStand elements.old set.old }
+    ensures set { IsSubpoolSet elements.new set.new }
+{
+    match set.visible(elements, first.0, first.1) {
+        Some(id) => {
+            let one = set.unplug(elements, id);
+            put_back();
+            match set.visible(elements, second.0, second.1) {
+                Some(id) => {
+                    let other = set.unplug(elements, id);
+                    compare(rt, elements, set, without);
+                    sets_stay();
+                    let both = one.join(elements, other);
+                    set.replug(elements, both);
+                }
+                None => {
+                    set.replug(elements, one);
+                    assert!(rt; false);
+                }
+            }
+        }
+        None => assert!(rt; false),
+    }
+}
+
+// The subpool goes for good.
+fn discard(rt: &impl Abort, elements: &mut Elements, set: &mut SubpoolSet, task: u8, number: u8)
+    requires set { IsSubpoolSet elements.old set.old }
+    requires queues { QueuesStand elements.old set.old }
+    ensures set { IsSubpoolSet elements.new set.new }
+    ensures queues { QueuesStand elements.new set.new }
+{
+    match set.visible(elements, task, number) {
+        Some(id) => {
+            let parked = set.unplug(elements, id);
+            discards_keep();
+            parked.discard(elements);
+        }
+        None => assert!(rt; false),
+    }
+}
+
+#[test]
+fn the_set_is_the_plain_one(rt: HostRuntime) -> Result<(), Fail> {
+    let mut elements = Elements::new(rt.alloc());
+    elements.reserve(64)?;
+    let mut set = SubpoolSet::new();
+    create(&rt, &mut elements, &mut set, 1, 1);
+    create(&rt, &mut elements, &mut set, 1, 2);
+    create(&rt, &mut elements, &mut set, 2, 1);
+    share(&rt, &mut elements, &mut set, 3, 1, 1);
+    share(&rt, &mut elements, &mut set, 4, 1, 2);
+    share(&rt, &mut elements, &mut set, 2, 4, 2);
+    let seen = [[0, 1, 1], [0, 2, 1], [0, 1, 0], [0, 0, 1]];
+    compare(&rt, &elements, &set, &seen);
+    let without = [[0, 0, 1], [0, 2, 1], [0, 0, 0], [0, 0, 1]];
+    out_and_in(&rt, &mut elements, &mut set, 3, 1, &without);
+    compare(&rt, &elements, &set, &seen);
+    pass(&rt, &mut elements, &mut set, 1, 2, 3);
+    let given = [[0, 1, 0], [0, 2, 3], [0, 1, 3], [0, 0, 3]];
+    compare(&rt, &elements, &set, &given);
+    let without = [[0, 1, 0], [0, 2, 0], [0, 1, 0], [0, 0, 0]];
+    out_and_in(&rt, &mut elements, &mut set, 4, 2, &without);
+    compare(&rt, &elements, &set, &given);
+    list_subpools(&rt, &elements, &set, &[(1, 1), (1, 2), (2, 3)]);
+    list_sharers(&rt, &elements, &set, 3, 2, &[2, 4]);
+    assert_eq!(rt; elements.spare(), 122);
+    discard(&rt, &mut elements, &mut set, 2, 1);
+    let left = [[0, 1, 0], [0, 0, 3], [0, 1, 3], [0, 0, 3]];
+    compare(&rt, &elements, &set, &left);
+    discard(&rt, &mut elements, &mut set, 4, 2);
+    let left = [[0, 1, 0], [0, 0, 0], [0, 1, 0], [0, 0, 0]];
+    compare(&rt, &elements, &set, &left);
+    discard(&rt, &mut elements, &mut set, 1, 1);
+    compare(&rt, &elements, &set, &[[0; 3]; 4]);
+    assert_eq!(rt; elements.spare(), 128);
+    assert_eq!(rt; elements.release(), 1);
+    Ok(())
+}
+
+#[test]
+fn two_subpools_come_back_as_one(rt: HostRuntime) -> Result<(), Fail> {
+    let mut elements = Elements::new(rt.alloc());
+    elements.reserve(64)?;
+    let mut set = SubpoolSet::new();
+    create(&rt, &mut elements, &mut set, 2, 1);
+    create(&rt, &mut elements, &mut set, 1, 1);
+    create(&rt, &mut elements, &mut set, 3, 2);
+    share(&rt, &mut elements, &mut set, 4, 1, 1);
+    share(&rt, &mut elements, &mut set, 1, 3, 2);
+    let seen = [[0, 1, 3], [0, 2, 0], [0, 0, 3], [0, 1, 0]];
+    compare(&rt, &elements, &set, &seen);
+    let without = [[0, 0, 0], [0, 2, 0], [0, 0, 0], [0, 0, 0]];
+    both_out_and_in(&rt, &mut elements, &mut set, (3, 2), (4, 1), &without);
+    compare(&rt, &elements, &set, &seen);
+    list_subpools(&rt, &elements, &set, &[(1, 1), (1, 2), (2, 3)]);
+    list_sharers(&rt, &elements, &set, 1, 1, &[4]);
+    list_sharers(&rt, &elements, &set, 3, 2, &[1]);
+    assert_eq!(rt; elements.spare(), 123);
+    Ok(())
+}
+
+#[test]
+fn walks_come_in_order(rt: HostRuntime) -> Result<(), Fail> {
+    let mut elements = Elements::new(rt.alloc());
+    elements.reserve(64)?;
+    let mut set = SubpoolSet::new();
+    list_subpools(&rt, &elements, &set, &[]);
+    create(&rt, &mut elements, &mut set, 3, 127);
+    create(&rt, &mut elements, &mut set, 2, 1);
+    create(&rt, &mut elements, &mut set, 64, 0);
+    create(&rt, &mut elements, &mut set, 1, 1);
+    create(&rt, &mut elements, &mut set, 2, 0);
+    share(&rt, &mut elements, &mut set, 64, 2, 1);
+    share(&rt, &mut elements, &mut set, 4, 1, 1);
+    share(&rt, &mut elements, &mut set, 9, 2, 1);
+    share(&rt, &mut elements, &mut set, 5, 2, 1);
+    share(&rt, &mut elements, &mut set, 1, 3, 127);
+    share(&rt, &mut elements, &mut set, 1, 64, 0);
+    let subpools = [(0, 2), (0, 64), (1, 1), (1, 2), (127, 3)];
+    list_subpools(&rt, &elements, &set, &subpools);
+    list_sharers(&rt, &elements, &set, 2, 0, &[]);
+    list_sharers(&rt, &elements, &set, 64, 0, &[1]);
+    list_sharers(&rt, &elements, &set, 1, 1, &[4]);
+    list_sharers(&rt, &elements, &set, 2, 1, &[5, 9, 64]);
+    list_sharers(&rt, &elements, &set, 3, 127, &[1]);
+    Ok(())
+}
