@@ -1,6 +1,5 @@
 -- Lemmas on a storage and its changes.
 mod Counted
-mod Exchanged
 pub mod Holding
 pub mod Soundness
 pub mod Staying

@@ -25,6 +25,3 @@ pub use vsm_model::{
     Reply, Residence, Service, Settings, Subpool,
 };
 pub use walks::{ExtentPlace, FreeAreaPlace};
-
-#[cfg(test)]
-mod tests;

@@ -13,6 +13,3 @@ mod tasks;
 pub use counts::Totals;
 pub use maps::{put_history, put_map, write_history, write_map};
 pub use sums::totals;
-
-#[cfg(test)]
-mod tests;

@@ -12,6 +12,4 @@ mod BuildingLemmas
 mod SettingsLemmas
 pub mod FreshLemmas
 pub mod BackLemmas
-mod ObtainLemmas
-mod ComeLemmas
 pub mod BuilderLemmas

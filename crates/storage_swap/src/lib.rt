@@ -17,6 +17,3 @@ pub use builder::ChangeBuilder;
 pub use building::NewPool;
 pub use change::Change;
 pub use ending::{Released, release};
-
-#[cfg(test)]
-mod tests;

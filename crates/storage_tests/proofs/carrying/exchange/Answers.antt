@@ -2,9 +2,9 @@ use Rattle.std.proofs.Common.{sym, subst}
 use Rattle.vsm_model.specs.declared.limits.Settings.{Settings}
 use Rattle.storage_swap.specs.Swap.{means}
 use Rattle.storage_core.specs.Meaning.{state_in_place, settings_of}
-use Rattle.storage_core.proofs.Exchanged.{LeadsSound, swapped_can, swapped_sound}
+use Rattle.storage_tests.proofs.Exchanged.{LeadsSound, swapped_can, swapped_sound}
 use Rattle.storage_core.proofs.Soundness.{is_sound}
-use Rattle.storage_core.proofs.tests.exchange.Goals as goal
+use Rattle.storage_tests.proofs.carrying.exchange.Goals as goal
 
 pub returns-clause-can : goal.returns-clause-can
 returns-clause-can c =

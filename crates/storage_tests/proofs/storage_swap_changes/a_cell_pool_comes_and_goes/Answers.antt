@@ -1,6 +1,6 @@
 use Rattle.storage_swap.proofs.BackLemmas.{swaps-lead-back}
-use Rattle.storage_swap.proofs.ComeLemmas.{coming-fits}
-use Rattle.storage_swap.proofs.tests.a_cell_pool_comes_and_goes.Goals as goal
+use Rattle.storage_tests.proofs.ComeLemmas.{coming-fits}
+use Rattle.storage_tests.proofs.storage_swap_changes.a_cell_pool_comes_and_goes.Goals as goal
 
 pub swap-requires-clause-fits : goal.swap-requires-clause-fits
 swap-requires-clause-fits g c = coming-fits _ c.in_ok-storage.storage c.reserve_building.new.storage c.in_ok-change.change _ c.in_ok-storage.ensures c.in_ok-change.ensures.ok

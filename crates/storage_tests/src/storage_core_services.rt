@@ -1,18 +1,17 @@
 //! An area on either side of the 16 MB line, obtained, stored into and released, and a cell pool with its cells: each
 //! of them undone and done again.
 
-ghost use Rattle.std.specs.Prelude.{◌≡◌, true, IfOk};
+ghost use Rattle.std.specs.Prelude.{◌≡◌, true};
 ghost use Rattle.vsm_model.specs.Meaning.{service_in};
-ghost use Rattle.storage_changes.specs.Changes.{overlay};
-ghost use Rattle.storage_changes.specs.Meaning.{IsSound};
-ghost use Rattle.storage_swap.specs.Swap.{means};
-ghost use Rattle.storage_history.specs.Apart.{CanSwap};
-ghost use Rattle.storage_core.specs.Meaning.{state_in_place, settings_of};
 ghost use Rattle.storage_core.specs.Planned.{CanBePlanned};
 
-use super::*;
+use crate::carrying::{carry_out, change_for, do_for_good, exchange};
 use std::process::Abort;
 use std::test::Fail;
+use storage_core::{
+    Area, Boundary, Build, Cause, Get, Lengths, Location, Obtain, Release, Reply, Residence, Run,
+    Service, Settings, Storage, Subpool,
+};
 
 const SETTINGS: Settings = Settings {
     low_k: 64,
@@ -20,51 +19,6 @@ const SETTINGS: Settings = Settings {
     residence: Residence::Above,
     history: 10,
 };
-
-// The change is exchanged with the storage, and can be again.
-fn exchange(storage: &mut Storage, change: &mut Change)
-    requires can { CanSwap storage.old.parts change.old }
-    requires sound { ∥ IsSound (settings_of storage.old)
-        (overlay (state_in_place storage.old) (means storage.old.parts.elements change.old)) ∥₁ }
-    ensures can { CanSwap storage.new.parts change.new }
-    ensures sound { ∥ IsSound (settings_of storage.new)
-        (overlay (state_in_place storage.new) (means storage.new.parts.elements change.new)) ∥₁ }
-{
-    storage.swap(change);
-}
-
-// The change that carries the service out.
-fn change_for(storage: &mut Storage, service: Service<'_>) -> Result<Change, Fail>
-    requires { CanBePlanned (service_in service) }
-    ensures can { IfOk result (λ change. CanSwap storage.new.parts change) }
-    ensures sound { IfOk result (λ change. ∥ IsSound (settings_of storage.new)
-        (overlay (state_in_place storage.new) (means storage.new.parts.elements change)) ∥₁) }
-{
-    let plan = storage.plan(service, false)?;
-    let change = storage.reserve(plan)?;
-    Ok(change)
-}
-
-// The storage carries the service out. What is left takes it back.
-fn carry_out(storage: &mut Storage, service: Service<'_>) -> Result<Change, Fail>
-    requires { CanBePlanned (service_in service) }
-    ensures can { IfOk result (λ change. CanSwap storage.new.parts change) }
-    ensures sound { IfOk result (λ change. ∥ IsSound (settings_of storage.new)
-        (overlay (state_in_place storage.new) (means storage.new.parts.elements change)) ∥₁) }
-{
-    let mut change = change_for(storage, service)?;
-    exchange(storage, &mut change);
-    Ok(change)
-}
-
-// The storage carries the service out, for good.
-fn do_for_good(storage: &mut Storage, service: Service<'_>) -> Result<(), Fail>
-    requires { CanBePlanned (service_in service) }
-{
-    let change = carry_out(storage, service)?;
-    storage.discard(change);
-    Ok(())
-}
 
 // The byte at the address, where its page is assigned.
 fn byte_at(storage: &Storage, address: u32) -> Option<u8> {
@@ -271,9 +225,9 @@ fn whole_release_takes_elements_for_extents_alone(rt: HostRuntime) -> Result<(),
     };
     let mut storage = Storage::new(rt.alloc(), settings)?;
     make_free_areas(&mut storage)?;
-    let before = storage.parts.elements.spare();
+    let before = storage.elements().spare();
     let mut change = change_for(&mut storage, Service::Whole { number: 1 })?;
-    let behind = storage.parts.elements.spare();
+    let behind = storage.elements().spare();
     assert_eq!(rt; before.wrapping_sub(behind) % 128, 6);
     exchange(&mut storage, &mut change);
     assert_eq!(rt; byte_at(&storage, 0x6000), None);

@@ -3,8 +3,8 @@ use Rattle.vsm_model.specs.declared.limits.Settings.{Settings}
 use Rattle.vsm_model.specs.Meaning.{service_in}
 use Rattle.storage_swap.specs.Swap.{means}
 use Rattle.storage_core.specs.Meaning.{state_in_place, settings_of}
-use Rattle.storage_core.proofs.Exchanged.{LeadsSound, reserved_can, reserved_sound}
-use Rattle.storage_core.proofs.tests.change_for.Goals as goal
+use Rattle.storage_tests.proofs.Exchanged.{LeadsSound, reserved_can, reserved_sound}
+use Rattle.storage_tests.proofs.carrying.change_for.Goals as goal
 
 pub reserve-requires : goal.reserve-requires
 reserve-requires c = c.in_ok-plan.ensures.can

@@ -1,7 +1,7 @@
 use Rattle.std.proofs.Math.Dec.{lit≤}
 use Rattle.storage_swap.proofs.BackLemmas.{swaps-lead-back}
-use Rattle.storage_swap.proofs.ObtainLemmas.{test-unassigned, test-fits}
-use Rattle.storage_swap.proofs.tests.obtained_pages_come_and_go.Goals as goal
+use Rattle.storage_tests.proofs.ObtainLemmas.{test-unassigned, test-fits}
+use Rattle.storage_tests.proofs.storage_swap_changes.obtained_pages_come_and_go.Goals as goal
 
 pub reserve-requires-clause-unassigned : goal.reserve-requires-clause-unassigned
 reserve-requires-clause-unassigned g c = test-unassigned _ (lit≤ tt) c.in_ok-storage.storage c.in_ok-storage.ensures

@@ -1,14 +1,12 @@
-//! The map of a new storage and the lines of a cell pool, byte by byte, and writers that take nothing or fail.
+//! The maps of a new storage and of one with a cell pool, byte by byte, and writers that take nothing or fail.
 
-use super::*;
-use crate::cells::{put_cell_extent, put_cell_pool_line, put_free_cell};
-use cell_readings::{Extent, Header, Name, Residence, Settings as CellSettings, Storage, Subpool};
+use crate::carrying::do_for_good;
 use std::alloc::Global;
 use std::io;
 use std::io::{ErrorKind, Write};
 use std::test::Fail;
-use text_output::Gathered;
-use vsm_model::Settings;
+use storage_core::{Attach, Build, Get, Location, Passed, Residence, Service, Settings, Storage};
+use storage_map::{Totals, totals, write_history, write_map};
 
 const SETTINGS: Settings = Settings {
     low_k: 64,
@@ -25,10 +23,22 @@ const MAP: &[u8] = b" TASK 1 PARENT 0 CURRENT
  BYTES TAKEN 0 FREE 0
 ";
 
-const CELL_LINES: &[u8] =
-    b" CELLPOOL CP SUBPOOL 1 OWNER 2 SIZE 12 PRIMARY 3 SECONDARY 4 LOC 24 HDR 'AB'
+// Task 2 has a cell pool of three cells, of which the one in the middle is free.
+const CELL_POOL_MAP: &[u8] = b" TASK 1 PARENT 0
+  R0 00000000 00000002 00000000 00000000 00000000 00000000 00000000 00000000
+  R8 00000000 00000000 00000000 00000000 00000000 00000000 00000000 00000000
+ TASK 2 PARENT 1 CURRENT
+  R0 00000000 00006018 00000000 00000000 00000000 00000000 00000000 00000000
+  R8 00000000 00000000 00000000 00000000 00000000 00000000 00000000 00000000
+ SUBPOOL 0 OWNER 1 SHARERS 2
+ SUBPOOL 1 OWNER 2 SHARERS NONE
+  EXTENT 00006000 00001000
+  FREE 00006028 00000FD8
+ CELLPOOL CP SUBPOOL 1 OWNER 2 SIZE 12 PRIMARY 3 SECONDARY 4 LOC 24 HDR 'AB'
   EXTENT 00006000 00000028
   FREECELL 0000600C
+ PAGES LOW 1 OF 16 HIGH 0 OF 32
+ BYTES TAKEN 40 FREE 4056
 ";
 
 /// A writer that takes so many bytes, one a call, and then nothing.
@@ -87,34 +97,50 @@ fn a_new_storage_has_these_totals(rt: HostRuntime) -> Result<(), Fail> {
     Ok(())
 }
 
+// Task 2 comes and is current.
+fn begin_task(storage: &mut Storage) -> Result<(), Fail> {
+    let attach = Attach {
+        given: Passed::Nothing,
+        shared: Passed::Nothing,
+        shares_zero: true,
+    };
+    do_for_good(storage, Service::Attach(attach))?;
+    do_for_good(storage, Service::Run { task: 2 })
+}
+
+// The cell pool comes, all its cells are handed out, and the one in the middle is given back.
+fn build_cells(storage: &mut Storage) -> Result<(), Fail> {
+    let name = "CP";
+    let build = Service::Build {
+        name,
+        header: Some("AB"),
+        numbers: Build {
+            primary: 3,
+            secondary: Some(4),
+            size: 12,
+            number: 1,
+            location: Location::Low,
+        },
+    };
+    do_for_good(storage, build)?;
+    let operands = Get {
+        register: None,
+        conditional: true,
+    };
+    for _ in 0..3 {
+        do_for_good(storage, Service::Get { name, operands })?;
+    }
+    do_for_good(storage, Service::Free { name, cell: 0x600C })
+}
+
 #[test]
 fn a_cell_pool_has_these_lines(rt: HostRuntime) -> Result<(), Fail> {
-    let mut name = Name::new();
-    assert!(rt; name.try_push_str("CP").is_ok());
-    let mut header = Header::new();
-    header.push(b'A');
-    header.push(b'B');
-    let settings = CellSettings {
-        subpool: Subpool {
-            number: 1,
-            owner: 2,
-        },
-        size: 12,
-        primary: 3,
-        secondary: 4,
-        location: Residence::Below,
-    };
-    let extent = Extent {
-        start: 0x6000,
-        count: 3,
-    };
+    let mut storage = Storage::new(rt.alloc(), SETTINGS)?;
+    begin_task(&mut storage)?;
+    build_cells(&mut storage)?;
     let mut output = Vec::new(rt.alloc());
-    let mut gathered = Gathered::new();
-    put_cell_pool_line(&mut gathered, &mut output, &name, settings, &Some(header));
-    put_cell_extent(&mut gathered, &mut output, extent, 12);
-    put_free_cell(&mut gathered, &mut output, 0x600C);
-    gathered.finish(&mut output)?;
-    assert_eq!(rt; output.as_slice(), CELL_LINES);
+    write_map(&storage, &mut output)?;
+    assert_eq!(rt; output.as_slice(), CELL_POOL_MAP);
     Ok(())
 }
 

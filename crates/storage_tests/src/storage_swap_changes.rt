@@ -1,10 +1,10 @@
 //! Three pages of the first subpool, obtained, undone and redone; and a cell pool that comes, goes and is let go. All
 //! elements and frames are given back.
 
-use super::*;
 use run_set::Run;
 use std::test::Fail;
 use storage_changes::{AreaRecord, ExtentRecord, PagesRecord, Record};
+use storage_swap::{Change, NewPool, fresh, release};
 use subpool_storage::{CellSettings, Header, Name};
 use vsm_model::{Residence, Settings, Subpool};
 

@@ -1,0 +1,4 @@
+-- Lemmas for the tests.
+mod Exchanged
+mod ObtainLemmas
+mod ComeLemmas
