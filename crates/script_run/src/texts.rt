@@ -26,7 +26,6 @@ fn fault_word(kind: FaultKind) -> &'static str
     }
 }
 
-#[tactic(auto, using(text_output::proofs::Gathering::puts_both))]
 fn put_reply<W: Write>(gathered: &mut Gathered, writer: &mut W, reply: Reply)
     ensures { Puts (W.contents writer.old) (W.contents writer.new) gathered.old gathered.new (reply_text reply) }
 {
@@ -57,7 +56,6 @@ fn put_reply<W: Write>(gathered: &mut Gathered, writer: &mut W, reply: Reply)
     }
 }
 
-#[tactic(auto, using(text_output::proofs::Gathering::puts_both))]
 fn put_code<W: Write>(gathered: &mut Gathered, writer: &mut W, code: Code)
     ensures { Puts (W.contents writer.old) (W.contents writer.new) gathered.old gathered.new (code_text code) }
 {
