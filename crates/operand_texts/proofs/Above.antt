@@ -1,5 +1,6 @@
--- Bytes above those that a field is made out by: behind them all stands where they stand.
-use Rattle.std.proofs.Common.{◌≡◌, ℕ, ◌+◌, ◌<◌, ◌==◌, Bool, true, false, not, ◌&&◌, List, ◌∷◌, if◌then◌else◌, arith, refl, ap, ◌∙◌}
+-- A text is made out byte by byte, and bytes above those that a field is made out by leave all as it stands.
+use Rattle.std.proofs.Common.{◌≡◌, ℕ, ◌+◌, ◌<◌, ◌≤◌, ◌==◌, Bool, true, false, not, ◌&&◌, List, ◌∷◌, length, drop, get_or, if◌then◌else◌, arith, refl, sym, ap, ◌∙◌}
+use Rattle.std.proofs.lemmas.List.{drop_more}
 use Rattle.std.proofs.lemmas.Bool.Decides.{nat_tests}
 use Rattle.operand_texts.specs.declared.nesting.Nesting.{Nesting}
 use Rattle.operand_texts.specs.Field.{past, field_len, is_balanced, operand_len}
@@ -30,3 +31,65 @@ pub above_operand : (n : Nesting) (c : ℕ) (cs : List ℕ) → 44 < c → opera
 above_operand n c cs h =
     ap (λ b. if b && not n.quoted && (n.depth == 0) then 0 else 1 + operand_len (past n c) cs) (apart c 44 h)
     ∙ ap (λ m. 1 + operand_len m cs) (past_above n c (omega (arith, h)))
+
+-- a depth is at most the number of bytes that were passed, or is so behind a depth at the start
+pub as_deep : (n i : ℕ) → n ≤ i → n ≤ i + 1
+as_deep n i h = omega arith
+
+pub deeper : (m n i : ℕ) → m ≤ n + 1 → n ≤ i → m ≤ i + 1
+deeper m n i h k = omega arith
+
+pub as_deep_behind : (n start i : ℕ) → n ≤ start + i → n ≤ start + (i + 1)
+as_deep_behind n start i h = omega arith
+
+pub deeper_behind : (m n start i : ℕ) → m ≤ n + 1 → n ≤ start + i → m ≤ start + (i + 1)
+deeper_behind m n start i h k = omega arith
+
+-- one byte more of a text that is balanced or not
+pub balanced_passes : (n : Nesting) (t : List ℕ) (i : ℕ) → i < length t → 41 < get_or t i 0 → is_balanced n (drop (i + 1) t) ≡ is_balanced n (drop i t)
+balanced_passes n t i h k = sym (ap (is_balanced n) (drop_more t i 0 h) ∙ above_balanced n (get_or t i 0) (drop (i + 1) t) k)
+
+pub balanced_goes_on : (n m : Nesting) (t : List ℕ) (i : ℕ) → i < length t → m ≡ past n (get_or t i 0)
+    → (get_or t i 0 == 41 && not n.quoted && (n.depth == 0)) ≡ false → is_balanced m (drop (i + 1) t) ≡ is_balanced n (drop i t)
+balanced_goes_on n m t i h e k =
+    ap (λ x. is_balanced x (drop (i + 1) t)) e
+    ∙ sym (ap (is_balanced n) (drop_more t i 0 h) ∙ ap (λ b. not b && is_balanced (past n (get_or t i 0)) (drop (i + 1) t)) k)
+
+pub balanced_ends : (n : Nesting) (t : List ℕ) (i : ℕ) → i < length t → (get_or t i 0 == 41 && not n.quoted && (n.depth == 0)) ≡ true → false ≡ is_balanced n (drop i t)
+balanced_ends n t i h k = sym (ap (is_balanced n) (drop_more t i 0 h) ∙ ap (λ b. not b && is_balanced (past n (get_or t i 0)) (drop (i + 1) t)) k)
+
+counted : (i a b all : ℕ) → a ≡ 1 + b → i + a ≡ all → i + 1 + b ≡ all
+counted i a b all h k = omega arith
+
+ended : (i a all : ℕ) → a ≡ 0 → i + a ≡ all → i ≡ all
+ended i a all h k = omega arith
+
+-- one byte more of a text whose field goes so far
+pub field_passes : (n : Nesting) (t : List ℕ) (i all : ℕ) → i < length t → 41 < get_or t i 0 → i + field_len n (drop i t) ≡ all → i + 1 + field_len n (drop (i + 1) t) ≡ all
+field_passes n t i all h k e = counted i _ _ all (ap (field_len n) (drop_more t i 0 h) ∙ above_field n (get_or t i 0) (drop (i + 1) t) k) e
+
+pub field_goes_on : (n m : Nesting) (t : List ℕ) (i all : ℕ) → i < length t → m ≡ past n (get_or t i 0) → (get_or t i 0 == 32 && not n.quoted) ≡ false
+    → i + field_len n (drop i t) ≡ all → i + 1 + field_len m (drop (i + 1) t) ≡ all
+field_goes_on n m t i all h p k e =
+    counted i _ _ all
+    (ap (field_len n) (drop_more t i 0 h)
+    ∙ ap (λ b. if b then 0 else 1 + field_len (past n (get_or t i 0)) (drop (i + 1) t)) k ∙ ap (λ x. 1 + field_len x (drop (i + 1) t)) (sym p)) e
+
+pub field_ends : (n : Nesting) (t : List ℕ) (i all : ℕ) → i < length t → (get_or t i 0 == 32 && not n.quoted) ≡ true → i + field_len n (drop i t) ≡ all → i ≡ all
+field_ends n t i all h k e =
+    ended i _ all (ap (field_len n) (drop_more t i 0 h) ∙ ap (λ b. if b then 0 else 1 + field_len (past n (get_or t i 0)) (drop (i + 1) t)) k) e
+
+-- one byte more of a text whose first operand goes so far
+pub operand_passes : (n : Nesting) (t : List ℕ) (i all : ℕ) → i < length t → 44 < get_or t i 0 → i + operand_len n (drop i t) ≡ all → i + 1 + operand_len n (drop (i + 1) t) ≡ all
+operand_passes n t i all h k e = counted i _ _ all (ap (operand_len n) (drop_more t i 0 h) ∙ above_operand n (get_or t i 0) (drop (i + 1) t) k) e
+
+pub operand_goes_on : (n m : Nesting) (t : List ℕ) (i all : ℕ) → i < length t → m ≡ past n (get_or t i 0) → (get_or t i 0 == 44 && not n.quoted && (n.depth == 0)) ≡ false
+    → i + operand_len n (drop i t) ≡ all → i + 1 + operand_len m (drop (i + 1) t) ≡ all
+operand_goes_on n m t i all h p k e =
+    counted i _ _ all
+    (ap (operand_len n) (drop_more t i 0 h)
+    ∙ ap (λ b. if b then 0 else 1 + operand_len (past n (get_or t i 0)) (drop (i + 1) t)) k ∙ ap (λ x. 1 + operand_len x (drop (i + 1) t)) (sym p)) e
+
+pub operand_ends : (n : Nesting) (t : List ℕ) (i all : ℕ) → i < length t → (get_or t i 0 == 44 && not n.quoted && (n.depth == 0)) ≡ true → i + operand_len n (drop i t) ≡ all → i ≡ all
+operand_ends n t i all h k e =
+    ended i _ all (ap (operand_len n) (drop_more t i 0 h) ∙ ap (λ b. if b then 0 else 1 + operand_len (past n (get_or t i 0)) (drop (i + 1) t)) k) e

@@ -55,7 +55,6 @@ impl Nesting {
 
 /// How many bytes of a text whose first byte stands so belong to the field: those up to the first blank outside
 /// apostrophes, or all.
-#[tactic(auto, using(crate::proofs::Above::above_field))]
 pub fn field_len(start: Nesting, text: &[u8]) -> usize
     requires { start.depth + length text.now < 2 ^ 64 }
     ensures value { result ≡ field_len start text.now }
@@ -75,7 +74,6 @@ pub fn field_len(start: Nesting, text: &[u8]) -> usize
 }
 
 /// Whether each apostrophe and parenthesis of a text is closed, and none too often.
-#[tactic(auto, using(crate::proofs::Above::above_balanced))]
 pub fn is_balanced(text: &[u8]) -> bool
     ensures { result ≡ is_balanced outside text.now }
 {
@@ -93,7 +91,6 @@ pub fn is_balanced(text: &[u8]) -> bool
 }
 
 /// How far the first operand of a field goes.
-#[tactic(auto, using(crate::proofs::Above::above_operand))]
 fn operand_len(text: &[u8]) -> usize
     ensures value { result ≡ operand_len outside text.now }
     ensures within { result ≤ length text.now }
