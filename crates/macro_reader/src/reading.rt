@@ -24,7 +24,7 @@ pub struct Fault {
 }
 
 /// What a line brought.
-#[derive(Clone, Debug, PartialEq, Eq, Drop)]
+#[derive(Debug, PartialEq, Eq, Drop)]
 pub enum Fed {
     /// No answer is due.
     More,

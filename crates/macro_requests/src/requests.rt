@@ -41,7 +41,7 @@ pub enum Subpools {
 
 /// What CPOOL BUILD makes (*Assembler Services Reference*, CPOOL): a cell pool of this name, with a header where there
 /// is one, of cells of `size` bytes, from a subpool and on such a side of the 16 MB line.
-#[derive(Clone, Debug, PartialEq, Eq, Drop)]
+#[derive(Debug, PartialEq, Eq, Drop)]
 pub struct NewCellPool {
     pub name: Name,
     pub header: Option<Header>,
@@ -55,7 +55,7 @@ pub struct NewCellPool {
 }
 
 /// A statement that changes storage, cell pools, tasks or bytes.
-#[derive(Clone, Debug, PartialEq, Eq, Drop)]
+#[derive(Debug, PartialEq, Eq, Drop)]
 pub enum Statement {
     /// STORAGE OBTAIN and GETMAIN: so many bytes from a subpool, from such a boundary and on such a side of the 16 MB
     /// line. The address is stored in `place`, where there is one.
@@ -121,7 +121,7 @@ pub enum Statement {
 }
 
 /// What a statement asks for.
-#[derive(Clone, Debug, PartialEq, Eq, Drop)]
+#[derive(Debug, PartialEq, Eq, Drop)]
 pub enum Request {
     /// A change of storage, cell pools, tasks or bytes.
     Act(Statement),
