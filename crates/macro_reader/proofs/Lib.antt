@@ -4,3 +4,4 @@ pub mod FieldLines
 pub mod WrittenLines
 pub mod ReadRequests
 pub mod Above
+pub mod Blanks

@@ -1,7 +1,7 @@
 //! The columns of a line.
 
-ghost use Rattle.std.specs.Prelude.{◌≡◌, ◌||◌, slice_index_or};
-ghost use Rattle.macro_reader.specs.Columns.{used, is_continued, is_blank, is_comment};
+ghost use Rattle.std.specs.Prelude.{◌≡◌, slice_index_or, take, min, length};
+ghost use Rattle.macro_reader.specs.Columns.{used, is_continued, is_blank, is_comment, is_skipped};
 
 /// The byte of a column, counted from 0.
 fn column(line: &[u8], i: usize) -> u8
@@ -41,9 +41,17 @@ pub(crate) fn is_comment(card: &[u8]) -> bool
     !card.is_empty() && card[0] == b'*'
 }
 
-/// Whether a line, columns 1 to 71 of it, is a comment or empty.
-pub(crate) fn is_skipped(card: &[u8]) -> bool
-    ensures { result ≡ (is_blank card.now || is_comment card.now) }
+/// What a line has in columns 1 to 71.
+fn front(line: &[u8]) -> &[u8]
+    ensures { result.now ≡ take (min (length line.now) 71) line.now }
 {
-    is_blank(card) || is_comment(card)
+    &line[..line.len().min(71)]
+}
+
+/// Whether a line, columns 1 to 71 of it, is a comment or empty. The blanks that fill it need no look.
+#[tactic(auto, using(crate::proofs::Blanks::blank_as_filled, crate::proofs::Blanks::comment_as_filled))]
+pub(crate) fn is_skipped(line: &[u8]) -> bool
+    ensures { result ≡ is_skipped line.now }
+{
+    is_blank(front(line)) || is_comment(line)
 }

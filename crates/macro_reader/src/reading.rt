@@ -58,10 +58,10 @@ fn start(number: u32, mode: &mut Mode, statement: &mut OpenStatement, line: &[u8
     ensures few { statement.new.gathered.lines ≤ most_lines mode.new }
     ensures told { due_of result statement.new ≡ (moved number awaiting line.now).1 }
 {
-    statement.first = used(line);
-    if is_skipped(&statement.first) {
+    if is_skipped(line) {
         return Due::Nothing;
     }
+    statement.first = used(line);
     statement.number = number;
     statement.gathered.begin(&statement.first);
     if is_continued(line) {
