@@ -8,6 +8,3 @@ mod pages;
 pub use extents::Extents;
 pub use pages::{Page, Pages};
 pub use run_set::{Run, RunPlace};
-
-#[cfg(test)]
-mod tests;

@@ -6,6 +6,3 @@ mod queue;
 
 pub use queue::{Area, FreeQueue};
 pub use run_set::{Cover, RunPlace};
-
-#[cfg(test)]
-mod tests;

@@ -4,7 +4,7 @@ ghost use Rattle.std.specs.Prelude.{◌≡◌, ◌+◌, ◌^◌, ◌<◌, ◌≤
 ghost use Rattle.descriptor_queue.specs.Extents.{IsExtents};
 ghost use Rattle.descriptor_queue.specs.Pages.{IsPages};
 
-use super::*;
+use descriptor_queue::{Extents, Page, Pages, Run};
 use std::process::Abort;
 use std::test::Fail;
 use vsm_elements::Elements;

@@ -2,10 +2,12 @@
 
 ghost use Rattle.task_tree.specs.TaskTree.{IsTaskTree};
 
-use super::*;
-use laws::{a_parent_is_not_below_its_subtask, put_back, root_is_above, trees_stand, trees_stay};
 use std::process::Abort;
 use std::test::Fail;
+use task_tree::laws::{
+    a_parent_is_not_below_its_subtask, put_back, root_is_above, trees_stand, trees_stay,
+};
+use task_tree::{TaskTree, TreeFault};
 use vsm_elements::Elements;
 
 fn attach(rt: &impl Abort, elements: &mut Elements, tree: &mut TaskTree, under: u8, want: u8)

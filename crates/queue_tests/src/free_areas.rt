@@ -3,7 +3,7 @@
 ghost use Rattle.std.specs.Prelude.{◌+◌, ◌^◌, ◌<◌, ◌≤◌};
 ghost use Rattle.free_queue.specs.FreeQueue.{IsFreeQueue};
 
-use super::*;
+use free_queue::{Area, Cover, FreeQueue};
 use std::process::Abort;
 use std::test::Fail;
 use vsm_elements::Elements;

@@ -4,7 +4,7 @@ use Rattle.vsm_elements.specs.Ownership.{Apart}
 use Rattle.vsm_elements.proofs.ChainFrame.{false_if}
 use Rattle.row_table.proofs.RowLemmas.{not_both}
 use Rattle.task_tree.specs.TaskTree.{owned, parked_owned}
-use Rattle.task_tree.proofs.tests.end.Goals as goal
+use Rattle.queue_tests.proofs.tasks.end.Goals as goal
 
 turned : (xs ys : List ℕ) → Apart xs ys → Apart ys xs
 turned xs ys h i m = false_if (among i xs) (λ k. not_both (among i ys) m (h i k))
