@@ -2,12 +2,12 @@
 use Rattle.std.proofs.Common.{◌≡◌, ℕ, zero, suc, ◌+◌, ◌-◌, ◌*◌, ◌/◌, ◌%◌, ◌<◌, ◌≤◌, max, Bool, true, false, ◌||◌, ◌⊎◌, inl, inr, List, [], ◌∷◌, length, Some, refl, sym, ap, ◌∙◌, arith, subst}
 use Rattle.std.specs.Prelude.{slice_get}
 use Rattle.std.proofs.lemmas.Option.{slice_get-get_or}
-use Rattle.run_set.specs.declared.run.Run.{Run}
+use Rattle.run_tree.specs.declared.run.Run.{Run}
 use Rattle.run_set.specs.Runs.{inside, contains, Spaced}
 use Rattle.run_set.specs.Fits.{Fits, IsLeastFit, IsLongest}
 use Rattle.run_set.specs.Clipped.{IsClipped}
-use Rattle.run_set.specs.Shape.{room_of}
-use Rattle.run_set.specs.Searches.{none, run_at, SeeksTo, RoomsTo, IsMost}
+use Rattle.run_tree.specs.Shape.{room_of}
+use Rattle.run_tree.specs.Searches.{none, run_at, SeeksTo, RoomsTo, IsMost}
 use Rattle.run_set.specs.Best.{IsBest}
 use Rattle.run_set.proofs.RunLemmas.{inside_true, true_inside, le_or_lt, not_both}
 use Rattle.run_set.proofs.PartLemmas.{ends_in, inside_all}

@@ -1,12 +1,12 @@
 ghost use Rattle.std.specs.Prelude.{◌≡◌, ℕ, ◌+◌, ◌^◌, ◌<◌, ◌≤◌, ◌⊎◌};
 ghost use Rattle.run_set.specs.Kept.{runs_of, IsKept};
-ghost use Rattle.run_set.specs.Searches.{run_at};
+ghost use Rattle.run_tree.specs.Searches.{run_at};
 ghost use Rattle.run_set.specs.Best.{IsBest};
 
 use crate::clip::clipped;
 use crate::places::RunPlace;
-use crate::run::Run;
 use crate::set::RunSet;
+use run_tree::Run;
 use vsm_elements::Elements;
 
 impl RunSet {

@@ -8,8 +8,8 @@ ghost use Rattle.run_set.specs.Fits.{Fits, IsLeastFit, IsLongest};
 
 use crate::clip::clipped;
 use crate::places::RunPlace;
-use crate::run::{Cover, Run};
-use crate::tree::RunTree;
+use crate::run::Cover;
+use run_tree::{Run, RunTree};
 use vsm_elements::Elements;
 
 /// The head of a set of numbers below 2^29, whose maximal runs stand in elements.

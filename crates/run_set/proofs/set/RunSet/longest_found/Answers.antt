@@ -1,7 +1,7 @@
 use Rattle.std.proofs.Common.{◌≡◌, max, arith}
 use Rattle.std.proofs.lemmas.Grind.{common_steps}
 use Rattle.run_set.specs.Kept.{runs_of}
-use Rattle.run_set.proofs.TreeLemmas.{length-any}
+use Rattle.run_tree.proofs.TreeLemmas.{length-any}
 use Rattle.run_set.proofs.RoomLemmas.{whole_between, found_none, found_first, found_middle, found_last}
 use Rattle.run_set.proofs.set.RunSet.longest_found.Goals as goal
 

@@ -2,7 +2,7 @@ use Rattle.std.proofs.Common.{◌≡◌, ℕ, false, ◌⊎◌, inl, inr, arith,
 use Rattle.std.proofs.lemmas.Bool.{eqb-true}
 use Rattle.run_set.specs.Kept.{runs_of}
 use Rattle.run_set.proofs.RunLemmas.{not_both}
-use Rattle.run_set.proofs.TreeLemmas.{length-any}
+use Rattle.run_tree.proofs.TreeLemmas.{length-any}
 use Rattle.run_set.proofs.RoomLemmas.{best_between}
 use Rattle.run_set.proofs.set.RunSet.room_between.Goals as goal
 

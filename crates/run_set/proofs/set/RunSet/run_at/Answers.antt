@@ -1,7 +1,7 @@
 use Rattle.std.proofs.Common.{sym, arith}
 use Rattle.run_set.specs.RunSet.{runs}
 use Rattle.run_set.specs.Kept.{runs_of}
-use Rattle.run_set.proofs.TreeLemmas.{length-any}
+use Rattle.run_tree.proofs.TreeLemmas.{length-any}
 use Rattle.run_set.proofs.PlaceLemmas.{get_past}
 use Rattle.run_set.proofs.set.RunSet.run_at.Goals as goal
 

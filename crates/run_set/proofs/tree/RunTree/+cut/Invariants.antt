@@ -1,4 +1,0 @@
-use Rattle.run_set.proofs.tree.RunTree.+cut.Given as goal
-
-abbrev pub decreases-cut : goal.decreases-cut
-decreases-cut l = l.self.count

@@ -1,4 +1,0 @@
-use Rattle.run_set.proofs.tree.RunTree.+discard.Given as goal
-
-abbrev pub decreases-discard : goal.decreases-discard
-decreases-discard l = l.self.count

@@ -1,4 +1,0 @@
-use Rattle.run_set.proofs.tree.RunTree.+first_room.Given as goal
-
-abbrev pub decreases-first_room : goal.decreases-first_room
-decreases-first_room l = l.self.count

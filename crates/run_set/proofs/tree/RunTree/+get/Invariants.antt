@@ -1,4 +1,0 @@
-use Rattle.run_set.proofs.tree.RunTree.+get.Given as goal
-
-abbrev pub decreases-get : goal.decreases-get
-decreases-get l = l.self.count

@@ -1,4 +1,0 @@
-use Rattle.run_set.proofs.tree.RunTree.+put.Given as goal
-
-abbrev pub decreases-put : goal.decreases-put
-decreases-put l = l.self.count

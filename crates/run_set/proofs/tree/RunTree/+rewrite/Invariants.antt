@@ -1,4 +1,0 @@
-use Rattle.run_set.proofs.tree.RunTree.+rewrite.Given as goal
-
-abbrev pub decreases-rewrite : goal.decreases-rewrite
-decreases-rewrite l = l.self.count

@@ -1,4 +1,0 @@
-use Rattle.run_set.proofs.tree.RunTree.+seek.Given as goal
-
-abbrev pub decreases-seek : goal.decreases-seek
-decreases-seek l = l.self.count

@@ -1,4 +1,0 @@
-use Rattle.run_set.proofs.tree.RunTree.+split.Given as goal
-
-abbrev pub decreases-split : goal.decreases-split
-decreases-split l = l.self.count
