@@ -12,7 +12,7 @@ function subpoolRow(view, subpool) {
 }
 
 export function subpoolsPart(view) {
-  const element = make('div', {}), heads = ['subpool', 'pages', 'taken', 'free', 'shared by'];
+  const element = make('div', {}), heads = ['subpool', 'pages', 'taken', 'free', 'sharers'];
   const head = make('tr', {}, ...heads.map((it, k) => make('th', { scope: 'col', class: k % 4 ? null : 'text' }, it)));
   const draw = () => element.replaceChildren(panel('Subpools', make('table', {}, head, ...view.moment.state.subpools.map(it => subpoolRow(view, it)))));
   return { element, draw };
