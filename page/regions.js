@@ -1,5 +1,5 @@
 // The two regions: a row for each page that is assigned at any time of the run, so that rows keep their places.
-import { colourOf, count, hex, make, tag } from './elements.js';
+import { colourOf, count, grouped, hex, make, tag } from './elements.js';
 import { drawingOf } from './drawing.js';
 import { PAGE } from './map.js';
 
@@ -52,7 +52,7 @@ export function regionsPart(view) {
     }
     if (to < pages.length) jump(pages.length - to, 'above these addresses', pages[to]);
     else gap(first + size - next, 'never assigned');
-    return make('section', { class: 'region', 'aria-label': name }, make('h2', {}, name, make('span', {}, `${assigned} of ${count(size, 'page')} assigned`)), ...list);
+    return make('section', { class: 'region', 'aria-label': name }, make('h2', {}, name, make('span', {}, `${grouped(assigned)} of ${count(size, 'page')} assigned`)), ...list);
   }
   /** Scrolls to the chosen row, where the regions are scrolled by themselves and it's out of sight. */
   function reveal() {
