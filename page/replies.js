@@ -11,23 +11,23 @@ export function kindOf(reply) {
   return isKept(reply) ? 'kept' : 'shown';
 }
 
-/** Which statements stand behind these replies, and which are undone. A kept one pushes; a step tells how many changes
-    are kept then, and pops or pushes back as many. */
+/** Which statements stand behind these replies, and which can be made again. A kept one pushes; a step tells how many
+    changes are kept then, and pops or pushes back as many. */
 export function standing(replies, limit) {
-  const stand = [], undone = [];
+  const stand = [], again = [];
   let kept = 0;
   replies.forEach((reply, k) => {
     if (isKept(reply)) {
       stand.push(k);
-      undone.length = 0;
+      again.length = 0;
       kept = Math.min(kept + 1, limit);
     } else if (reply.startsWith('KEPT=')) {
       const now = +reply.slice(5);
-      for (; kept > now; kept--) undone.push(stand.pop());
-      for (; kept < now; kept++) stand.push(undone.pop());
+      for (; kept > now; kept--) again.push(stand.pop());
+      for (; kept < now; kept++) stand.push(again.pop());
     }
   });
-  return { stand, undone };
+  return { stand, again };
 }
 
 /** The address of what a reply grants, and its length; a cell has none in its reply. */

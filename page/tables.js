@@ -40,9 +40,9 @@ const barOf = (whole, ...parts) => make('div', { class: 'share', 'aria-hidden': 
 export function totalsPart(view) {
   const element = make('div', {});
   function draw() {
-    const { state, undone } = view.moment;
+    const { state, again } = view.moment;
     element.replaceChildren(
-      panel('History', barOf(state.limit, state.kept, undone.size), make('p', {}, `${grouped(state.kept)} kept of at most ${grouped(state.limit)}, ${grouped(undone.size)} undone`)),
+      panel('History', barOf(state.limit, state.kept, again), make('p', { class: 'history' }, `${grouped(state.kept)} kept of at most ${grouped(state.limit)}, ${grouped(again)} undone`)),
       panel('Bytes', barOf(state.taken + state.free, state.taken), make('p', { class: 'bytes' }, `${count(state.taken, 'byte')} taken, ${count(state.free, 'byte')} free`)));
   }
   return { element, draw };

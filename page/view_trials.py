@@ -27,6 +27,7 @@ TOP = HERE.parent
 TOOL = TOP / "tools" / "vsm-view"
 READY = "document.querySelector('.where')?.textContent || document.querySelector('.sentence[role=alert]')"
 SENTENCE = "document.querySelector('.sentence')?.innerText ?? ''"
+STILL = {"prefers_reduced_motion": "reduce"}  # nothing is waited for then
 UNIT = 8
 MOST_STEPS = 200     # of a page whose drawings are summed up
 WIDE, ROWS = 64, 8   # of the chosen page, in doublewords
@@ -47,7 +48,8 @@ async steps => {
     slider.dispatchEvent(new Event('input'));
     await new Promise(done => requestAnimationFrame(() => requestAnimationFrame(done)));
     const rows = [...document.querySelectorAll('.page')].filter(row => row.querySelector('svg')), lens = document.querySelector('.lens');
-    all.push({ said: document.querySelector('.said strong')?.textContent, totals: document.querySelector('.bytes').textContent,
+    const numbers = kind => [...document.querySelectorAll(`.line${kind} .number`)].map(it => +it.textContent);
+    all.push({ lines: numbers(''), undone: numbers('.undone'), history: document.querySelector('.history').textContent, said: document.querySelector('.said strong')?.textContent, totals: document.querySelector('.bytes').textContent,
       pages: Object.fromEntries(rows.map(row => [row.dataset.page, drawing(row.querySelector('svg'))])),
       chosen: document.querySelector('.page[aria-pressed=true]')?.dataset.page ?? null, lens: lens.hidden ? null : drawing(lens.querySelector('svg')) });
   }
@@ -106,8 +108,8 @@ class Page:
         return self.answers[:self.data["skipped"]] + self.shown[:step]
 
 
-def standing(told: Iterable[Answer], limit: int) -> list[Answer]:
-    """The kept answers that aren't undone, oldest first: a list of all kept ones, and how many of it stand."""
+def history(told: Iterable[Answer], limit: int) -> tuple[list[Answer], list[Answer]]:
+    """The kept answers that stand, oldest first, and those that can be made again."""
     kept: list[Answer] = []
     stand = count = 0
     for answer in told:
@@ -116,13 +118,13 @@ def standing(told: Iterable[Answer], limit: int) -> list[Answer]:
             stand, count = stand + 1, min(count + 1, limit)
         elif answer.kept is not None:
             stand, count = stand + answer.kept - count, answer.kept
-    return kept[:stand]
+    return kept[:stand], kept[stand:]
 
 
-def owners(told: list[Answer], limit: int) -> dict[int, int]:
+def owners(stand: list[Answer]) -> dict[int, int]:
     """By doubleword, which of the standing statements obtained it last."""
     painted: dict[int, int] = {}
-    for number, answer in enumerate(standing(told, limit)):
+    for number, answer in enumerate(stand):
         found = re.fullmatch(r"RC=0 A=([0-9A-F]{8}) L=([0-9A-F]{8})", answer.text)
         if found:
             first, length = (int(word, 16) // UNIT for word in found.groups())
@@ -173,7 +175,8 @@ def try_drawing(trials: Trials, page: Page, step: int, drawn: dict[str, Any]) ->
     sums = {kind: sum(flat(it[kind]) for it in strips.values()) for kind in wanted}
     trials.equal(f"step {step}: the bytes that are drawn", sums, wanted)
     trials.equal(f"step {step}: the totals", drawn["totals"].replace(",", ""), f"{state.taken} byte{'s' * (state.taken != 1)} taken {state.free} byte{'s' * (state.free != 1)} free")
-    edges = wanted_edges(state, owners(told, state.history))
+    stand, _ = history(told, state.history)
+    edges = wanted_edges(state, owners(stand))
     trials.equal(f"step {step}: the lines between areas", {number: places(it["edges"], PAGE // UNIT) for number, it in strips.items()}, edges)
     trials.equal(f"step {step}: the lines between cells", {number: places(it["ofcells"], PAGE // UNIT) for number, it in strips.items()},
                  {number: cell_edges(state, number, 1) for number in edges})
@@ -186,11 +189,28 @@ def try_drawing(trials: Trials, page: Page, step: int, drawn: dict[str, Any]) ->
         trials.equal(f"step {step}: the chosen page's cells", places(lens["ofcells"], WIDE), cell_edges(state, chosen, ROWS))
 
 
+def try_history(trials: Trials, page: Page, step: int, drawn: dict[str, Any]) -> None:
+    """What is struck through, as far as it's in sight, and what is told of the history."""
+    state, told = page.map_at(step), page.answers_to(step)
+    stand, again = history(told, state.history)
+    undone = {line_of(page, answer) for answer in told if answer.is_kept} - {line_of(page, answer) for answer in stand}
+    trials.equal(f"step {step}: the lines that are struck through", set(drawn["undone"]), undone & set(drawn["lines"]))
+    trials.equal(f"step {step}: the history", drawn["history"].replace(",", ""), f"{state.kept} kept of at most {state.history} {len(again)} undone")
+
+
+def line_of(page: Page, answer: Answer) -> int:
+    """The line of the script that an answer is of: the maps put in before it have lines of their own."""
+    at = page.answers.index(answer)
+    return answer.line - max(0, (at - page.data["skipped"] + 1) // 2)
+
+
 def try_drawings(trials: Trials, browser: Browser, page: Page) -> None:
     most = MOST_STEPS if page.steps <= 2 * MOST_STEPS else MOST_STEPS // 10
     steps = sorted({*range(0, page.steps + 1, max(1, page.steps // most)), page.steps})
     for step, drawn in zip(steps, browser.evaluate(f"({DRAWN})({json.dumps(steps)})")):
         try_drawing(trials, page, step, drawn)
+        if page.steps <= MOST_STEPS:
+            try_history(trials, page, step, drawn)
         if step:
             trials.equal(f"step {step}: the reply", drawn["said"], page.shown[step - 1].text)
 
@@ -315,12 +335,11 @@ def try_controls(trials: Trials, browser: Browser) -> None:
 def try_looks(trials: Trials, browser: Browser, page: Page) -> None:
     """Contrast, light and dark; narrow, forced colours, print, reduced motion."""
     for scheme in ("light", "dark"):
-        browser.media(prefers_color_scheme=scheme)
+        browser.media(prefers_color_scheme=scheme, **STILL)
         for key in ("Home", "End"):
             browser.key(key)
             trials.equal(f"{scheme}: the contrast of texts and controls", browser.evaluate(PALE), [])
         try_controls(trials, browser)
-    browser.media(prefers_color_scheme="light", prefers_reduced_motion="reduce")
     trials.equal("reduced motion", browser.evaluate("[...document.querySelectorAll('.run *')].filter(it => parseFloat(getComputedStyle(it).transitionDuration) > 0).length"), 0)
     browser.media(forced_colors="active")
     forced = browser.evaluate("""(() => { const of = (part, what) => { const it = document.querySelector(part); return it && getComputedStyle(it)[what]; };
@@ -359,6 +378,7 @@ def try_page(trials: Trials, browser: Browser, path: Path, looks: bool = True) -
     page = Page.of(path)
     trials.subject = path.name
     address = path.resolve().as_uri()
+    browser.media(**STILL)
     try_address(trials, browser, page, address)
     browser.open(address, READY)
     browser.settle()
@@ -394,6 +414,25 @@ ODD: dict[str, bytes] = {
     "bytes above 127": b"* \xc4\xe9\xff\x00\x07\x1b\r\n STORAGE OBTAIN,LENGTH=8,ADDR=P  \xe4\r\n PEEK P,8\r\n",
     "ends within a statement": b" STORAGE OBTAIN,LENGTH=8\n STORAGE OBTAIN,".ljust(96) + b"X",
     "ends within remarks": b" STORAGE OBTAIN,LENGTH=8".ljust(71) + b"X\n",
+    "areas that come again": b"""\
+ STORAGE OBTAIN,LENGTH=16,SP=1,ADDR=A
+ STORAGE OBTAIN,LENGTH=16,SP=1,ADDR=B
+ STORAGE OBTAIN,LENGTH=16,SP=1,ADDR=C
+ STORAGE RELEASE,LENGTH=16,ADDR=A,SP=1
+ STORAGE RELEASE,LENGTH=16,ADDR=B,SP=1
+ STORAGE OBTAIN,LENGTH=32,SP=1
+ BACK 2
+ STORAGE OBTAIN,LENGTH=8,SP=1
+ STORAGE OBTAIN,LENGTH=4096,SP=1,BNDRY=PAGE
+ BACK 2
+ FORWARD 1
+ STORAGE OBTAIN,LENGTH=6000,SP=1,COND=YES
+ STORAGE RELEASE,LENGTH=8,ADDR=C,SP=1
+ STORAGE OBTAIN,LENGTH=8,SP=1
+ GETMAIN RU,LV=5000,SP=2,LOC=31
+ BACK 4
+ FORWARD 2
+""",
     "dropped lines": (b" STORAGE OBTAIN,".ljust(71) + b"X\nNO BLANKS".ljust(72) + b"X\n AND ONE MORE\n MAP\n"),
 }
 
