@@ -1,4 +1,5 @@
-// What is shown at a step: the states before and behind its statement, and what follows from the replies up to it.
+// What is shown at a step: the states before and behind its statement, and what follows from the replies up
+// to it.
 import { areaOf, isKept, partings, standing } from './replies.js';
 import { pagesOf } from './storage.js';
 
@@ -18,11 +19,14 @@ function undoneOf(run, { replies, stand }) {
 function grantedAt(run, step, state) {
   const area = areaOf(run.statement(step).reply);
   if (!area) return null;
-  const pool = state.pools.find(it => it.extents.some(([first, length]) => area.from >= first && area.from < first + length));
+  const pool = state.pools.find(
+    it => it.extents.some(([first, length]) => area.from >= first && area.from < first + length)
+  );
   return { from: area.from, to: area.from + (area.length || (pool?.size ?? 8)) };
 }
 
-/** The moment behind a step's statement. Where nothing changed is asked for (`still`), none is granted and none changed. */
+/** The moment behind a step's statement. Where nothing changed is asked for (`still`), none is granted and
+    none changed. */
 export function momentOf(run, step, still) {
   const now = sideOf(run, step), before = step && !still ? sideOf(run, step - 1) : now;
   return {
