@@ -31,7 +31,7 @@ class BrowserFault(Exception):
 
 
 def installed(package: str, programs: Sequence[str]) -> str:
-    """The path of the first of these programs; where none is there the package is installed, if this runs as root."""
+    """The path of the first of these programs; their package is installed where none is there, as root."""
     found = next(filter(None, map(shutil.which, programs)), None)
     if not found and os.geteuid() == 0:
         for words in (["update", "-qq"], ["install", "-y", "-qq", package]):
@@ -66,7 +66,7 @@ class Browser:
         self.of, from_write = os.pipe()
 
         def pipes() -> None:
-            # The browser reads at 3 and writes at 4; both are moved away first, so that neither closes the other.
+            # The browser reads at 3 and writes at 4; both are moved away, so that neither closes the other.
             high = [os.dup(it) for it in (to_read, from_write)]
             high = [it if it > 4 else os.dup(it) for it in high]
             os.dup2(high[0], 3)

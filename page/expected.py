@@ -1,7 +1,7 @@
 """What a page has to show, worked out from the page's data without the page's own script.
 
-Where areas that touch are parted is found in another way than the page does: each accepted statement that obtains paints
-its doublewords, and a line stands where two neighbours were painted by two statements.
+Where areas that touch are parted is found in another way than the page does: each accepted statement that
+obtains paints its doublewords, and a line stands where two neighbours were painted by two statements.
 """
 from __future__ import annotations
 
@@ -102,7 +102,7 @@ def area_edges(state: Map, painted: dict[int, int]) -> dict[int, set[float]]:
 
 
 def cells_of(pool: CellPool) -> list[int]:
-    """The addresses of a pool's cells; an extent's length is rounded up, so that the counts say how many there are."""
+    """The addresses of a pool's cells: as many as the counts say, since an extent's length is rounded up."""
     counts = [pool.secondary if number else pool.primary for number in range(len(pool.extents))]
     return [extent.start + k * pool.size for extent, count in zip(pool.extents, counts) for k in range(count)]
 

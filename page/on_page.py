@@ -23,7 +23,8 @@ def probed(call: str) -> str:
     return f"(() => {{ {(HERE / 'probe.js').read_text(encoding='utf-8')}; return probe.{call}; }})()"
 
 
-PALE = probed("pale()")
+FRAMED = ".run .bar button, .run .task button, .run .ask"
+PALE = probed(f"pale(document.querySelector('.run'), '{FRAMED}')")
 
 
 def text_of(browser: Browser, part: str) -> str:
@@ -215,6 +216,8 @@ def try_question(trials: Trials, browser: Browser, page: Page, step: int) -> Non
     )
     totals = told["totals"].replace(",", "")
     trials.want(f"the storage before {step} is shown", totals.startswith(f"{before.taken} byte"), totals)
+    assigned = before.low_assigned + before.high_assigned
+    trials.want(f"no page is told that comes by {step}", told["rows"] <= assigned, told["rows"])
     browser.key("]")
     trials.equal("no hidden refusal is looked up", step_of(browser), step)
     browser.key("Enter")

@@ -1,7 +1,8 @@
 // What trials ask of a page: what is drawn there, and how it looks. It's given to the browser as it stands.
 const probe = {
   /** The boxes of a path: from and to, in doublewords, and the row. */
-  boxes: path => [...path.getAttribute('d').matchAll(/M([\d.]+) (\d+)H([\d.]+)/g)].map(it => [+it[1], +it[2], +it[3]]),
+  boxes: path => [...path.getAttribute('d').matchAll(/M([\d.]+) (\d+)H([\d.]+)/g)]
+    .map(it => [+it[1], +it[2], +it[3]]),
 
   /** The lines of a path: the doubleword before which each stands, and the row. */
   edges: path => [...path.getAttribute('d').matchAll(/M([\d.]+) (\d+)v1/g)].map(it => [+it[1], +it[2]]),
@@ -46,15 +47,17 @@ const probe = {
 
   /** All places where an answer could be told. */
   told: () => ({
-    replies: [...document.querySelectorAll('.line .reply')].map(it => it.textContent).filter(it => it && it !== '?'),
+    replies: [...document.querySelectorAll('.line .reply')].map(it => it.textContent)
+      .filter(it => it && it !== '?'),
     said: document.querySelector('.said').innerText,
     live: document.querySelector('[aria-live]').textContent,
     value: document.querySelector('.time input').getAttribute('aria-valuetext'),
     ticks: document.querySelectorAll('.ticks path').length,
+    rows: document.querySelectorAll('.page').length,
     totals: document.querySelector('.bytes').textContent,
   }),
 
-  /** How often colours over each other, the lowest first, stand out from a ground of such: the ratio of WCAG. */
+  /** How far colours, the lowest first, stand out from a ground of such: the ratio of WCAG. */
   contrast(over, ground) {
     const canvas = document.createElement('canvas').getContext('2d', { willReadFrequently: true });
     const light = layers => {
@@ -78,24 +81,26 @@ const probe = {
     return layers;
   },
 
-  /** Texts, icons and frames of controls that stand out too little. */
-  pale() {
+  /** Texts and icons in an element, and the frames of some controls, that stand out too little. */
+  pale(root, framed) {
     const pale = [], known = new Map();
     const seen = it => it.getClientRects().length && it.checkVisibility() && !it.closest('.unseen');
     const judge = (it, colour, ground, least) => {
       const key = [colour, ...ground].join();
       if (!known.has(key)) known.set(key, probe.contrast([colour], ground));
-      if (known.get(key) < least) pale.push([it.getAttribute('class'), it.textContent.slice(0, 30), known.get(key)]);
+      const has = known.get(key);
+      if (has < least) pale.push([it.getAttribute('class'), it.textContent.slice(0, 30), has]);
     };
-    const walk = document.createTreeWalker(document.querySelector('.run'), NodeFilter.SHOW_TEXT);
+    const walk = document.createTreeWalker(root, NodeFilter.SHOW_TEXT);
     while (walk.nextNode()) {
       const it = walk.currentNode.parentElement;
-      if (walk.currentNode.data.trim() && seen(it)) judge(it, getComputedStyle(it).color, probe.ground(it), 4.5);
+      if (!walk.currentNode.data.trim() || !seen(it)) continue;
+      judge(it, getComputedStyle(it).color, probe.ground(it), 4.5);
     }
-    for (const it of document.querySelectorAll('.run .icon')) {
+    for (const it of root.querySelectorAll('.icon')) {
       judge(it, getComputedStyle(it).color, probe.ground(it.parentElement), 3);
     }
-    for (const it of document.querySelectorAll('.run :is(.bar button, .task button, .ask)')) {
+    for (const it of document.querySelectorAll(framed)) {
       if (seen(it)) judge(it, getComputedStyle(it).borderTopColor, probe.ground(it.parentElement), 3);
     }
     return pale;
@@ -115,8 +120,8 @@ const probe = {
   },
 
   /** What moves by itself. */
-  moving: () => [...document.querySelectorAll('.run *')].filter(it => parseFloat(getComputedStyle(it).transitionDuration) > 0)
-    .length,
+  moving: () => [...document.querySelectorAll('.run *')]
+    .filter(it => parseFloat(getComputedStyle(it).transitionDuration) > 0).length,
 
   /** Which of these can be seen. */
   visible: parts => parts.filter(it => document.querySelector(it).checkVisibility()),

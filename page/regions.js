@@ -1,5 +1,5 @@
 // The two regions: a row for each page that is assigned at any time of the run, so that rows keep their
-// places.
+// places. In the teacher's mode that would tell what comes: there only the pages of the moment have rows.
 import { colourOf, count, grouped, hex, make, tag } from './elements.js';
 import { drawingOf } from './drawing.js';
 import { PAGE } from './map.js';
@@ -53,6 +53,12 @@ export function regionsPart(view) {
     rows.set(number, { look, row });
     return row;
   }
+  /** The numbers of all pages that may have rows. */
+  function numbers() {
+    if (!view.teaching) return run.pages;
+    const { pages, pagesBefore } = view.moment;
+    return [...new Set([...pages.keys(), ...pagesBefore.keys()])].sort((a, b) => a - b);
+  }
   /** Which of a region's pages have rows: all, or as many as can be drawn round the chosen one. */
   function windowOf(pages) {
     if (pages.length <= MOST_ROWS) return [0, pages.length];
@@ -61,7 +67,8 @@ export function regionsPart(view) {
     return [first, first + MOST_ROWS];
   }
   function regionOf(name, first, size, assigned) {
-    const pages = run.pages.filter(it => it >= first && it < first + size);
+    const pages = numbers().filter(it => it >= first && it < first + size);
+    const unassigned = view.teaching ? 'not assigned' : 'never assigned';
     const [from, to] = windowOf(pages);
     const list = [];
     const gap = (pages, what) =>
@@ -74,12 +81,12 @@ export function regionsPart(view) {
     jump(from, 'below these addresses', pages[from - 1]);
     let next = from ? pages[from] : first;
     for (const page of pages.slice(from, to)) {
-      gap(page - next, 'never assigned');
+      gap(page - next, unassigned);
       list.push(rowOf(page));
       next = page + 1;
     }
     if (to < pages.length) jump(pages.length - to, 'above these addresses', pages[to]);
-    else gap(first + size - next, 'never assigned');
+    else gap(first + size - next, unassigned);
     return make(
       'section', { class: 'region', 'aria-label': name },
       make('h2', {}, name, make('span', {}, `${grouped(assigned)} of ${count(size, 'page')} assigned`)),

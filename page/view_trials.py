@@ -8,7 +8,6 @@ import re
 import subprocess
 import sys
 import tempfile
-from collections.abc import Iterable
 from importlib import machinery, util
 from pathlib import Path
 from types import ModuleType
@@ -189,11 +188,6 @@ def try_palette(trials: Trials) -> None:
         trials.want(f"{scheme}: contrast to the ground", min(colours.contrast(it, ground) for it in own) >= 3)
 
 
-def try_pages(trials: Trials, browser: Browser, pages: Iterable[Path]) -> None:
-    for page in pages:
-        try_page(trials, browser, page)
-
-
 def try_all(trials: Trials, browser: Browser, program: str) -> None:
     """The pages of all examples, of odd scripts, and of a long one."""
     try_palette(trials)
@@ -201,7 +195,8 @@ def try_all(trials: Trials, browser: Browser, program: str) -> None:
         folder = Path(name)
         scripts = sorted((TOP / "examples").glob("*.vsm"))
         pages = [made(program, script, folder / f"{script.stem}.html") for script in scripts]
-        try_pages(trials, browser, pages)
+        for page in pages:
+            try_page(trials, browser, page)
         try_odd(trials, browser, program, folder)
         try_damaged(trials, browser, pages[0], folder)
         try_lacks(trials, browser, pages[0])

@@ -25,8 +25,8 @@ MAP = """ TASK 1 PARENT 0 CURRENT
  BYTES TAKEN 0 FREE 0
  HISTORY KEPT 0 OF 1024
 """
-# Stands for vsm: each line is a statement, and is answered OPERATION but for a MAP; all lines behind one that has
-# 'within' in it belong to that. It answers otherwise behind the first MAP where a line has 'fickle' in it.
+# Stands for vsm: each line is a statement, and is answered OPERATION but for a MAP. All lines behind one that
+# has "within" in it belong to that; behind the first MAP a line with "fickle" in it is answered otherwise.
 STANDIN = f"""#!{sys.executable}
 import sys
 lines, number, maps = sys.stdin.read().split("\\n"), 0, 0
@@ -219,7 +219,7 @@ def test_too_many_bytes(tmp_path: Path) -> None:
     other = tmp_path / "long"
     other.write_text(
         f"#!{sys.executable}\nimport sys\n"
-        "if 'MAP' in sys.stdin.read():\n    while True:\n        sys.stdout.write('0000001 MAP\\n' * 100000)\n"
+        "while 'MAP' in sys.stdin.read():\n while True:\n  sys.stdout.write('0000001 MAP\\n' * 9999)\n"
     )
     other.chmod(0o755)
     script = tmp_path / "a.vsm"
