@@ -20,8 +20,8 @@ PROGRAMS = ("chromium", "chromium-browser", "google-chrome")
 SECONDS = 60  # the longest that one answer of the browser may take
 INSTALL_SECONDS = 600
 LIMIT = 1 << 20  # bytes that are read at once
-# Two frames, and the end of all transitions.
-DRAWN = """new Promise(done => requestAnimationFrame(() => requestAnimationFrame(done)))
+# The next frame, in which what was asked for before is drawn, and the end of all transitions.
+DRAWN = """new Promise(requestAnimationFrame)
   .then(() => Promise.all(document.getAnimations().map(it => it.finished.catch(() => null))))
   .then(() => true)"""
 

@@ -32,8 +32,9 @@ export function keysOf(view) {
     const { target } = event;
     const here =
       target === document.body || target === document.documentElement || view.container.contains(target);
-    if (!here || event.ctrlKey || event.altKey || event.metaKey || view.dialog.open || isOther(target))
-      return;
+    // Some keyboards have [ and ] behind AltGr, which is told as Ctrl and Alt too.
+    const isPlain = event.getModifierState('AltGraph') || !(event.ctrlKey || event.altKey || event.metaKey);
+    if (!here || !isPlain || view.dialog.open || isOther(target)) return;
     if (acts[event.key] && acts[event.key](event) !== false) event.preventDefault();
   };
 }

@@ -33,10 +33,8 @@ export function lensPart(view) {
   function readOut(page, svg, point, event) {
     const box = svg.getBoundingClientRect();
     const inside = (value, size, most) => Math.max(0, Math.min(most - 1, Math.floor(value / size * most)));
-    const place = page.page * PAGE +
-      UNIT *
-        (WIDE * inside(event.clientY - box.top, box.height, ROWS) +
-         inside(event.clientX - box.left, box.width, WIDE));
+    const row = inside(event.clientY - box.top, box.height, ROWS);
+    const place = page.page * PAGE + UNIT * (WIDE * row + inside(event.clientX - box.left, box.width, WIDE));
     const part = page.cells.find(it => place >= it.from && place < it.to) ??
       page.parts.find(it => place >= it.from && place < it.to);
     const { kind, names } = named(part);

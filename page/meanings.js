@@ -33,8 +33,8 @@ const capital = text => text && text[0].toUpperCase() + text.slice(1);
     tells statements apart, the parts are taken whose words stand in the statement; where none do, those
     without, else all. */
 export function meaningOf(reply, statement) {
-  const all = (BY_FORM.get(formOf(reply)) ?? []
-  ).flatMap(row => partsOfMeaning(row.meaning).map(part => ({...part, row })));
+  const rows = BY_FORM.get(formOf(reply)) ?? [];
+  const all = rows.flatMap(row => partsOfMeaning(row.meaning).map(part => ({ ...part, row })));
   if (!all.length) return { meaning: '', more: '' };
   const words = new Set(wordsOf(statement));
   const named = all.filter(it => it.labels?.some(label => label.every(word => words.has(word))));

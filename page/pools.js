@@ -3,6 +3,12 @@ import { colourOf, count, hex, make, panel, tag } from './elements.js';
 
 const SIDE = 12, IN_ROW = 22, NEXT = 4;
 
+/** How a cell is drawn, by its place among those that are free. */
+function kindOfCell(place) {
+  if (place === undefined) return 'cell';
+  return place ? 'freecell' : 'freecell next';
+}
+
 function extentOf(pool, [first, length], extent, order) {
   const cells = extent ? pool.secondary : pool.primary, wide = Math.min(cells, IN_ROW);
   const svg =
@@ -12,9 +18,7 @@ function extentOf(pool, [first, length], extent, order) {
     const place = order.get(first + k * pool.size);
     free += place !== undefined;
     svg.append(make('rect', {
-      class: place === undefined ? 'cell'
-        : place                  ? 'freecell'
-                                 : 'freecell next',
+      class: kindOfCell(place),
       x: 1.5 + k % IN_ROW * SIDE,
       y: 1.5 + Math.floor(k / IN_ROW) * SIDE,
       width: SIDE - 3,
@@ -32,9 +36,8 @@ function extentOf(pool, [first, length], extent, order) {
 
 function poolOf(run, pool) {
   const order = new Map(pool.free.map((at, k) => [at, k])), more = pool.free.length - NEXT;
-  const next = pool.free.length
-    ? `next: ${pool.free.slice(0, NEXT).map(hex).join(' ')}${more > 0 ? ` and ${more} more` : ''}`
-                                                                      : 'no cell is free';
+  const first = `next: ${pool.free.slice(0, NEXT).map(hex).join(' ')}${more > 0 ? ` and ${more} more` : ''}`;
+  const next = pool.free.length ? first : 'no cell is free';
   return make(
     'div', { class: 'pool', style: colourOf(run, pool.subpool) },
     make(

@@ -39,7 +39,7 @@ const probe = {
     for (const step of steps) {
       slider.value = step;
       slider.dispatchEvent(new Event('input'));
-      await new Promise(done => requestAnimationFrame(() => requestAnimationFrame(done)));
+      await new Promise(requestAnimationFrame); // the view has asked for this frame before, and draws first
       all.push(probe.shown());
     }
     return all;

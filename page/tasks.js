@@ -43,11 +43,9 @@ export function registersPart(view) {
   function draw() {
     const { task } = view;
     const was = view.moment.before.tasks.find(it => it.number === task.number)?.registers ?? [];
+    const wordOf = (word, number) => make('td', { class: was[number] === word ? null : 'changed' }, word);
     const cells = number =>
-      [make('th', { scope: 'row' }, `R${number}`),
-       make(
-         'td', { class: was[number] === task.registers[number] ? null : 'changed' }, task.registers[number]
-       )];
+      [make('th', { scope: 'row' }, `R${number}`), wordOf(task.registers[number], number)];
     const rows = Array.from({ length: 8 }, (_, k) => make('tr', {}, ...cells(k), ...cells(k + 8)));
     element.replaceChildren(panel(`Registers of task ${task.number}`, make('table', {}, ...rows)));
   }
