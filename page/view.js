@@ -1,0 +1,171 @@
+// A run, statement by statement. showRun is all that other pages need.
+import { make } from './elements.js';
+import { helpDialog } from './help.js';
+import { keysOf } from './keys.js';
+import { lensPart } from './lens.js';
+import { PAGE, Run } from './map.js';
+import { momentOf } from './moment.js';
+import { poolsPart } from './pools.js';
+import { legend, regionsPart } from './regions.js';
+import { saidPart, spoken } from './said.js';
+import { scriptPart } from './script.js';
+import { namesPart, subpoolsPart, totalsPart } from './tables.js';
+import { registersPart, tasksPart } from './tasks.js';
+import { transportPart } from './transport.js';
+import { kindOf } from './replies.js';
+
+const PLAY = 700, NOTE = 300; // milliseconds: between two statements; until the address is changed
+const LOWEST = 0x6000 / PAGE;
+let made = 0;
+
+/** What this browser lacks, as a sentence; or null. */
+function lackOf() {
+  const lacks = [typeof DecompressionStream === 'undefined' && 'DecompressionStream', !CSS.supports('color', 'light-dark(red, red)') && 'light-dark()'].filter(Boolean);
+  return lacks.length ? `This page shows a run of vsm, but this browser lacks ${lacks.join(' and ')}: Chrome 123, Firefox 120 and Safari 17.5 have what it needs.` : null;
+}
+
+/** The view of one run: where it stands, and its parts. */
+class View {
+  constructor(container, run, options) {
+    Object.assign(this, { container, run, options, id: `run-${++made}`, step: 0, told: run.steps, asked: 0, teaching: false, playing: null, chosen: null, picked: null, drawing: null, noting: null });
+    for (const act of ['play', 'ask', 'help']) this[act] = this[act].bind(this);
+    this.dialog = helpDialog();
+    this.live = make('div', { class: 'unseen', 'aria-live': 'polite' });
+    this.regions = regionsPart(this);
+    this.tasks = tasksPart(this);
+    this.script = scriptPart(this);
+    const said = saidPart(this), lens = lensPart(this), transport = transportPart(this), registers = registersPart(this), subpools = subpoolsPart(this), pools = poolsPart(this), names = namesPart(this), totals = totalsPart(this);
+    this.parts = [transport, this.script, said, this.regions, lens, this.tasks, registers, subpools, pools, names, totals];
+    container.classList.add('run');
+    container.replaceChildren(make('div', { class: 'stage' }, transport.element, make('div', { class: 'columns' }, this.script.element,
+      make('div', { class: 'storage' }, said.element, legend(), this.regions.element, lens.element),
+      make('div', { class: 'side', role: 'group', 'aria-label': 'Tasks, registers, subpools, cell pools and names' }, this.tasks.element, registers.element, subpools.element, pools.element, names.element, totals.element))), this.live, this.dialog);
+    this.listen();
+  }
+
+  listen() {
+    this.ending = new AbortController();
+    const { signal } = this.ending;
+    document.addEventListener('keydown', keysOf(this), { signal });
+    this.resizing = new ResizeObserver(() => this.moment && this.script.resize());
+    this.resizing.observe(this.script.element);
+    if (this.options.address) addEventListener('hashchange', () => this.followAddress(), { signal });
+  }
+
+  /** Ends it: no keys and no clock any more. The container is left as it is. */
+  close() {
+    this.ending.abort();
+    this.resizing.disconnect();
+    clearInterval(this.playing);
+    clearTimeout(this.noting);
+    cancelAnimationFrame(this.drawing);
+  }
+
+  /** To a statement; what comes faster than frames are shown is drawn once. */
+  go(to) {
+    this.step = Math.max(0, Math.min(this.run.steps, to));
+    this.picked = null;
+    this.drawing ??= requestAnimationFrame(() => this.draw());
+  }
+
+  draw() {
+    this.drawing = null;
+    this.told = this.teaching ? this.asked : this.run.steps;
+    const shown = Math.min(this.step, this.told);
+    const key = `${shown} ${shown < this.step}`;
+    if (this.moment?.key !== key) {
+      this.moment = { ...momentOf(this.run, shown, shown < this.step), key };
+      this.turn();
+    }
+    this.task = this.moment.state.tasks.find(it => it.number === this.picked) ?? this.moment.state.tasks.find(it => it.current);
+    for (const part of this.parts) part.draw();
+    const text = spoken(this);
+    if (this.live.textContent !== text) this.live.textContent = text;
+    this.note();
+  }
+
+  /** The page that is looked at near by: where something was granted, else where something changed, else the one before. */
+  turn() {
+    const { granted, pages, pagesBefore } = this.moment;
+    if (granted) this.chosen = Math.floor(granted.from / PAGE);
+    else if (!pages.has(this.chosen)) this.chosen = [...pages.keys()].find(it => pagesBefore.get(it)?.key !== pages.get(it).key) ?? [...pages.keys()][0] ?? LOWEST;
+  }
+
+  choose(page) {
+    this.chosen = page;
+    this.draw();
+    this.regions.focus();
+  }
+
+  pick(task) {
+    this.picked = task;
+    this.draw();
+    this.tasks.focus(task);
+  }
+
+  play() {
+    clearInterval(this.playing);
+    this.playing = this.playing ? null : setInterval(() => this.step < this.run.steps ? this.go(this.step + 1) : this.play(), PLAY);
+    this.draw();
+  }
+
+  help() {
+    this.dialog.showModal();
+  }
+
+  /** Teacher's mode on or off; switched on, the answers behind the statement that is shown are hidden. */
+  teach(asked = this.step) {
+    this.teaching = !this.teaching;
+    this.asked = asked;
+    this.draw();
+  }
+
+  /** Shows the answers up to the statement that is shown. */
+  ask() {
+    if (!this.teaching || this.step <= this.asked) return false;
+    this.asked = this.step;
+    this.draw();
+    this.script.element.focus({ preventScroll: true });
+    return true;
+  }
+
+  /** To the next statement, back or on, that was refused or answered 4; an answer that is hidden isn't looked at. */
+  seek(by) {
+    for (let step = this.step + by; step > 0 && step <= this.told; step += by) {
+      if (['refused', 'four'].includes(kindOf(this.run.statement(step).reply))) return this.go(step);
+    }
+  }
+
+  /** `#12` in the address is statement 12; `#teacher` is the teacher's mode, from the start. */
+  followAddress() {
+    if (location.hash === '#teacher') {
+      this.step = 0;
+      this.teaching = false;
+      this.teach(0);
+    } else this.go(parseInt(location.hash.slice(1), 10) || 0);
+  }
+
+  note() {
+    clearTimeout(this.noting);
+    if (this.options.address && !this.teaching) this.noting = setTimeout(() => history.replaceState(null, '', `#${this.step}`), NOTE);
+  }
+}
+
+/** Shows a run in an element, in place of what is there, and answers the view, whose close() ends it; null where there
+    is a sentence in its place. `data` has `name`, `options` (words), `script` (text), `skipped` (how many answers come
+    before the first map), and what vsm printed for the script with maps put in: `text`, or `output`, gzip'd and in
+    base64. Options: `address` keeps the statement in the page's address; `teacher` begins in the teacher's mode. */
+export async function showRun(container, data, options = {}) {
+  try {
+    const lack = lackOf();
+    if (lack) throw new Error(lack);
+    const view = new View(container, await Run.of(data), options);
+    if (options.teacher) view.teach(0);
+    else if (options.address) view.followAddress();
+    view.draw();
+    return view;
+  } catch (fault) {
+    container.replaceChildren(make('p', { class: 'sentence', role: 'alert' }, fault instanceof Error && fault.message || 'What vsm printed can’t be shown.'));
+    return null;
+  }
+}

@@ -1,0 +1,136 @@
+"""The frame of a tool: its words, one-line errors, files that are read, and what is written."""
+from __future__ import annotations
+
+import argparse
+import errno
+import os
+import sys
+from typing import Callable, NoReturn, Optional
+
+READ_OR_WRITE = 8  # the exit status where something couldn't be read, written or understood
+WORDS = 16         # the exit status where a word is wrong, or vsm isn't there
+MOST_INPUT = 256 << 20
+
+
+class Fault(Exception):
+    """What is wrong, in one line; with the file, line and column (both from 1) where it has such a place."""
+
+    def __init__(self, text: str, file: Optional[str] = None, line: Optional[int] = None,
+                 column: Optional[int] = None, status: int = READ_OR_WRITE) -> None:
+        super().__init__(text)
+        self.text, self.file, self.line, self.column, self.status = text, file, line, column, status
+
+    def __str__(self) -> str:
+        place = [str(part) for part in (self.file, self.line, self.column) if part is not None]
+        return one_line(": ".join([":".join(place), self.text] if place else [self.text]))
+
+
+def one_line(text: str) -> str:
+    """The text with every control character and line end shown as an escape."""
+    return "".join(c if c.isprintable() else c.encode("unicode_escape", "backslashreplace").decode() for c in text)
+
+
+class Words(argparse.ArgumentParser):
+    """A parser of words whose errors are faults of one line. Give it prog, description, and an example as epilog."""
+
+    def __init__(self, **given: object) -> None:
+        given.setdefault("formatter_class", argparse.RawDescriptionHelpFormatter)
+        given.setdefault("allow_abbrev", False)
+        super().__init__(**given)  # type: ignore[arg-type]
+
+    def error(self, message: str) -> NoReturn:
+        raise Fault("%s; %s --help tells the words" % (message, self.prog), status=WORDS)
+
+
+def say(name: str, text: str) -> None:
+    """One line on standard error; nothing where that is closed."""
+    try:
+        print("%s: %s" % (name, text), file=sys.stderr, flush=True)
+    except (OSError, ValueError, AttributeError):
+        pass
+
+
+def reason(fault: OSError) -> str:
+    """Why a system call failed, in words."""
+    return fault.strerror or os.strerror(fault.errno or errno.EIO)
+
+
+def read_input(path: Optional[str]) -> tuple[str, bytes]:
+    """The name and the bytes of a file; of standard input where the path is None or '-'."""
+    name = "standard input" if path in (None, "-") else str(path)
+    try:
+        if path in (None, "-"):
+            if sys.stdin is None:
+                raise Fault("it's closed", name)
+            data = sys.stdin.buffer.read(MOST_INPUT + 1)
+        else:
+            with open(str(path), "rb") as file:
+                data = file.read(MOST_INPUT + 1)
+    except (OSError, ValueError) as fault:
+        raise Fault("can't be read: %s" % (reason(fault) if isinstance(fault, OSError) else fault), name) from None
+    if len(data) > MOST_INPUT:
+        raise Fault("it has more than %d MiB" % (MOST_INPUT >> 20), name)
+    return name, data
+
+
+def write(text: str) -> None:
+    """Writes to standard output."""
+    if sys.stdout is None:
+        raise Fault("standard output is closed")
+    sys.stdout.write(text)
+
+
+def silence_output() -> None:
+    """Gives standard output away, so that what is still gathered isn't tried again at the end."""
+    try:
+        nowhere = os.open(os.devnull, os.O_WRONLY)
+        os.dup2(nowhere, 1)
+        os.close(nowhere)
+    except OSError:
+        pass
+
+
+def guarded(name: str, main: Callable[[list[str]], int], words: list[str]) -> int:
+    """The exit status of main(words): faults, a full disk and a closed pipe end it in at most one line."""
+    try:
+        status = main(words)
+        if sys.stdout is not None:
+            sys.stdout.flush()
+        return status
+    except Fault as fault:
+        say(name, str(fault))
+        return flushed(fault.status)
+    except BrokenPipeError:
+        silence_output()
+        return READ_OR_WRITE
+    except OSError as fault:
+        silence_output()
+        say(name, "%s: %s" % (fault.filename or "can't write", reason(fault)))
+        return READ_OR_WRITE
+    except KeyboardInterrupt:
+        silence_output()
+        return 130
+    except RecursionError:
+        say(name, "what was given is nested too deeply")
+        return READ_OR_WRITE
+    except MemoryError:
+        say(name, "there isn't memory enough")
+        return WORDS
+
+
+def flushed(status: int) -> int:
+    """The status, once what was written before a fault is out, or can't be got out."""
+    try:
+        if sys.stdout is not None:
+            sys.stdout.flush()
+    except OSError:
+        silence_output()
+    return status
+
+
+def run_command(name: str, main: Callable[[list[str]], int]) -> NoReturn:
+    """Ends the process with what main answers to the words of the command line: the last line of each tool."""
+    for stream in (sys.stdout, sys.stderr):
+        if stream is not None:
+            stream.reconfigure(encoding="utf-8", errors="backslashreplace")  # type: ignore[union-attr]
+    sys.exit(guarded(name, main, sys.argv[1:]))

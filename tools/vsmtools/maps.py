@@ -1,0 +1,237 @@
+"""The lines of a MAP as data, and back."""
+from __future__ import annotations
+
+import re
+from dataclasses import dataclass, field
+from typing import Callable, NoReturn, Optional, Sequence
+
+from .command import Fault
+
+PAGE = 4096
+LOW_START = 0x6000        # where the region below the 16 MB line begins
+HIGH_START = 0x8000000    # and the one above
+
+
+@dataclass(frozen=True)
+class Area:
+    """An address and a length in bytes."""
+    start: int
+    length: int
+
+    @property
+    def end(self) -> int:
+        return self.start + self.length
+
+
+@dataclass
+class Task:
+    number: int
+    parent: int
+    is_current: bool
+    registers: list[int] = field(default_factory=list)
+    line: int = 0
+
+
+@dataclass
+class Subpool:
+    number: int
+    owner: int
+    sharers: list[int]
+    extents: list[Area] = field(default_factory=list)
+    free: list[Area] = field(default_factory=list)
+    line: int = 0
+
+
+@dataclass
+class CellPool:
+    name: str
+    subpool: int
+    owner: int
+    size: int
+    primary: int
+    secondary: int
+    location: int             # 24: below the line, 31: either side
+    header: Optional[str]
+    extents: list[Area] = field(default_factory=list)
+    free_cells: list[int] = field(default_factory=list)
+    line: int = 0
+
+    @property
+    def cells(self) -> list[int]:
+        """The addresses of all cells, extent by extent."""
+        return [extent.start + k * self.size for extent in self.extents for k in range(extent.length // self.size)]
+
+
+@dataclass
+class Name:
+    name: str
+    word: int
+    line: int = 0
+
+
+@dataclass
+class Map:
+    """All that a MAP shows. Of each part `line` is where its first line stands, from 1."""
+    tasks: list[Task] = field(default_factory=list)
+    subpools: list[Subpool] = field(default_factory=list)
+    cell_pools: list[CellPool] = field(default_factory=list)
+    low_assigned: int = 0
+    low_pages: int = 0
+    high_assigned: int = 0
+    high_pages: int = 0
+    taken: int = 0
+    free: int = 0
+    names: list[Name] = field(default_factory=list)
+    kept: int = 0
+    history: int = 0
+    pages_line: int = 0
+    bytes_line: int = 0
+    history_line: int = 0
+
+    def subpool(self, number: int, owner: int) -> Optional[Subpool]:
+        return next((it for it in self.subpools if (it.number, it.owner) == (number, owner)), None)
+
+
+HEX, NUMBER, NAME = r"([0-9A-F]{8})", r"(0|[1-9][0-9]{0,9})", r"([A-Z$#@_][A-Z0-9$#@_]{0,62})"
+PATTERNS = {
+    "TASK": re.compile(" TASK %s PARENT %s( CURRENT)?" % (NUMBER, NUMBER)),
+    "R0": re.compile("  R0" + (" " + HEX) * 8),
+    "R8": re.compile("  R8" + (" " + HEX) * 8),
+    "SUBPOOL": re.compile(" SUBPOOL %s OWNER %s SHARERS (NONE|[0-9]+(?:,[0-9]+)*)" % (NUMBER, NUMBER)),
+    "EXTENT": re.compile("  EXTENT %s %s" % (HEX, HEX)),
+    "FREE": re.compile("  FREE %s %s" % (HEX, HEX)),
+    "CELLPOOL": re.compile(" CELLPOOL %s SUBPOOL %s OWNER %s SIZE %s PRIMARY %s SECONDARY %s LOC (24|31)"
+                           "(?: HDR '([ -~]{1,24})')?" % ((NAME,) + (NUMBER,) * 5)),
+    "FREECELL": re.compile("  FREECELL " + HEX),
+    "PAGES": re.compile(" PAGES LOW %s OF %s HIGH %s OF %s" % ((NUMBER,) * 4)),
+    "BYTES": re.compile(" BYTES TAKEN %s FREE %s" % (NUMBER, NUMBER)),
+    "NAME": re.compile(" NAME %s %s" % (NAME, HEX)),
+    "HISTORY": re.compile(" HISTORY KEPT %s OF %s" % (NUMBER, NUMBER)),
+}
+# What can stand behind a line of each kind; "" is the map's begin.
+FOLLOWS = {
+    "": "TASK", "TASK": "R0", "R0": "R8", "R8": "TASK SUBPOOL CELLPOOL PAGES",
+    "SUBPOOL": "EXTENT SUBPOOL CELLPOOL PAGES", "EXTENT": "EXTENT FREE SUBPOOL CELLPOOL PAGES",
+    "FREE": "FREE SUBPOOL CELLPOOL PAGES", "CELLPOOL": "POOLEXTENT",
+    "POOLEXTENT": "POOLEXTENT FREECELL CELLPOOL PAGES", "FREECELL": "FREECELL CELLPOOL PAGES",
+    "PAGES": "BYTES", "BYTES": "NAME HISTORY", "NAME": "NAME HISTORY", "HISTORY": "",
+}
+
+
+class Reader:
+    """Takes the lines of one map in turn."""
+
+    def __init__(self, source: str, first: int) -> None:
+        self.map, self.source, self.line, self.before = Map(), source, first - 1, ""
+
+    def fault(self, text: str, column: int = 1) -> NoReturn:
+        raise Fault(text, self.source, self.line, column)
+
+    def take(self, line: str) -> None:
+        self.line += 1
+        kind = line.split(" ")[1:3]
+        word = next((it for it in kind if it), "")
+        follows = FOLLOWS[self.before].split()
+        known = "POOLEXTENT" if word == "EXTENT" and "POOLEXTENT" in follows else word
+        if word not in PATTERNS:
+            self.fault("no line of a map: '%s'" % line[:60])
+        if known not in follows:
+            self.fault("a line %s can't stand here: expected %s" % (word, " or ".join(follows) or "the map's end"))
+        found = PATTERNS[word].fullmatch(line)
+        if not found:
+            self.fault("not a whole line %s of a map: '%s'" % (word, line[:60]))
+        self.before = known
+        TAKERS[known](self, found)
+
+    def task(self, found: re.Match[str]) -> None:
+        self.map.tasks.append(Task(int(found[1]), int(found[2]), bool(found[3]), line=self.line))
+
+    def registers(self, found: re.Match[str]) -> None:
+        self.map.tasks[-1].registers += [int(word, 16) for word in found.groups()]
+
+    def subpool(self, found: re.Match[str]) -> None:
+        sharers = [] if found[3] == "NONE" else [int(it) for it in found[3].split(",")]
+        self.map.subpools.append(Subpool(int(found[1]), int(found[2]), sharers, line=self.line))
+
+    def extent(self, found: re.Match[str]) -> None:
+        self.map.subpools[-1].extents.append(area_of(found))
+
+    def free(self, found: re.Match[str]) -> None:
+        self.map.subpools[-1].free.append(area_of(found))
+
+    def cell_pool(self, found: re.Match[str]) -> None:
+        numbers = [int(it) for it in found.groups()[1:7]]
+        self.map.cell_pools.append(CellPool(found[1], *numbers, found[8], line=self.line))
+
+    def pool_extent(self, found: re.Match[str]) -> None:
+        self.map.cell_pools[-1].extents.append(area_of(found))
+
+    def free_cell(self, found: re.Match[str]) -> None:
+        self.map.cell_pools[-1].free_cells.append(int(found[1], 16))
+
+    def pages(self, found: re.Match[str]) -> None:
+        it = self.map
+        it.low_assigned, it.low_pages, it.high_assigned, it.high_pages = (int(word) for word in found.groups())
+        it.pages_line = self.line
+
+    def bytes(self, found: re.Match[str]) -> None:
+        self.map.taken, self.map.free, self.map.bytes_line = int(found[1]), int(found[2]), self.line
+
+    def name(self, found: re.Match[str]) -> None:
+        self.map.names.append(Name(found[1], int(found[2], 16), self.line))
+
+    def history(self, found: re.Match[str]) -> None:
+        self.map.kept, self.map.history, self.map.history_line = int(found[1]), int(found[2]), self.line
+
+
+TAKERS: dict[str, Callable[[Reader, re.Match[str]], None]] = {
+    "TASK": Reader.task, "R0": Reader.registers, "R8": Reader.registers, "SUBPOOL": Reader.subpool,
+    "EXTENT": Reader.extent, "FREE": Reader.free, "CELLPOOL": Reader.cell_pool, "POOLEXTENT": Reader.pool_extent,
+    "FREECELL": Reader.free_cell, "PAGES": Reader.pages, "BYTES": Reader.bytes, "NAME": Reader.name,
+    "HISTORY": Reader.history,
+}
+
+
+def area_of(found: re.Match[str]) -> Area:
+    return Area(int(found[1], 16), int(found[2], 16))
+
+
+def parse_map(lines: Sequence[str], source: str = "the map", first: int = 1) -> Map:
+    """A map's lines, from TASK 1 to HISTORY, as data. They're judged line by line, not against each other.
+
+    `first` is the number that the first of them has in `source`, for the fault that names a wrong line.
+    """
+    reader = Reader(source, first)
+    for line in lines:
+        reader.take(line)
+    if reader.before != "HISTORY":
+        reader.line += not lines
+        reader.fault("the map is cut short: it ends behind %s, and a map ends with a line HISTORY"
+                     % (reader.before or "nothing"))
+    return reader.map
+
+
+def map_lines(shown: Map) -> list[str]:
+    """The lines of a map, as vsm prints them."""
+    lines: list[str] = []
+    for task in shown.tasks:
+        lines.append(" TASK %d PARENT %d%s" % (task.number, task.parent, " CURRENT" if task.is_current else ""))
+        for start in (0, 8):
+            lines.append("  R%d" % start + "".join(" %08X" % word for word in task.registers[start:start + 8]))
+    for subpool in shown.subpools:
+        sharers = ",".join(map(str, subpool.sharers)) or "NONE"
+        lines.append(" SUBPOOL %d OWNER %d SHARERS %s" % (subpool.number, subpool.owner, sharers))
+        lines += ["  EXTENT %08X %08X" % (it.start, it.length) for it in subpool.extents]
+        lines += ["  FREE %08X %08X" % (it.start, it.length) for it in subpool.free]
+    for pool in shown.cell_pools:
+        lines.append(" CELLPOOL %s SUBPOOL %d OWNER %d SIZE %d PRIMARY %d SECONDARY %d LOC %d%s" % (
+            pool.name, pool.subpool, pool.owner, pool.size, pool.primary, pool.secondary, pool.location,
+            "" if pool.header is None else " HDR '%s'" % pool.header))
+        lines += ["  EXTENT %08X %08X" % (it.start, it.length) for it in pool.extents]
+        lines += ["  FREECELL %08X" % cell for cell in pool.free_cells]
+    lines.append(" PAGES LOW %d OF %d HIGH %d OF %d" % (
+        shown.low_assigned, shown.low_pages, shown.high_assigned, shown.high_pages))
+    lines.append(" BYTES TAKEN %d FREE %d" % (shown.taken, shown.free))
+    lines += [" NAME %s %08X" % (it.name, it.word) for it in shown.names]
+    lines.append(" HISTORY KEPT %d OF %d" % (shown.kept, shown.history))
+    return lines
