@@ -15,7 +15,7 @@ function answersWithMaps(output) {
   return found;
 }
 
-function shortened(output) {
+function frontOf(output) {
   if (output.length <= MOST_TEXT) return output;
   const front = output.slice(0, output.lastIndexOf('\n', MOST_TEXT) + 1);
   return `${front}.. and ${(output.length - front.length).toLocaleString('en')} characters more: Save output has all of them.\n`;
@@ -34,7 +34,7 @@ function itemOf({ line, reply, map }, lines) {
 }
 
 /** The list of the statements, and a button for those that don't stand there yet. */
-function listOf(output, script) {
+function askedList(output, script) {
   const answers = answersWithMaps(output), lines = script.split('\n'), list = make('ol', { class: 'asked' });
   const more = make('button', { type: 'button', onclick: () => add() }, 'More statements');
   let shown = 0;
@@ -49,6 +49,6 @@ function listOf(output, script) {
 
 /** Shows a run's output in an element. */
 export function showOutput(container, { output, script }, isTeaching) {
-  if (isTeaching && output) container.replaceChildren(...listOf(output, script));
-  else container.replaceChildren(make('pre', { class: 'text', tabindex: 0, 'aria-label': 'Output' }, shortened(output) || 'No output.'));
+  if (isTeaching && output) container.replaceChildren(...askedList(output, script));
+  else container.replaceChildren(make('pre', { class: 'text', tabindex: 0, 'aria-label': 'Output' }, frontOf(output) || 'No output.'));
 }

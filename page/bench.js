@@ -346,7 +346,7 @@ class Bench {
     const { mapped, name, words, script } = this.result;
     if (!mapped) return this.note('There’s no picture to be saved', make('p', {}, 'Run the script first.'));
     const told = { name, options: words, script: script.replace(/\n$/, ''), skipped: 0, output: base64Of(await gzipped(mapped)) };
-    const title = make('title', {}, name).outerHTML;
+    const title = make('title', {}, `${name} · vsm`).outerHTML;
     const page = this.data.page.replace('<title></title>', () => title).replace('id="data">', () => `id="data">${JSON.stringify(told).replaceAll('<', '\\u003c')}`);
     this.save('.html', page, 'text/html');
   }
