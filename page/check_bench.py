@@ -1,0 +1,472 @@
+#!/usr/bin/env python3
+"""Checks the program's module in node, and the bench in headless Chromium.
+
+Usage: page/check_bench.py [MODULE.wasm]     by default dist/vsm.wasm. The last line is 'N passed, M failed'.
+
+In node the module has to give each row of tests/rows and each example, byte for byte, with its status and what it says on
+standard error; scripts come whole, as a file, and byte by byte. In the browser the bench has to give the same for each
+example, and to do what docs/BENCH-IN-A-BROWSER.md says. page/check calls this.
+"""
+from __future__ import annotations
+
+import base64
+import itertools
+import json
+import os
+import select
+import subprocess
+import sys
+import tempfile
+import time
+from importlib.machinery import SourceFileLoader
+from pathlib import Path
+from types import ModuleType
+from typing import Any, Callable, Iterator, Sequence
+
+sys.dont_write_bytecode = True
+HERE = Path(__file__).resolve().parent
+TOP = HERE.parent
+sys.path[:0] = [str(HERE), str(TOP / "tests" / "rows")]
+
+import bench  # noqa: E402
+from build import BuildFault, joined_script  # noqa: E402
+from chromium import Browser, BrowserFault, installed  # noqa: E402
+
+SECONDS = 60
+ENDLESS_BYTES = 1 << 22  # of a row that has no end, far more than the program reads of it
+NOT_READ = b" BACK 0\n"
+LACKS = ("WebAssembly", "DecompressionStream", "CompressionStream", "Worker")
+
+
+class Tally:
+    """What was wanted, and whether it held."""
+
+    def __init__(self) -> None:
+        self.passed = self.failed = 0
+
+    def want(self, what: str, holds: bool, more: object = "") -> None:
+        if holds:
+            self.passed += 1
+        else:
+            self.failed += 1
+            print(f"bench: {what}: {str(more)[:400]}" if more != "" else f"bench: {what}: that isn't so")
+
+    def tell(self) -> int:
+        print(f"{self.passed} passed, {self.failed} failed")
+        return 1 if self.failed else 0
+
+
+def encoded(data: bytes) -> str:
+    return base64.b64encode(data).decode()
+
+
+class Node:
+    """The module in one process of node, which runs one job after the other."""
+
+    def __init__(self, module: Path, folder: Path) -> None:
+        program = installed("nodejs", ("node", "nodejs"))
+        script = folder / "serve.mjs"
+        script.write_text(joined_script("module-serve.js"), encoding="utf-8")
+        self.child = subprocess.Popen([program, script, module], stdin=subprocess.PIPE, stdout=subprocess.PIPE)
+        self.held = b""
+
+    def close(self) -> None:
+        self.child.kill()
+        self.child.communicate()
+
+    def line(self) -> bytes:
+        assert self.child.stdout
+        end = time.monotonic() + SECONDS
+        while b"\n" not in self.held:
+            if not select.select([self.child.stdout], [], [], max(0.0, end - time.monotonic()))[0]:
+                raise OSError(f"no end within {SECONDS} seconds")
+            got = os.read(self.child.stdout.fileno(), 1 << 20)
+            if not got:
+                raise OSError("node ended")
+            self.held += got
+        line, _, self.held = self.held.partition(b"\n")
+        return line
+
+    def run(self, words: Sequence[str], script: bytes, files: dict[str, bytes], slowly: bool = False) -> dict[str, Any]:
+        """Status, output and errors of a run, and how many bytes of the script it has read."""
+        job = {"words": [encoded(word.encode()) for word in words], "script": encoded(script), "slowly": slowly,
+               "files": {name: encoded(data) for name, data in files.items()}}
+        assert self.child.stdin
+        self.child.stdin.write(json.dumps(job).encode() + b"\n")
+        self.child.stdin.flush()
+        told = json.loads(self.line())
+        if "fault" in told:
+            raise OSError(told["fault"])
+        return {**told, "output": base64.b64decode(told["output"]), "errors": base64.b64decode(told["errors"])}
+
+
+def rows_check() -> ModuleType:
+    """The check of tests/rows, whose rows and judgement are taken."""
+    path = TOP / "tests" / "rows" / "check"
+    loader = SourceFileLoader("rows_check", str(path))
+    module = ModuleType(loader.name)
+    module.__file__ = str(path)
+    loader.exec_module(module)
+    return module
+
+
+def script_of(row: Any) -> bytes:
+    if not row.is_endless:
+        return b"".join(row.script)
+    pieces, taken = [], 0
+    for piece in row.script:
+        pieces.append(piece)
+        taken += len(piece)
+        if taken >= ENDLESS_BYTES:
+            break
+    return b"".join(pieces)
+
+
+def run_row(node: Node, row: Any, way: str) -> dict[str, Any]:
+    """Runs a row in one of the ways of tests/rows/check."""
+    script = script_of(row)
+    if "file" in way:
+        return node.run([*row.options, "script"], NOT_READ, {"script": script})
+    files = {} if row.file is None else {"script": row.file, "--low": row.file}
+    told = node.run(row.options, script, files, "byte" in way)
+    if row.is_endless and told["read"] >= len(script):
+        raise OSError("a script without an end was read on and on")
+    return told
+
+
+def check_rows(node: Node, tally: Tally) -> None:
+    rows = rows_check()
+    for row in rows.stored_rows() + rows.made_rows():
+        for way, _ in rows.ways(row):
+            try:
+                told = run_row(node, row, way)
+                rows.judge(row, told["output"], told["errors"], told["status"])
+                tally.want(row.name, True)
+            except (rows.Failure, OSError) as fault:
+                tally.want(f"the module at row {row.name}{way}", False, fault)
+
+
+def examples() -> list[tuple[str, bytes, bytes, int]]:
+    """Name, script, output and status of each example."""
+    found = []
+    for script in sorted((TOP / "examples").glob("*.vsm")):
+        output = script.with_suffix(".out").read_bytes()
+        refused = any(line[8:].startswith((b"FAULT ", b"REFUSED ", b"ABEND ")) for line in output.split(b"\n"))
+        found.append((script.name, script.read_bytes(), output, 4 if refused else 0))
+    return found
+
+
+def check_examples(node: Node, tally: Tally) -> None:
+    for name, script, output, status in examples():
+        told = node.run([], script, {})
+        tally.want(f"the module at example {name}", (told["output"], told["errors"], told["status"]) == (output, b"", status), told)
+
+
+class BenchPage:
+    """The bench in a browser, as its user has it."""
+
+    def __init__(self, browser: Browser, path: Path) -> None:
+        self.browser, self.address = browser, path.as_uri()
+
+    def open(self, link: str = "", ready: str = "") -> None:
+        done = "document.getElementById('result')?.getAttribute('aria-busy') === 'false' && document.getElementById('status').textContent"
+        self.browser.open(self.address + link, ready or done)
+        self.browser.settle()
+
+    def js(self, text: str) -> Any:
+        return self.browser.evaluate(text)
+
+    def text(self, element: str) -> str:
+        return self.js(f"document.getElementById('{element}').textContent")
+
+    def click(self, element: str) -> None:
+        self.js(f"document.getElementById('{element}').click()")
+        self.browser.settle()
+
+    def put(self, element: str, value: str, event: str = "input") -> None:
+        """Gives a field a value, as if that had been typed."""
+        self.js(f"(it => {{ it.value = {json.dumps(value)}; it.dispatchEvent(new Event('{event}', {{ bubbles: true }})); }})(document.getElementById('{element}'))")
+
+    def wait(self, expression: str, seconds: float = SECONDS) -> bool:
+        end = time.monotonic() + seconds
+        while not self.js(f"Boolean({expression})"):
+            if time.monotonic() > end:
+                return False
+            time.sleep(0.05)
+        self.browser.settle()
+        return True
+
+    def ended(self, seconds: float = SECONDS) -> bool:
+        return self.wait("document.getElementById('result').getAttribute('aria-busy') === 'false'", seconds)
+
+    def run(self, script: bytes, **options: str) -> None:
+        for name in ("low", "high", "residence", "history"):
+            self.put(name, options.get(name, ""))
+        self.put("script", script.decode("latin-1"))
+        self.click("run")
+        self.ended()
+
+    def output(self) -> bytes:
+        """What the page shows as output."""
+        text = self.js("document.querySelector('#output .text')?.textContent ?? ''")
+        return b"" if text == "No output." else text.encode("latin-1")
+
+    def status(self) -> int:
+        words = self.text("status").split()
+        return int(words[2]) if words[:2] == ["Exit", "status"] else -1
+
+    def forget(self) -> None:
+        self.js("localStorage.clear()")
+
+
+def check_opening(page: BenchPage, tally: Tally) -> None:
+    page.open()
+    identity = json.loads(page.js("document.getElementById('data').textContent"))["identity"]
+    shown = page.text("identity")
+    tally.want("the page says commit and kit", identity["commit"][:12] in shown and identity["kit"] in shown, shown)
+    tally.want("each control has a role and a name", not [it for it in page.browser.controls() if not all(it)], page.browser.controls())
+    for name in ("low", "script", "run", "stop", "open", "copy", "teacher", "about", "examples", "save-script", "tab-output"):
+        tally.want(f"there is the control {name}", page.js(f"Boolean(document.getElementById('{name}'))"))
+
+
+def check_each_example(page: BenchPage, tally: Tally) -> None:
+    for name, _, output, status in examples():
+        page.put("examples", name, "change")
+        page.ended()
+        tally.want(f"the page gives example {name}", (page.output(), page.status(), page.text("errors")) == (output, status, ""), page.text("status"))
+        last = [line[8:].decode() for line in output.split(b"\n") if line and line[:1] != b" "][-1]
+        shown = page.wait(f"document.querySelector('#picture .said strong')?.textContent === {json.dumps(last)}", 10)
+        tally.want(f"the picture of example {name} shows the last reply", shown, last)
+    tally.want("no request leaves the page", not [it for it in page.browser.requests() if not it.startswith((page.address, "blob:null/"))], page.browser.requests())
+    tally.want("nothing is said on the console", not page.browser.messages(), page.browser.messages())
+
+
+ODD_SCRIPTS = {
+    "with the end of a script element": b"* </script><!-- &amp;\n STORAGE OBTAIN,LENGTH=8     </script>\n",
+    "with bytes above 127": b"* \xe4\xff\x80\x9f\xa0\n STORAGE OBTAIN,LENGTH=8     \x80\xff\n",
+    "that ends within a statement": b" STORAGE OBTAIN,LENGTH=8\n STORAGE OBTAIN,LENGTH=8,".ljust(96) + b"X",
+    "of no line": b"",
+    "of one line without an end": b" MAP",
+    "of blank lines": b"\n\n\n",
+}
+
+
+def check_odd_scripts(page: BenchPage, node: Node, tally: Tally) -> None:
+    for what, script in ODD_SCRIPTS.items():
+        page.run(script)
+        told = node.run([], script, {})
+        tally.want(f"a script {what}", (page.output(), page.status()) == (told["output"], told["status"]), page.text("status"))
+    tally.want("odd scripts say nothing on the console", not page.browser.messages(), page.browser.messages())
+
+
+def check_command_line(page: BenchPage, node: Node, tally: Tally) -> None:
+    for options in ({"low": "6"}, {"low": "x"}, {"history": "0"}, {"high": "4294967296"}):
+        words = [word for name, value in options.items() for word in (f"--{name}", value)]
+        page.run(b" MAP\n", **options)
+        told = node.run(words, b" MAP\n", {})
+        tally.want(f"{' '.join(words)} is refused with the program's words",
+                   (page.text("errors").encode(), page.status()) == (told["errors"], 16), (page.text("status"), page.text("errors")))
+    page.run(b" STORAGE OBTAIN,LENGTH=8\n", low="8", high="8", residence="31", history="3")
+    told = node.run("--low 8 --high 8 --residence 31 --history 3".split(), b" STORAGE OBTAIN,LENGTH=8\n", {})
+    tally.want("all options together", (page.output(), page.text("errors")) == (told["output"], ""), page.output())
+
+
+def check_keys(page: BenchPage, tally: Tally) -> None:
+    page.put("script", " BACK 0\n")
+    page.js("document.getElementById('script').focus()")
+    page.browser.key("Enter", modifiers=2)
+    page.ended()
+    tally.want("Ctrl+Enter runs the script", page.output() == b"0000001 KEPT=0\n", page.output())
+    page.js("document.getElementById('tab-picture').click(); document.getElementById('tab-picture').focus()")
+    page.browser.key("ArrowRight")
+    tally.want("an arrow turns to the other tab", page.js("!document.getElementById('output').hidden && document.activeElement.id === 'tab-output'"))
+    page.browser.key("ArrowLeft")
+    page.click("fold")
+    tally.want("the editor can be hidden", page.js("document.getElementById('form').offsetParent === null"))
+    page.click("unfold")
+    tally.want("and shown again", page.js("document.getElementById('form').offsetParent !== null"))
+
+
+def long_script() -> bytes:
+    """A script whose maps take far longer than a check waits."""
+    obtains = [b" STORAGE OBTAIN,LENGTH=4096,SP=%d\n" % (n % 100 + 1) for n in range(2000)]
+    return b"".join(obtains) + b" STORAGE OBTAIN,LENGTH=8\n" * 40_000
+
+
+def check_stop(page: BenchPage, tally: Tally) -> None:
+    page.put("high", "1048576")
+    page.put("low", "16000")
+    page.put("script", long_script().decode())
+    page.click("run")
+    tally.want("a run tells how far it is", page.wait("/\\d%/.test(document.getElementById('status').textContent)"), page.text("status"))
+    tally.want("Stop can be pressed while it runs", page.js("!document.getElementById('stop').disabled && !document.getElementById('progress').hidden"))
+    page.click("stop")
+    tally.want("Stop ends a run", page.ended(2) and page.text("status").startswith("Stopped"), page.text("status"))
+    page.run(b" BACK 0\n")
+    tally.want("behind a stopped run the next one runs", page.output() == b"0000001 KEPT=0\n", page.text("status"))
+
+
+def check_link(page: BenchPage, tally: Tally) -> None:
+    script = ODD_SCRIPTS["with bytes above 127"] + ODD_SCRIPTS["with the end of a script element"] + b" BACK 1"
+    page.run(script, low="8", residence="31", history="7")
+    page.wait("location.hash.length > 20")
+    link = page.js("location.hash")
+    page.forget()
+    page.open(link)
+    held = page.js("['script', 'low', 'high', 'residence', 'history'].map(it => document.getElementById(it).value)")
+    tally.want("a link brings script and options back", held == [script.decode("latin-1"), "8", "", "31", "7"], held)
+    page.open("#script=" + "A" * 40)
+    tally.want("a link that can't be read is said", page.js("document.getElementById('note').open") and "can’t be read" in page.text("note"), page.text("note"))
+    page.open("#script=%FF%00!")
+    tally.want("so is one of other characters", page.js("document.getElementById('note').open") and page.text("status") != "", page.text("note"))
+
+
+def check_keeping(page: BenchPage, tally: Tally) -> None:
+    page.open()
+    page.put("script", "* kept\n BACK 0\n")
+    page.put("high", "96")
+    page.wait("document.getElementById('kept').textContent.startsWith('Kept in this browser')")
+    page.wait("JSON.parse(localStorage.getItem('nilbozad.bench')).script.startsWith('* kept')")
+    page.open()
+    held = page.js("['script', 'high'].map(it => document.getElementById(it).value)")
+    tally.want("the browser keeps script and options", held == ["* kept\n BACK 0\n", "96"], held)
+    page.js("localStorage.setItem('nilbozad.bench', '{\"script\":7}')")
+    page.open()
+    tally.want("where what was kept is no script the first example stands there", page.js("document.getElementById('examples').value") == "first-steps.vsm")
+
+
+def check_limits(page: BenchPage, tally: Tally) -> None:
+    page.run(b"".join(b"* %x\n" % (n * n * 0x9e3779b97f4a7c15 % (1 << 89)) for n in range(3000)))
+    tally.want("that a script is too long for the address is said", page.wait("document.getElementById('kept').textContent.includes('too long')", 10), page.text("kept"))
+    tally.want("and the address holds none of it", page.js("location.hash.length") < 2)
+    page.click("copy")
+    tally.want("Copy link says it too", page.wait("document.getElementById('note').open", 10) and "too long" in page.text("note"), page.text("note"))
+    page.js("document.getElementById('note').close()")
+    page.run(b"\n" * 1_000_000)
+    tally.want("a script of a million lines is refused in words", "1,000,000 lines" in page.text("errors"), page.text("errors"))
+    page.put("script", " BACK 0\n* 12 €\n")
+    page.click("run")
+    tally.want("a character that isn't a byte is refused with its place", "line 2, column 6" in page.text("errors"), page.text("errors"))
+    page.put("script", " BACK 0\n")
+    page.click("run")
+    page.ended()
+    tally.want("and nothing of that stays", page.output() == b"0000001 KEPT=0\n" and not page.text("errors"))
+
+
+def check_teacher(page: BenchPage, tally: Tally) -> None:
+    page.put("examples", "cell-pools.vsm", "change")
+    page.ended()
+    page.click("teacher")
+    page.wait("document.querySelector('#output .asked')")
+    hidden = page.js("[document.getElementById('output').textContent, document.getElementById('picture').textContent].filter(it => /RC=0|ABEND/.test(it)).length")
+    tally.want("in the teacher's mode no answer is shown", hidden == 0, hidden)
+    count = page.js("document.querySelectorAll('#output .answer button').length")
+    page.js("document.querySelector('#output .answer button').click()")
+    tally.want("an answer comes when it's asked for, and no other", page.js("document.querySelector('#output .answer').textContent") == "RC=0 A=00006000 L=00000048"
+               and page.js("document.querySelectorAll('#output .answer button').length") == count - 1)
+    page.put("examples", "first-steps.vsm", "change")
+    page.ended()
+    tally.want("the next run hides its answers too", page.js("document.querySelectorAll('#output .answer button').length") == 9)
+    page.click("teacher")
+    tally.want("switched off, all is shown", page.wait("document.querySelector('#output .text')?.textContent.includes('RC=0')", 10))
+
+
+def check_saving(page: BenchPage, folder: Path, tally: Tally) -> None:
+    page.browser.call("Browser.setDownloadBehavior", behavior="allow", downloadPath=str(folder))
+    name, script, output, _ = examples()[1]
+    page.put("examples", name, "change")
+    page.ended()
+    for button, ending, wanted in (("save-script", ".vsm", script), ("save-output", ".out", output), ("save-page", ".html", None)):
+        page.click(button)
+        saved = (folder / name).with_suffix(ending)
+        end = time.monotonic() + 20
+        while not (saved.exists() and saved.stat().st_size) and time.monotonic() < end:
+            time.sleep(0.05)
+        time.sleep(0.2)
+        got = saved.read_bytes() if saved.exists() else b""
+        tally.want(f"{button} saves a file", got == wanted if wanted is not None else b"<title>" in got, got[:80])
+    page.browser.open(saved.as_uri(), "document.querySelector('.said strong')")
+    tally.want("the saved page is a page of its own", page.js("document.title") == f"{name} · vsm" and not page.browser.messages(), page.browser.messages())
+
+
+def check_lacks(page: BenchPage, tally: Tally) -> None:
+    """A browser without what is needed says so."""
+    for lack in LACKS:
+        script = page.browser.call("Page.addScriptToEvaluateOnNewDocument", source=f"delete globalThis.{lack}")["identifier"]
+        page.open(ready="document.querySelector('#bench .sentence[role=alert]')")
+        said = page.text("bench")
+        tally.want(f"without {lack} there's a sentence", lack.lower()[:6] in said.lower() and said.endswith("."), said)
+        page.browser.call("Page.removeScriptToEvaluateOnNewDocument", identifier=script)
+    throwing = "globalThis.Worker = class { constructor() { throw new Error('no workers here'); } }"
+    script = page.browser.call("Page.addScriptToEvaluateOnNewDocument", source=throwing)["identifier"]
+    page.open()
+    tally.want("a worker that can't be started is said", "no workers here" in page.text("errors"), page.text("errors"))
+    page.browser.call("Page.removeScriptToEvaluateOnNewDocument", identifier=script)
+    plain = page.browser.call("Emulation.setScriptExecutionDisabled", value=True)
+    page.browser.call("Page.navigate", url=page.address)
+    time.sleep(0.5)
+    told = json.dumps(page.browser.call("Accessibility.getFullAXTree"))
+    tally.want("without JavaScript there's a sentence", "It needs JavaScript" in told, plain)
+    page.browser.call("Emulation.setScriptExecutionDisabled", value=False)
+
+
+def check_no_network(page: BenchPage, tally: Tally) -> None:
+    """The policy refuses what a script of the page would ask for; that is said on the console, so it's looked at last."""
+    page.open()
+    refused = page.js("""new Promise(done => {
+      addEventListener('securitypolicyviolation', event => done(event.effectiveDirective));
+      fetch('http://127.0.0.1:9/').catch(() => setTimeout(() => done('nothing'), 500));
+    })""")
+    tally.want("the page's policy refuses the network", refused == "connect-src", refused)
+
+
+def check_page(module: Path, node: Node, folder: Path, tally: Tally) -> None:
+    path = folder / "bench.html"
+    path.write_text(bench.bench_page(module), encoding="utf-8")
+    with Browser() as browser:
+        page = BenchPage(browser, path)
+        parts: list[Callable[[], None]] = [
+            lambda: check_opening(page, tally), lambda: check_each_example(page, tally), lambda: check_odd_scripts(page, node, tally),
+            lambda: check_command_line(page, node, tally), lambda: check_keys(page, tally), lambda: check_stop(page, tally),
+            lambda: check_link(page, tally), lambda: check_keeping(page, tally), lambda: check_limits(page, tally),
+            lambda: check_teacher(page, tally), lambda: check_saving(page, folder, tally), lambda: check_lacks(page, tally),
+            lambda: check_no_network(page, tally)]
+        for part in parts:
+            try:
+                part()
+            except (BrowserFault, OSError, ValueError, TypeError) as fault:
+                tally.want("a part of the check", False, f"{type(fault).__name__}: {fault}")
+
+
+def check(module: Path) -> Tally:
+    """All of it; what can't be begun is one failure."""
+    tally = Tally()
+    if not module.is_file():
+        tally.want(f"the module {module}", False, "it isn't there; page/module makes it")
+        return tally
+    with tempfile.TemporaryDirectory(prefix="bench-check-") as name:
+        try:
+            node = Node(module, Path(name))
+        except (BrowserFault, BuildFault, OSError) as fault:
+            tally.want("node", False, fault)
+            return tally
+        try:
+            check_rows(node, tally)
+            check_examples(node, tally)
+            check_page(module, node, Path(name), tally)
+        except (BrowserFault, BuildFault, OSError, ValueError) as fault:
+            tally.want("the bench's check", False, fault)
+        finally:
+            node.close()
+    return tally
+
+
+def main(words: list[str]) -> int:
+    if len(words) > 1 or any(word.startswith("-") for word in words):
+        print(__doc__.split("\n")[2], file=sys.stderr)
+        return 16
+    return check(Path(words[0]).resolve() if words else TOP / "dist" / "vsm.wasm").tell()
+
+
+if __name__ == "__main__":
+    sys.exit(main(sys.argv[1:]))
