@@ -24,20 +24,22 @@ function lackOfBrowser() {
 class Bench {
   constructor(data, wasm) {
     this.data = data;
+    this.wasm = wasm;
     this.examples = new Map(data.examples.map(it => [it.name, it.script]));
     this.name = OWN;
     this.result = { output: '', script: '', words: [], mapped: null };
     this.view = null;
+    this.turned = false; // whether the output is shown since there was no picture
     this.runner = runnerOf(data.worker, wasm, told => this.told(told));
     this.editor = editorOf(byId('script'), byId('numbers'), byId('caret'), () => this.edited());
-    byId('examples').append(new Option('of your own', ''), ...[...this.examples.keys()].map(it => new Option(it)));
+    byId('examples').append(new Option('', ''), ...[...this.examples.keys()].map(it => new Option(it)));
     byId('identity').textContent = data.identity.line;
     this.listen();
   }
 
   listen() {
     const clicks = { open: () => byId('file').click(), 'save-script': () => this.saveScript(), 'save-output': () => this.saveOutput(), 'save-page': () => this.savePage(), copy: () => this.copyLink(),
-      teacher: () => this.teach(!this.isTeaching), about: () => this.about(), stop: () => this.stop(), fold: () => this.fold(true), unfold: () => this.fold(false) };
+      teacher: () => this.teach(!this.isTeaching), help: () => this.help(), stop: () => this.stop(), fold: () => this.fold(true), unfold: () => this.fold(false) };
     for (const [id, act] of Object.entries(clicks)) byId(id).addEventListener('click', act);
     byId('form').addEventListener('submit', event => {
       event.preventDefault();
@@ -89,7 +91,9 @@ class Bench {
     for (const it of NAMES) byId(it).value = options[it] ?? '';
     if (teacher !== undefined) this.setTeaching(teacher);
     this.editor.text = script;
-    byId('examples').value = this.examples.get(this.name) === script ? this.name : '';
+    const isExample = this.examples.get(this.name) === script;
+    if (!isExample && this.examples.has(this.name)) this.setName(OWN);
+    byId('examples').value = isExample ? this.name : '';
     this.keepNow();
     this.run();
   }
@@ -101,6 +105,7 @@ class Bench {
 
   setName(name) {
     this.name = name;
+    byId('examples').options[0].text = this.examples.has(name) ? 'of your own' : `${name} (your own)`;
   }
 
   edited() {
@@ -118,9 +123,12 @@ class Bench {
   async keepNow() {
     clearTimeout(this.keeping);
     const { state } = this, isKept = keep(state);
+    this.kept = state;
     if (!byId('examples').value) this.own = state;
     const link = faultOfScript(state.script) ? null : await linkOf(state);
     const fits = link !== null && link.length <= MOST_LINK;
+    // Another edit may have come while this one was packed.
+    if (this.kept !== state) return { link, fits };
     history.replaceState(null, '', fits ? link : '#');
     const where = [isKept && 'in this browser', fits && 'in the address'].filter(Boolean).join(' and ');
     byId('kept').textContent = (where ? `Kept ${where}` : 'Not kept') + (fits || link === null ? '.' : '; the script is too long for the address.');
@@ -179,8 +187,8 @@ class Bench {
 
   progress({ part, share, bytes }) {
     byId('progress').value = share;
-    const what = part === 'script' ? 'Running' : 'Drawing';
-    this.say(`${what}: ${Math.floor(share * 100)}% of the script read, ${megabytes(bytes)} printed`);
+    const what = part === 'script' ? 'Running' : 'Making the picture';
+    byId('far').textContent = `${what}: ${Math.floor(share * 100)}%, ${megabytes(bytes)} printed`;
   }
 
   ran({ status, output, errors }) {
@@ -189,7 +197,11 @@ class Bench {
     this.fail(errors);
     if (status !== 0 && status !== 4) {
       this.withoutPicture(`The program ended with exit status ${status}, so there’s no picture.`);
+      this.turned ||= byId('output').hidden;
       this.showTab('output');
+    } else if (this.turned) {
+      this.turned = false;
+      this.showTab('picture');
     }
   }
 
@@ -228,6 +240,7 @@ class Bench {
     byId('stop').disabled = !isBusy;
     byId('progress').hidden = !isBusy;
     byId('progress').value = 0;
+    byId('far').textContent = '';
   }
 
   say(text, isBad = false) {
@@ -287,12 +300,21 @@ class Bench {
     byId('note').showModal();
   }
 
-  about() {
-    const { commit, kit, program, module, bytes } = this.data.identity;
-    const rows = { Commit: commit, Kit: kit, 'Program (SHA-256)': program, 'Module (SHA-256)': module, 'Module, bytes': String(bytes) };
-    this.note('What runs here', make('p', {}, 'The functions of this page’s program are those of vsm that were proved at this commit by this kit. To run in a browser they were compiled to WebAssembly; that step, and the browser, are trusted.'),
+  help() {
+    const { commit, kit, program, module, bytes } = this.data.identity, asked = make('pre', { tabindex: 0, 'aria-label': 'The program’s own help' });
+    const rows = { Commit: commit, Kit: kit, 'Program (SHA-256)': program, 'Module (SHA-256)': module, 'Module, bytes': bytes.toLocaleString('en') };
+    this.note('The bench', make('p', {}, 'Ctrl+Enter runs the script. A statement begins behind a blank, and a character in the tinted column, the 72nd, continues it on the next line. Each character is one byte. In the picture ', make('kbd', {}, '?'), ' tells the keys.'),
+      make('p', {}, 'Nothing is loaded, and nothing is sent: the page has no access to the network. Script and options are kept in this browser and in the address.'),
+      make('h3', {}, 'What runs here'),
+      make('p', {}, 'The functions of this page’s program are those of vsm that were proved at this commit by this kit. To run in a browser they were compiled to WebAssembly; that step, and the browser, are trusted.'),
       make('dl', {}, ...Object.entries(rows).flatMap(([name, value]) => [make('dt', {}, name), make('dd', {}, value)])),
-      make('p', { class: 'muted' }, 'Nothing is loaded, and nothing is sent: the page has no access to the network. Script and options are kept in this browser and in the address.'));
+      make('h3', {}, 'What the program says of itself'), asked);
+    const runner = runnerOf(this.data.worker, this.wasm, ({ kind, output, why }) => {
+      if (kind === 'progress') return;
+      runner.stop();
+      asked.textContent = kind === 'ran' ? latinText(output) : why;
+    });
+    runner.run(['--help'], latin(''));
   }
 
   async copyLink() {

@@ -1,16 +1,16 @@
 #!/usr/bin/env python3
-"""Checks the program's module in node, and the bench in headless Chromium.
+"""Trials of the program's module in node, and of the bench in headless Chromium. page/check runs them.
 
-Usage: page/check_bench.py [MODULE.wasm]     by default dist/vsm.wasm. The last line is 'N passed, M failed'.
+Usage: page/bench_trials.py [MODULE.wasm]     these alone; by default of dist/vsm.wasm. The last line is 'N passed, M failed'.
 
 In node the module has to give each row of tests/rows and each example, byte for byte, with its status and what it says on
 standard error; scripts come whole, as a file, and byte by byte. In the browser the bench has to give the same for each
-example, and to do what docs/BENCH-IN-A-BROWSER.md says. page/check calls this.
+example, and to do what docs/BENCH-IN-A-BROWSER.md says.
 """
 from __future__ import annotations
 
 import base64
-import itertools
+import hashlib
 import json
 import os
 import select
@@ -21,7 +21,7 @@ import time
 from importlib.machinery import SourceFileLoader
 from pathlib import Path
 from types import ModuleType
-from typing import Any, Callable, Iterator, Sequence
+from typing import Any, Callable, Sequence
 
 sys.dont_write_bytecode = True
 HERE = Path(__file__).resolve().parent
@@ -31,29 +31,14 @@ sys.path[:0] = [str(HERE), str(TOP / "tests" / "rows")]
 import bench  # noqa: E402
 from build import BuildFault, joined_script  # noqa: E402
 from chromium import Browser, BrowserFault, installed  # noqa: E402
+from trials import Trials  # noqa: E402
+from view_trials import PALE  # noqa: E402
 
+MODULE = TOP / "dist" / "vsm.wasm"
 SECONDS = 60
 ENDLESS_BYTES = 1 << 22  # of a row that has no end, far more than the program reads of it
 NOT_READ = b" BACK 0\n"
 LACKS = ("WebAssembly", "DecompressionStream", "CompressionStream", "Worker")
-
-
-class Tally:
-    """What was wanted, and whether it held."""
-
-    def __init__(self) -> None:
-        self.passed = self.failed = 0
-
-    def want(self, what: str, holds: bool, more: object = "") -> None:
-        if holds:
-            self.passed += 1
-        else:
-            self.failed += 1
-            print(f"bench: {what}: {str(more)[:400]}" if more != "" else f"bench: {what}: that isn't so")
-
-    def tell(self) -> int:
-        print(f"{self.passed} passed, {self.failed} failed")
-        return 1 if self.failed else 0
 
 
 def encoded(data: bytes) -> str:
@@ -134,16 +119,16 @@ def run_row(node: Node, row: Any, way: str) -> dict[str, Any]:
     return told
 
 
-def check_rows(node: Node, tally: Tally) -> None:
+def try_rows(node: Node, trials: Trials) -> None:
     rows = rows_check()
     for row in rows.stored_rows() + rows.made_rows():
         for way, _ in rows.ways(row):
             try:
                 told = run_row(node, row, way)
                 rows.judge(row, told["output"], told["errors"], told["status"])
-                tally.want(row.name, True)
+                trials.want(row.name, True)
             except (rows.Failure, OSError) as fault:
-                tally.want(f"the module at row {row.name}{way}", False, fault)
+                trials.want(f"the module at row {row.name}{way}", False, fault)
 
 
 def examples() -> list[tuple[str, bytes, bytes, int]]:
@@ -156,10 +141,10 @@ def examples() -> list[tuple[str, bytes, bytes, int]]:
     return found
 
 
-def check_examples(node: Node, tally: Tally) -> None:
+def try_examples(node: Node, trials: Trials) -> None:
     for name, script, output, status in examples():
         told = node.run([], script, {})
-        tally.want(f"the module at example {name}", (told["output"], told["errors"], told["status"]) == (output, b"", status), told)
+        trials.want(f"the module at example {name}", (told["output"], told["errors"], told["status"]) == (output, b"", status), told)
 
 
 class BenchPage:
@@ -219,26 +204,66 @@ class BenchPage:
         self.js("localStorage.clear()")
 
 
-def check_opening(page: BenchPage, tally: Tally) -> None:
+def try_opening(page: BenchPage, trials: Trials) -> None:
     page.open()
     identity = json.loads(page.js("document.getElementById('data').textContent"))["identity"]
     shown = page.text("identity")
-    tally.want("the page says commit and kit", identity["commit"][:12] in shown and identity["kit"] in shown, shown)
-    tally.want("each control has a role and a name", not [it for it in page.browser.controls() if not all(it)], page.browser.controls())
-    for name in ("low", "script", "run", "stop", "open", "copy", "teacher", "about", "examples", "save-script", "tab-output"):
-        tally.want(f"there is the control {name}", page.js(f"Boolean(document.getElementById('{name}'))"))
+    trials.want("the page says commit and kit", identity["commit"][:12] in shown and identity["kit"] in shown, shown)
+    trials.want("each control has a role and a name", not [it for it in page.browser.controls() if not all(it)], page.browser.controls())
+    for name in ("low", "script", "run", "stop", "open", "copy", "teacher", "help", "examples", "save-script", "tab-output"):
+        trials.want(f"there is the control {name}", page.js(f"Boolean(document.getElementById('{name}'))"))
 
 
-def check_each_example(page: BenchPage, tally: Tally) -> None:
+# Texts, and frames of controls, whose contrast is too small; those of the view are tried with it.
+CONTRAST = [("document.querySelector('.run')", "document.getElementById('bench')"),
+            (".run .bar button, .run .task button, .run .ask", ".mine :is(button, select, input):enabled:not([role=tab], .chief)")]
+
+
+def pale() -> str:
+    """What view_trials asks for the view, asked for the whole bench."""
+    text = PALE
+    for of_view, of_bench in CONTRAST:
+        if of_view not in text:
+            raise ValueError(f"view_trials.PALE has no {of_view}")
+        text = text.replace(of_view, of_bench)
+    return text
+
+
+def try_looks(page: BenchPage, trials: Trials) -> None:
+    """Contrast, light and dark, of the bench as it opens, with an error, with its output, and with its help."""
+    states = {"as it opens": "0", "with its output": "document.getElementById('tab-output').click()",
+              "with its help": "document.getElementById('help').click()"}
+    for scheme in ("light", "dark"):
+        page.browser.media(prefers_color_scheme=scheme)
+        page.open()
+        for what, act in states.items():
+            page.js(act)
+            time.sleep(0.4)
+            found = page.js(pale())
+            trials.want(f"the contrast {what}, {scheme}", not found, found)
+        trials.want("the help tells the program's own", page.wait("document.querySelector('#note pre').textContent.includes('--residence <MODE>')", 10))
+        page.js("document.getElementById('note').close()")
+        page.run(b" MAP\n", low="x")
+        found = page.js(pale())
+        trials.want(f"the contrast with an error, {scheme}", not found, found)
+        page.forget()
+    page.browser.media()
+    for width in (420, 900, 1440):
+        page.browser.size(width, 900)
+        page.browser.settle()
+        trials.want(f"{width} pixels hold the page's width", page.js("document.documentElement.scrollWidth <= innerWidth"), page.js("document.documentElement.scrollWidth"))
+
+
+def try_each_example(page: BenchPage, trials: Trials) -> None:
     for name, _, output, status in examples():
         page.put("examples", name, "change")
         page.ended()
-        tally.want(f"the page gives example {name}", (page.output(), page.status(), page.text("errors")) == (output, status, ""), page.text("status"))
+        trials.want(f"the page gives example {name}", (page.output(), page.status(), page.text("errors")) == (output, status, ""), page.text("status"))
         last = [line[8:].decode() for line in output.split(b"\n") if line and line[:1] != b" "][-1]
         shown = page.wait(f"document.querySelector('#picture .said strong')?.textContent === {json.dumps(last)}", 10)
-        tally.want(f"the picture of example {name} shows the last reply", shown, last)
-    tally.want("no request leaves the page", not [it for it in page.browser.requests() if not it.startswith((page.address, "blob:null/"))], page.browser.requests())
-    tally.want("nothing is said on the console", not page.browser.messages(), page.browser.messages())
+        trials.want(f"the picture of example {name} shows the last reply", shown, last)
+    trials.want("no request leaves the page", not [it for it in page.browser.requests() if not it.startswith((page.address, "blob:null/"))], page.browser.requests())
+    trials.want("nothing is said on the console", not page.browser.messages(), page.browser.messages())
 
 
 ODD_SCRIPTS = {
@@ -251,40 +276,40 @@ ODD_SCRIPTS = {
 }
 
 
-def check_odd_scripts(page: BenchPage, node: Node, tally: Tally) -> None:
+def try_odd_scripts(page: BenchPage, node: Node, trials: Trials) -> None:
     for what, script in ODD_SCRIPTS.items():
         page.run(script)
         told = node.run([], script, {})
-        tally.want(f"a script {what}", (page.output(), page.status()) == (told["output"], told["status"]), page.text("status"))
-    tally.want("odd scripts say nothing on the console", not page.browser.messages(), page.browser.messages())
+        trials.want(f"a script {what}", (page.output(), page.status()) == (told["output"], told["status"]), page.text("status"))
+    trials.want("odd scripts say nothing on the console", not page.browser.messages(), page.browser.messages())
 
 
-def check_command_line(page: BenchPage, node: Node, tally: Tally) -> None:
+def try_command_line(page: BenchPage, node: Node, trials: Trials) -> None:
     for options in ({"low": "6"}, {"low": "x"}, {"history": "0"}, {"high": "4294967296"}):
         words = [word for name, value in options.items() for word in (f"--{name}", value)]
         page.run(b" MAP\n", **options)
         told = node.run(words, b" MAP\n", {})
-        tally.want(f"{' '.join(words)} is refused with the program's words",
+        trials.want(f"{' '.join(words)} is refused with the program's words",
                    (page.text("errors").encode(), page.status()) == (told["errors"], 16), (page.text("status"), page.text("errors")))
     page.run(b" STORAGE OBTAIN,LENGTH=8\n", low="8", high="8", residence="31", history="3")
     told = node.run("--low 8 --high 8 --residence 31 --history 3".split(), b" STORAGE OBTAIN,LENGTH=8\n", {})
-    tally.want("all options together", (page.output(), page.text("errors")) == (told["output"], ""), page.output())
+    trials.want("all options together", (page.output(), page.text("errors")) == (told["output"], ""), page.output())
 
 
-def check_keys(page: BenchPage, tally: Tally) -> None:
+def try_keys(page: BenchPage, trials: Trials) -> None:
     page.put("script", " BACK 0\n")
     page.js("document.getElementById('script').focus()")
     page.browser.key("Enter", modifiers=2)
     page.ended()
-    tally.want("Ctrl+Enter runs the script", page.output() == b"0000001 KEPT=0\n", page.output())
+    trials.want("Ctrl+Enter runs the script", page.output() == b"0000001 KEPT=0\n", page.output())
     page.js("document.getElementById('tab-picture').click(); document.getElementById('tab-picture').focus()")
     page.browser.key("ArrowRight")
-    tally.want("an arrow turns to the other tab", page.js("!document.getElementById('output').hidden && document.activeElement.id === 'tab-output'"))
+    trials.want("an arrow turns to the other tab", page.js("!document.getElementById('output').hidden && document.activeElement.id === 'tab-output'"))
     page.browser.key("ArrowLeft")
     page.click("fold")
-    tally.want("the editor can be hidden", page.js("document.getElementById('form').offsetParent === null"))
+    trials.want("the editor can be hidden", page.js("document.getElementById('form').offsetParent === null"))
     page.click("unfold")
-    tally.want("and shown again", page.js("document.getElementById('form').offsetParent !== null"))
+    trials.want("and shown again", page.js("document.getElementById('form').offsetParent !== null"))
 
 
 def long_script() -> bytes:
@@ -293,20 +318,20 @@ def long_script() -> bytes:
     return b"".join(obtains) + b" STORAGE OBTAIN,LENGTH=8\n" * 40_000
 
 
-def check_stop(page: BenchPage, tally: Tally) -> None:
+def try_stop(page: BenchPage, trials: Trials) -> None:
     page.put("high", "1048576")
     page.put("low", "16000")
     page.put("script", long_script().decode())
     page.click("run")
-    tally.want("a run tells how far it is", page.wait("/\\d%/.test(document.getElementById('status').textContent)"), page.text("status"))
-    tally.want("Stop can be pressed while it runs", page.js("!document.getElementById('stop').disabled && !document.getElementById('progress').hidden"))
+    trials.want("a run tells how far it is", page.wait("/\\d%/.test(document.getElementById('far').textContent)"), page.text("far"))
+    trials.want("Stop can be pressed while it runs", page.js("!document.getElementById('stop').disabled && !document.getElementById('progress').hidden"))
     page.click("stop")
-    tally.want("Stop ends a run", page.ended(2) and page.text("status").startswith("Stopped"), page.text("status"))
+    trials.want("Stop ends a run", page.ended(2) and page.text("status").startswith("Stopped"), page.text("status"))
     page.run(b" BACK 0\n")
-    tally.want("behind a stopped run the next one runs", page.output() == b"0000001 KEPT=0\n", page.text("status"))
+    trials.want("behind a stopped run the next one runs", page.output() == b"0000001 KEPT=0\n", page.text("status"))
 
 
-def check_link(page: BenchPage, tally: Tally) -> None:
+def try_link(page: BenchPage, trials: Trials) -> None:
     script = ODD_SCRIPTS["with bytes above 127"] + ODD_SCRIPTS["with the end of a script element"] + b" BACK 1"
     page.run(script, low="8", residence="31", history="7")
     page.wait("location.hash.length > 20")
@@ -314,14 +339,14 @@ def check_link(page: BenchPage, tally: Tally) -> None:
     page.forget()
     page.open(link)
     held = page.js("['script', 'low', 'high', 'residence', 'history'].map(it => document.getElementById(it).value)")
-    tally.want("a link brings script and options back", held == [script.decode("latin-1"), "8", "", "31", "7"], held)
+    trials.want("a link brings script and options back", held == [script.decode("latin-1"), "8", "", "31", "7"], held)
     page.open("#script=" + "A" * 40)
-    tally.want("a link that can't be read is said", page.js("document.getElementById('note').open") and "can’t be read" in page.text("note"), page.text("note"))
+    trials.want("a link that can't be read is said", page.js("document.getElementById('note').open") and "can’t be read" in page.text("note"), page.text("note"))
     page.open("#script=%FF%00!")
-    tally.want("so is one of other characters", page.js("document.getElementById('note').open") and page.text("status") != "", page.text("note"))
+    trials.want("so is one of other characters", page.js("document.getElementById('note').open") and page.text("status") != "", page.text("note"))
 
 
-def check_keeping(page: BenchPage, tally: Tally) -> None:
+def try_keeping(page: BenchPage, trials: Trials) -> None:
     page.open()
     page.put("script", "* kept\n BACK 0\n")
     page.put("high", "96")
@@ -329,49 +354,81 @@ def check_keeping(page: BenchPage, tally: Tally) -> None:
     page.wait("JSON.parse(localStorage.getItem('nilbozad.bench')).script.startsWith('* kept')")
     page.open()
     held = page.js("['script', 'high'].map(it => document.getElementById(it).value)")
-    tally.want("the browser keeps script and options", held == ["* kept\n BACK 0\n", "96"], held)
+    trials.want("the browser keeps script and options", held == ["* kept\n BACK 0\n", "96"], held)
     page.js("localStorage.setItem('nilbozad.bench', '{\"script\":7}')")
     page.open()
-    tally.want("where what was kept is no script the first example stands there", page.js("document.getElementById('examples').value") == "first-steps.vsm")
+    trials.want("where what was kept is no script the first example stands there", page.js("document.getElementById('examples').value") == "first-steps.vsm")
 
 
-def check_limits(page: BenchPage, tally: Tally) -> None:
+def try_limits(page: BenchPage, trials: Trials) -> None:
     page.run(b"".join(b"* %x\n" % (n * n * 0x9e3779b97f4a7c15 % (1 << 89)) for n in range(3000)))
-    tally.want("that a script is too long for the address is said", page.wait("document.getElementById('kept').textContent.includes('too long')", 10), page.text("kept"))
-    tally.want("and the address holds none of it", page.js("location.hash.length") < 2)
+    trials.want("that a script is too long for the address is said", page.wait("document.getElementById('kept').textContent.includes('too long')", 10), page.text("kept"))
+    trials.want("and the address holds none of it", page.js("location.hash.length") < 2)
     page.click("copy")
-    tally.want("Copy link says it too", page.wait("document.getElementById('note').open", 10) and "too long" in page.text("note"), page.text("note"))
+    trials.want("Copy link says it too", page.wait("document.getElementById('note').open", 10) and "too long" in page.text("note"), page.text("note"))
     page.js("document.getElementById('note').close()")
     page.run(b"\n" * 1_000_000)
-    tally.want("a script of a million lines is refused in words", "1,000,000 lines" in page.text("errors"), page.text("errors"))
+    trials.want("a script of a million lines is refused in words", "1,000,000 lines" in page.text("errors"), page.text("errors"))
     page.put("script", " BACK 0\n* 12 €\n")
     page.click("run")
-    tally.want("a character that isn't a byte is refused with its place", "line 2, column 6" in page.text("errors"), page.text("errors"))
+    trials.want("a character that isn't a byte is refused with its place", "line 2, column 6" in page.text("errors"), page.text("errors"))
     page.put("script", " BACK 0\n")
     page.click("run")
     page.ended()
-    tally.want("and nothing of that stays", page.output() == b"0000001 KEPT=0\n" and not page.text("errors"))
+    trials.want("and nothing of that stays", page.output() == b"0000001 KEPT=0\n" and not page.text("errors"))
 
 
-def check_teacher(page: BenchPage, tally: Tally) -> None:
+OPENED = {"crlf.vsm": b" MAP\r\n BACK 0\r\n", "high.vsm": b"* \xe4\x80\n BACK 0"}
+REFUSED = {"return.vsm": (b" MAP\n BACK\r 0\n", "line 2, column 6"), "many.vsm": (b"\n" * 1_000_000, "1,000,000 lines")}
+
+
+def try_files(page: BenchPage, folder: Path, trials: Trials) -> None:
+    """Files that are opened: which text the editor then has, or why it can't."""
+    page.put("script", "* before\n")
+    document = page.browser.call("DOM.getDocument")["root"]["nodeId"]
+    field = page.browser.call("DOM.querySelector", nodeId=document, selector="#file")["nodeId"]
+
+    def opened(name: str, data: bytes) -> None:
+        (folder / name).write_bytes(data)
+        page.browser.call("DOM.setFileInputFiles", files=[str(folder / name)], nodeId=field)
+
+    for name, (data, why) in REFUSED.items():
+        opened(name, data)
+        said = page.wait("document.getElementById('note').open", 20) and page.text("note-text")
+        trials.want(f"the file {name} isn't opened", name in str(said) and why in str(said), said)
+        trials.equal("the script stays", page.js("document.getElementById('script').value"), "* before\n")
+        page.js("document.getElementById('note').close()")
+    for name, data in OPENED.items():
+        opened(name, data)
+        wanted = data.decode("latin-1").replace("\r\n", "\n")
+        trials.want(f"the file {name} is opened", page.wait(f"document.getElementById('script').value === {json.dumps(wanted)}", 20))
+        trials.want("and its name told", name in page.js("document.getElementById('examples').selectedOptions[0].text"))
+        page.ended()
+
+
+def try_teacher(page: BenchPage, trials: Trials) -> None:
     page.put("examples", "cell-pools.vsm", "change")
     page.ended()
     page.click("teacher")
     page.wait("document.querySelector('#output .asked')")
     hidden = page.js("[document.getElementById('output').textContent, document.getElementById('picture').textContent].filter(it => /RC=0|ABEND/.test(it)).length")
-    tally.want("in the teacher's mode no answer is shown", hidden == 0, hidden)
+    trials.want("in the teacher's mode no answer is shown", hidden == 0, hidden)
     count = page.js("document.querySelectorAll('#output .answer button').length")
     page.js("document.querySelector('#output .answer button').click()")
-    tally.want("an answer comes when it's asked for, and no other", page.js("document.querySelector('#output .answer').textContent") == "RC=0 A=00006000 L=00000048"
+    trials.want("an answer comes when it's asked for, and no other", page.js("document.querySelector('#output .answer').textContent") == "RC=0 A=00006000 L=00000048"
                and page.js("document.querySelectorAll('#output .answer button').length") == count - 1)
     page.put("examples", "first-steps.vsm", "change")
     page.ended()
-    tally.want("the next run hides its answers too", page.js("document.querySelectorAll('#output .answer button').length") == 9)
+    trials.want("the next run hides its answers too", page.js("document.querySelectorAll('#output .answer button').length") == 9)
+    page.js("document.activeElement.blur()")
+    page.browser.key("t")
+    trials.want("the view's key switches it off", page.wait("document.getElementById('teacher').getAttribute('aria-checked') === 'false'", 5))
     page.click("teacher")
-    tally.want("switched off, all is shown", page.wait("document.querySelector('#output .text')?.textContent.includes('RC=0')", 10))
+    page.click("teacher")
+    trials.want("switched off, all is shown", page.wait("document.querySelector('#output .text')?.textContent.includes('RC=0')", 10))
 
 
-def check_saving(page: BenchPage, folder: Path, tally: Tally) -> None:
+def try_saving(page: BenchPage, folder: Path, trials: Trials) -> None:
     page.browser.call("Browser.setDownloadBehavior", behavior="allow", downloadPath=str(folder))
     name, script, output, _ = examples()[1]
     page.put("examples", name, "change")
@@ -384,88 +441,96 @@ def check_saving(page: BenchPage, folder: Path, tally: Tally) -> None:
             time.sleep(0.05)
         time.sleep(0.2)
         got = saved.read_bytes() if saved.exists() else b""
-        tally.want(f"{button} saves a file", got == wanted if wanted is not None else b"<title>" in got, got[:80])
+        trials.want(f"{button} saves a file", got == wanted if wanted is not None else b"<title>" in got, got[:80])
     page.browser.open(saved.as_uri(), "document.querySelector('.said strong')")
-    tally.want("the saved page is a page of its own", page.js("document.title") == f"{name} · vsm" and not page.browser.messages(), page.browser.messages())
+    trials.want("the saved page is a page of its own", page.js("document.title") == f"{name} · vsm" and not page.browser.messages(), page.browser.messages())
 
 
-def check_lacks(page: BenchPage, tally: Tally) -> None:
+def try_lacks(page: BenchPage, trials: Trials) -> None:
     """A browser without what is needed says so."""
     for lack in LACKS:
         script = page.browser.call("Page.addScriptToEvaluateOnNewDocument", source=f"delete globalThis.{lack}")["identifier"]
         page.open(ready="document.querySelector('#bench .sentence[role=alert]')")
         said = page.text("bench")
-        tally.want(f"without {lack} there's a sentence", lack.lower()[:6] in said.lower() and said.endswith("."), said)
+        trials.want(f"without {lack} there's a sentence", lack.lower()[:6] in said.lower() and said.endswith("."), said)
         page.browser.call("Page.removeScriptToEvaluateOnNewDocument", identifier=script)
     throwing = "globalThis.Worker = class { constructor() { throw new Error('no workers here'); } }"
     script = page.browser.call("Page.addScriptToEvaluateOnNewDocument", source=throwing)["identifier"]
     page.open()
-    tally.want("a worker that can't be started is said", "no workers here" in page.text("errors"), page.text("errors"))
+    trials.want("a worker that can't be started is said", "no workers here" in page.text("errors"), page.text("errors"))
     page.browser.call("Page.removeScriptToEvaluateOnNewDocument", identifier=script)
     plain = page.browser.call("Emulation.setScriptExecutionDisabled", value=True)
     page.browser.call("Page.navigate", url=page.address)
     time.sleep(0.5)
     told = json.dumps(page.browser.call("Accessibility.getFullAXTree"))
-    tally.want("without JavaScript there's a sentence", "It needs JavaScript" in told, plain)
+    trials.want("without JavaScript there's a sentence", "It needs JavaScript" in told, plain)
     page.browser.call("Emulation.setScriptExecutionDisabled", value=False)
 
 
-def check_no_network(page: BenchPage, tally: Tally) -> None:
+def try_no_network(page: BenchPage, trials: Trials) -> None:
     """The policy refuses what a script of the page would ask for; that is said on the console, so it's looked at last."""
     page.open()
     refused = page.js("""new Promise(done => {
       addEventListener('securitypolicyviolation', event => done(event.effectiveDirective));
       fetch('http://127.0.0.1:9/').catch(() => setTimeout(() => done('nothing'), 500));
     })""")
-    tally.want("the page's policy refuses the network", refused == "connect-src", refused)
+    trials.want("the page's policy refuses the network", refused == "connect-src", refused)
 
 
-def check_page(module: Path, node: Node, folder: Path, tally: Tally) -> None:
-    path = folder / "bench.html"
-    path.write_text(bench.bench_page(module), encoding="utf-8")
-    with Browser() as browser:
-        page = BenchPage(browser, path)
-        parts: list[Callable[[], None]] = [
-            lambda: check_opening(page, tally), lambda: check_each_example(page, tally), lambda: check_odd_scripts(page, node, tally),
-            lambda: check_command_line(page, node, tally), lambda: check_keys(page, tally), lambda: check_stop(page, tally),
-            lambda: check_link(page, tally), lambda: check_keeping(page, tally), lambda: check_limits(page, tally),
-            lambda: check_teacher(page, tally), lambda: check_saving(page, folder, tally), lambda: check_lacks(page, tally),
-            lambda: check_no_network(page, tally)]
-        for part in parts:
-            try:
-                part()
-            except (BrowserFault, OSError, ValueError, TypeError) as fault:
-                tally.want("a part of the check", False, f"{type(fault).__name__}: {fault}")
-
-
-def check(module: Path) -> Tally:
-    """All of it; what can't be begun is one failure."""
-    tally = Tally()
-    if not module.is_file():
-        tally.want(f"the module {module}", False, "it isn't there; page/module makes it")
-        return tally
-    with tempfile.TemporaryDirectory(prefix="bench-check-") as name:
+def try_page(page: BenchPage, node: Node, folder: Path, trials: Trials) -> None:
+    parts: list[Callable[[], None]] = [
+        lambda: try_opening(page, trials), lambda: try_looks(page, trials), lambda: try_each_example(page, trials),
+        lambda: try_odd_scripts(page, node, trials), lambda: try_command_line(page, node, trials), lambda: try_keys(page, trials),
+        lambda: try_stop(page, trials), lambda: try_link(page, trials), lambda: try_keeping(page, trials),
+        lambda: try_limits(page, trials), lambda: try_files(page, folder, trials), lambda: try_teacher(page, trials),
+        lambda: try_saving(page, folder, trials), lambda: try_lacks(page, trials), lambda: try_no_network(page, trials)]
+    for part in parts:
         try:
-            node = Node(module, Path(name))
-        except (BrowserFault, BuildFault, OSError) as fault:
-            tally.want("node", False, fault)
-            return tally
+            part()
+        except (BrowserFault, OSError, ValueError, TypeError, KeyError) as fault:
+            trials.want("a part of the trials comes to its end", False, f"{type(fault).__name__}: {fault}")
+
+
+def try_module(module: Path, browser: Browser, trials: Trials) -> None:
+    """All trials of one module and of the bench with it."""
+    with tempfile.TemporaryDirectory(prefix="bench-trials-") as name:
+        path = Path(name) / "bench.html"
+        path.write_text(bench.bench_page(module), encoding="utf-8")
+        node = Node(module, Path(name))
         try:
-            check_rows(node, tally)
-            check_examples(node, tally)
-            check_page(module, node, Path(name), tally)
-        except (BrowserFault, BuildFault, OSError, ValueError) as fault:
-            tally.want("the bench's check", False, fault)
+            trials.subject = module.name
+            try_rows(node, trials)
+            try_examples(node, trials)
+            trials.subject = path.name
+            try_page(BenchPage(browser, path), node, Path(name), trials)
         finally:
             node.close()
-    return tally
+
+
+def try_all(trials: Trials, browser: Browser, program: str) -> None:
+    """The module in dist/, which has to be of this program."""
+    trials.subject = "dist/vsm.wasm"
+    if not MODULE.is_file():
+        trials.want("the module is there: page/module makes it", False)
+        return
+    said = json.loads(MODULE.with_suffix(".json").read_text(encoding="utf-8"))
+    trials.equal("the module is of the program", said["program"], hashlib.sha256(Path(program).read_bytes()).hexdigest())
+    trials.equal("the module is the one that page/module made", hashlib.sha256(MODULE.read_bytes()).hexdigest(), said["module"])
+    try_module(MODULE, browser, trials)
 
 
 def main(words: list[str]) -> int:
     if len(words) > 1 or any(word.startswith("-") for word in words):
         print(__doc__.split("\n")[2], file=sys.stderr)
         return 16
-    return check(Path(words[0]).resolve() if words else TOP / "dist" / "vsm.wasm").tell()
+    trials = Trials()
+    try:
+        with Browser() as browser:
+            try_module(Path(words[0]) if words else MODULE, browser, trials)
+    except (BrowserFault, BuildFault, OSError, ValueError, KeyError) as fault:
+        trials.want("the trials come to their end", False, fault)
+    print(f"{trials.passed} passed, {trials.failed} failed")
+    return trials.failed != 0
 
 
 if __name__ == "__main__":
