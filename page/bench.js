@@ -159,6 +159,7 @@ class Bench {
     if (fault) return this.refuse(`${this.name}, ${fault}.`);
     this.result = { script, words: this.words, name: this.name, output: '', mapped: null };
     this.began = performance.now();
+    this.isCleared = false;
     this.busy(true);
     this.say('Running');
     this.runner.run(this.words, latin(script));
@@ -187,6 +188,12 @@ class Bench {
 
   progress({ part, share, bytes }) {
     byId('progress').value = share;
+    // What is shown of the run before would be taken for this one's.
+    if (!this.isCleared) {
+      this.isCleared = true;
+      this.withoutPicture('The run is under way.');
+      if (part === 'script') this.showOutput();
+    }
     const what = part === 'script' ? 'Running' : 'Making the picture';
     byId('far').textContent = `${what}: ${Math.floor(share * 100)}%, ${megabytes(bytes)} printed`;
   }
