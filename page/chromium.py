@@ -20,7 +20,9 @@ PROGRAMS = ("chromium", "chromium-browser", "google-chrome")
 SECONDS = 60  # the longest that one answer of the browser may take
 INSTALL_SECONDS = 600
 LIMIT = 1 << 20  # bytes that are read at once
-FRAMES = "new Promise(done => requestAnimationFrame(() => requestAnimationFrame(() => done(true))))"
+# Two frames, and the end of all transitions.
+DRAWN = """new Promise(done => requestAnimationFrame(() => requestAnimationFrame(done)))
+  .then(() => Promise.all(document.getAnimations().map(it => it.finished.catch(() => null)))).then(() => true)"""
 
 
 class BrowserFault(Exception):
@@ -129,7 +131,7 @@ class Browser:
 
     def settle(self) -> None:
         """Waits until what was asked for is drawn."""
-        self.evaluate(FRAMES)
+        self.evaluate(DRAWN)
 
     def open(self, address: str, ready: str) -> float:
         """Opens a page, and waits until an expression holds in it; how many seconds that took."""

@@ -3,17 +3,25 @@ import { count } from './elements.js';
 
 export const PAGE = 4096;
 
+/** What can't be shown, as a sentence for the page. */
+export class Sentence extends Error {}
+
 /** The text that data hold: as it is (`text`), or compressed by gzip and in base64 (`output`). */
-export async function textOf(data) {
+async function textOf(data) {
+  if (typeof data?.script !== 'string') throw new Sentence('This page is damaged: it has no data of a run.');
   if (typeof data.text === 'string') return data.text;
-  const bytes = Uint8Array.from(atob(data.output), it => it.charCodeAt(0));
-  const stream = new Blob([bytes]).stream().pipeThrough(new DecompressionStream('gzip'));
-  return new TextDecoder('latin1').decode(await new Response(stream).arrayBuffer());
+  try {
+    const bytes = Uint8Array.from(atob(data.output), it => it.charCodeAt(0));
+    const stream = new Blob([bytes]).stream().pipeThrough(new DecompressionStream('gzip'));
+    return new TextDecoder('latin1').decode(await new Response(stream).arrayBuffer());
+  } catch {
+    throw new Sentence('This page is damaged: what vsm printed can’t be unpacked.');
+  }
 }
 
 /** Where each answer begins (a map's lines begin with a blank, and belong to the answer before them), and what comes
     up in any map: the numbers of subpools, and the pages that are assigned. It's one pass over the text. */
-export function survey(text) {
+function survey(text) {
   const answers = [], numbers = new Set(), extents = new Set();
   for (let at = 0; at < text.length; at = text.indexOf('\n', at) + 1 || text.length) {
     if (text.charCodeAt(at) !== 32) answers.push(at);
@@ -57,15 +65,15 @@ const LINES = {
 };
 
 /** The state that the map at a place of the text shows. */
-export function parseMap(text, at) {
+function parseMap(text, at) {
   const state = { tasks: [], subpools: [], pools: [], names: [], holder: null };
   for (at = text.indexOf('\n', at) + 1; at && text.charCodeAt(at) === 32;) {
     const end = text.indexOf('\n', at), line = text.slice(at, end < 0 ? text.length : end), words = line.trim().split(' ');
-    if (!LINES[words[0]]) throw new Error(`What vsm printed has a map with the line '${line.trim()}', which is none of a map’s.`);
+    if (!LINES[words[0]]) throw new Sentence(`What vsm printed has a map with the line '${line.trim()}', which is none of a map’s.`);
     LINES[words[0]](state, words, line);
     at = end + 1;
   }
-  if (!state.tasks.length || state.limit === undefined) throw new Error('What vsm printed lacks a map where one should be.');
+  if (!state.tasks.length || state.limit === undefined) throw new Sentence('What vsm printed lacks a map where one should be.');
   return state;
 }
 
@@ -81,7 +89,7 @@ export class Run {
     this.pages = pages;
     this.skipped = data.skipped;
     this.steps = Math.floor((answers.length - data.skipped) / 2);
-    if (this.steps < 0 || answers.length === data.skipped) throw new Error('What vsm printed has no map.');
+    if (this.steps < 0 || answers.length === data.skipped) throw new Sentence('What vsm printed has no map.');
     this.readAnswers(answers);
   }
 
@@ -96,7 +104,7 @@ export class Run {
     this.maps = [];
     this.statements = answers.slice(0, this.skipped).map(at => ({ line: line(at), reply: reply(at) }));
     for (let k = this.skipped; k < answers.length; k += 2) {
-      if (reply(answers[k]) !== 'MAP') throw new Error(`What vsm printed has no map behind ${count(this.statements.length, 'statement')}.`);
+      if (reply(answers[k]) !== 'MAP') throw new Sentence(`What vsm printed has no map behind ${count(this.statements.length, 'statement')}.`);
       this.maps.push(answers[k]);
       if (k + 1 < answers.length) this.statements.push({ line: line(answers[k + 1]) - this.maps.length, reply: reply(answers[k + 1]) });
     }

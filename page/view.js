@@ -3,7 +3,7 @@ import { make } from './elements.js';
 import { helpDialog } from './help.js';
 import { keysOf } from './keys.js';
 import { lensPart } from './lens.js';
-import { PAGE, Run } from './map.js';
+import { PAGE, Run, Sentence } from './map.js';
 import { momentOf } from './moment.js';
 import { poolsPart } from './pools.js';
 import { legend, regionsPart } from './regions.js';
@@ -24,10 +24,16 @@ function lackOf() {
   return lacks.length ? `This page shows a run of vsm, but this browser lacks ${lacks.join(' and ')}: Chrome 123, Firefox 120 and Safari 17.5 have what it needs.` : null;
 }
 
+/** A sentence in place of the run. */
+function apologise(container, fault) {
+  container.classList.add('run');
+  container.replaceChildren(make('p', { class: 'sentence', role: 'alert' }, fault instanceof Sentence ? fault.message : `The run can’t be shown: ${fault}.`));
+}
+
 /** The view of one run: where it stands, and its parts. */
 class View {
   constructor(container, run, options) {
-    Object.assign(this, { container, run, options, id: `run-${++made}`, step: 0, told: run.steps, asked: 0, teaching: false, playing: null, chosen: null, picked: null, drawing: null, noting: null });
+    Object.assign(this, { container, run, options, id: `run-${++made}`, step: 0, told: run.steps, asked: 0, teaching: false, clock: null, chosen: null, picked: null, drawing: null, noting: null });
     for (const act of ['play', 'ask', 'help']) this[act] = this[act].bind(this);
     this.dialog = helpDialog();
     this.live = make('div', { class: 'unseen', 'aria-live': 'polite' });
@@ -56,7 +62,7 @@ class View {
   close() {
     this.ending.abort();
     this.resizing.disconnect();
-    clearInterval(this.playing);
+    clearInterval(this.clock);
     clearTimeout(this.noting);
     cancelAnimationFrame(this.drawing);
   }
@@ -70,6 +76,15 @@ class View {
 
   draw() {
     this.drawing = null;
+    try {
+      this.drawParts();
+    } catch (fault) {
+      this.close();
+      apologise(this.container, fault);
+    }
+  }
+
+  drawParts() {
     this.told = this.teaching ? this.asked : this.run.steps;
     const shown = Math.min(this.step, this.told);
     const key = `${shown} ${shown < this.step}`;
@@ -103,9 +118,14 @@ class View {
     this.tasks.focus(task);
   }
 
+  get playing() {
+    return this.clock !== null;
+  }
+
+  /** Plays to the end, or stops. */
   play() {
-    clearInterval(this.playing);
-    this.playing = this.playing ? null : setInterval(() => this.step < this.run.steps ? this.go(this.step + 1) : this.play(), PLAY);
+    clearInterval(this.clock);
+    this.clock = this.playing ? null : setInterval(() => this.step < this.run.steps ? this.go(this.step + 1) : this.play(), PLAY);
     this.draw();
   }
 
@@ -158,14 +178,14 @@ class View {
 export async function showRun(container, data, options = {}) {
   try {
     const lack = lackOf();
-    if (lack) throw new Error(lack);
+    if (lack) throw new Sentence(lack);
     const view = new View(container, await Run.of(data), options);
     if (options.teacher) view.teach(0);
     else if (options.address) view.followAddress();
     view.draw();
     return view;
   } catch (fault) {
-    container.replaceChildren(make('p', { class: 'sentence', role: 'alert' }, fault instanceof Error && fault.message || 'What vsm printed can’t be shown.'));
+    apologise(container, fault);
     return null;
   }
 }
