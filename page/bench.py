@@ -54,10 +54,17 @@ def main(words: list[str]) -> int:
     module = Path(words[0]) if words else TOP / "dist" / "vsm.wasm"
     page = Path(words[1]) if len(words) > 1 else TOP / "dist" / "bench.html"
     try:
+        text = bench_page(module)
         page.parent.mkdir(parents=True, exist_ok=True)
-        page.write_text(bench_page(module), encoding="utf-8")
-    except (BuildFault, OSError, ValueError, KeyError) as fault:
-        print(f"page/bench.py: {fault}", file=sys.stderr)
+        page.write_text(text, encoding="utf-8")
+    except OSError as fault:
+        print(f"page/bench.py: {fault.filename}: {fault.strerror}", file=sys.stderr)
+        return 1
+    except KeyError as fault:
+        print(f"page/bench.py: {module.with_suffix('.json')}: it lacks {fault}", file=sys.stderr)
+        return 1
+    except (BuildFault, ValueError) as fault:
+        print(f"page/bench.py: the page can't be built: {fault}", file=sys.stderr)
         return 1
     print(f"{page}: {page.stat().st_size} bytes")
     return 0

@@ -26,7 +26,7 @@ from typing import Any, Callable, Sequence
 sys.dont_write_bytecode = True
 HERE = Path(__file__).resolve().parent
 TOP = HERE.parent
-sys.path[:0] = [str(HERE), str(TOP / "tests" / "rows")]
+sys.path[:0] = [str(HERE), str(TOP / "tools"), str(TOP / "tests" / "rows")]
 
 import bench  # noqa: E402
 from build import BuildFault, joined_script  # noqa: E402
@@ -516,7 +516,10 @@ def try_all(trials: Trials, browser: Browser, program: str) -> None:
     said = json.loads(MODULE.with_suffix(".json").read_text(encoding="utf-8"))
     trials.equal("the module is of the program", said["program"], hashlib.sha256(Path(program).read_bytes()).hexdigest())
     trials.equal("the module is the one that page/module made", hashlib.sha256(MODULE.read_bytes()).hexdigest(), said["module"])
-    try_module(MODULE, browser, trials)
+    try:
+        try_module(MODULE, browser, trials)
+    except BuildFault as fault:
+        trials.want("the page can be built", False, fault)
 
 
 def main(words: list[str]) -> int:
