@@ -36,6 +36,7 @@ from view_trials import PALE  # noqa: E402
 
 MODULE = TOP / "dist" / "vsm.wasm"
 SECONDS = 60
+WORKER_SECONDS = 15  # for a worker to end that computes
 ENDLESS_BYTES = 1 << 22  # of a row that has no end, far more than the program reads of it
 NOT_READ = b" BACK 0\n"
 LACKS = ("WebAssembly", "DecompressionStream", "CompressionStream", "Worker")
@@ -318,7 +319,17 @@ def long_script() -> bytes:
     return b"".join(obtains) + b" STORAGE OBTAIN,LENGTH=8\n" * 40_000
 
 
+def workers(page: BenchPage) -> int:
+    """How many workers there are, of those that came since the browser was told to attach to them."""
+    page.js("0")
+    kinds = [it["method"] for it in page.browser.events]
+    return kinds.count("Target.attachedToTarget") - kinds.count("Target.detachedFromTarget")
+
+
 def try_stop(page: BenchPage, trials: Trials) -> None:
+    page.open()
+    attached = {"waitForDebuggerOnStart": False, "flatten": True}
+    page.browser.call("Target.setAutoAttach", autoAttach=True, **attached)
     page.put("high", "1048576")
     page.put("low", "16000")
     page.put("script", long_script().decode())
@@ -327,6 +338,11 @@ def try_stop(page: BenchPage, trials: Trials) -> None:
     trials.want("Stop can be pressed while it runs", page.js("!document.getElementById('stop').disabled && !document.getElementById('progress').hidden"))
     page.click("stop")
     trials.want("Stop ends a run", page.ended(2) and page.text("status").startswith("Stopped"), page.text("status"))
+    end = time.monotonic() + WORKER_SECONDS
+    while workers(page) and time.monotonic() < end:
+        time.sleep(0.1)
+    trials.equal("workers that are left", workers(page), 0)
+    page.browser.call("Target.setAutoAttach", autoAttach=False, **attached)
     page.run(b" BACK 0\n")
     trials.want("behind a stopped run the next one runs", page.output() == b"0000001 KEPT=0\n", page.text("status"))
 
