@@ -18,6 +18,9 @@ function boxes(parts, begin, wide) {
   return d;
 }
 
+/** The taken parts that touch one before them. */
+const touching = parts => parts.filter((it, k) => k && it.kind === 'taken' && parts[k - 1].kind === 'taken');
+
 /** Thin lines where parts begin, but at the page's begin. */
 function lines(parts, begin, wide) {
   const places = parts.map(it => (it.from - begin) / UNIT).filter(it => it > 0);
@@ -30,7 +33,7 @@ export function drawingOf(page, granted, wide, scale) {
   const path = (kind, d) => svg.append(make('path', { class: kind, d }));
   for (const kind of ['free', 'taken']) path(kind, boxes(page.parts.filter(it => it.kind === kind), begin, wide));
   for (const kind of ['freecell', 'cell']) path(kind, boxes(page.cells.filter(it => it.kind === kind), begin, wide));
-  path('edge', lines(page.parts, begin, wide));
+  path('edge', lines(touching(page.parts), begin, wide));
   path('edge ofcells', lines(page.cells.filter(it => it.whole / UNIT * scale >= MARKED), begin, wide));
   if (granted && granted.from < begin + PAGE && granted.to > begin) {
     path('granted', boxes([{ from: Math.max(granted.from, begin), to: Math.min(granted.to, begin + PAGE) }], begin, wide));

@@ -33,5 +33,6 @@ export function meaningOf(reply, statement) {
   if (!all.length) return { meaning: '', more: '' };
   const words = new Set(wordsOf(statement)), named = all.filter(it => it.labels?.some(label => label.every(word => words.has(word))));
   const bare = all.filter(it => !it.labels), chosen = named.length ? named : bare.length ? bare : all;
-  return { meaning: chosen.map(it => capital(it.text)).join(' '), more: chosen[0].row.leaves ?? chosen[0].row.advice };
+  const { leaves, advice } = chosen[0].row, more = leaves ? `What it leaves: ${leaves}` : advice && `What to do: ${advice}`;
+  return { meaning: chosen.map(it => capital(it.text)).join(' '), more };
 }

@@ -1,5 +1,5 @@
 // The two regions: a row for each page that is assigned at any time of the run, so that rows keep their places.
-import { colourOf, count, hex, make, tag } from './elements.js';
+import { colourOf, count, grouped, hex, make, tag } from './elements.js';
 import { drawingOf } from './drawing.js';
 import { PAGE } from './map.js';
 
@@ -52,11 +52,21 @@ export function regionsPart(view) {
     }
     if (to < pages.length) jump(pages.length - to, 'above these addresses', pages[to]);
     else gap(first + size - next, 'never assigned');
-    return make('section', { class: 'region', 'aria-label': name }, make('h2', {}, name, make('span', {}, `${assigned} of ${count(size, 'page')} assigned`)), ...list);
+    return make('section', { class: 'region', 'aria-label': name }, make('h2', {}, name, make('span', {}, `${grouped(assigned)} of ${count(size, 'page')} assigned`)), ...list);
+  }
+  /** Scrolls to the chosen row, where the regions are scrolled by themselves and it's out of sight. */
+  function reveal() {
+    const row = element.querySelector(`[data-page="${view.chosen}"]`);
+    if (!row || element.scrollHeight <= element.clientHeight) return;
+    const box = element.getBoundingClientRect(), { top, bottom } = row.getBoundingClientRect();
+    if (top < box.top) element.scrollTop -= box.top - top + row.offsetHeight;
+    else if (bottom > box.bottom) element.scrollTop += bottom - box.bottom + row.offsetHeight;
   }
   function draw() {
-    const { state } = view.moment;
+    const { state } = view.moment, { scrollTop } = element;
     element.replaceChildren(regionOf('Above the 16 MB line', HIGH / PAGE, state.highOf, state.high), regionOf('Below the 16 MB line', LOW / PAGE, state.lowOf, state.low));
+    element.scrollTop = scrollTop;
+    reveal();
   }
   /** To the page so many rows further, where a row has the focus. */
   function move(row, by) {

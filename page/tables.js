@@ -4,17 +4,23 @@ import { PAGE } from './map.js';
 
 const sum = areas => areas.reduce((total, [, length]) => total + length, 0);
 
-function subpoolRow(view, subpool) {
-  const { before } = view.moment, bytes = sum(subpool.extents), free = sum(subpool.free), was = before.subpools.find(it => it.number === subpool.number && it.owner === subpool.owner);
-  const then = was && [sum(was.extents) / PAGE, sum(was.extents) - sum(was.free), sum(was.free)], now = [bytes / PAGE, bytes - free, free];
-  return make('tr', {}, make('td', { class: 'text' }, tag(view.run, subpool)), ...now.map((it, k) => make('td', { class: then?.[k] === it ? null : 'changed' }, grouped(it))),
-    make('td', { class: 'text sharers' }, subpool.sharers.map(it => `T${it}`).join(' ')));
+/** Pages, taken and free bytes of a subpool; or nothing where there's none. */
+const sizesOf = subpool => subpool ? [sum(subpool.extents) / PAGE, sum(subpool.extents) - sum(subpool.free), sum(subpool.free)] : [];
+
+function subpoolRow(view, subpool, shared) {
+  const was = sizesOf(view.moment.before.subpools.find(it => it.number === subpool.number && it.owner === subpool.owner));
+  return make('tr', {}, make('td', { class: 'text' }, tag(view.run, subpool)),
+    ...sizesOf(subpool).map((it, k) => make('td', { class: was[k] === it ? null : 'changed' }, grouped(it))),
+    shared ? make('td', { class: 'text sharers' }, subpool.sharers.map(it => `T${it}`).join(' ')) : null);
 }
 
 export function subpoolsPart(view) {
-  const element = make('div', {}), heads = ['subpool', 'pages', 'taken', 'free', 'shared by'];
-  const head = make('tr', {}, ...heads.map((it, k) => make('th', { scope: 'col', class: k % 4 ? null : 'text' }, it)));
-  const draw = () => element.replaceChildren(panel('Subpools', make('table', {}, head, ...view.moment.state.subpools.map(it => subpoolRow(view, it)))));
+  const element = make('div', {});
+  function draw() {
+    const { subpools } = view.moment.state, shared = subpools.some(it => it.sharers.length), heads = ['subpool', 'pages', 'taken', 'free', ...shared ? ['sharers'] : []];
+    const head = make('tr', {}, ...heads.map((it, k) => make('th', { scope: 'col', class: k % 4 ? null : 'text' }, it)));
+    element.replaceChildren(panel('Subpools', make('table', {}, head, ...subpools.map(it => subpoolRow(view, it, shared)))));
+  }
   return { element, draw };
 }
 

@@ -99,11 +99,15 @@ class View {
     this.note();
   }
 
-  /** The page that is looked at near by: where something was granted, else where something changed, else the one before. */
+  /** The page that is looked at near by: where something was granted; else the one before, unless another has changed
+      and it hasn't, or it has left. */
   turn() {
-    const { granted, pages, pagesBefore } = this.moment;
+    const { granted, pages, pagesBefore } = this.moment, changed = page => pages.get(page)?.key !== pagesBefore.get(page)?.key;
     if (granted) this.chosen = Math.floor(granted.from / PAGE);
-    else if (!pages.has(this.chosen)) this.chosen = [...pages.keys()].find(it => pagesBefore.get(it)?.key !== pages.get(it).key) ?? [...pages.keys()][0] ?? LOWEST;
+    else if (!pages.has(this.chosen) || !changed(this.chosen)) {
+      const other = [...pages.keys()].find(changed);
+      this.chosen = other ?? (pages.has(this.chosen) ? this.chosen : [...pages.keys()][0] ?? LOWEST);
+    }
   }
 
   choose(page) {

@@ -131,7 +131,7 @@ def owners(told: list[Answer], limit: int) -> dict[int, int]:
 
 
 def wanted_edges(state: Map, painted: dict[int, int]) -> dict[int, set[float]]:
-    """By page, the doublewords before which a line stands: where free and taken meet, or two areas do."""
+    """By page, the doublewords before which a line stands: where two areas touch."""
     edges: dict[int, set[float]] = {}
     for subpool in state.subpools:
         free = {unit for area in subpool.free for unit in range(area.start // UNIT, area.end // UNIT)}
@@ -139,7 +139,7 @@ def wanted_edges(state: Map, painted: dict[int, int]) -> dict[int, set[float]]:
             for page in range(extent.start // PAGE, extent.end // PAGE):
                 first = page * PAGE // UNIT
                 what = [None if unit in free else painted.get(unit, -1) for unit in range(first, first + PAGE // UNIT)]
-                edges[page] = {at for at in range(1, len(what)) if what[at] != what[at - 1]}
+                edges[page] = {at for at in range(1, len(what)) if None not in what[at - 1:at + 1] and what[at] != what[at - 1]}
     return edges
 
 
