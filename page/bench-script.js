@@ -20,9 +20,10 @@ export function faultOfScript(text) {
   return null;
 }
 
-/** A file's text as the editor holds it, which knows no carriage returns: at a line's end they go, as vsm takes them. */
+/** A file's text as the editor holds it, which knows no carriage returns: right before a line feed they go, as vsm takes
+    them; any other belongs to its line. */
 export function editorText(text) {
-  const plain = text.replaceAll('\r\n', '\n').replace(/\r$/, '');
+  const plain = text.replaceAll('\r\n', '\n');
   const alone = plain.indexOf('\r');
   if (alone >= 0) return { fault: `${placeIn(plain, alone)}: the editor can’t hold a carriage return within a line` };
   const fault = faultOfScript(plain);

@@ -395,7 +395,7 @@ def try_limits(page: BenchPage, trials: Trials) -> None:
 
 
 OPENED = {"crlf.vsm": b" MAP\r\n BACK 0\r\n", "high.vsm": b"* \xe4\x80\n BACK 0"}
-REFUSED = {"return.vsm": (b" MAP\n BACK\r 0\n", "line 2, column 6"), "many.vsm": (b"\n" * 1_000_000, "1,000,000 lines")}
+REFUSED = {"return.vsm": (b" MAP\n BACK\r 0\n", "line 2, column 6"), "last.vsm": (b" MAP\r", "line 1, column 5"), "many.vsm": (b"\n" * 1_000_000, "1,000,000 lines")}
 
 
 def try_files(page: BenchPage, folder: Path, trials: Trials) -> None:
