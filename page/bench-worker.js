@@ -4,7 +4,7 @@ import { latin, latinText, runProgram } from './module-host.js';
 
 const PIECE = 4096; // bytes of the script that are read at once
 const PAUSE = 100; // milliseconds between two words of how far it is
-const MOST_OUTPUT = 400 * 2 ** 20; // bytes: a browser holds a text of 512 MiB at most
+const MOST_OUTPUT = 128 * 2 ** 20; // bytes: what the page can go through without a long pause
 let program;
 
 class TooMuch extends Error {}
@@ -41,19 +41,18 @@ function ranOver(words, script, part) {
 
 /** What goes wrong within a run, in words. */
 function reasonOf(fault) {
-  if (fault instanceof TooMuch) return `it has more than ${MOST_OUTPUT / 2 ** 20} MiB`;
+  if (fault instanceof TooMuch) return `it prints more than ${MOST_OUTPUT / 2 ** 20} MiB`;
   if (fault instanceof RangeError) return 'this browser has no memory for it';
   return `the program ended early (${fault.message})`;
 }
 
-function pictureOf(words, script, plain) {
+function pictureOf(words, script, plain, answers) {
   try {
-    const answers = answersOf(plain.output);
     const { output, status } = ranOver(words, withMaps(script, answers.map(it => it.line)), 'maps');
     if (status !== plain.status || !isSameRun(answers, answersOf(output))) return { why: 'the answers are others with maps between them, which is a fault of this page' };
     return { output };
   } catch (fault) {
-    return { why: reasonOf(fault) };
+    return { why: fault instanceof TooMuch ? `with a map at each statement ${reasonOf(fault)} (vsm-view makes pages of parts)` : reasonOf(fault) };
   }
 }
 
@@ -61,8 +60,9 @@ onmessage = ({ data: { wasm, words, script } }) => {
   try {
     program ??= new WebAssembly.Module(wasm);
     const plain = ranOver(words, script, 'script');
-    postMessage({ kind: 'ran', ...plain });
-    if (plain.status === 0 || plain.status === 4) postMessage({ kind: 'picture', ...pictureOf(words, script, plain) });
+    const answers = answersOf(plain.output);
+    postMessage({ kind: 'ran', ...plain, count: answers.length });
+    if (plain.status === 0 || plain.status === 4) postMessage({ kind: 'picture', ...pictureOf(words, script, plain, answers) });
     postMessage({ kind: 'end' });
   } catch (fault) {
     postMessage({ kind: 'fault', why: reasonOf(fault) });

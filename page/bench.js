@@ -198,8 +198,8 @@ class Bench {
     byId('far').textContent = `${what}: ${Math.floor(share * 100)}%, ${megabytes(bytes)} printed`;
   }
 
-  ran({ status, output, errors }) {
-    Object.assign(this.result, { status, output: latinText(output) });
+  ran({ status, output, errors, count }) {
+    Object.assign(this.result, { status, count, output: latinText(output) });
     this.showOutput();
     this.fail(errors);
     if (status !== 0 && status !== 4) {
@@ -224,8 +224,7 @@ class Bench {
 
   ended() {
     this.busy(false);
-    const { status, output } = this.result;
-    const count = output.split('\n').filter(it => it && it[0] !== ' ').length;
+    const { status, count } = this.result;
     this.say(`Exit status ${status} · ${count.toLocaleString('en')} ${count === 1 ? 'statement' : 'statements'} · ${inSeconds(performance.now() - this.began)}`, status > 4);
   }
 
