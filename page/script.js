@@ -8,7 +8,7 @@ const shortened = reply => reply.length > MOST ? `${reply.slice(0, MOST - 1)}…
 
 export function scriptPart(view) {
   const { run } = view, id = `${view.id}-line-`;
-  const box = make('section', { class: 'script', tabindex: 0, role: 'listbox', 'aria-label': 'Script', onscroll: () => drawLines() });
+  const box = make('section', { class: 'script', tabindex: 0, role: 'listbox', 'aria-label': 'Script', style: `--digits:${String(run.lines.length).length}`, onscroll: () => drawLines() });
 
   /** The reply at the step of a line, and how it looks. */
   function replyOf(step) {
@@ -22,7 +22,7 @@ export function scriptPart(view) {
     const marks = ['line', begins && 'begins', number >= from && number <= to && 'now', view.step && number > to && 'later',
       view.moment.undone.has(step) && 'undone', text[0] === '*' && 'comment'];
     return make('div', { class: marks.filter(Boolean).join(' '), style: `top:${(number - 1) * ROW}px`, role: 'option', id: id + number,
-      'aria-selected': String(number === from), onclick: begins ? () => view.go(step) : null },
+      'aria-selected': String(number === from), 'aria-posinset': number, 'aria-setsize': run.lines.length, onclick: begins ? () => view.go(step) : null },
       make('span', { class: 'number' }, String(number)), make('span', { class: 'text', title: text.trim() }, text), make('span', { class: `reply ${kind}` }, reply));
   }
   function drawLines() {

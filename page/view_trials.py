@@ -342,10 +342,24 @@ def try_looks(trials: Trials, browser: Browser, page: Page) -> None:
     browser.size(1440, 900)
 
 
+def try_address(trials: Trials, browser: Browser, page: Page, address: str) -> None:
+    """`#2` opens at statement 2, and `#teacher` with all answers hidden."""
+    browser.open(f"{address}#2", READY)
+    trials.equal("#2 in the address", step_of(browser), min(2, page.steps))
+    browser.evaluate("location.hash = '#1'")
+    trials.equal("another number in the address", step_of(browser), min(1, page.steps))
+    browser.open(f"{address}#teacher", READY)
+    browser.settle()
+    trials.equal("#teacher in the address", browser.evaluate("document.querySelector('.teacher').getAttribute('aria-checked')"), "true")
+    told = browser.evaluate(HIDDEN)
+    trials.equal("#teacher hides all answers", (len(told["replies"]), told["ticks"]), (page.data["skipped"], 0))
+
+
 def try_page(trials: Trials, browser: Browser, path: Path, looks: bool = True) -> None:
     page = Page.of(path)
     trials.subject = path.name
     address = path.resolve().as_uri()
+    try_address(trials, browser, page, address)
     browser.open(address, READY)
     browser.settle()
     trials.equal("how many statements there are", browser.evaluate("+document.querySelector('.time input').max"), page.steps)
