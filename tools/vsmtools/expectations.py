@@ -18,7 +18,7 @@ import signal
 import subprocess
 import tempfile
 from dataclasses import dataclass, field
-from typing import Iterable, Optional, Sequence
+from typing import Iterable, Iterator, Optional, Sequence
 
 from .bench import Answer, Run, answers, started
 from .command import Fault
@@ -27,6 +27,7 @@ from .lines import Extent, is_continued, is_passed_over, split_lines, statements
 SECONDS = 60.0             # the longest that a script may take
 FAILED = 1                 # the exit status where something differs
 MOST_OUTPUT = 256 << 20    # bytes that a program may print
+NOTHING = "nothing is expected in this script; --write fills in what it's answered"
 EXPECTED, AT_END, OPTIONS, BLANK = "*>", "*>end", "*!", "?"
 
 
@@ -175,7 +176,10 @@ def place_ahead(script: Script, ahead: Sequence[ExpectedLine]) -> None:
 
 
 def limit_output() -> None:
-    resource.setrlimit(resource.RLIMIT_FSIZE, (MOST_OUTPUT, MOST_OUTPUT))
+    """Lets the program that is begun write files of so many bytes at most; its output is one."""
+    soft, hard = resource.getrlimit(resource.RLIMIT_FSIZE)
+    most = min([MOST_OUTPUT, *(limit for limit in (soft, hard) if limit != resource.RLIM_INFINITY)])
+    resource.setrlimit(resource.RLIMIT_FSIZE, (most, hard))
 
 
 def run_apart(program: str, options: Sequence[str], script: bytes, seconds: float = SECONDS) -> Optional[Run]:
@@ -263,7 +267,7 @@ def compare(script: Script, given: Iterable[Answer]) -> list[Difference]:
     found = [difference for it in script.tested if it.expected
              for difference in [differs(it, texts(answered.get(it.extent.first)))] if difference]
     if not any(it.expected for it in script.tested):
-        found.append(Difference(1, "nothing is expected in this script; --write fills in what it's answered"))
+        found.append(Difference(1, NOTHING))
     return found
 
 
@@ -278,9 +282,15 @@ def differs(tested: Tested, got: list[str]) -> Optional[Difference]:
         return None
     same = next((at for at, (one, other) in enumerate(zip(wanted, got)) if one != other), min(len(wanted), len(got)))
     line = tested.expected[min(same, len(wanted) - 1)].line
-    diff = [it for it in difflib.ndiff(wanted, got) if not it.startswith("?")]
     return Difference(line, "line %d is answered otherwise (- expected, + answered)" % statement,
-                      tuple(it[0] + it[2:] for it in diff) if got else tuple("-" + it for it in wanted) + ("+(no answer)",))
+                      tuple(diff_lines(wanted, got)))
+
+
+def diff_lines(wanted: list[str], got: list[str]) -> Iterator[str]:
+    """The lines of a diff; three lines around what differs, and '..' for what is left out between."""
+    for number, line in enumerate(difflib.unified_diff(wanted, got or ["(no answer)"], lineterm="")):
+        if number > 2:
+            yield ".." if line.startswith("@@") else line
 
 
 def line_end(line: bytes) -> bytes:
@@ -348,4 +358,6 @@ def filled_in(script: Script, given: Iterable[Answer]) -> bytes:
 
 def hidden(script: Script) -> bytes:
     """The script as an exercise: one blank to be filled in for each answer that is expected."""
+    if not any(it.expected for it in script.tested):
+        raise wrong(NOTHING, script.name, 1)
     return replace_expectations(script, {it.extent.first: [BLANK] for it in script.tested if it.expected})
