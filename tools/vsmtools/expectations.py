@@ -13,12 +13,12 @@ from __future__ import annotations
 import difflib
 import os
 import re
-import resource
 import signal
 import subprocess
 import tempfile
+import time
 from dataclasses import dataclass, field
-from typing import Iterable, Iterator, Optional, Sequence
+from typing import IO, Iterable, Iterator, Optional, Sequence
 
 from .bench import Answer, Run, answers, started
 from .command import Fault
@@ -175,11 +175,16 @@ def place_ahead(script: Script, ahead: Sequence[ExpectedLine]) -> None:
     last.expected, last.is_ahead = list(ahead), True
 
 
-def limit_output() -> None:
-    """Lets the program that is begun write files of so many bytes at most; its output is one."""
-    soft, hard = resource.getrlimit(resource.RLIMIT_FSIZE)
-    most = min([MOST_OUTPUT, *(limit for limit in (soft, hard) if limit != resource.RLIM_INFINITY)])
-    resource.setrlimit(resource.RLIMIT_FSIZE, (most, hard))
+def wait_for(child: subprocess.Popen[bytes], outputs: Sequence[IO[bytes]], seconds: float) -> Optional[int]:
+    """The status of a program, None where it takes longer, and a fault where it prints too much."""
+    last = time.monotonic() + seconds
+    while time.monotonic() < last:
+        try:
+            return child.wait(min(0.5, max(0.0, last - time.monotonic())))
+        except subprocess.TimeoutExpired:
+            if sum(os.fstat(file.fileno()).st_size for file in outputs) > MOST_OUTPUT:
+                raise wrong("it printed more than %d MiB" % (MOST_OUTPUT >> 20), os.path.basename(str(child.args[0]))) from None
+    return None
 
 
 def run_apart(program: str, options: Sequence[str], script: bytes, seconds: float = SECONDS) -> Optional[Run]:
@@ -188,16 +193,15 @@ def run_apart(program: str, options: Sequence[str], script: bytes, seconds: floa
         given.write(script)
         given.seek(0)
         try:
-            child = subprocess.Popen([program, *options], stdin=given, stdout=out, stderr=errors,
-                                     start_new_session=True, preexec_fn=limit_output)
+            child = subprocess.Popen([program, *options], stdin=given, stdout=out, stderr=errors, start_new_session=True)
         except (OSError, ValueError, subprocess.SubprocessError) as fault:
             raise started(fault if isinstance(fault, OSError) else OSError(0, str(fault)), program) from None
         try:
-            status = child.wait(seconds)
-        except subprocess.TimeoutExpired:
-            return None
+            status = wait_for(child, (out, errors), seconds)
         finally:
             end_group(child)
+        if status is None:
+            return None
         out.seek(0)
         errors.seek(0)
         return Run(out.read(), errors.read(1 << 16).decode("utf-8", "replace"), status)
@@ -224,9 +228,7 @@ def told(program: str, script: Script, seconds: float) -> list[Answer]:
     if done.status == 16 and script.options_line:
         raise wrong("%s refuses '%s': %s" % (name, " ".join(script.options), said), script.name, script.options_line, 4)
     if done.status < 0:
-        is_long = -done.status == signal.SIGXFSZ
-        raise wrong("%s was ended by signal %d%s" % (name, -done.status, ", since it printed too much" if is_long else ""),
-                    script.name)
+        raise wrong("%s was ended by signal %d" % (name, -done.status), script.name)
     if done.status not in (0, 4):
         raise wrong("%s ended with status %d: %s" % (name, done.status, said or "no word on standard error"), script.name)
     try:
