@@ -175,36 +175,41 @@ def place_ahead(script: Script, ahead: Sequence[ExpectedLine]) -> None:
     last.expected, last.is_ahead = list(ahead), True
 
 
-def wait_for(child: subprocess.Popen[bytes], outputs: Sequence[IO[bytes]], seconds: float) -> Optional[int]:
-    """The status of a program, None where it takes longer, and a fault where it prints too much."""
-    last = time.monotonic() + seconds
-    while time.monotonic() < last:
-        try:
-            return child.wait(min(0.5, max(0.0, last - time.monotonic())))
-        except subprocess.TimeoutExpired:
-            if sum(os.fstat(file.fileno()).st_size for file in outputs) > MOST_OUTPUT:
-                raise wrong("it printed more than %d MiB" % (MOST_OUTPUT >> 20), os.path.basename(str(child.args[0]))) from None
-    return None
-
-
-def run_apart(program: str, options: Sequence[str], script: bytes, seconds: float = SECONDS) -> Optional[Run]:
-    """A run over a script on standard input that leaves no process behind, and prints only so much; None if it hangs."""
+def run_apart(program: str, script: Script, seconds: float) -> Run:
+    """A run over a script on standard input that leaves no process behind, and has limits of time and of output."""
     with tempfile.TemporaryFile() as given, tempfile.TemporaryFile() as out, tempfile.TemporaryFile() as errors:
-        given.write(script)
+        given.write(script.data)
         given.seek(0)
         try:
-            child = subprocess.Popen([program, *options], stdin=given, stdout=out, stderr=errors, start_new_session=True)
+            child = subprocess.Popen([program, *script.options], stdin=given, stdout=out, stderr=errors,
+                                     start_new_session=True)
         except (OSError, ValueError, subprocess.SubprocessError) as fault:
             raise started(fault if isinstance(fault, OSError) else OSError(0, str(fault)), program) from None
         try:
             status = wait_for(child, (out, errors), seconds)
+        except subprocess.TimeoutExpired:
+            raise wrong("%s didn't end within %g seconds" % (os.path.basename(program), seconds), script.name) from None
+        except OverflowError:
+            raise wrong("%s printed more than %d MiB" % (os.path.basename(program), MOST_OUTPUT >> 20), script.name) from None
         finally:
             end_group(child)
-        if status is None:
-            return None
         out.seek(0)
         errors.seek(0)
         return Run(out.read(), errors.read(1 << 16).decode("utf-8", "replace"), status)
+
+
+def wait_for(child: subprocess.Popen[bytes], outputs: Sequence[IO[bytes]], seconds: float) -> int:
+    """The status of a program; TimeoutExpired where it takes longer, OverflowError where it prints too much."""
+    last = time.monotonic() + seconds
+    while True:
+        left = max(0.0, last - time.monotonic())
+        try:
+            return child.wait(min(0.5, left))
+        except subprocess.TimeoutExpired:
+            if sum(os.fstat(file.fileno()).st_size for file in outputs) > MOST_OUTPUT:
+                raise OverflowError from None
+            if not left:
+                raise
 
 
 def end_group(child: subprocess.Popen[bytes]) -> None:
@@ -219,12 +224,10 @@ def end_group(child: subprocess.Popen[bytes]) -> None:
 def told(program: str, script: Script, seconds: float) -> list[Answer]:
     """The answers of a program to a script. Whatever is no whole run of answers is a fault that names the script."""
     name = os.path.basename(program)
-    done = run_apart(program, script.options, script.data, seconds)
-    if done is None:
-        raise wrong("%s didn't end within %g seconds" % (name, seconds), script.name)
+    done = run_apart(program, script, seconds)
     said = next((line for line in done.errors.splitlines() if line.strip()), "")
     if not done.output.isascii():
-        raise wrong("%s printed what is no answer: bytes above X'7F'" % name, script.name)
+        raise wrong("%s printed bytes above X'7F', which no answer has" % name, script.name)
     if done.status == 16 and script.options_line:
         raise wrong("%s refuses '%s': %s" % (name, " ".join(script.options), said), script.name, script.options_line, 4)
     if done.status < 0:
@@ -234,7 +237,7 @@ def told(program: str, script: Script, seconds: float) -> list[Answer]:
     try:
         given = answers(done.output)
     except Fault as fault:
-        raise wrong("%s printed what is no answer: %s" % (name, fault), script.name) from None
+        raise wrong("line %d that %s printed: %s" % (fault.line or 0, name, fault.text), script.name) from None
     check_run(name, script, done, given)
     return given
 
