@@ -17,6 +17,11 @@ from typing import Callable, Sequence
 import pytest
 
 TOP = Path(__file__).resolve().parents[2]
+sys.path.insert(0, str(TOP / "tools"))
+
+from vsmtools import expectations  # noqa: E402
+from vsmtools.bench import Answer  # noqa: E402
+
 TOOL = TOP / "tools" / "vsm-test"
 SUITE = TOP / "conformance"
 BUILT = TOP / "crates" / "vsm" / "out" / "vsm"
@@ -75,6 +80,11 @@ def fake(put: Callable[..., Path]) -> Callable[[str], str]:
         path.chmod(0o755)
         return str(path)
     return make
+
+
+@pytest.fixture(scope="session")
+def suite_scripts() -> list[expectations.Script]:
+    return [expectations.read_script(str(path), path.read_bytes()) for path in sorted(SUITE.rglob("*.vsm"))]
 
 
 # Comparing.
@@ -187,7 +197,7 @@ def test_write_goes_ahead_where_nothing_can_stand_behind(tool: Tool, put: Callab
 
 def test_write_and_hide_go_round(tool: Tool, put: Callable[..., Path]) -> None:
     before = {put("all/%s-%s" % (script.parent.name, script.name), script.read_bytes()): script.read_bytes()
-              for script in sorted(SUITE.rglob("*.vsm"))[::6] if script.parent.name != "limits"}
+              for script in sorted(SUITE.rglob("*.vsm"))[::24]}
     for path in before:
         exercise = tool("--hide", path)
         assert exercise.status == 0 and (b"*> ?\n" in exercise.bytes or b"*>end ?\n" in exercise.bytes)
@@ -196,6 +206,16 @@ def test_write_and_hide_go_round(tool: Tool, put: Callable[..., Path]) -> None:
     assert tool("all").lines[-1] == "0 passed, %d failed" % len(before)
     assert tool("--write", "all").status == 0
     assert {path: path.read_bytes() for path in before} == before
+
+
+def test_each_script_of_the_suite_goes_round(suite_scripts: list[expectations.Script]) -> None:
+    whole = [script for script in suite_scripts if all(it.expected for it in script.tested)]
+    assert len(whole) > 100
+    for script in whole:
+        exercise = expectations.read_script(script.name, expectations.hidden(script))
+        wanted = [[line.text for line in it.expected] for it in script.tested]
+        given = [Answer(it.extent.first, text[0], tuple(text[1:])) for it, text in zip(exercise.tested, wanted)]
+        assert expectations.filled_in(exercise, given) == script.data
 
 
 def test_write_keeps_mode_and_link(tool: Tool, put: Callable[..., Path], tmp_path: Path) -> None:
@@ -332,8 +352,19 @@ def test_a_program_that_does_wrong(tool: Tool, put: Callable[..., Path], fake: C
 def test_a_program_that_ends_early(tool: Tool, put: Callable[..., Path], fake: Callable[[str], str]) -> None:
     put("right.vsm", OBTAIN, RIGHT, b" BACK 0\n*> KEPT=1\n")
     done = tool("right.vsm", program=fake("echo 0000001 RC=0 A=00006000 L=00000008"))
-    assert done.lines == ["right.vsm:4: line 3 is answered otherwise (- expected, + answered)", "-KEPT=1", "+(no answer)",
-                          "0 passed, 1 failed"]
+    assert done.lines == ["right.vsm:4: line 3 isn't answered", "-KEPT=1", "0 passed, 1 failed"]
+    given = put("bare.vsm", OBTAIN, RIGHT, b" BACK 0\n")
+    for words in ([], ["--write"]):
+        done = tool(*words, "bare.vsm", program=fake("echo 0000001 RC=0 A=00006000 L=00000008"))
+        assert (done.status, done.lines) == (1, ["bare.vsm:3: line 3 isn't answered", "0 passed, 1 failed"])
+    assert given.read_bytes() == OBTAIN + RIGHT + b" BACK 0\n"
+
+
+def test_a_program_that_answers_otherwise_each_time(tool: Tool, put: Callable[..., Path], fake: Callable[[str], str]) -> None:
+    given = put("lesson.vsm", b" BACK 0\n")
+    done = tool("--write", "lesson.vsm", program=fake("echo 0000001 KEPT=$(wc -c)"))
+    assert done.lines[0].startswith("lesson.vsm: with its answers filled in, line 1 is answered otherwise")
+    assert done.status == 1 and given.read_bytes() == b" BACK 0\n"
 
 
 def left_of(command: str) -> list[str]:

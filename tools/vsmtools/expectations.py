@@ -164,10 +164,10 @@ def place_ahead(script: Script, ahead: Sequence[ExpectedLine]) -> None:
     """Gives what stands behind *>end to the last statement."""
     if not ahead:
         return
-    last = script.tested[-1] if script.tested else None
+    last = script.tested[-1] if script.tested else Tested(Extent(0, 0))
     before = script.tested[-2].extent.last if len(script.tested) > 1 else 0
     for it in ahead:
-        if last is None or not before < it.line < last.extent.first:
+        if not before < it.line < last.extent.first:
             raise wrong("'*>end' stands right before the last statement of the script", script.name, it.line, 1)
         if last.expected:
             raise wrong("the last statement has an expectation behind it too, in line %d" % last.expected[0].line,
@@ -269,11 +269,16 @@ def texts(answer: Optional[Answer]) -> list[str]:
 def compare(script: Script, given: Iterable[Answer]) -> list[Difference]:
     """What differs between what a script expects and what it was answered."""
     answered = {answer.line: answer for answer in given}
-    found = [difference for it in script.tested if it.expected
-             for difference in [differs(it, texts(answered.get(it.extent.first)))] if difference]
+    differences = (differs(it, texts(answered.get(it.extent.first))) for it in script.tested)
+    found = [difference for difference in differences if difference]
     if not any(it.expected for it in script.tested):
         found.append(Difference(1, NOTHING))
     return found
+
+
+def unanswered(tested: Tested) -> Difference:
+    line = tested.expected[0].line if tested.expected else tested.extent.first
+    return Difference(line, "line %d isn't answered" % tested.extent.first, tuple("-" + it.text for it in tested.expected))
 
 
 def differs(tested: Tested, got: list[str]) -> Optional[Difference]:
@@ -283,7 +288,9 @@ def differs(tested: Tested, got: list[str]) -> Optional[Difference]:
     if tested.is_blank:
         line = next(it.line for it in tested.expected if it.text == BLANK)
         return Difference(line, "the answer to line %d is to be filled in" % statement)
-    if wanted == got:
+    if not got:
+        return unanswered(tested)
+    if not wanted or wanted == got:
         return None
     same = next((at for at, (one, other) in enumerate(zip(wanted, got)) if one != other), min(len(wanted), len(got)))
     line = tested.expected[min(same, len(wanted) - 1)].line
@@ -293,7 +300,7 @@ def differs(tested: Tested, got: list[str]) -> Optional[Difference]:
 
 def diff_lines(wanted: list[str], got: list[str]) -> Iterator[str]:
     """The lines of a diff; three lines around what differs, and '..' for what is left out between."""
-    for number, line in enumerate(difflib.unified_diff(wanted, got or ["(no answer)"], lineterm="")):
+    for number, line in enumerate(difflib.unified_diff(wanted, got, lineterm="")):
         if number > 2:
             yield ".." if line.startswith("@@") else line
 
@@ -356,8 +363,11 @@ def join_lines(lines: Sequence[bytes], before: dict[int, list[bytes]], behind: d
 def filled_in(script: Script, given: Iterable[Answer]) -> bytes:
     """The script with each answer as its expectation; those that are right stay as they are."""
     wanted = {answer.line: texts(answer) for answer in given}
-    right = {it.extent.first for it in script.tested
-             if [line.text for line in it.expected] == wanted.get(it.extent.first)}
+    for it in script.tested:
+        if it.extent.first not in wanted:
+            lost = unanswered(it)
+            raise wrong(lost.text, script.name, lost.line)
+    right = {it.extent.first for it in script.tested if [line.text for line in it.expected] == wanted[it.extent.first]}
     return replace_expectations(script, {line: text for line, text in wanted.items() if line not in right})
 
 
