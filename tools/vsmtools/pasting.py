@@ -367,6 +367,8 @@ class Paste:
             content = self.content(text)
             if content is None or content.kind != "pool":
                 raise Unknown("%s isn't known to name a cell pool that a BUILD before made" % text)
+            if content.what != text.upper():
+                self.note(it.line, 1, "CPID=%s is taken as %s, of line %d" % (text, content.what, content.line))
             return str(content.what)
         name = text.upper() if register is None else "CPID%d" % register
         if not NAME.fullmatch(name):
@@ -418,10 +420,14 @@ class Paste:
         macro = self.macros[number]
         is_name_wanted = it.operation == "FREEMAIN" and form in ("E", "EC", "EU")
         holding = [register for register, other in self.held.items() if other == number]
+        wanted = self.in_parentheses(text)
         if holding and not is_name_wanted:
-            wanted = self.in_parentheses(text)
-            return "(%d)" % (wanted if wanted in holding else holding[0])
-        return self.name_of(macro, number)
+            found = "(%d)" % (wanted if wanted in holding else holding[0])
+        else:
+            found = self.name_of(macro, number)
+        if found not in (text.upper(), "(%s)" % wanted):
+            self.note(it.line, 1, "%s is taken as %s, which has the address of line %d" % (text, found, macro.line))
+        return found
 
     def name_of(self, macro: Macro, number: int) -> str:
         """A name that has the address of a macro before; it's given one where it has none."""
