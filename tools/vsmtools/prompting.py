@@ -74,10 +74,10 @@ class Bench:
 
     def __init__(self, program: str, options: Sequence[str], show: Callable[[str], None]) -> None:
         self.program, self.options, self.show = program, list(options), show
-        self.limit = int(self.options[self.options.index("--history") + 1]) if "--history" in self.options else 1024
         self.log: list[str] = []
         self.session: Optional[Session] = None
         self.start()
+        self.limit = self.map().history
 
     def start(self) -> None:
         self.kept: list[int] = []       # where they begin in the log, from 0
