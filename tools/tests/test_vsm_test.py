@@ -15,16 +15,13 @@ from pathlib import Path
 from typing import Callable, Sequence
 
 import pytest
+from conftest import TOOLS, TOP
 
-TOP = Path(__file__).resolve().parents[2]
-sys.path.insert(0, str(TOP / "tools"))
+from vsmtools import expectations
+from vsmtools.bench import Answer
 
-from vsmtools import expectations  # noqa: E402
-from vsmtools.bench import Answer  # noqa: E402
-
-TOOL = TOP / "tools" / "vsm-test"
+TOOL = TOOLS / "vsm-test"
 SUITE = TOP / "conformance"
-BUILT = TOP / "crates" / "vsm" / "out" / "vsm"
 OBTAIN = b" STORAGE OBTAIN,LENGTH=8\n"
 RIGHT = b"*> RC=0 A=00006000 L=00000008\n"
 
@@ -43,19 +40,10 @@ class Ended:
 Tool = Callable[..., Ended]
 
 
-@pytest.fixture(scope="session")
-def program(request: pytest.FixtureRequest) -> str:
-    """The vsm that answers: the one that is named on pytest's command line, else the built one."""
-    named = request.config.getoption("--vsm", default=None) or str(BUILT)
-    if not os.access(named, os.X_OK):
-        pytest.fail("%s isn't there or can't be started: ./prove builds it" % named, pytrace=False)
-    return os.path.abspath(named)
-
-
 @pytest.fixture
-def tool(program: str, tmp_path: Path) -> Tool:
+def tool(vsm: str, tmp_path: Path) -> Tool:
     """Runs vsm-test with these words in a folder of its own."""
-    def run(*words: object, program: str = program, **given: object) -> Ended:
+    def run(*words: object, program: str = vsm, **given: object) -> Ended:
         command = [sys.executable, str(TOOL), "--program", program, *map(str, words)]
         return Ended(subprocess.run(command, capture_output=True, cwd=tmp_path, timeout=120, **given))  # type: ignore
     return run
@@ -395,20 +383,20 @@ def test_nothing_is_left_behind(put: Callable[..., Path], fake: Callable[[str], 
 
 
 @pytest.mark.parametrize("words", [["right.vsm"], ["--junit", "/dev/full", "right.vsm"], ["--hide", "right.vsm"], ["--help"]])
-def test_a_full_disk(tool: Tool, put: Callable[..., Path], program: str, tmp_path: Path, words: list[str]) -> None:
+def test_a_full_disk(tool: Tool, put: Callable[..., Path], vsm: str, tmp_path: Path, words: list[str]) -> None:
     put("right.vsm", OBTAIN, RIGHT)
     with open("/dev/null" if "/dev/full" in words else "/dev/full", "wb") as full:
-        done = subprocess.run([sys.executable, str(TOOL), "--program", program, *words], cwd=tmp_path, stdout=full,
+        done = subprocess.run([sys.executable, str(TOOL), "--program", vsm, *words], cwd=tmp_path, stdout=full,
                               stderr=subprocess.PIPE, timeout=60)
     errors = done.stderr.decode()
     assert done.returncode == 8 and len(errors.splitlines()) == 1 and "No space left on device" in errors
 
 
 @pytest.mark.parametrize("words", [["wrong.vsm"] * 3000, ["--hide", "right.vsm"]])
-def test_a_closed_pipe(put: Callable[..., Path], program: str, tmp_path: Path, words: list[str]) -> None:
+def test_a_closed_pipe(put: Callable[..., Path], vsm: str, tmp_path: Path, words: list[str]) -> None:
     put("wrong.vsm", b"*> \n")
     put("right.vsm", *[OBTAIN, RIGHT] * 30000)
-    child = subprocess.Popen([sys.executable, str(TOOL), "--program", program, *words], cwd=tmp_path,
+    child = subprocess.Popen([sys.executable, str(TOOL), "--program", vsm, *words], cwd=tmp_path,
                              stdout=subprocess.PIPE, stderr=subprocess.PIPE)
     assert child.stdout and child.stderr
     child.stdout.read(1)
@@ -418,10 +406,10 @@ def test_a_closed_pipe(put: Callable[..., Path], program: str, tmp_path: Path, w
     assert child.wait(60) == 8 and len(errors.splitlines()) <= 1 and "Traceback" not in errors
 
 
-def test_standard_output_that_is_closed(put: Callable[..., Path], program: str, tmp_path: Path) -> None:
+def test_standard_output_that_is_closed(put: Callable[..., Path], vsm: str, tmp_path: Path) -> None:
     put("right.vsm", OBTAIN, RIGHT)
     for words in ("right.vsm", "--hide right.vsm"):
-        command = "'%s' '%s' --program '%s' %s >&-" % (sys.executable, TOOL, program, words)
+        command = "'%s' '%s' --program '%s' %s >&-" % (sys.executable, TOOL, vsm, words)
         done = subprocess.run(["sh", "-c", command], cwd=tmp_path, stderr=subprocess.PIPE, timeout=60)
         assert done.returncode == 8 and len(done.stderr.splitlines()) == 1
 
