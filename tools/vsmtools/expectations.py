@@ -1,0 +1,378 @@
+"""Scripts that say in comments what they're answered: reading, comparing, filling in and hiding the expectations.
+
+    *! --residence 31                 options of vsm, before the first statement
+     STORAGE OBTAIN,LENGTH=8
+    *> RC=0 A=00006000 L=00000008     a line of the answer to the statement above, whole, without the number in front
+    *> ?                              the answer is to be filled in
+    *>end FAULT CONTINUATION          the same of the last statement, which stands below; where nothing can stand behind it
+
+All of these are comments, so the file is a script of vsm as it stands, and its statements are answered as without them.
+"""
+from __future__ import annotations
+
+import difflib
+import os
+import re
+import signal
+import subprocess
+import tempfile
+import time
+from dataclasses import dataclass, field
+from typing import IO, Iterable, Iterator, Optional, Sequence
+
+from .bench import Answer, Run, answers, started
+from .command import Fault
+from .lines import Extent, is_continued, is_passed_over, split_lines, statements
+
+SECONDS = 60.0             # the longest that a script may take
+FAILED = 1                 # the exit status where something differs
+MOST_OUTPUT = 256 << 20    # bytes that a program may print
+NOTHING = "nothing is expected in this script; --write fills in what it's answered"
+EXPECTED, AT_END, OPTIONS, BLANK = "*>", "*>end", "*!", "?"
+
+
+@dataclass(frozen=True)
+class ExpectedLine:
+    """A line of an answer as a script has it: the number of the line in the script, and the text."""
+    line: int
+    text: str
+
+
+@dataclass
+class Tested:
+    """A statement with what the script expects; `is_ahead` where that stands before the statement (*>end)."""
+    extent: Extent
+    expected: list[ExpectedLine] = field(default_factory=list)
+    is_ahead: bool = False
+
+    @property
+    def is_blank(self) -> bool:
+        return any(it.text == BLANK for it in self.expected)
+
+
+@dataclass
+class Script:
+    """A script with its options and its statements, each with what is expected of it."""
+    name: str
+    data: bytes
+    options: list[str] = field(default_factory=list)
+    options_line: Optional[int] = None
+    tested: list[Tested] = field(default_factory=list)
+
+
+@dataclass(frozen=True)
+class Difference:
+    """What differs, with the line of the script that it's about, and the lines of a diff."""
+    line: int
+    text: str
+    diff: tuple[str, ...] = ()
+
+
+def wrong(text: str, file: str, line: Optional[int] = None, column: Optional[int] = None) -> Fault:
+    """A fault of a script or of what it's answered: the file counts as failed, and the others go on."""
+    return Fault(text, file, line, column, FAILED)
+
+
+def check_is_text(name: str, data: bytes) -> None:
+    """Refuses what no editor shows as lines of text: a byte X'00', or records without a line feed in another code."""
+    zero = data.find(b"\0")
+    if zero >= 0:
+        line = data.count(b"\n", 0, zero) + 1
+        raise Fault("this is no text: it has a byte X'00'", name, line, zero - data.rfind(b"\n", 0, zero))
+    if data.count(b"\x40") > 2 * data.count(b" ") and max(data.count(code) for code in (b"\xd6", b"\xc5", b"\xe3")):
+        raise Fault("this is no text: many X'40' and few X'20', as in EBCDIC", name, 1, 1)
+
+
+def read_script(name: str, data: bytes) -> Script:
+    """A script with its expectations. A line that has a form of them in a place where none can stand is a fault."""
+    check_is_text(name, data)
+    lines = split_lines(data)
+    script = Script(name, data, tested=[Tested(extent) for extent in statements(lines)])
+    begins = {it.extent.first: it for it in script.tested}
+    current: Optional[Tested] = None
+    ahead: list[ExpectedLine] = []
+    for number, line in enumerate(lines, 1):
+        text = line.decode("latin-1")
+        current = begins.get(number, current)
+        if number in begins:
+            check_operation(script, number, text)
+        elif current and number <= current.extent.last:
+            check_continuation(script, current, number, text)
+        elif is_passed_over(line):
+            take_comment(script, current, ahead, number, text)
+    place_ahead(script, ahead)
+    return script
+
+
+def check_operation(script: Script, number: int, text: str) -> None:
+    found = re.match(r" +(\*[>!])", text)
+    if found:
+        raise wrong("'%s' stands in column 1, or it begins a statement" % found[1], script.name, number, found.start(1) + 1)
+
+
+def check_continuation(script: Script, current: Tested, number: int, text: str) -> None:
+    if text.startswith((EXPECTED, OPTIONS)):
+        raise wrong("'%s' can't stand here: column 72 of line %d isn't blank, so this line continues the statement of line %d"
+                    % (text[:2], number - 1, current.extent.first), script.name, number, 1)
+
+
+def take_comment(script: Script, current: Optional[Tested], ahead: list[ExpectedLine], number: int, text: str) -> None:
+    """Takes one comment line, where it's an expectation or has options."""
+    if text.startswith(OPTIONS):
+        take_options(script, current, number, text)
+    elif text.startswith(EXPECTED):
+        is_ahead = text.startswith(AT_END + " ")
+        words = text[len(AT_END if is_ahead else EXPECTED):].rstrip()
+        check_expectation(script.name, number, words)
+        if is_ahead:
+            ahead.append(ExpectedLine(number, words[1:]))
+        elif current is None:
+            raise wrong("an expectation stands behind its statement, and no statement is above this line", script.name, number, 1)
+        else:
+            current.expected.append(ExpectedLine(number, words[1:]))
+
+
+def check_expectation(name: str, number: int, words: str) -> None:
+    """Refuses an expectation that no answer can meet by its form. `words` is what stands behind the sign."""
+    if not words:
+        raise wrong("an expectation without a text; '*> ?' is one to be filled in", name, number, 3)
+    if not words.startswith(" "):
+        raise wrong("an unknown form '%s': a blank goes between '*>' and the answer" % ("*>" + words.split()[0]), name, number, 3)
+    if re.match(r" [0-9]{7} ", words):
+        raise wrong("an answer stands here without its number", name, number, 4)
+    if words.strip() == BLANK and words != " " + BLANK:
+        raise wrong("an unknown form: one blank goes between '*>' and '?'", name, number, 3)
+
+
+def take_options(script: Script, current: Optional[Tested], number: int, text: str) -> None:
+    words = text[len(OPTIONS):]
+    if words[:1] != " " or not words.split():
+        raise wrong("an unknown form '%s': '*! --residence 31' gives options of vsm" % text.split()[0], script.name, number, 1)
+    if current is not None:
+        raise wrong("options stand before the first statement, which is in line %d" % script.tested[0].extent.first,
+                    script.name, number, 1)
+    for at, word in enumerate(words.split()):
+        before = words.split()[at - 1] if at else ""
+        is_value = before.startswith("--") and "=" not in before and not word.startswith("-")
+        if not is_value and not re.match(r"--[a-z]", word):
+            raise wrong("'%s' is no option of vsm" % word, script.name, number, text.index(word) + 1)
+    script.options += words.split()
+    script.options_line = script.options_line or number
+
+
+def place_ahead(script: Script, ahead: Sequence[ExpectedLine]) -> None:
+    """Gives what stands behind *>end to the last statement."""
+    if not ahead:
+        return
+    last = script.tested[-1] if script.tested else Tested(Extent(0, 0))
+    before = script.tested[-2].extent.last if len(script.tested) > 1 else 0
+    for it in ahead:
+        if not before < it.line < last.extent.first:
+            raise wrong("'*>end' stands right before the last statement of the script", script.name, it.line, 1)
+        if last.expected:
+            raise wrong("the last statement has an expectation behind it too, in line %d" % last.expected[0].line,
+                        script.name, it.line, 1)
+    last.expected, last.is_ahead = list(ahead), True
+
+
+def run_apart(program: str, script: Script, seconds: float) -> Run:
+    """A run over a script on standard input that leaves no process behind, and has limits of time and of output."""
+    with tempfile.TemporaryFile() as given, tempfile.TemporaryFile() as out, tempfile.TemporaryFile() as errors:
+        given.write(script.data)
+        given.seek(0)
+        try:
+            child = subprocess.Popen([program, *script.options], stdin=given, stdout=out, stderr=errors,
+                                     start_new_session=True)
+        except (OSError, ValueError, subprocess.SubprocessError) as fault:
+            raise started(fault if isinstance(fault, OSError) else OSError(0, str(fault)), program) from None
+        try:
+            status = wait_for(child, (out, errors), seconds)
+        except subprocess.TimeoutExpired:
+            raise wrong("%s didn't end within %g seconds" % (os.path.basename(program), seconds), script.name) from None
+        except OverflowError:
+            raise wrong("%s printed more than %d MiB" % (os.path.basename(program), MOST_OUTPUT >> 20), script.name) from None
+        finally:
+            end_group(child)
+        out.seek(0)
+        errors.seek(0)
+        return Run(out.read(), errors.read(1 << 16).decode("utf-8", "replace"), status)
+
+
+def wait_for(child: subprocess.Popen[bytes], outputs: Sequence[IO[bytes]], seconds: float) -> int:
+    """The status of a program; TimeoutExpired where it takes longer, OverflowError where it prints too much."""
+    last = time.monotonic() + seconds
+    while True:
+        left = max(0.0, last - time.monotonic())
+        try:
+            return child.wait(min(0.5, left))
+        except subprocess.TimeoutExpired:
+            if sum(os.fstat(file.fileno()).st_size for file in outputs) > MOST_OUTPUT:
+                raise OverflowError from None
+            if not left:
+                raise
+
+
+def end_group(child: subprocess.Popen[bytes]) -> None:
+    """Ends a program and what it started; its group bears its number."""
+    try:
+        os.killpg(child.pid, signal.SIGKILL)
+    except (ProcessLookupError, PermissionError):
+        pass
+    child.wait()
+
+
+def told(program: str, script: Script, seconds: float) -> list[Answer]:
+    """The answers of a program to a script. Whatever is no whole run of answers is a fault that names the script."""
+    name = os.path.basename(program)
+    done = run_apart(program, script, seconds)
+    said = next((line for line in done.errors.splitlines() if line.strip()), "")
+    if not done.output.isascii():
+        raise wrong("%s printed bytes above X'7F', which no answer has" % name, script.name)
+    if done.status == 16 and script.options_line:
+        raise wrong("%s refuses '%s': %s" % (name, " ".join(script.options), said), script.name, script.options_line, 4)
+    if done.status < 0:
+        raise wrong("%s was ended by signal %d" % (name, -done.status), script.name)
+    if done.status not in (0, 4):
+        raise wrong("%s ended with status %d: %s" % (name, done.status, said or "no word on standard error"), script.name)
+    try:
+        given = answers(done.output)
+    except Fault as fault:
+        raise wrong("line %d that %s printed: %s" % (fault.line or 0, name, fault.text), script.name) from None
+    check_run(name, script, done, given)
+    return given
+
+
+def check_run(name: str, script: Script, done: Run, given: Sequence[Answer]) -> None:
+    """Numbers ascend, each that of a statement's first line; status and standard error are those of the answers."""
+    begins = {it.extent.first for it in script.tested}
+    before = 0
+    for answer in given:
+        if answer.line not in begins:
+            raise wrong("%s answered line %d, '%s', where no statement begins" % (name, answer.line, answer.text), script.name)
+        if answer.line <= before:
+            raise wrong("%s answered line %d behind line %d" % (name, answer.line, before), script.name)
+        before = answer.line
+    if done.output and not done.output.endswith(b"\n"):
+        raise wrong("the last line that %s printed has no end" % name, script.name)
+    wanted = 4 if any(answer.is_refused for answer in given) else 0
+    if done.status != wanted:
+        raise wrong("%s ended with status %d, and %d goes with these answers" % (name, done.status, wanted), script.name)
+    if done.errors:
+        raise wrong("%s wrote on standard error: %s" % (name, done.errors.splitlines()[0]), script.name)
+
+
+def texts(answer: Optional[Answer]) -> list[str]:
+    """The lines of an answer without its number; none where there is no answer."""
+    return [answer.text, *answer.rest] if answer else []
+
+
+def compare(script: Script, given: Iterable[Answer]) -> list[Difference]:
+    """What differs between what a script expects and what it was answered."""
+    answered = {answer.line: answer for answer in given}
+    differences = (differs(it, texts(answered.get(it.extent.first))) for it in script.tested)
+    found = [difference for difference in differences if difference]
+    if not any(it.expected for it in script.tested):
+        found.append(Difference(1, NOTHING))
+    return found
+
+
+def unanswered(tested: Tested) -> Difference:
+    line = tested.expected[0].line if tested.expected else tested.extent.first
+    return Difference(line, "line %d isn't answered" % tested.extent.first, tuple("-" + it.text for it in tested.expected))
+
+
+def differs(tested: Tested, got: list[str]) -> Optional[Difference]:
+    """How an answer differs from what is expected of a statement: the line of the first that isn't as expected."""
+    wanted = [it.text for it in tested.expected]
+    statement = tested.extent.first
+    if tested.is_blank:
+        line = next(it.line for it in tested.expected if it.text == BLANK)
+        return Difference(line, "the answer to line %d is to be filled in" % statement)
+    if not got:
+        return unanswered(tested)
+    if not wanted or wanted == got:
+        return None
+    same = next((at for at, (one, other) in enumerate(zip(wanted, got)) if one != other), min(len(wanted), len(got)))
+    line = tested.expected[min(same, len(wanted) - 1)].line
+    return Difference(line, "line %d is answered otherwise (- expected, + answered)" % statement,
+                      tuple(diff_lines(wanted, got)))
+
+
+def diff_lines(wanted: list[str], got: list[str]) -> Iterator[str]:
+    """The lines of a diff; three lines around what differs, and '..' for what is left out between."""
+    for number, line in enumerate(difflib.unified_diff(wanted, got, lineterm="")):
+        if number > 2:
+            yield ".." if line.startswith("@@") else line
+
+
+def line_end(line: bytes) -> bytes:
+    return b"\r\n" if line.endswith(b"\r\n") else b"\n" if line.endswith(b"\n") else b""
+
+
+def must_be_ahead(script: Script, tested: Tested, last: bytes) -> bool:
+    """Whether a line behind a statement would change its answer: it would continue it, or end its last line."""
+    is_last = tested is script.tested[-1] and tested.extent.last == len(split_lines(script.data))
+    return is_last and (is_continued(last) or (not line_end(last) and last.endswith(b"\r")))
+
+
+def replace_expectations(script: Script, wanted: dict[int, list[str]]) -> bytes:
+    """The script with these texts as what is expected of the statements of these first lines; all else byte for byte."""
+    lines = split_keeping(script.data)
+    end = next((line_end(line) for line in lines if line_end(line)), b"\n")
+    dropped: set[int] = set()
+    before: dict[int, list[bytes]] = {}
+    behind: dict[int, list[bytes]] = {}
+    for it in script.tested:
+        if it.extent.first not in wanted:
+            continue
+        is_ahead = it.is_ahead or must_be_ahead(script, it, lines[it.extent.last - 1])
+        sign = AT_END if is_ahead else EXPECTED
+        put = [("%s %s" % (sign, text)).encode("latin-1") + end for text in wanted[it.extent.first]]
+        dropped |= {old.line for old in it.expected}
+        if it.expected:
+            before[it.expected[0].line] = put
+        elif is_ahead:
+            before[it.extent.first] = put
+        else:
+            behind[it.extent.last] = put
+    made = join_lines(lines, before, behind, dropped, end)
+    # A last line without an end that was an expectation stays one without an end.
+    return made[:-len(end)] if len(lines) in dropped and not line_end(lines[-1]) else made
+
+
+def split_keeping(data: bytes) -> list[bytes]:
+    """The lines with their ends."""
+    return [line for line in re.split(rb"(?<=\n)", data) if line]
+
+
+def join_lines(lines: Sequence[bytes], before: dict[int, list[bytes]], behind: dict[int, list[bytes]],
+               dropped: set[int], end: bytes) -> bytes:
+    """The lines, numbered from 1, without the dropped ones and with what stands before and behind some of them."""
+    put: list[bytes] = []
+    for number, line in enumerate(lines, 1):
+        put += before.get(number, [])
+        if number not in dropped:
+            put.append(line)
+        if number in behind:
+            if not line_end(put[-1]):
+                put[-1] += end
+            put += behind[number]
+    return b"".join(put)
+
+
+def filled_in(script: Script, given: Iterable[Answer]) -> bytes:
+    """The script with each answer as its expectation; those that are right stay as they are."""
+    wanted = {answer.line: texts(answer) for answer in given}
+    for it in script.tested:
+        if it.extent.first not in wanted:
+            lost = unanswered(it)
+            raise wrong(lost.text, script.name, lost.line)
+    right = {it.extent.first for it in script.tested if [line.text for line in it.expected] == wanted[it.extent.first]}
+    return replace_expectations(script, {line: text for line, text in wanted.items() if line not in right})
+
+
+def hidden(script: Script) -> bytes:
+    """The script as an exercise: one blank to be filled in for each answer that is expected."""
+    if not any(it.expected for it in script.tested):
+        raise wrong(NOTHING, script.name, 1)
+    return replace_expectations(script, {it.extent.first: [BLANK] for it in script.tested if it.expected})
