@@ -61,7 +61,7 @@ def test_a_source(run: Callable, vsm: str, name: str) -> None:
     left = [line for line in begins if line not in {answer.line for answer in answers}]
     notes = [line for line in told(done) if "isn't taken" in line]
     assert sorted(left) == sorted(int(re.match(r".*\.asm:(\d+):\d+: ", note)[1]) for note in notes)
-    assert told(done)[-1] == "%d macros taken, %d not taken" % (taken, macros - taken)
+    assert told(done)[-1] == "macros taken: %d, not taken: %d" % (taken, macros - taken)
     assert done.returncode == (4 if left else 0)
 
 
@@ -97,7 +97,7 @@ def test_what_is_worked_out(run: Callable, vsm: str, source: str, expected: str)
 
 
 @pytest.mark.parametrize("source, line, why", [
-    ("A EQU B\nB EQU A\n GETMAIN R,LV=A", 3, "A stands on itself: A B A"),
+    ("A EQU B\nB EQU A\n GETMAIN R,LV=A", 3, "GETMAIN isn't taken: A stands on itself: A B A"),
     ("A EQU L'A\n GETMAIN R,LV=A", 2, "A stands on itself"),
     ("A EQU A\n", 1, "A stands on itself: A A"),
     (" MACRO\n M &X\n GETMAIN R,LV=&X\n MEND\n M 8\n", 1, "a macro definition isn't taken"),

@@ -50,6 +50,8 @@ def operand_text(text: str) -> str:
     found = re.match(r"(\s*(?:\S+\s+)??)(%s)(\s+|$)" % "|".join(FORMS), text, re.I)
     if not found:
         return text.rstrip()
+    if found[2].upper() in ("MAP", "ENDTASK"):   # all behind these is remarks
+        return text[:found.end(2)]
     at, quoted = found.end(), False
     while at < len(text) and (quoted or text[at] != " "):
         quoted ^= text[at] == "'"
@@ -156,6 +158,7 @@ class Prompt:
         self.open: list[str] = []        # lines of a statement that goes on
         self.is_raw = False              # they stand as in a file
         self.ended = False
+        self.is_interrupted = False      # Ctrl+C came, and its line isn't ended yet
         self.rest: list[list[str]] = []  # of the file: statements, and lines that are passed over
 
     @property
@@ -206,7 +209,8 @@ class Prompt:
         self.bench.carry_out(lines)
 
     def drop(self) -> None:
-        self.open = []
+        """Forgets the statement that is open."""
+        self.open, self.is_interrupted = [], True
 
     # The file.
 
