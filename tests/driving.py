@@ -1,7 +1,9 @@
-"""Programs that are written to and read from while they run, for the tests beside this module."""
+"""Programs that are run, or written to and read from while they run, and copies of the repository: for the tests beside this module."""
 import os
 import pty
 import select
+import shutil
+import signal
 import subprocess
 import termios
 import time
@@ -69,3 +71,28 @@ def using(driven: Driven, call: Callable[[Driven], int]) -> int:
     finally:
         driven.child.kill()
         driven.child.wait()
+
+
+def ended(child: subprocess.Popen, given: bytes, seconds: float) -> tuple[bytes, int, bytes]:
+    try:
+        output, errors = child.communicate(given, timeout=seconds)
+    except subprocess.TimeoutExpired:
+        os.killpg(child.pid, signal.SIGKILL)
+        child.communicate()
+        raise Failure(f"no end within {seconds} seconds") from None
+    return output, child.returncode, errors
+
+
+def compare(what: str, got: object, wanted: object) -> None:
+    if got != wanted:
+        raise Failure(f"{what}: wanted {wanted!r}, got {got!r}")
+
+
+def copy_listed(top: str, to: str) -> None:
+    """Copies the files that git lists in a repository, as they are now."""
+    listed = subprocess.run(["git", "-C", top, "ls-files", "-z"], check=True, capture_output=True).stdout
+    for name in listed.decode().split("\0")[:-1]:
+        target = os.path.join(to, name)
+        os.makedirs(os.path.dirname(target), exist_ok=True)
+        if os.path.exists(os.path.join(top, name)):
+            shutil.copy2(os.path.join(top, name), target)
