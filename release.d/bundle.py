@@ -18,6 +18,8 @@ import facts
 import manual
 from facts import Commit, Refusal
 
+# What of tools/ and page/ is for the repository alone: tests, and what bench.html is made from.
+NOT_INSTALLED = re.compile(r".*/(tests/|\.)|page/(bench|module|host|check|chromium|\w*trials)")
 DOCS = ("STATEMENTS.md", "MESSAGES.md", "PROTOCOL.md", "ZOS.md", "GLOSSARY.md")
 DESCRIPTION = """\
 Description: bench for the virtual storage of z/OS
@@ -77,8 +79,11 @@ def put_programs(release: Release, root: Path) -> None:
     facts.output_of("strip", str(program))
     share = root / "share" / "nilbozad"
     for file in release.files:
-        if re.match(r"(tools|page)/", file) and "/tests/" not in file and "/." not in file:
+        if re.match(r"(tools|page)/", file) and not NOT_INSTALLED.match(file):
             copy(release.top / file, share / file)
+    if (share / "page").is_dir():
+        # The page tells what each answer means.
+        copy(release.top / "docs" / "MESSAGES.md", share / "docs" / "MESSAGES.md")
     for name in release.tools:
         (root / "bin" / name).symlink_to(Path("..") / "share" / "nilbozad" / "tools" / name)
     if (release.top / "dist" / "bench.html").is_file():
