@@ -1,5 +1,4 @@
 -- Which refusals take no memory: all but that for want of it.
-use Rattle.std.specs.Prelude.{Unit}
 use Rattle.vsm_machine.specs.declared.machine.Machine.{Machine}
 use Rattle.vsm_machine.specs.declared.refusals.Refusal.{Refusal}
 use Rattle.vsm_machine.specs.declared.refusals.Refusal.TheVariants.{Name, Abend, NoMemory}
