@@ -3,13 +3,14 @@
 ghost use Rattle.std.specs.Prelude.{◌≡◌, ◌++◌, ◌+◌, ◌*◌, ◌≤◌, ◌<◌, ◌^◌, length, take, drop, MatchBool, IsTrue, Some, None};
 ghost use Rattle.arrayvec.specs.ArrayVec.{array_vec_len};
 ghost use Rattle.operand_texts.specs.Field.{field_len};
+ghost use Rattle.macro_statements.specs.Statements.{IsHead};
 ghost use Rattle.macro_reader.specs.Continuation.{nesting_after, ends_with_comma, with_part, begun, with_line};
 ghost use Rattle.macro_reader.specs.Modes.{joined};
 
 use crate::columns::is_blank;
 use crate::modes::{FIELD_BYTES, OpenField};
 use arrayvec::ArrayVec;
-use macro_statements::{from_operands, is_misplaced};
+use macro_statements::{Head, head_of};
 use operand_texts::nesting::Nesting;
 
 /// How many bytes of a text whose first byte stands so belong to the field, those up to the first blank outside
@@ -58,9 +59,11 @@ fn part_of(card: &[u8]) -> &[u8]
 }
 
 impl OpenField {
-    /// Takes the field's part on a first line, columns 1 to 71 of it, in place of what was gathered.
-    pub(crate) fn begin(&mut self, card: &[u8])
+    /// Takes the field's part on a first line, columns 1 to 71 of it, in place of what was gathered, and says what
+    /// stands in front of it.
+    pub(crate) fn begin(&mut self, card: &[u8]) -> Head
         requires { length card.now ≡ 71 }
+        ensures head { IsHead result card.now }
         ensures joined { joined self.new ≡ begun card.now }
         ensures lines { self.new.lines ≡ 0 }
     {
@@ -68,10 +71,11 @@ impl OpenField {
         self.at = Nesting::outside();
         self.goes_on = false;
         self.lines = 0;
-        let rest = from_operands(card);
-        if !is_misplaced(card) && !rest.is_empty() {
+        let (head, rest) = head_of(card);
+        if !head.misplaced && !rest.is_empty() {
             self.take_part(rest);
         }
+        head
     }
 
     /// Takes what a line has of the field.
