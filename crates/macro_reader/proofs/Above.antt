@@ -1,8 +1,17 @@
--- Bytes above a parenthesis leave where a field stands.
-use Rattle.std.proofs.Common.{◌≡◌, ℕ, ◌<◌, List, ◌∷◌, ap}
+-- Where a field stands behind one byte more, which leaves it as it was above a parenthesis.
+use Rattle.std.proofs.Common.{◌≡◌, ℕ, ◌+◌, ◌<◌, List, [], ◌∷◌, ◌++◌, length, take, get_or, refl, sym, ap, ◌∙◌}
+use Rattle.std.proofs.lemmas.List.{take_more}
 use Rattle.operand_texts.specs.declared.nesting.Nesting.{Nesting}
+use Rattle.operand_texts.specs.Field.{past}
 use Rattle.operand_texts.proofs.Above.{past_above}
 use Rattle.macro_reader.specs.Continuation.{nesting_after}
 
-pub nesting_above : (n : Nesting) (c : ℕ) (cs : List ℕ) → 41 < c → nesting_after n (c ∷ cs) ≡ nesting_after n cs
-nesting_above n c cs h = ap (λ m. nesting_after m cs) (past_above n c h)
+after_push : (n : Nesting) (t : List ℕ) (c : ℕ) → nesting_after n (t ++ c ∷ []) ≡ past (nesting_after n t) c
+after_push n [] c = refl
+after_push n (x ∷ xs) c = after_push (past n x) xs c
+
+pub after_more : (n at : Nesting) (t : List ℕ) (i : ℕ) → i < length t → at ≡ nesting_after n (take i t) → past at (get_or t i 0) ≡ nesting_after n (take (i + 1) t)
+after_more n at t i h e = ap (λ m. past m (get_or t i 0)) e ∙ sym (ap (nesting_after n) (take_more t i 0 h) ∙ after_push n (take i t) (get_or t i 0))
+
+pub after_above : (n at : Nesting) (t : List ℕ) (i : ℕ) → i < length t → 41 < get_or t i 0 → at ≡ nesting_after n (take i t) → at ≡ nesting_after n (take (i + 1) t)
+after_above n at t i h k e = sym (past_above at (get_or t i 0) k) ∙ after_more n at t i h e

@@ -1,30 +1,38 @@
 //! The operand field of a statement over its continuation lines.
 
-ghost use Rattle.std.specs.Prelude.{◌≡◌, ◌++◌, ◌+◌, ◌*◌, ◌≤◌, ◌<◌, ◌^◌, length, drop, MatchBool, IsTrue, Some, None};
+ghost use Rattle.std.specs.Prelude.{◌≡◌, ◌++◌, ◌+◌, ◌*◌, ◌≤◌, ◌<◌, ◌^◌, length, take, drop, MatchBool, IsTrue, Some, None};
 ghost use Rattle.arrayvec.specs.ArrayVec.{array_vec_len};
+ghost use Rattle.operand_texts.specs.Field.{field_len};
+ghost use Rattle.macro_statements.specs.Statements.{IsHead};
 ghost use Rattle.macro_reader.specs.Continuation.{nesting_after, ends_with_comma, with_part, begun, with_line};
 ghost use Rattle.macro_reader.specs.Modes.{joined};
 
 use crate::columns::is_blank;
 use crate::modes::{FIELD_BYTES, OpenField};
 use arrayvec::ArrayVec;
-use macro_statements::{from_operands, is_misplaced};
-use operand_texts::nesting::{Nesting, field_len};
+use macro_statements::{Head, head_of};
+use operand_texts::nesting::Nesting;
 
-/// Where the byte behind a text stands. No byte above a parenthesis changes that.
-#[tactic(auto, using(crate::proofs::Above::nesting_above))]
-fn nesting_after(start: Nesting, text: &[u8]) -> Nesting
+/// How many bytes of a text whose first byte stands so belong to the field, those up to the first blank outside
+/// apostrophes or all, and where the byte behind them stands. No byte above a parenthesis changes that.
+fn field_part(start: Nesting, text: &[u8]) -> (usize, Nesting)
     requires { start.depth + length text.now < 2 ^ 64 }
-    ensures value { result ≡ nesting_after start text.now }
-    ensures depth { result.depth ≤ start.depth + length text.now }
+    ensures len { result.0 ≡ field_len start text.now }
+    ensures within { result.0 ≤ length text.now }
+    ensures at { result.1 ≡ nesting_after start (take result.0 text.now) }
+    ensures depth { result.1.depth ≤ start.depth + result.0 }
 {
     let mut at = start;
-    for byte in text {
-        if *byte <= b')' {
-            at = at.past(*byte);
+    for (i, byte) in text.iter().enumerate() {
+        if *byte > b')' {
+            continue;
         }
+        if *byte == b' ' && !at.quoted {
+            return (i, at);
+        }
+        at = at.past(*byte);
     }
-    at
+    (text.len(), at)
 }
 
 /// Appends a line's part to the field.
@@ -51,9 +59,11 @@ fn part_of(card: &[u8]) -> &[u8]
 }
 
 impl OpenField {
-    /// Takes the field's part on a first line, columns 1 to 71 of it, in place of what was gathered.
-    pub(crate) fn begin(&mut self, card: &[u8])
+    /// Takes the field's part on a first line, columns 1 to 71 of it, in place of what was gathered, and says what
+    /// stands in front of it.
+    pub(crate) fn begin(&mut self, card: &[u8]) -> Head
         requires { length card.now ≡ 71 }
+        ensures head { IsHead result card.now }
         ensures joined { joined self.new ≡ begun card.now }
         ensures lines { self.new.lines ≡ 0 }
     {
@@ -61,10 +71,11 @@ impl OpenField {
         self.at = Nesting::outside();
         self.goes_on = false;
         self.lines = 0;
-        let rest = from_operands(card);
-        if !is_misplaced(card) && !rest.is_empty() {
+        let (head, rest) = head_of(card);
+        if !head.misplaced && !rest.is_empty() {
             self.take_part(rest);
         }
+        head
     }
 
     /// Takes what a line has of the field.
@@ -74,9 +85,9 @@ impl OpenField {
         ensures joined { joined self.new ≡ with_part self.old.text.items self.old.at part.now }
         ensures lines { self.new.lines ≡ self.old.lines }
     {
-        let n = field_len(self.at, part);
+        let (n, at) = field_part(self.at, part);
         append(&mut self.text, &part[..n]);
-        self.at = nesting_after(self.at, &part[..n]);
+        self.at = at;
         self.goes_on = n == part.len() || ends_with_comma(self.text.as_slice());
     }
 

@@ -2,8 +2,10 @@
 
 ghost use Rattle.std.specs.Prelude.{◌+◌, ◌*◌, ◌≤◌};
 ghost use Rattle.arrayvec.specs.ArrayVec.{array_vec_len};
+ghost use Rattle.macro_statements.specs.Statements.{IsHead};
 
 use arrayvec::ArrayVec;
+use macro_statements::Head;
 use operand_texts::nesting::Nesting;
 
 /// The bytes of a field that a first line and nine continuation lines have at most: 71 and 9 times 56.
@@ -32,7 +34,10 @@ pub struct OpenStatement {
     pub number: u32,
     /// Columns 1 to 71 of its first line, or of a line behind it that was skipped.
     pub first: [u8; 71],
+    /// What that line says in front of its operand field.
+    pub head: Head,
     pub gathered: OpenField,
+    ghost is_head: { IsHead head first },
 }
 
 impl OpenStatement {
@@ -41,6 +46,10 @@ impl OpenStatement {
         OpenStatement {
             number: 0,
             first: [b' '; 71],
+            head: Head {
+                misplaced: false,
+                operation: None,
+            },
             gathered: OpenField {
                 text: ArrayVec::new(),
                 at: Nesting::outside(),

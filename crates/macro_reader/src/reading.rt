@@ -63,7 +63,7 @@ fn start(number: u32, mode: &mut Mode, statement: &mut OpenStatement, line: &[u8
     }
     statement.first = used(line);
     statement.number = number;
-    statement.gathered.begin(&statement.first);
+    statement.head = statement.gathered.begin(&statement.first);
     if is_continued(line) {
         *mode = Mode::Gathering;
         return Due::Nothing;
@@ -157,7 +157,7 @@ impl Reader {
         let open = &self.statement;
         let kind = match due {
             Due::Nothing => return Ok(Fed::More),
-            Due::Whole => match statement_with(&open.first, open.gathered.text.as_slice()) {
+            Due::Whole => match statement_with(open.head, open.gathered.text.as_slice()) {
                 Ok(request) => return Ok(Fed::Ready(request, open.number)),
                 Err(kind) => kind,
             },

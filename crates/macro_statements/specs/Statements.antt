@@ -19,6 +19,7 @@ use Rattle.macro_operands.specs.declared.faults.FaultKind.{FaultKind}
 use Rattle.macro_operands.specs.declared.faults.FaultKind.TheVariants as fault
 use Rattle.macro_operands.specs.declared.rows.Behind.{Behind}
 use Rattle.macro_operands.specs.declared.rows.Behind.TheVariants as behind
+use Rattle.macro_statements.specs.declared.statements.Head.{Head}
 use Rattle.macro_statements.specs.declared.statements.Operation.{Operation}
 use Rattle.macro_statements.specs.declared.statements.Operation.TheVariants as operation
 
@@ -102,6 +103,10 @@ from_operands card =
 -- entries").
 abbrev pub is_misplaced : List ℕ → Bool
 is_misplaced card = nat_lt 0 (word_len card) && not (is_name (word card))
+
+-- What a first line, columns 1 to 71 of it, says in front of its operand field.
+abbrev pub IsHead : Head → List ℕ → Type 0
+IsHead h card = (h.misplaced ≡ is_misplaced card) × (h.operation ≡ operation_of (word (from_operation card)))
 
 -- A statement whose first line has these columns and whose operand field is this text. A name may stand from column 1;
 -- the operation comes behind blanks (High Level Assembler Language Reference, "Instruction statement format").

@@ -1,11 +1,11 @@
 //! The request of a statement.
 
-ghost use Rattle.std.specs.Prelude.{◌≡◌, ◌≤◌, length, IfOk};
+ghost use Rattle.std.specs.Prelude.{◌≡◌, ◌≤◌, ℕ, List, length, IfOk};
 ghost use Rattle.operand_texts.specs.Field.{operands};
 ghost use Rattle.macro_requests.specs.Requests.{seen, asked_in, IsValidAsked};
 ghost use Rattle.macro_statements.specs.Statements.{operation_of, asked_of, from_operation, from_operands};
 ghost use Rattle.macro_statements.specs.Statements.{behind_of, operands_in};
-ghost use Rattle.macro_statements.specs.Statements.{is_misplaced, statement_with};
+ghost use Rattle.macro_statements.specs.Statements.{IsHead, is_misplaced, statement_with};
 
 use crate::attach::attach;
 use crate::cpool::cpool;
@@ -40,6 +40,15 @@ pub enum Operation {
     Map,
     Back,
     Forward,
+}
+
+/// What a first line says in front of its operand field.
+#[derive(Clone, Copy)]
+pub struct Head {
+    /// Whether it's misplaced: column 1 isn't blank, and no name with a blank behind it stands there.
+    pub misplaced: bool,
+    /// Its operation, where that is one that is known.
+    pub operation: Option<Operation>,
 }
 
 /// The operation that a word is, in either case.
@@ -139,41 +148,46 @@ fn operands_in(behind: Behind, text: &[u8]) -> &[u8]
     }
 }
 
-/// What a first line, columns 1 to 71 of it, has from the operands on: what stands behind the blanks behind the
-/// operation. It may be empty, and is so where an operation has no operands but remarks alone.
-pub fn from_operands(card: &[u8]) -> &[u8]
-    ensures value { result.now ≡ from_operands card.now }
-    ensures within { length result.now ≤ length card.now }
-{
-    let from = from_operation(card);
-    operands_in(
-        behind_of(operation_of(word(from))),
-        after_blanks(after_word(from)),
-    )
-}
-
 /// Whether column 1 of a first line isn't blank and no name with a blank behind it stands there, so that nothing tells
 /// where a field begins.
-pub fn is_misplaced(card: &[u8]) -> bool
+fn is_misplaced(card: &[u8]) -> bool
     ensures { result ≡ is_misplaced card.now }
 {
     word_len(card) > 0 && !is_name(word(card))
 }
 
-/// The request of a statement whose first line has these columns, 1 to 71, and whose operand field is this text.
+/// What a first line, columns 1 to 71 of it, says in front of its operand field, and what it has from the operands on:
+/// what stands behind the blanks behind the operation. That may be empty, and is so where an operation has no operands
+/// but remarks alone.
+pub fn head_of(card: &[u8]) -> (Head, &[u8])
+    ensures head { IsHead result.0 card.now }
+    ensures rest { result.1.now ≡ from_operands card.now }
+    ensures within { length result.1.now ≤ length card.now }
+{
+    let from = from_operation(card);
+    let operation = operation_of(word(from));
+    let head = Head {
+        misplaced: is_misplaced(card),
+        operation,
+    };
+    let rest = operands_in(behind_of(operation), after_blanks(after_word(from)));
+    (head, rest)
+}
+
+/// The request of a statement whose first line says this, and whose operand field is this text.
 ///
 /// Else the first fault, in this order: `Column` where the first line is misplaced; `Operation` where its operation
 /// isn't known; `Operand` where an apostrophe or parenthesis of the field isn't closed or is closed too often; and then
 /// that of the leftmost operand that has one, or `Missing`.
 #[inline(never)]
-pub fn statement_with(card: &[u8], text: &[u8]) -> Result<Request, FaultKind>
-    ensures value { seen result ≡ statement_with card.now text.now }
+pub fn statement_with(head: Head, text: &[u8]) -> Result<Request, FaultKind>
+    ensures value { (card : List ℕ) → IsHead head card → seen result ≡ statement_with card text.now }
     ensures valid { IfOk result (λ r. IsValidAsked (asked_in r)) }
 {
-    if is_misplaced(card) {
+    if head.misplaced {
         return Err(FaultKind::Column);
     }
-    let Some(operation) = operation_of(word(from_operation(card))) else {
+    let Some(operation) = head.operation else {
         return Err(FaultKind::Operation);
     };
     if !is_balanced(text) {

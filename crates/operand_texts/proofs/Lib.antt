@@ -1,4 +1,5 @@
 pub mod Above
+mod ClassTable
 mod Classes
 pub mod Split
 pub mod Names

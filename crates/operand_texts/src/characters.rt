@@ -48,15 +48,20 @@ impl Flags for Classes {
     }
 }
 
+// For each byte the class that it's in, as the digit of its bit, or the digit 0.
+static CLASSES: [u8; 256] = *b"\
+    00000000000000000000000000000000\
+    00022000000000008888888888000000\
+    21111111111111111111111111100004\
+    01111111111111111111111111100000\
+    00000000000000000000000000000000\
+    00000000000000000000000000000000\
+    00000000000000000000000000000000\
+    00000000000000000000000000000000";
+
 /// The set of classes of a character: the one that it's in, or none where it stands in no name.
 pub fn classes_of(byte: u8) -> Classes
     ensures { result.0 ≡ classes_of byte }
 {
-    match byte {
-        b'A'..=b'Z' | b'a'..=b'z' => Classes::LETTER,
-        b'$' | b'#' | b'@' => Classes::NATIONAL,
-        b'_' => Classes::UNDERSCORE,
-        b'0'..=b'9' => Classes::DIGIT,
-        _ => Classes::empty(),
-    }
+    Classes(CLASSES[usize::from(byte)] & 15)
 }

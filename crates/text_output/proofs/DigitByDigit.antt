@@ -1,7 +1,7 @@
 -- Numbers digit by digit.
-use Rattle.std.proofs.Common.{◌≡◌, ℕ, zero, suc, ◌-◌, ◌/◌, ◌%◌, ◌^◌, ◌<◌, ◌≤◌, ◌⊎◌, inl, inr, true, false, cond, List, [], ◌∷◌, ◌++◌, length, take, replicate, sym, ◌∙◌, ap, refl, arith, append_assoc}
+use Rattle.std.proofs.Common.{◌≡◌, ℕ, zero, suc, ◌+◌, ◌-◌, ◌/◌, ◌%◌, ◌^◌, ◌<◌, ◌≤◌, ◌⊎◌, inl, inr, true, false, cond, List, [], ◌∷◌, ◌++◌, length, take, drop, set, min, replicate, subst, sym, ◌∙◌, ap, refl, arith, append_assoc}
 use Rattle.std.proofs.lemmas.Bool.{cases_lt, eq-eqb, ne_eqb}
-use Rattle.std.proofs.lemmas.List.{append-nil, length-append}
+use Rattle.std.proofs.lemmas.List.{append-nil, length-append, drop-set, replicate-append-replicate}
 use Rattle.std.specs.Fmt.{digits, digits_onto, digit_glyph, padded_integral, format_spec, char_count}
 use Rattle.vsm_model.specs.Texts.{hexadecimal}
 
@@ -106,3 +106,65 @@ pub front_of_zeros : (n k : ℕ) → k ≤ n → take k (zeros n) ≡ zeros k
 front_of_zeros n zero h = refl
 front_of_zeros zero (suc k) h = absurd (omega arith)
 front_of_zeros (suc n) (suc k) h = ap (λ x. 48 ∷ x) (front_of_zeros n k (omega arith))
+
+-- While digits are left to be written there is a place in front of this one,
+pub room_in_front : (digits n place : ℕ) → digits ≤ place + 1 → n < 16 ^ (place + 1) → (1 < digits) ⊎ (16 ≤ n) → 1 ≤ place
+room_in_front digits n zero few small (inl wide) = absurd (omega (arith, few, wide))
+room_in_front digits n zero few small (inr large) = absurd (omega (arith, small, large))
+room_in_front digits n (suc p) few small some = omega arith
+
+pub fits_in_front : (n place : ℕ) → 1 ≤ place → n < 16 ^ (place + 1) → n / 16 < 16 ^ (place - 1 + 1)
+fits_in_front n zero some small = absurd (omega arith)
+fits_in_front n (suc p) some small =
+    let back : suc p - 1 + 1 ≡ suc p = omega arith in
+    let next : suc p + 1 ≡ suc (suc p) = omega arith in
+    let below = rw next at small in
+    rw back (omega (arith, below))
+
+-- the last of them is written in its place,
+pub one_in_front : (all : List ℕ) (digits n place : ℕ) (places : List ℕ) (d : ℕ) → (1 < digits) ⊎ (16 ≤ n) → n < 2 ^ 32 → place < length places → 1 ≤ place
+    → d ≡ glyph n → all ≡ hexadecimal digits n ++ drop (place + 1) places → all ≡ hexadecimal (digits - 1) (n / 16) ++ drop (place - 1 + 1) (set places place d)
+one_in_front all digits n place places d some small within front is e =
+    let back : place - 1 + 1 ≡ place = omega arith in
+    e ∙ ap (λ x. x ++ drop (place + 1) places) (hexadecimal_more digits n some small)
+    ∙ append_assoc (hexadecimal (digits - 1) (n / 16)) (glyph n ∷ []) (drop (place + 1) places)
+    ∙ ap (λ x. hexadecimal (digits - 1) (n / 16) ++ x)
+    (ap (λ x. x ∷ drop (place + 1) places) (sym is) ∙ sym (drop-set places place d within) ∙ ap (λ k. drop k (set places place d)) (sym back))
+
+-- and so is the only one.
+pub first_written : (all : List ℕ) (digits n place : ℕ) (places : List ℕ) (d : ℕ) → digits ≤ 1 → n < 16 → place < length places
+    → d ≡ digit_glyph true n → all ≡ hexadecimal digits n ++ drop (place + 1) places → drop place (set places place d) ≡ all
+first_written all digits n place places d narrow small within is e =
+    let same : n % 16 ≡ n = omega arith in
+    drop-set places place d within
+    ∙ ap (λ x. x ∷ drop (place + 1) places) (is ∙ ap (digit_glyph true) (sym same))
+    ∙ sym (e ∙ ap (λ x. x ++ drop (place + 1) places) (hexadecimal_one digits n narrow small))
+
+spelled_in : (k j n : ℕ) → j ≤ k → n < 16 ^ suc j → length (spell (suc k) n []) ≤ suc j
+spelled_in k zero n h small = rw (spell_last k n [] (omega (arith, small))) (omega arith)
+spelled_in zero (suc j) n h small = absurd (omega (arith, h))
+spelled_in (suc k) (suc j) n h small = elim (cases_lt n 16) [
+  | inl less ↦ rw (spell_last (suc k) n [] less) (omega arith)
+  | inr large ↦
+      let front = spell (suc k) (n / 16) [] in
+      let all : spell (suc (suc k)) n [] ≡ front ++ glyph n ∷ [] = spell_next (suc k) n [] large ∙ spell-append (suc k) (n / 16) (glyph n ∷ []) in
+      let size = length-append front (glyph n ∷ []) in
+      let few : length front ≤ suc j = spelled_in k j (n / 16) (omega (arith, h)) (omega (arith, small)) in
+      subst (λ ds. length ds ≤ suc (suc j)) (sym all) (omega (arith, size, few))
+]
+
+few_digits : (n : ℕ) → n < 2 ^ 32 → length (digits 16 true n) ≤ 8
+few_digits n small = subst (λ ds. length ds ≤ 8) (spelled n) (spelled_in 63 7 n (omega arith) (omega (arith, small)))
+
+split_zeros : (all front behind : ℕ) (ds : List ℕ) → all ≡ front + behind → zeros all ++ ds ≡ zeros front ++ (zeros behind ++ ds)
+split_zeros all front behind ds both =
+    ap (λ k. zeros k ++ ds) both ∙ ap (λ x. x ++ ds) (sym (replicate-append-replicate front behind 48)) ∙ append_assoc (zeros front) (zeros behind) ds
+
+-- Zeros stand before eight digits where more are wanted.
+pub zeros_in_front : (width n : ℕ) → n < 2 ^ 32 → hexadecimal width n ≡ zeros (width - 8) ++ hexadecimal (min width 8) n
+zeros_in_front width n small =
+    let ds = digits 16 true n in
+    let few : length ds ≤ 8 = few_digits n small in
+    let both : width - length ds ≡ width - 8 + (min width 8 - length ds) = omega (arith, few) in
+    with_zeros width ds ∙ split_zeros (width - length ds) (width - 8) (min width 8 - length ds) ds both
+    ∙ ap (λ x. zeros (width - 8) ++ x) (sym (with_zeros (min width 8) ds))

@@ -1,5 +1,5 @@
 //! Numbers of output, digit by digit.
-ghost use Rattle.std.specs.Prelude.{◌≡◌, ◌<◌, ◌≤◌, decimal, true};
+ghost use Rattle.std.specs.Prelude.{◌≡◌, ◌<◌, ◌≤◌, decimal, drop, true};
 ghost use Rattle.std.specs.Fmt.{digit_glyph};
 ghost use Rattle.vsm_model.specs.Texts.{hexadecimal, padded_decimal};
 ghost use Rattle.text_output.specs.Writing.{Puts};
@@ -39,14 +39,36 @@ fn hexadecimal_digit(n: u32) -> u8
     }
 }
 
+/// Writes a number in upper case hexadecimal digits, with leading zeros to so many, up to the last of eight places, and
+/// says which place the first digit has.
+fn hexadecimal_digits(places: &mut [u8; 8], width: u32, n: u32) -> usize
+    requires { width ≤ 8 }
+    ensures digits { drop result places.new ≡ hexadecimal width n }
+    ensures within { result ≤ 8 }
+{
+    let mut place = 7;
+    let mut digits = width;
+    let mut rest = n;
+    while digits > 1 || rest >= 16 {
+        places[place] = hexadecimal_digit(rest % 16);
+        place -= 1;
+        digits = digits.saturating_sub(1);
+        rest /= 16;
+    }
+    places[place] = hexadecimal_digit(rest);
+    place
+}
+
 /// Puts a number in upper case hexadecimal digits, with leading zeros to so many.
 pub fn put_hexadecimal<W: Write>(gathered: &mut Gathered, writer: &mut W, width: u32, n: u32)
     ensures { Puts (W.contents writer.old) (W.contents writer.new) gathered.old gathered.new (hexadecimal width n) }
 {
-    if width > 1 || n >= 16 {
-        put_hexadecimal(gathered, writer, width.saturating_sub(1), n / 16);
+    for _ in 0..width.saturating_sub(8) {
+        gathered.put(writer, b"0");
     }
-    gathered.put(writer, &[hexadecimal_digit(n % 16)]);
+    let mut places = [0; 8];
+    let first = hexadecimal_digits(&mut places, width.min(8), n);
+    gathered.put(writer, &places[first..]);
 }
 
 /// Puts a byte in two upper case hexadecimal digits.

@@ -35,18 +35,20 @@ returns-in-Nothing-clause-answers c = λ lines answers h.
 
 pub returns-in-Ok-clause-answers : goal.returns-in-Ok-clause-answers
 returns-in-Ok-clause-answers c = λ lines answers h.
+    let o = c.move_on-due.new.statement in
     behind_push lines answers c.args.self.now c.args.line.now c.saturating_add-number.result _ _ _ h
     (rw (← c.self.view_is) c.saturating_add-number.ensures)
     (ap (λ (k : Kept). k.mode) c.self.view_is)
     c.move_on-due.ensures.mode
-    (whole_due c.move_on-due.result c.move_on-due.new.statement _ c.as_slice.result.now c.in-Whole.is c.in-Ok.ensures.value c.as_slice.ensures.value
+    (whole_due c.move_on-due.result o _ c.as_slice.result.now c.in-Whole.is (c.in-Ok.ensures.value o.first o.is_head) c.as_slice.ensures.value
     ∙ c.move_on-due.ensures.told)
 
 pub returns-clause-answers : goal.returns-clause-answers
 returns-clause-answers c =
-    let told : answer c.move_on-due.new.statement (Err c.match-due.kind) ≡ due_of c.move_on-due.result c.move_on-due.new.statement =
+    let o = c.move_on-due.new.statement in
+    let told : answer o (Err c.match-due.kind) ≡ due_of c.move_on-due.result c.move_on-due.new.statement =
     elim c.match-due.branch [
-      | in-Whole+in-Err w ↦ rw w.kind-is (whole_due c.move_on-due.result c.move_on-due.new.statement _ w.as_slice.result.now w.in-Whole.is w.in-Err.ensures.value w.as_slice.ensures.value)
+      | in-Whole+in-Err w ↦ rw w.kind-is (whole_due c.move_on-due.result o _ w.as_slice.result.now w.in-Whole.is (w.in-Err.ensures.value o.first o.is_head) w.as_slice.ensures.value)
       | in-Broken w ↦ rw w.kind-is (broken_due c.move_on-due.result c.move_on-due.new.statement w.in-Broken.is)
     ] in
     λ lines answers h.
