@@ -95,26 +95,20 @@ impl RowTable {
         id
     }
 
-    /// The row under these two numbers gets other words under the same key. It keeps its element and its place.
-    pub fn set(&self, elements: &mut Elements, first: u32, second: u32, words: [u32; 7])
+    /// The row of this id gets other words under its key. It keeps its element and its place, and isn't looked for.
+    pub fn set_row(&self, elements: &mut Elements, id: Id, words: [u32; 7])
         requires table { IsTable elements.old self.now }
-        requires there { IsSome (row elements.old self.now first second) }
-        requires key { is_under first second words ≡ true }
+        requires row { option_map (λ r. r.id) (row elements.old self.now (word words 0) (word words 1)) ≡ Some id }
         ensures table { IsTable elements.new self.now }
         ensures rows { (a b : ℕ) → row elements.new self.now a b
-            ≡ (if is_under a b words
-            then option_map (λ r. record { id = r.id; words = words }) (row elements.old self.now first second)
-            else if same_key first second a b then None else row elements.old self.now a b) }
+            ≡ (if is_under a b words then Some (record { id = id; words = words })
+            else row elements.old self.now a b) }
         ensures owned { Leaves elements.old elements.new
             (owned elements.old self.now) (owned elements.new self.now) }
         ensures spares { elements.new.spare ≡ elements.old.spare }
     {
-        match self.tree.find(elements, key_of(first, second)) {
-            Some(item) => self
-                .tree
-                .set(elements, item.id, with_key(item.words[0], words)),
-            None => {}
-        }
+        let item = self.tree.get(elements, id);
+        self.tree.set(elements, id, with_key(item.words[0], words));
     }
 
     /// The row under these two numbers gets other words, and keeps its element. Where its key changes, the new

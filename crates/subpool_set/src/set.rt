@@ -139,8 +139,7 @@ impl SubpoolSet {
         let owner = self.owner(elements, id);
         let number = self.number(elements, id);
         let words = row_words(owner, number, owner, queues);
-        self.rows
-            .set(elements, u32::from(owner), u32::from(number), words);
+        self.rows.set_row(elements, id, words);
     }
 
     /// An empty subpool of this number, which the task owns and sees.

@@ -32,7 +32,7 @@ pub(crate) fn rename_row(
         let mut words = row.words;
         if words[2] == u32::from(giver) {
             words[2] = u32::from(to);
-            rows.set(elements, task, u32::from(number), words);
+            rows.set_row(elements, row.id, words);
         }
     }
 }

@@ -299,8 +299,7 @@ impl TaskTree {
             return 0;
         };
         let words = with_register(row.words, k, value);
-        self.rows
-            .set(elements, u32::from(task), u32::from(quarter), words);
+        self.rows.set_row(elements, row.id, words);
         row.words[3 + usize::from(k)]
     }
 }
