@@ -292,3 +292,4 @@ def test_nothing_is_loaded() -> None:
     assert "<title>a &lt;title&gt;</title>" in page
     assert not re.search(r"""\b(src|href)=|@import|url\(|https?://(?!www\.w3\.org/2000/svg)""", page)
     assert page.count("</script>") == 2
+    assert "default-src 'none'" in page
