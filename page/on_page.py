@@ -303,7 +303,8 @@ def try_address(trials: Trials, browser: Browser, page: Page, address: str) -> N
     trials.equal("#teacher hides all answers", (len(told["replies"]), told["ticks"]), (page.skipped, 0))
 
 
-def try_page(trials: Trials, browser: Browser, path: Path, looks: bool = True) -> None:
+def try_page(trials: Trials, browser: Browser, path: Path, keys: bool = True, looks: bool = True) -> None:
+    """What a page shows, and as far as wanted its keys and its looks."""
     page, address = Page.of(path), path.resolve().as_uri()
     trials.subject = path.name
     browser.media(**STILL)
@@ -318,9 +319,10 @@ def try_page(trials: Trials, browser: Browser, path: Path, looks: bool = True) -
         trials.equal("the last statement's reply", text_of(browser, ".said strong"), page.shown[-1].text)
         trials.want("what it means", len(text_of(browser, ".said p")) > 3)
     try_drawings(trials, browser, page)
-    try_keys(trials, browser, page)
-    try_play_and_help(trials, browser)
-    try_focus(trials, browser, page)
+    if keys:
+        try_keys(trials, browser, page)
+        try_play_and_help(trials, browser)
+        try_focus(trials, browser, page)
     try_teacher(trials, browser, page)
     if looks:
         try_themes(trials, browser)

@@ -81,14 +81,15 @@ def try_odd(trials: Trials, browser: Browser, program: str, folder: Path) -> Non
     for name, script in ODD.items():
         path = folder / f"{name}.vsm"
         path.write_bytes(script)
-        try_page(trials, browser, made(program, path, folder / f"{name}.html"), looks=False)
+        page = made(program, path, folder / f"{name}.html")
+        try_page(trials, browser, page, keys=name in ("no line", "one line"), looks=False)
         trials.equal("the title", browser.evaluate("document.title"), f"{name}.vsm · vsm")
         lines = [line.decode("latin-1") for line in split_lines(script)]
         shown = browser.evaluate("[...document.querySelectorAll('.line .text')].map(it => it.textContent)")
         trials.equal("the script's text", shown[: len(lines)], lines)
     path = TOP / "examples" / "cell-pools.vsm"
     part = made(program, path, folder / "a part.html", "--first", "8", "--last", "20")
-    try_page(trials, browser, part, looks=False)
+    try_page(trials, browser, part, keys=False, looks=False)
 
 
 def damaged(text: str) -> dict[str, str]:

@@ -209,7 +209,7 @@ def test_programs_that_are_not_vsm(tmp_path: Path, program: Path) -> None:
 
 def test_too_many_lines(program: Path, tmp_path: Path) -> None:
     script = tmp_path / "million.vsm"
-    script.write_bytes(b" A\n" * 600_000)
+    script.write_bytes(b"*\n" * 1_048_574 + b" A\n")
     status, line = fault(program, script)
     assert status == 8 and "--first and --last" in line
 
@@ -292,3 +292,4 @@ def test_nothing_is_loaded() -> None:
     assert "<title>a &lt;title&gt;</title>" in page
     assert not re.search(r"""\b(src|href)=|@import|url\(|https?://(?!www\.w3\.org/2000/svg)""", page)
     assert page.count("</script>") == 2
+    assert "default-src 'none'" in page
