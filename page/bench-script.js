@@ -1,6 +1,6 @@
 // A script as the editor's text and as bytes: each character is one byte.
 
-export const MOST_LINES = 100_000;
+export const MOST_LINES = 20_000; // a text field of many more is slow
 export const MOST_BYTES = 4 * 2 ** 20;
 
 /** Where a place of a text is, in words. */
