@@ -1,10 +1,12 @@
-"""Joins a page's files to one: the styles and the script that its template names, and the data that it's given.
+"""Joins a page's files to one: the styles and the script that its template names, and the data that it's
+given.
 
-A template is an ordinary HTML file. A line `<link rel="stylesheet" href="NAME">` becomes that file's text; so does
-`<script type="module" src="NAME"></script>`, with all modules that it imports, each once and before the one that needs it.
-Modules import by one line, `import { a, b } from './NAME.js';`, and the names that they declare at the left margin are
-unlike each other, since one script has them all in the end. `./messages.js` is made here: what docs/MESSAGES.md says of
-each answer. Data go to the element `<script type="application/json" id="ID"></script>`.
+A template is an ordinary HTML file. A line `<link rel="stylesheet" href="NAME">` becomes that file's text;
+so does `<script type="module" src="NAME"></script>`, with all modules that it imports, each once and before
+the one that needs it. Modules import by one line, `import { a, b } from './NAME.js';`, and the names that
+they declare at the left margin are unlike each other, since one script has them all in the end.
+`./messages.js` is made here: what docs/MESSAGES.md says of each answer. Data go to the element `<script
+type="application/json" id="ID"></script>`.
 """
 import html
 import json
@@ -50,7 +52,7 @@ def texts_of(cell: str) -> list[str]:
 
 
 def messages(text: str) -> list[dict[str, object]]:
-    """What docs/MESSAGES.md says of each answer: the texts, what they mean, and what they leave or what to do."""
+    """What docs/MESSAGES.md says of each answer: its texts, what they mean, what they leave or what to do."""
     rows: list[dict[str, object]] = []
     for heading, more in (("Answers", "leaves"), ("Refusals", "advice")):
         for cells in table(text, heading):

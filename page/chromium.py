@@ -20,9 +20,10 @@ PROGRAMS = ("chromium", "chromium-browser", "google-chrome")
 SECONDS = 60  # the longest that one answer of the browser may take
 INSTALL_SECONDS = 600
 LIMIT = 1 << 20  # bytes that are read at once
-# Two frames, and the end of all transitions.
-DRAWN = """new Promise(done => requestAnimationFrame(() => requestAnimationFrame(done)))
-  .then(() => Promise.all(document.getAnimations().map(it => it.finished.catch(() => null)))).then(() => true)"""
+# The next frame, in which what was asked for before is drawn, and the end of all transitions.
+DRAWN = """new Promise(requestAnimationFrame)
+  .then(() => Promise.all(document.getAnimations().map(it => it.finished.catch(() => null))))
+  .then(() => true)"""
 
 
 class BrowserFault(Exception):
@@ -30,13 +31,19 @@ class BrowserFault(Exception):
 
 
 def installed(package: str, programs: Sequence[str]) -> str:
-    """The path of the first of these programs; its package is installed where none is there and this runs as root."""
+    """The path of the first of these programs; their package is installed where none is there, as root."""
     found = next(filter(None, map(shutil.which, programs)), None)
     if not found and os.geteuid() == 0:
         for words in (["update", "-qq"], ["install", "-y", "-qq", package]):
             try:
-                subprocess.run(["apt-get", *words], stdin=subprocess.DEVNULL, stdout=subprocess.DEVNULL, stderr=subprocess.DEVNULL,
-                               timeout=INSTALL_SECONDS, env={**os.environ, "DEBIAN_FRONTEND": "noninteractive"})
+                subprocess.run(
+                    ["apt-get", *words],
+                    stdin=subprocess.DEVNULL,
+                    stdout=subprocess.DEVNULL,
+                    stderr=subprocess.DEVNULL,
+                    timeout=INSTALL_SECONDS,
+                    env={**os.environ, "DEBIAN_FRONTEND": "noninteractive"},
+                )
             except (OSError, subprocess.TimeoutExpired):
                 break
         found = next(filter(None, map(shutil.which, programs)), None)
@@ -59,18 +66,33 @@ class Browser:
         self.of, from_write = os.pipe()
 
         def pipes() -> None:
-            # The browser reads at 3 and writes at 4; both are moved away first, so that neither is closed by the other.
+            # The browser reads at 3 and writes at 4; both are moved away, so that neither closes the other.
             high = [os.dup(it) for it in (to_read, from_write)]
             high = [it if it > 4 else os.dup(it) for it in high]
             os.dup2(high[0], 3)
             os.dup2(high[1], 4)
 
-        words = ["--headless", "--disable-gpu", "--remote-debugging-pipe", "--no-first-run", "--mute-audio", "--disable-dev-shm-usage",
-                 f"--user-data-dir={self.folder}", f"--window-size={width},{height}"]
+        words = [
+            "--headless",
+            "--disable-gpu",
+            "--remote-debugging-pipe",
+            "--no-first-run",
+            "--mute-audio",
+            "--disable-dev-shm-usage",
+            f"--user-data-dir={self.folder}",
+            f"--window-size={width},{height}",
+        ]
         if os.geteuid() == 0:
             words.append("--no-sandbox")
-        self.process = subprocess.Popen([program, *words], preexec_fn=pipes, close_fds=False, stdin=subprocess.DEVNULL,
-                                        stdout=subprocess.DEVNULL, stderr=subprocess.DEVNULL, start_new_session=True)
+        self.process = subprocess.Popen(
+            [program, *words],
+            preexec_fn=pipes,
+            close_fds=False,
+            stdin=subprocess.DEVNULL,
+            stdout=subprocess.DEVNULL,
+            stderr=subprocess.DEVNULL,
+            start_new_session=True,
+        )
         os.close(to_read)
         os.close(from_write)
         try:
@@ -126,7 +148,10 @@ class Browser:
         told = self.call("Runtime.evaluate", expression=text, awaitPromise=True, returnByValue=True)
         if "exceptionDetails" in told:
             thrown = told["exceptionDetails"]
-            raise BrowserFault("in the page: " + thrown.get("exception", {}).get("description", thrown["text"]).split("\n")[0])
+            raise BrowserFault(
+                "in the page: "
+                + thrown.get("exception", {}).get("description", thrown["text"]).split("\n")[0]
+            )
         return told["result"].get("value")
 
     def settle(self) -> None:
@@ -146,7 +171,13 @@ class Browser:
         return time.monotonic() - start
 
     def size(self, width: int, height: int, scale: float = 1) -> None:
-        self.call("Emulation.setDeviceMetricsOverride", width=width, height=height, deviceScaleFactor=scale, mobile=False)
+        self.call(
+            "Emulation.setDeviceMetricsOverride",
+            width=width,
+            height=height,
+            deviceScaleFactor=scale,
+            mobile=False,
+        )
 
     def media(self, kind: str = "", **features: str) -> None:
         """What the page is told of its medium: media(prefers_color_scheme='dark'), media('print')."""
@@ -168,14 +199,20 @@ class Browser:
 
     def requests(self) -> list[str]:
         """What the page asked for since it was opened, itself among it."""
-        sent = (it["params"]["request"]["url"] for it in self.events if it["method"] == "Network.requestWillBeSent")
+        sent = (
+            it["params"]["request"]["url"]
+            for it in self.events
+            if it["method"] == "Network.requestWillBeSent"
+        )
         return [it for it in sent if it != "about:blank"]
 
     def controls(self) -> list[tuple[str, str]]:
         """Role and name of everything in the page that can have the focus, as a screen reader is told it."""
         found = []
         for node in self.call("Accessibility.getFullAXTree")["nodes"]:
-            if any(it["name"] == "focusable" and it["value"].get("value") for it in node.get("properties", [])):
+            if any(
+                it["name"] == "focusable" and it["value"].get("value") for it in node.get("properties", [])
+            ):
                 found.append((node.get("role", {}).get("value", ""), node.get("name", {}).get("value", "")))
         return found
 

@@ -29,14 +29,23 @@ function lines(parts, begin, wide) {
 
 /** A page in rows of `wide` doublewords, each drawn `scale` units wide. */
 export function drawingOf(page, granted, wide, scale) {
-  const begin = page.page * PAGE, svg = make('svg', { viewBox: `0 0 ${wide} ${PAGE / UNIT / wide}`, preserveAspectRatio: 'none', 'aria-hidden': 'true' });
+  const begin = page.page * PAGE;
+  const svg = make(
+    'svg',
+    { viewBox: `0 0 ${wide} ${PAGE / UNIT / wide}`, preserveAspectRatio: 'none', 'aria-hidden': 'true' }
+  );
   const path = (kind, d) => svg.append(make('path', { class: kind, d }));
-  for (const kind of ['free', 'taken']) path(kind, boxes(page.parts.filter(it => it.kind === kind), begin, wide));
-  for (const kind of ['freecell', 'cell']) path(kind, boxes(page.cells.filter(it => it.kind === kind), begin, wide));
+  for (const kind of ['free', 'taken'])
+    path(kind, boxes(page.parts.filter(it => it.kind === kind), begin, wide));
+  for (const kind of ['freecell', 'cell'])
+    path(kind, boxes(page.cells.filter(it => it.kind === kind), begin, wide));
   path('edge', lines(touching(page.parts), begin, wide));
   path('edge ofcells', lines(page.cells.filter(it => it.whole / UNIT * scale >= MARKED), begin, wide));
   if (granted && granted.from < begin + PAGE && granted.to > begin) {
-    path('granted', boxes([{ from: Math.max(granted.from, begin), to: Math.min(granted.to, begin + PAGE) }], begin, wide));
+    path(
+      'granted',
+      boxes([{ from: Math.max(granted.from, begin), to: Math.min(granted.to, begin + PAGE) }], begin, wide)
+    );
   }
   return svg;
 }

@@ -10,14 +10,16 @@ export function make(name, values = {}, ...inner) {
   const it = SVG_NAMES.has(name) ? document.createElementNS(SVG, name) : document.createElement(name);
   for (const [key, value] of Object.entries(values)) {
     if (key.startsWith('on')) it[key] = value;
-    else if (value !== null && value !== undefined && value !== false) it.setAttribute(key, value === true ? '' : value);
+    else if (value !== null && value !== undefined && value !== false)
+      it.setAttribute(key, value === true ? '' : value);
   }
   it.append(...inner.filter(part => part !== null && part !== undefined));
   return it;
 }
 
 /** A part of the page with a heading. */
-export const panel = (name, ...inner) => make('section', { class: 'panel', 'aria-label': name }, make('h2', {}, name), ...inner);
+export const panel = (name, ...inner) =>
+  make('section', {class: 'panel', 'aria-label': name}, make('h2', {}, name), ...inner);
 
 const COLOURS = 8;
 /** The colour of a subpool's number: by its rank among all numbers of the run. */
@@ -31,4 +33,7 @@ export function tag(run, subpool, { shared = false, own = false } = {}) {
 }
 
 /** A line drawing of 16 by 16, beside the label that its button has. */
-export const icon = (d, filled) => make('svg', { class: filled ? 'icon filled' : 'icon', viewBox: '0 0 16 16', 'aria-hidden': 'true' }, make('path', { d }));
+export const icon = (d, filled) => make(
+  'svg', {class: filled ? 'icon filled' : 'icon', viewBox: '0 0 16 16', 'aria-hidden': 'true'},
+  make('path', {d})
+);

@@ -29,8 +29,12 @@ export function keysOf(view) {
     '?': () => view.help(),
   };
   return event => {
-    const { target } = event, here = target === document.body || target === document.documentElement || view.container.contains(target);
-    if (!here || event.ctrlKey || event.altKey || event.metaKey || view.dialog.open || isOther(target)) return;
+    const { target } = event;
+    const here =
+      target === document.body || target === document.documentElement || view.container.contains(target);
+    // Some keyboards have [ and ] behind AltGr, which is told as Ctrl and Alt too.
+    const isPlain = event.getModifierState('AltGraph') || !(event.ctrlKey || event.altKey || event.metaKey);
+    if (!here || !isPlain || view.dialog.open || isOther(target)) return;
     if (acts[event.key] && acts[event.key](event) !== false) event.preventDefault();
   };
 }

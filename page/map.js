@@ -1,6 +1,4 @@
 // What vsm printed for a script with maps put in, and the states that these maps show.
-import { count } from './elements.js';
-
 export const PAGE = 4096;
 
 /** What can't be shown, as a sentence for the page. */
@@ -19,8 +17,9 @@ async function textOf(data) {
   }
 }
 
-/** Where each answer begins (a map's lines begin with a blank, and belong to the answer before them), and what comes
-    up in any map: the numbers of subpools, and the pages that are assigned. It's one pass over the text. */
+/** Where each answer begins (a map's lines begin with a blank, and belong to the answer before them), and
+    what comes up in any map: the numbers of subpools, and the pages that are assigned. It's one pass over
+    the text. */
 function survey(text) {
   const answers = [], numbers = new Set(), extents = new Set();
   for (let at = 0; at < text.length; at = text.indexOf('\n', at) + 1 || text.length) {
@@ -43,22 +42,43 @@ function pagesOfExtents(extents) {
   return [...pages].sort(ascending);
 }
 
-const run = words => [parseInt(words[1], 16), parseInt(words[2], 16)];
+const areaIn = words => [parseInt(words[1], 16), parseInt(words[2], 16)];
 
-/** What a line of a map adds to a state; extents and free areas belong to the subpool or cell pool before them. */
+/** What a line of a map adds to a state; extents and free areas belong to the subpool or cell pool before
+    them. */
 const LINES = {
-  TASK: (state, words) => state.tasks.push({ number: +words[1], parent: +words[3], current: words[4] === 'CURRENT', registers: [] }),
+  TASK: (state, words) => state.tasks.push({
+    number: +words[1],
+    parent: +words[3],
+    current: words[4] === 'CURRENT',
+    registers: []
+  }),
   R0: (state, words) => state.tasks.at(-1).registers.push(...words.slice(1)),
   R8: (state, words) => state.tasks.at(-1).registers.push(...words.slice(1)),
-  SUBPOOL: (state, words) => state.subpools.push(state.holder = { number: +words[1], owner: +words[3],
-    sharers: words[5] === 'NONE' ? [] : words[5].split(',').map(Number), extents: [], free: [] }),
-  CELLPOOL: (state, words, line) => state.pools.push(state.holder = { name: words[1], subpool: +words[3], owner: +words[5],
-    size: +words[7], primary: +words[9], secondary: +words[11], location: words[13],
-    header: / HDR '(.*)'$/.exec(line)?.[1] ?? '', extents: [], free: [] }),
-  EXTENT: (state, words) => state.holder.extents.push(run(words)),
-  FREE: (state, words) => state.holder.free.push(run(words)),
+  SUBPOOL: (state, words) => state.subpools.push(state.holder = {
+    number: +words[1],
+    owner: +words[3],
+    sharers: words[5] === 'NONE' ? [] : words[5].split(',').map(Number),
+    extents: [],
+    free: []
+  }),
+  CELLPOOL: (state, words, line) => state.pools.push(state.holder = {
+    name: words[1],
+    subpool: +words[3],
+    owner: +words[5],
+    size: +words[7],
+    primary: +words[9],
+    secondary: +words[11],
+    location: words[13],
+    header: / HDR '(.*)'$/.exec(line)?.[1] ?? '',
+    extents: [],
+    free: []
+  }),
+  EXTENT: (state, words) => state.holder.extents.push(areaIn(words)),
+  FREE: (state, words) => state.holder.free.push(areaIn(words)),
   FREECELL: (state, words) => state.holder.free.push(parseInt(words[1], 16)),
-  PAGES: (state, words) => Object.assign(state, { low: +words[2], lowOf: +words[4], high: +words[6], highOf: +words[8] }),
+  PAGES: (state, words) =>
+    Object.assign(state, { low: +words[2], lowOf: +words[4], high: +words[6], highOf: +words[8] }),
   BYTES: (state, words) => Object.assign(state, { taken: +words[2], free: +words[4] }),
   NAME: (state, words) => state.names.push([words[1], words[2]]),
   HISTORY: (state, words) => Object.assign(state, { kept: +words[2], limit: +words[4] }),
@@ -68,12 +88,15 @@ const LINES = {
 function parseMap(text, at) {
   const state = { tasks: [], subpools: [], pools: [], names: [], holder: null };
   for (at = text.indexOf('\n', at) + 1; at && text.charCodeAt(at) === 32;) {
-    const end = text.indexOf('\n', at), line = text.slice(at, end < 0 ? text.length : end), words = line.trim().split(' ');
-    if (!LINES[words[0]]) throw new Sentence(`What vsm printed has a map with the line '${line.trim()}', which is none of a map’s.`);
+    const end = text.indexOf('\n', at);
+    const line = text.slice(at, end < 0 ? text.length : end);
+    const words = line.trim().split(' ');
+    if (!LINES[words[0]]) throw new Sentence(`What vsm printed has a map with a line '${line.trim()}'.`);
     LINES[words[0]](state, words, line);
     at = end + 1;
   }
-  if (!state.tasks.length || state.limit === undefined) throw new Sentence('What vsm printed lacks a map where one should be.');
+  if (!state.tasks.length || state.limit === undefined)
+    throw new Sentence('What vsm printed lacks a map where one should be.');
   return state;
 }
 
@@ -97,16 +120,20 @@ export class Run {
     return new Run(data, await textOf(data));
   }
 
-  /** Behind the answers before the first map, a map and an answer come by turns. The last map is missing where the
-      script ends within a statement. A map put in takes a line, so that the numbers of those behind it are one higher. */
+  /** Behind the answers before the first map, a map and an answer come by turns. The last map is missing
+      where the script ends within a statement. A map put in takes a line, so that the numbers of those
+      behind it are one higher. */
   readAnswers(answers) {
-    const reply = at => this.text.slice(at + 8, this.text.indexOf('\n', at)), line = at => parseInt(this.text.slice(at, at + 7), 10);
+    const reply = at => this.text.slice(at + 8, this.text.indexOf('\n', at));
+    const line = at => parseInt(this.text.slice(at, at + 7), 10);
     this.maps = [];
     this.statements = answers.slice(0, this.skipped).map(at => ({ line: line(at), reply: reply(at) }));
     for (let k = this.skipped; k < answers.length; k += 2) {
-      if (reply(answers[k]) !== 'MAP') throw new Sentence(`What vsm printed has no map behind ${count(this.statements.length, 'statement')}.`);
+      if (reply(answers[k]) !== 'MAP')
+        throw new Sentence(`What vsm printed lacks the map behind ${this.statements.length} statements.`);
       this.maps.push(answers[k]);
-      if (k + 1 < answers.length) this.statements.push({ line: line(answers[k + 1]) - this.maps.length, reply: reply(answers[k + 1]) });
+      if (k + 1 < answers.length)
+        this.statements.push({ line: line(answers[k + 1]) - this.maps.length, reply: reply(answers[k + 1]) });
     }
     this.atLine = new Map(this.statements.map((it, k) => [it.line, k - this.skipped + 1]));
   }
@@ -126,11 +153,13 @@ export class Run {
     return parseMap(this.text, this.maps[Math.min(step, this.maps.length - 1)]);
   }
 
-  /** The lines of a step's statement: from where it begins on, as long as there is a character in column 72. */
+  /** The lines of a step's statement: from where it begins on, as long as there is a character in column
+      72. */
   linesOf(step) {
     const first = this.statement(step).line;
     let last = first;
-    while (last < this.lines.length && (this.lines[last - 1][71] ?? ' ') !== ' ' && !this.atLine.has(last + 1)) last++;
+    const isContinued = number => (this.lines[number - 1][71] ?? ' ') !== ' ';
+    while (last < this.lines.length && isContinued(last) && !this.atLine.has(last + 1)) last++;
     return [first, last];
   }
 

@@ -20,33 +20,55 @@ let made = 0;
 
 /** What this browser lacks, as a sentence; or null. */
 function lackOf() {
-  const lacks = [typeof DecompressionStream === 'undefined' && 'DecompressionStream', !CSS.supports('color', 'light-dark(red, red)') && 'light-dark()'].filter(Boolean);
-  return lacks.length ? `This page shows a run of vsm, but this browser lacks ${lacks.join(' and ')}: Chrome 123, Firefox 120 and Safari 17.5 have what it needs.` : null;
+  const lacks = [
+    typeof DecompressionStream === 'undefined' && 'DecompressionStream',
+    !CSS.supports('color', 'light-dark(red, red)') && 'light-dark()'
+  ].filter(Boolean);
+  if (!lacks.length) return null;
+  return `This page shows a run of vsm, but this browser lacks ${lacks.join(' and ')}: ` +
+    'Chrome 123, Firefox 120 and Safari 17.5 have what it needs.';
 }
 
 /** A sentence in place of the run. */
 function apologise(container, fault) {
   container.classList.add('run');
-  container.replaceChildren(make('p', { class: 'sentence', role: 'alert' }, fault instanceof Sentence ? fault.message : `The run can’t be shown: ${fault}.`));
+  container.replaceChildren(make(
+    'p', { class: 'sentence', role: 'alert' },
+    fault instanceof Sentence ? fault.message : `The run can’t be shown: ${fault}.`
+  ));
 }
 
 /** The view of one run: where it stands, and its parts. */
 class View {
   constructor(container, run, options) {
-    Object.assign(this, { container, run, options, id: `run-${++made}`, step: 0, told: run.steps, asked: 0, teaching: false, clock: null, chosen: null, picked: null, drawing: null, noting: null });
+    Object.assign(this, { container, run, options, id: `run-${++made}` });
+    Object.assign(this, { step: 0, told: run.steps, asked: 0, teaching: false, chosen: null, picked: null });
+    Object.assign(this, { clock: null, drawing: null, noting: null });
     for (const act of ['play', 'ask', 'help']) this[act] = this[act].bind(this);
     this.dialog = helpDialog();
     this.live = make('div', { class: 'unseen', 'aria-live': 'polite' });
     this.regions = regionsPart(this);
     this.tasks = tasksPart(this);
     this.script = scriptPart(this);
-    const said = saidPart(this), lens = lensPart(this), transport = transportPart(this), registers = registersPart(this), subpools = subpoolsPart(this), pools = poolsPart(this), names = namesPart(this), totals = totalsPart(this);
-    this.parts = [transport, this.script, said, this.regions, lens, this.tasks, registers, subpools, pools, names, totals];
-    container.classList.add('run');
-    container.replaceChildren(make('div', { class: 'stage' }, transport.element, make('div', { class: 'columns' }, this.script.element,
-      make('div', { class: 'storage' }, said.element, legend(), this.regions.element, lens.element),
-      make('div', { class: 'side', role: 'group', 'aria-label': 'Tasks, registers, subpools, cell pools and names' }, this.tasks.element, registers.element, subpools.element, pools.element, names.element, totals.element))), this.live, this.dialog);
+    this.build();
     this.listen();
+  }
+
+  /** Puts the parts in place: the head, and below it the script, the storage, and what else there is. */
+  build() {
+    const head = transportPart(this), said = saidPart(this), lens = lensPart(this);
+    const tables = [registersPart, subpoolsPart, poolsPart, namesPart, totalsPart].map(it => it(this));
+    const side = [this.tasks, ...tables];
+    const within = [said.element, legend(), this.regions.element, lens.element];
+    const storage = make('div', { class: 'storage' }, ...within);
+    const name = 'Tasks, registers, subpools, cell pools and names';
+    const rest = make('div', { class: 'side', role: 'group', 'aria-label': name });
+    rest.append(...side.map(it => it.element));
+    const columns = make('div', { class: 'columns' }, this.script.element, storage, rest);
+    const stage = make('div', { class: 'stage' }, head.element, columns);
+    this.parts = [head, this.script, said, this.regions, lens, ...side];
+    this.container.classList.add('run');
+    this.container.replaceChildren(stage, this.live, this.dialog);
   }
 
   listen() {
@@ -92,17 +114,19 @@ class View {
       this.moment = { ...momentOf(this.run, shown, shown < this.step), key };
       this.turn();
     }
-    this.task = this.moment.state.tasks.find(it => it.number === this.picked) ?? this.moment.state.tasks.find(it => it.current);
+    this.task = this.moment.state.tasks.find(it => it.number === this.picked) ??
+      this.moment.state.tasks.find(it => it.current);
     for (const part of this.parts) part.draw();
     const text = spoken(this);
     if (this.live.textContent !== text) this.live.textContent = text;
     this.note();
   }
 
-  /** The page that is looked at near by: where something was granted; else the one before, unless another has changed
-      and it hasn't, or it has left. */
+  /** The page that is looked at near by: where something was granted; else the one before, unless another
+      has changed and it hasn't, or it has left. */
   turn() {
-    const { granted, pages, pagesBefore } = this.moment, changed = page => pages.get(page)?.key !== pagesBefore.get(page)?.key;
+    const { granted, pages, pagesBefore } = this.moment;
+    const changed = page => pages.get(page)?.key !== pagesBefore.get(page)?.key;
     if (granted) this.chosen = Math.floor(granted.from / PAGE);
     else if (!pages.has(this.chosen) || !changed(this.chosen)) {
       const other = [...pages.keys()].find(changed);
@@ -129,7 +153,9 @@ class View {
   /** Plays to the end, or stops. */
   play() {
     clearInterval(this.clock);
-    this.clock = this.playing ? null : setInterval(() => this.step < this.run.steps ? this.go(this.step + 1) : this.play(), PLAY);
+    this.clock = this.playing
+      ? null
+      : setInterval(() => this.step < this.run.steps ? this.go(this.step + 1) : this.play(), PLAY);
     this.draw();
   }
 
@@ -153,7 +179,8 @@ class View {
     return true;
   }
 
-  /** To the next statement, back or on, that was refused or answered 4; an answer that is hidden isn't looked at. */
+  /** To the next statement, back or on, that was refused or answered 4; an answer that is hidden isn't
+      looked at. */
   seek(by) {
     for (let step = this.step + by; step > 0 && step <= this.told; step += by) {
       if (['refused', 'four'].includes(kindOf(this.run.statement(step).reply))) return this.go(step);
@@ -171,14 +198,16 @@ class View {
 
   note() {
     clearTimeout(this.noting);
-    if (this.options.address && !this.teaching) this.noting = setTimeout(() => history.replaceState(null, '', `#${this.step}`), NOTE);
+    if (this.options.address && !this.teaching)
+      this.noting = setTimeout(() => history.replaceState(null, '', `#${this.step}`), NOTE);
   }
 }
 
-/** Shows a run in an element, in place of what is there, and answers the view, whose close() ends it; null where there
-    is a sentence in its place. `data` has `name`, `options` (words), `script` (text), `skipped` (how many answers come
-    before the first map), and what vsm printed for the script with maps put in: `text`, or `output`, gzip'd and in
-    base64. Options: `address` keeps the statement in the page's address; `teacher` begins in the teacher's mode. */
+/** Shows a run in an element, in place of what is there, and answers the view, whose close() ends it; null
+    where there is a sentence in its place. `data` has `name`, `options` (words), `script` (text),
+    `skipped` (how many answers come before the first map), and what vsm printed for the script with maps
+    put in: `text`, or `output`, gzip'd and in base64. Options: `address` keeps the statement in the page's
+    address; `teacher` begins in the teacher's mode. */
 export async function showRun(container, data, options = {}) {
   try {
     const lack = lackOf();

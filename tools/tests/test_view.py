@@ -25,8 +25,8 @@ MAP = """ TASK 1 PARENT 0 CURRENT
  BYTES TAKEN 0 FREE 0
  HISTORY KEPT 0 OF 1024
 """
-# Stands for vsm: each line is a statement, and is answered OPERATION but for a MAP; the lines behind a first one that says
-# 'within' in it belong to that. It answers otherwise behind the first MAP where the script says so.
+# Stands for vsm: each line is a statement, and is answered OPERATION but for a MAP. All lines behind one that
+# has "within" in it belong to that; behind the first MAP a line with "fickle" in it is answered otherwise.
 STANDIN = f"""#!{sys.executable}
 import sys
 lines, number, maps = sys.stdin.read().split("\\n"), 0, 0
@@ -58,7 +58,9 @@ def program(tmp_path: Path) -> Path:
 
 
 def view(*words: object, given: bytes = b"") -> subprocess.CompletedProcess[bytes]:
-    return subprocess.run([sys.executable, str(TOOL), *map(str, words)], input=given, capture_output=True, timeout=120)
+    return subprocess.run(
+        [sys.executable, str(TOOL), *map(str, words)], input=given, capture_output=True, timeout=120
+    )
 
 
 def data_of(page: bytes) -> dict[str, object]:
@@ -89,7 +91,13 @@ def fault(program: Path, *words: object, given: bytes = b"") -> tuple[int, str]:
 
 def test_maps_stand_round_each_statement(program: Path) -> None:
     data = made(program, b"* a comment\n A\n\n B\n")
-    assert output_of(data) == ["0000002 MAP", "0000003 FAULT OPERATION", "0000005 MAP", "0000006 FAULT OPERATION", "0000007 MAP"]
+    assert output_of(data) == [
+        "0000002 MAP",
+        "0000003 FAULT OPERATION",
+        "0000005 MAP",
+        "0000006 FAULT OPERATION",
+        "0000007 MAP",
+    ]
     assert (data["name"], data["options"], data["skipped"]) == ("script.vsm", [], 0)
 
 
@@ -104,13 +112,25 @@ def test_a_map_of_the_script_is_a_statement(program: Path) -> None:
 
 def test_a_script_may_end_within_a_statement(program: Path) -> None:
     for script in (b" A\n within", b" A\n within\n"):
-        assert [line[8:] for line in output_of(made(program, script))] == ["MAP", "FAULT OPERATION", "MAP", "FAULT CONTINUATION"]
+        assert [line[8:] for line in output_of(made(program, script))] == [
+            "MAP",
+            "FAULT OPERATION",
+            "MAP",
+            "FAULT CONTINUATION",
+        ]
 
 
 def test_a_part(program: Path) -> None:
     data = made(program, b" A\n B\n C\n D\n", "--first", 2, "--last", 3)
     assert data["skipped"] == 1
-    assert [line[8:] for line in output_of(data)] == ["FAULT OPERATION", "MAP", "FAULT OPERATION", "MAP", "FAULT OPERATION", "MAP"]
+    assert [line[8:] for line in output_of(data)] == [
+        "FAULT OPERATION",
+        "MAP",
+        "FAULT OPERATION",
+        "MAP",
+        "FAULT OPERATION",
+        "MAP",
+    ]
     assert data["script"] == " A\n B\n C\n D"
 
 
@@ -140,12 +160,24 @@ def test_standard_input(program: Path) -> None:
 
 
 def test_files_that_cannot_be_read(program: Path, tmp_path: Path) -> None:
-    assert fault(program, tmp_path / "nowhere") == (8, f"vsm-view: {tmp_path}/nowhere: can't be read: No such file or directory")
+    assert fault(program, tmp_path / "nowhere") == (
+        8,
+        f"vsm-view: {tmp_path}/nowhere: can't be read: No such file or directory",
+    )
     assert fault(program, tmp_path) == (8, f"vsm-view: {tmp_path}: can't be read: Is a directory")
 
 
 def test_words(program: Path) -> None:
-    for words in ((), ("--first", "0", "a"), ("--first", "x", "a"), ("--last", "1048577", "a"), ("--first", "4", "--last", "3", "a"), ("--other", "a"), ("a", "b"), ("--first",)):
+    for words in (
+        (),
+        ("--first", "0", "a"),
+        ("--first", "x", "a"),
+        ("--last", "1048577", "a"),
+        ("--first", "4", "--last", "3", "a"),
+        ("--other", "a"),
+        ("a", "b"),
+        ("--first",),
+    ):
         assert fault(program, *words)[0] == 16, words
 
 
@@ -157,7 +189,12 @@ def test_help() -> None:
 def test_programs_that_are_not_vsm(tmp_path: Path, program: Path) -> None:
     script = tmp_path / "a.vsm"
     script.write_bytes(b" A\n")
-    texts = {"nothing": "", "noise": "print('hello')", "failing": "import sys; sys.exit('no')", "killed": "import os; os.kill(os.getpid(), 9)"}
+    texts = {
+        "nothing": "",
+        "noise": "print('hello')",
+        "failing": "import sys; sys.exit('no')",
+        "killed": "import os; os.kill(os.getpid(), 9)",
+    }
     for name, text in texts.items():
         other = tmp_path / name
         other.write_text(f"#!{sys.executable}\n{text}\n")
@@ -180,7 +217,10 @@ def test_too_many_lines(program: Path, tmp_path: Path) -> None:
 def test_too_many_bytes(tmp_path: Path) -> None:
     """A program that never stops printing is ended."""
     other = tmp_path / "long"
-    other.write_text(f"#!{sys.executable}\nimport sys\nif 'MAP' in sys.stdin.read():\n    while True:\n        sys.stdout.write('0000001 MAP\\n' * 100000)\n")
+    other.write_text(
+        f"#!{sys.executable}\nimport sys\n"
+        "while 'MAP' in sys.stdin.read():\n while True:\n  sys.stdout.write('0000001 MAP\\n' * 9999)\n"
+    )
     other.chmod(0o755)
     script = tmp_path / "a.vsm"
     script.write_bytes(b" A\n")
@@ -188,19 +228,36 @@ def test_too_many_bytes(tmp_path: Path) -> None:
     assert status == 8 and "400 MiB" in line and "--first and --last" in line
 
 
+def told_texts() -> list[str]:
+    """All texts of answers that docs/MESSAGES.md has."""
+    rows = build.messages(build.MESSAGES.read_text(encoding="utf-8"))
+    return [str(text) for row in rows for text in row["texts"]]  # type: ignore[attr-defined]
+
+
 def test_messages_of_the_document() -> None:
     rows = build.messages(build.MESSAGES.read_text(encoding="utf-8"))
-    texts = [text for row in rows for text in row["texts"]]  # type: ignore[attr-defined]
-    for text in ("RC=4", "ABEND SB78", "ABEND SB05", "ABEND S878", "REFUSED MEMORY", "FAULT LEFTOUT", "KEPT=5", "MAP"):
+    texts = told_texts()
+    for text in (
+        "RC=4",
+        "ABEND SB78",
+        "ABEND SB05",
+        "ABEND S878",
+        "REFUSED MEMORY",
+        "FAULT LEFTOUT",
+        "KEPT=5",
+        "MAP",
+    ):
         assert text in texts, text
     assert all(row["meaning"] and "`" not in str(row) and "](" not in str(row) for row in rows)
 
 
 def test_every_answer_of_the_examples_is_told() -> None:
     """Each text that an example prints has a row of docs/MESSAGES.md."""
+
     def form(text: str) -> str:
         return re.sub(r"\b(A|L|T|D|KEPT|UNDONE)=\w+", r"\1=", text)
-    known = {form(text) for row in build.messages(build.MESSAGES.read_text(encoding="utf-8")) for text in row["texts"]}  # type: ignore[attr-defined]
+
+    known = {form(text) for text in told_texts()}
     for path in (TOP / "examples").glob("*.out"):
         for line in path.read_text().split("\n"):
             if line and line[0] != " ":

@@ -2,7 +2,7 @@
 from __future__ import annotations
 
 from dataclasses import dataclass
-from typing import Sequence, Union
+from typing import Optional, Sequence
 
 LAST_COLUMN = 71       # operands end there; column 72 says that the next line continues them
 CONTINUED_FROM = 16    # the column in which operands go on
@@ -47,11 +47,33 @@ def statements(lines: Sequence[bytes]) -> list[Extent]:
     return found
 
 
-def fold(text: str) -> Union[list[str], None]:
-    """A statement's text, with its blanks in front, over as many lines as it takes; None where ten are too few."""
-    lines = [text[:LAST_COLUMN]]
-    width = LAST_COLUMN - CONTINUED_FROM + 1
-    for at in range(LAST_COLUMN, len(text), width):
-        lines[-1] += "X"
-        lines.append(" " * (CONTINUED_FROM - 1) + text[at:at + width])
-    return lines if len(lines) <= MOST_LINES else None
+def fold(text: str, most: int = MOST_LINES) -> Optional[list[str]]:
+    """A statement's text, with its blanks in front, over at most so many lines; None where they're too few.
+
+    Lines end behind a comma where that takes no more lines than there are, else in column 71.
+    """
+    for ends in (comma_ends(text), set(range(len(text)))):
+        lines, at, width = [], 0, LAST_COLUMN
+        while len(text) - at > width:
+            end = max((end for end in ends if at < end <= at + width), default=at + width)
+            lines.append(text[at:end])
+            at, width = end, LAST_COLUMN - CONTINUED_FROM + 1
+        lines.append(text[at:])
+        if len(lines) <= most:
+            blanks = " " * (CONTINUED_FROM - 1)
+            return [((blanks if k else "") + line).ljust(LAST_COLUMN if k + 1 < len(lines) else 0)
+                    + ("X" if k + 1 < len(lines) else "") for k, line in enumerate(lines)]
+    return None
+
+
+def comma_ends(text: str) -> set[int]:
+    """The places behind commas that split operands: outside of parentheses and apostrophes."""
+    found, depth, quoted = set(), 0, False
+    for at, char in enumerate(text):
+        if char == "'":
+            quoted = not quoted
+        elif not quoted:
+            depth += (char == "(") - (char == ")")
+            if char == "," and depth == 0:
+                found.add(at + 1)
+    return found

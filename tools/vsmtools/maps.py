@@ -56,10 +56,14 @@ class CellPool:
     free_cells: list[int] = field(default_factory=list)
     line: int = 0
 
+    def extent_cells(self, k: int) -> list[int]:
+        """The addresses of the cells of an extent; its length may be rounded up behind the last one."""
+        return [self.extents[k].start + j * self.size for j in range(self.secondary if k else self.primary)]
+
     @property
     def cells(self) -> list[int]:
         """The addresses of all cells, extent by extent."""
-        return [extent.start + k * self.size for extent in self.extents for k in range(extent.length // self.size)]
+        return [cell for k in range(len(self.extents)) for cell in self.extent_cells(k)]
 
 
 @dataclass

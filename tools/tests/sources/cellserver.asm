@@ -1,0 +1,83 @@
+*        CELLSRV - A SERVER THAT KEEPS ITS REQUESTS AND REPLIES IN CELLS
+CELLSRV  CSECT
+         YREGS
+POOLSP   EQU   7
+REQMAX   EQU   32
+REQMORE  EQU   REQMAX/4
+RPLSIZE  EQU   (RPLEND-RPL+3)/4*4      A MULTIPLE OF FOUR
+         STM   14,12,12(13)
+         BALR  12,0
+         USING *,12
+         STORAGE OBTAIN,LENGTH=WALEN,ADDR=(11),LOC=BELOW
+         USING WA,11
+*        TWO CELL POOLS: ONE BY A FIELD, ONE BY A REGISTER
+         CPOOL BUILD,                  REQUESTS                        X
+               PCELLCT=REQMAX,         AT FIRST                        X
+               SCELLCT=REQMORE,        THEN                            X
+               CSIZE=REQLEN,                                           X
+               SP=POOLSP,                                              X
+               CPID=REQPOOL,                                           X
+               HDR='REQUESTS'
+         CPOOL BUILD,PCELLCT=8,CSIZE=RPLSIZE,SP=POOLSP,CPID=(R8),      X
+               LOC=(31,64),HDR='REPLIES OF CELLSRV, ALL OF THEM'
+         ST    R8,RPLPOOL
+*        THREE REQUESTS COME
+         CPOOL GET,UNCOND,CPID=REQPOOL
+         ST    R1,FIRST
+         CPOOL GET,U,CPID=REQPOOL,CELL=(R5)
+         CPOOL GET,COND,CPID=REQPOOL,CELL=(R6),REGS=SAVE
+         LTR   R15,R15
+         BNZ   FULL
+         MVC   REQTEXT-REQ(8,R5),=CL8'WRITE'
+*        A REPLY TO EACH
+         CPOOL GET,CPID=(R8),CELL=REPLY1
+         CPOOL GET,CPID=(R8)
+         LR    R3,R1
+         L     R9,RPLPOOL
+         CPOOL GET,C,CPID=(R9)
+         LR    R4,R1
+*        AND THEY GO, THE REPLIES FIRST
+         CPOOL FREE,CPID=(R8),CELL=(R4)
+         CPOOL FREE,CPID=RPLPOOL,CELL=(R3)
+         CPOOL FREE,CPID=(R9),CELL=REPLY1
+         CPOOL FREE,CPID=REQPOOL,CELL=(R6)
+         CPOOL FREE,CPID=REQPOOL,CELL=(R5)
+         L     R2,FIRST
+         CPOOL FREE,CPID=REQPOOL,CELL=(R2)
+*        WHAT DOESN'T FIT IN A CELL GETS AN AREA OF ITS OWN
+         LA    R0,L'LONGTEXT
+         GETMAIN RU,LV=(R0),SP=POOLSP
+         LR    R7,R1
+         GETMAIN EU,LV=RPLEND-RPL,A=SPARE,SP=POOLSP
+         FREEMAIN RU,LV=L'LONGTEXT,A=(R7),SP=POOLSP
+         FREEMAIN E,LV=RPLEND-RPL,A=SPARE,SP=POOLSP
+*        A LIST OF LENGTHS IS ASSEMBLED, SO IT ISN'T TAKEN
+         GETMAIN LC,LA=LENGTHS,A=ADDRS,SP=POOLSP
+FULL     DS    0H
+         CPOOL DELETE,CPID=REQPOOL
+         CPOOL DELETE,CPID=(R8)
+         STORAGE RELEASE,LENGTH=WALEN,ADDR=(11)
+         LM    14,12,12(13)
+         BR    14
+LONGTEXT DC    CL200'A TEXT OF TWO HUNDRED CHARACTERS'
+LENGTHS  DC    F'64,128'
+ADDRS    DS    2A
+WA       DSECT
+         DS    18F
+REQPOOL  DS    F
+RPLPOOL  DS    F
+FIRST    DS    A
+REPLY1   DS    A
+SPARE    DS    A
+WALEN    EQU   *-WA
+REQ      DSECT
+REQNEXT  DS    A
+REQTEXT  DS    CL8
+         DS    0F
+REQDATA  DS    CL52
+REQLEN   EQU   *-REQ
+RPL      DSECT
+RPLCODE  DS    H
+RPLTEXT  DS    CL39
+RPLEND   EQU   *
+         END

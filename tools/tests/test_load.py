@@ -1,0 +1,199 @@
+"""vsm-load: maps there and back, what no script makes, and what is no map."""
+from __future__ import annotations
+
+import importlib.machinery
+import importlib.util
+import random
+import re
+from pathlib import Path
+from typing import Callable
+
+import pytest
+from conftest import TOP, one_line
+from test_tools import scripts
+
+from vsmtools import bench, loading, maps
+from vsmtools.command import Fault
+
+TOOL = "vsm-load"
+SEEDS, EVERY, MANY_TASKS = 20, 500, 57
+CELLS = (TOP / "examples" / "cell-pools.out").read_text()
+
+
+def map_behind(vsm: str, options: list[str], script: str) -> list[str]:
+    """The map that a script leads to, without its line HISTORY."""
+    answers = bench.run(vsm, options, (script + " MAP\n").encode()).answers
+    assert not any(answer.is_refused for answer in answers)
+    return list(answers[-1].rest[:-1])
+
+
+def comes_back(vsm: str, options: list[str], answer: bench.Answer, what: str) -> None:
+    """That the script of a map makes it."""
+    script = loading.Loader(maps.parse_map(answer.rest), what).load()
+    assert map_behind(vsm, options, "".join(line + "\n" for line in script)) == list(answer.rest[:-1]), what
+
+
+def test_maps_of_rows_and_examples_come_back(vsm: str) -> None:
+    made = 0
+    for path, options in scripts():
+        done = bench.run_anyhow(vsm, options, path.read_bytes())
+        for answer in done.answers if done.status in (0, 4) else []:
+            if answer.is_map:
+                comes_back(vsm, options, answer, path.name)
+                made += 1
+    assert made > 80
+
+
+@pytest.mark.parametrize("name, line", [("storage-map", 5), ("storage-map", 7), ("cell-pools", 31), ("first-steps", 8)])
+def test_maps_of_examples_by_the_tool(run: Callable, vsm: str, name: str, line: int) -> None:
+    done = bench.run(vsm, [], (TOP / "examples" / (name + ".vsm")).read_bytes())
+    loaded = run(TOOL, "--vsm", vsm, "--map", line, given=done.output)
+    assert loaded.returncode == 0 and loaded.stderr == b""
+    wanted = next(answer.rest for answer in done.answers if answer.line == line)
+    assert map_behind(vsm, [], loaded.stdout.decode()) == list(wanted[:-1])
+
+
+def walks():
+    """The generated scripts of tests/walks."""
+    loader = importlib.machinery.SourceFileLoader("walks", str(TOP / "tests" / "walks"))
+    spec = importlib.util.spec_from_loader("walks", loader)
+    assert spec
+    module = importlib.util.module_from_spec(spec)
+    loader.exec_module(module)
+    return module
+
+
+def test_maps_of_walks_come_back(vsm: str) -> None:
+    """All of them but some of those with so many tasks that none is left to help."""
+    module, made, left = walks(), 0, 0
+    for seed in range(SEEDS):
+        script: list[str] = []
+        for number, statement in enumerate(module.statements(random.Random(seed)), 1):
+            script += [statement] + ([" MAP"] if number % EVERY == 0 else [])
+        for answer in bench.run(vsm, module.OPTIONS, "\n".join(script).encode() + b"\n").answers:
+            if not answer.is_map:
+                continue
+            try:
+                comes_back(vsm, module.OPTIONS, answer, "seed %d line %d" % (seed, answer.line))
+                made += 1
+            except Fault as fault:
+                tasks = sum(line.startswith(" TASK") for line in answer.rest)
+                assert "a further task is needed" in str(fault) and tasks >= MANY_TASKS, (seed, str(fault))
+                left += 1
+    assert made + left == SEEDS * 5000 // EVERY and left <= 6
+
+
+def test_words_that_only_cells_have(run: Callable, vsm: str) -> None:
+    script = (" CPOOL BUILD,PCELLCT=3,CSIZE=4,CPID=C,LOC=31,SP=5\n CPOOL GET,CPID=C\n CPOOL GET,CPID=C,CELL=ODD\n"
+              " CPOOL GET,CPID=C,CELL=(12)\n GETMAIN VRU,LV=(40000,8),SP=9,LOC=31\n STORAGE RELEASE,SP=9\n"
+              " CPOOL FREE,CPID=C,CELL=ODD\n GETMAIN RC,LV=1000000\n")
+    before = bench.run(vsm, [], (script + " MAP\n").encode())
+    loaded = run(TOOL, "--vsm", vsm, given=before.output)
+    assert map_behind(vsm, [], loaded.stdout.decode()) == list(before.answers[-1].rest[:-1])
+
+
+def test_the_map_alone_and_by_a_file(run: Callable, vsm: str, tmp_path: Path) -> None:
+    lines = CELLS.split("0000011 MAP\n")[1].split("0000012")[0]
+    path = tmp_path / "map"
+    path.write_bytes(lines.replace("\n", "\r\n").encode())
+    by_file, by_pipe = run(TOOL, "--vsm", vsm, path), run(TOOL, "--vsm", vsm, "-", given=lines.encode())
+    whole = run(TOOL, "--vsm", vsm, "--map", 11, given=CELLS.encode())
+    assert by_file.returncode == 0 and by_file.stdout == by_pipe.stdout == whole.stdout
+
+
+# What is no map.
+
+@pytest.mark.parametrize("text, told", [
+    (b"", "standard input:1:1: the map is cut short"),
+    (b"hello\n", "standard input:1:1: no line of a map"),
+    (b"\n\n", "standard input:1:1: no line of a map"),
+    (b"\0\1\2\xff", "standard input:1:1: no line of a map"),
+    (b"0000001 RC=0 A=00006000 L=00000010\n", "an output of vsm without one"),
+    (b" TASK 1 PARENT 0\n TASK 2 PARENT 1\n", "standard input:2:1: a line TASK can't stand here: expected R0"),
+    (b"0000001 MAP\n TASK 1 PARENT 0 CURRENT\n", "standard input:2:1: the map is cut short: it ends behind TASK"),
+])
+def test_what_is_no_map(run: Callable, vsm: str, text: bytes, told: str) -> None:
+    done = run(TOOL, "--vsm", vsm, given=text)
+    assert done.returncode == 8 and done.stdout == b"" and told in one_line(done, TOOL)
+
+
+def test_one_of_other_options(run: Callable, vsm: str) -> None:
+    done = run(TOOL, "--vsm", vsm, "--high", 96, given=CELLS.encode())
+    assert done.returncode == 8 and re.match(r"standard input:\d+: the map is of other options: its region has 16 pages, "
+                                             r"which is --high 64, not --high 96$", one_line(done, TOOL))
+    assert run(TOOL, "--vsm", vsm, "--low", "x", given=CELLS.encode()).returncode == 16
+
+
+def test_no_such_map_and_no_such_file(run: Callable, vsm: str, tmp_path: Path) -> None:
+    assert "no map of line 5" in one_line(run(TOOL, "--vsm", vsm, "--map", 5, given=CELLS.encode()), TOOL)
+    assert "can't be read" in one_line(run(TOOL, "--vsm", vsm, tmp_path / "nowhere"), TOOL)
+    assert "can't be read" in one_line(run(TOOL, "--vsm", vsm, tmp_path), TOOL)
+
+
+# What no list of statements makes: the last map of the example, with one text changed. Lines are those of the map.
+LAST = CELLS.split("0000031 MAP\n")[1]
+
+
+@pytest.mark.parametrize("old, new, line, told", [
+    ("TASK 2 PARENT 1", "TASK 2 PARENT 3", 4, "no task 3 attached it"),
+    (" CURRENT", "", 4, "just one task is CURRENT"),
+    ("R0 00000000 00000002", "R0 00000000 00000001", 2, "can't be one"),
+    ("R0 00000000 00000002", "R0 00000000 00000000", 2, "register 1 is 0"),
+    ("R0 00000000 00006060", "R0 00000000 00006061", 5, "can't be one"),
+    ("R0 00000000 00006060", "R0 00000007 00006060", 5, "register 0 gets a length"),
+    ("R8 00000000 00000000 00000000 00000000 00000000 00000000", "R8 00000000 00000000 00000000 00000000 00000000 00006000",
+     3, "no statement sets register 13"),
+    ("00000000 00000000\n TASK 2", "00000000 00000008\n TASK 2", 3, "register 15 is 0 or 4"),
+    ("SUBPOOL 0 OWNER 1 SHARERS 2", "SUBPOOL 0 OWNER 1 SHARERS NONE", 4, "each task sees a subpool 0"),
+    ("SUBPOOL 3 OWNER 2", "SUBPOOL 3 OWNER 9", 8, "there is no task 9"),
+    ("SUBPOOL 3 OWNER 2 SHARERS NONE\n", "SUBPOOL 128 OWNER 2 SHARERS NONE\n", 8, "from 0 to 127"),
+    ("EXTENT 00006000 00001000", "EXTENT 00006000 00001008", 9, "a run of pages of one region"),
+    ("EXTENT 00006000 00001000", "EXTENT 00005000 00001000", 9, "a run of pages of one region"),
+    ("FREE 00006078 00000F88", "FREE 00006079 00000F88", 10, "a run of doublewords"),
+    ("FREE 00006078 00000F88", "FREE 00006078 00001F88", 10, "isn't in the subpool's pages"),
+    ("FREE 00006078 00000F88", "FREE 00006000 00001000", 10, "a page in which nothing is taken"),
+    ("FREE 00006078 00000F88", "FREE 00006070 00000F88", 13, "it has storage of line 10"),
+    ("SIZE 24", "SIZE 26", 11, "a multiple of 4"),
+    ("PRIMARY 3", "PRIMARY 4", 12, "4 cells of 24 bytes have a length of X'00000060'"),
+    ("LOC 24 HDR", "LOC 64 HDR", 11, "not a whole line CELLPOOL"),
+    ("FREECELL 00006000", "FREECELL 00006008", 14, "no cell of this cell pool begins there"),
+    ("PAGES LOW 1 OF", "PAGES LOW 2 OF", 15, "the extents have 1 pages below the line"),
+    ("BYTES TAKEN 120", "BYTES TAKEN 128", 16, "120 bytes are taken"),
+    ("NAME SECOND", "NAME FIRST", 18, "a name is defined once"),
+    ("NAME FIRST 00006000", "NAME FIRST 00016000", 17, "can't be one"),
+])
+def test_what_no_script_makes(run: Callable, vsm: str, old: str, new: str, line: int, told: str) -> None:
+    assert LAST.count(old) >= 1
+    done = run(TOOL, "--vsm", vsm, given=LAST.replace(old, new, 1).encode())
+    text = one_line(done, TOOL)
+    assert done.returncode == 8 and done.stdout == b"" and told in text
+    assert text.startswith("standard input:%d:" % line) or "can't stand" in text, text
+
+
+def test_sharers_that_no_order_of_attaches_makes(run: Callable, vsm: str) -> None:
+    script = (" ATTACH\n ATTACH\n RUN 2\n STORAGE OBTAIN,LENGTH=8,SP=5\n ATTACH SHSPV=5\n MAP\n")
+    before = bench.run(vsm, [], script.encode()).output.decode()
+    assert "SUBPOOL 5 OWNER 2 SHARERS 4" in before
+    done = run(TOOL, "--vsm", vsm, given=before.replace("SUBPOOL 5 OWNER 2 SHARERS 4", "SUBPOOL 5 OWNER 3 SHARERS 4").encode())
+    assert done.returncode == 8
+    assert "a sharer's parent neither shares the subpool nor can have owned it" in one_line(done, TOOL)
+
+
+def test_changed_maps_come_back_or_are_refused(vsm: str) -> None:
+    """A map with a digit changed is refused in one line, or is one that its script makes."""
+    chance = random.Random(5)
+    for text in (CELLS.split("0000011 MAP\n")[1].split("0000012")[0], LAST):
+        for _ in range(150):
+            places = [at for at, char in enumerate(text) if char.isdigit()]
+            at = chance.choice(places)
+            changed = text[:at] + chance.choice("0123456789") + text[at + 1:]
+            lines = changed.splitlines()
+            try:
+                shown = maps.parse_map(lines)
+                if (shown.low_pages, shown.high_pages) != (16, 16):
+                    continue
+                script = loading.Loader(shown, "map").load()
+            except Fault as fault:
+                assert re.match(r"(the )?map:\d+(:1)?: ", str(fault))
+                continue
+            assert map_behind(vsm, [], "".join(line + "\n" for line in script)) == lines[:-1]

@@ -1,0 +1,227 @@
+"""vsm-paste: sources to scripts, line by line, and what is told of them."""
+from __future__ import annotations
+
+import random
+import re
+from pathlib import Path
+from typing import Callable
+
+import pytest
+from conftest import one_line
+
+from vsmtools import bench
+from vsmtools.assembler import Symbols, Unknown, read_statement
+from vsmtools.pasting import MACROS, Paste
+
+TOOL = "vsm-paste"
+SOURCES = Path(__file__).parent / "sources"
+# How many macros each source has, how many are taken, and of these how many vsm answers without a refusal.
+COUNTS = {"reentrant": (15, 15, 15), "cellserver": (23, 22, 22), "subtasks": (21, 20, 20), "tblbld": (11, 11, 11),
+          # A fragment: five of its macros name lists and fields that it doesn't have, and it releases an area three times.
+          "bufmgr": (19, 14, 12)}
+
+
+def told(done) -> list[str]:
+    lines = done.stderr.decode().splitlines()
+    assert all(line.startswith("vsm-paste: ") for line in lines) and "nothing is claimed" in lines[0]
+    return [line[len("vsm-paste: "):] for line in lines]
+
+
+def paste(run: Callable, text: str, *words: object) -> tuple[list[str], list[str], int]:
+    """The lines of the script but the last, what is told, and the status."""
+    done = run(TOOL, *words, given=text.encode())
+    return done.stdout.decode().splitlines()[:-1], told(done)[1:], done.returncode
+
+
+def macros_in(path: Path) -> list[int]:
+    """The lines, from 1, on which a macro begins."""
+    lines, found, at = path.read_text().splitlines(), [], 0
+    while at < len(lines):
+        it = read_statement(lines, at)
+        found += [it.first + 1] if it.operation in MACROS else []
+        at = it.last + 1
+    return found
+
+
+@pytest.mark.parametrize("name", COUNTS)
+def test_a_source(run: Callable, vsm: str, name: str) -> None:
+    path = SOURCES / (name + ".asm")
+    done = run(TOOL, path)
+    script = done.stdout.decode().splitlines()
+    source = path.read_text().splitlines()
+    assert len(script) == len(source) + 1 and script[-1].startswith("* vsm-paste: ")
+    macros, taken, accepted = COUNTS[name]
+    begins = macros_in(path)
+    assert len(begins) == macros
+    answers = bench.run(vsm, [], done.stdout).answers
+    # Each answer bears its line's number in the source, and nothing is faulty.
+    assert len(answers) == taken and {answer.line for answer in answers} <= set(begins)
+    assert not any(answer.text.startswith(("FAULT", "REFUSED")) for answer in answers)
+    assert sum(not answer.is_refused for answer in answers) == accepted
+    left = [line for line in begins if line not in {answer.line for answer in answers}]
+    notes = [line for line in told(done) if "isn't taken" in line]
+    assert sorted(left) == sorted(int(re.match(r".*\.asm:(\d+):\d+: ", note)[1]) for note in notes)
+    assert told(done)[-1] == "macros taken: %d, not taken: %d" % (taken, macros - taken)
+    assert done.returncode == (4 if left else 0)
+
+
+@pytest.mark.parametrize("name", ["reentrant", "cellserver", "subtasks", "tblbld"])
+def test_nine_macros_in_ten_are_accepted(name: str) -> None:
+    macros, _, accepted = COUNTS[name]
+    assert 10 * accepted >= 9 * macros
+    assert name == "tblbld" or 60 <= len((SOURCES / (name + ".asm")).read_text().splitlines()) <= 150
+
+
+@pytest.mark.parametrize("source, expected", [
+    ("A EQU 8*(2+3)\n GETMAIN R,LV=A", "GETMAIN R,LV=40"),
+    ("F DS CL133\n GETMAIN RU,LV=L'F+8", "GETMAIN RU,LV=141"),
+    ("W DSECT\n DS 18F\nB DS CL5\n DS 0D\nE EQU *-W\n GETMAIN R,LV=E", "GETMAIN R,LV=80"),
+    ("W DSECT\n DS 3A,2H,XL3,(2)D\nE EQU *-W\n GETMAIN R,LV=E", "GETMAIN R,LV=40"),
+    (" LA 0,64\n GETMAIN R,LV=(0)", "GETMAIN R,LV=64"),
+    (" LHI R5,-1\n AHI R5,9\n GETMAIN RU,LV=(R5)", "GETMAIN RU,LV=8"),
+    (" L 3,=F'24'\n GETMAIN RU,LV=(3)", "GETMAIN RU,LV=24"),
+    (" L 3,=A(X'10'*3)\n GETMAIN RU,LV=(3)", "GETMAIN RU,LV=48"),
+    (" GETMAIN RU,LV=8,SP=230", "GETMAIN RU,LV=8,SP=127"),
+    (" GETMAIN RU,LV=8,SP=127\n GETMAIN RU,LV=8,SP=230", "GETMAIN RU,LV=8,SP=126"),
+    (" ATTACHX EP=A,ECB=E", "ATTACH EP=A"),
+    (" GETMAIN RU,LV=8\n LR 5,1\n LA 1,0\n FREEMAIN RU,LV=8,A=(5)", "FREEMAIN RU,LV=8,A=(1)"),
+    (" GETMAIN RU,LV=8\n ST 1,P\n GETMAIN RU,LV=8\n L 7,P\n FREEMAIN RU,LV=8,A=(7)", "FREEMAIN RU,LV=8,A=P"),
+    (" CPOOL BUILD,PCELLCT=1,CSIZE=8,CPID=(8)\n LR 3,8\n CPOOL DELETE,CPID=(3)", "CPOOL DELETE,CPID=CPID8"),
+    (" ATTACH EP=A\n ST 1,T\n DETACH T", "DETACH 2"),
+    ("L DC AL1(1,7)\n ATTACH EP=A,GSPL=L", "ATTACH EP=A,GSPV=7"),
+])
+def test_what_is_worked_out(run: Callable, vsm: str, source: str, expected: str) -> None:
+    script, _, status = paste(run, source + "\n")
+    assert status == 0 and " ".join(script[-1].split("  ")[0].split()) == expected, script
+    assert not any(answer.is_refused for answer in bench.run(vsm, [], "\n".join(script + [""]).encode()).answers)
+
+
+@pytest.mark.parametrize("source, line, why", [
+    ("A EQU B\nB EQU A\n GETMAIN R,LV=A", 3, "GETMAIN isn't taken: A stands on itself: A B A"),
+    ("A EQU L'A\n GETMAIN R,LV=A", 2, "A stands on itself"),
+    ("A EQU A\n", 1, "A stands on itself: A A"),
+    (" MACRO\n M &X\n GETMAIN R,LV=&X\n MEND\n M 8\n", 1, "a macro definition isn't taken"),
+    (" GETMAIN R,LV=&LEN\n", 1, "it has a variable symbol"),
+    (" GETMAIN R,LV=NOWHERE\n", 1, "NOWHERE isn't defined"),
+    (" GETMAIN R,LV=(5)\n", 1, "no line before gives it a number"),
+    (" LA 5,8\n LM 4,6,X\n GETMAIN RU,LV=(5)\n", 3, "line 2 changes it"),
+    (" LA 0,8\n WTO 'X'\n GETMAIN R,LV=(0)\n", 3, "line 2 changes it"),
+    ("C CSECT\nA DS F\n LR 1,2\nB DS F\n GETMAIN R,LV=B-A\n", 5, "instructions lie between"),
+    ("B DS F\n GETMAIN R,LV=B\n", 2, "an address of the program"),
+    (" GETMAIN LC,LA=L,A=A\n", 1, "form LC has its operands in a list"),
+    (" GETMAIN VRU,LA=L,SP=1\n", 1, "names a list"),
+    (" ATTACH EP=A,MF=(E,L)\n", 1, "names a list"),
+    (" DETACH (5)\n", 1, "what register 5 holds"),
+    (" FREEMAIN RU,LV=8,A=BUF\n", 1, "isn't known to hold an address"),
+    (" CPOOL GET,CPID=P\n", 1, "isn't known to name a cell pool"),
+    (" STORAGE OBTAIN,LENGTH=8,LOC=EXPLICIT,INADDR=X\n", 1, "LOC=EXPLICIT isn't read"),
+    (" STORAGE OBTAIN,LENGTH=8,WHAT=X\n", 1, "WHAT= is no operand that's known"),
+    (" GETMAIN R,LV=(\n", 1, "is no expression"),
+    (" GETMAIN R,LV=9999999999999\n", 1, "no number of a word"),
+    (" DETACH\n", 1, "it names no task"),
+])
+def test_what_is_told(run: Callable, vsm: str, source: str, line: int, why: str) -> None:
+    """It's told with its line; and what isn't known isn't in the script."""
+    script, notes, _ = paste(run, source + "\n")
+    found = [note for note in notes if why in note]
+    assert found and re.match(r"standard input:%d:\d+: " % line, found[0]), notes
+    assert bench.run(vsm, [], "\n".join(script + [""]).encode()).answers == []
+
+
+def test_what_comes_from_elsewhere_is_told(run: Callable) -> None:
+    _, notes, _ = paste(run, " LA 0,8\nHERE DS 0H\nTHERE LR 2,3\n GETMAIN R,LV=(0)\n GETMAIN RU,LV=8,SP=230,KEY=9\n")
+    text = "\n".join(notes)
+    assert "standard input:4:1: LV=(0) is taken as 8, of line 1; a branch to THERE in line 3 may bring another" in text
+    assert "standard input:5:1: subpool 230 is taken as 127" in text and "KEY=9 has no meaning here and is dropped" in text
+
+
+def test_options(run: Callable) -> None:
+    script, _, _ = paste(run, " GETMAIN RU,LV=LEN+8,SP=230\n", "--equ", "LEN=X'10'*2", "--sp", "230=100")
+    assert script[0].split("  ")[0] == " GETMAIN RU,LV=40,SP=100"
+    for words in (["--sp", "230"], ["--sp", "230=128"], ["--equ", "LEN"], ["--equ", "1=2"], ["--equ", "A=A"]):
+        done = run(TOOL, *words, given=b" MAP\n")
+        assert done.returncode == 16 and words[1] in one_line(done, TOOL)
+
+
+# Texts that aren't as they should be.
+
+def test_columns_behind_72(run: Callable) -> None:
+    source = " GETMAIN R,LV=8".ljust(72)
+    script, notes, status = paste(run, source + "00010000\n" + source + "a remark that's too long\n")
+    assert script == [" GETMAIN R,LV=8"] * 2 and status == 0
+    assert notes[0].startswith("standard input:2:73: text beyond column 72 isn't read: 'a remark")
+
+
+def test_a_remark_that_reaches_column_72(run: Callable) -> None:
+    source = " GETMAIN R,LV=8   ".ljust(80, "x")
+    script, notes, status = paste(run, source + "\n GETMAIN R,LV=16\n GETMAIN R,LV=24\n")
+    assert status == 4 and [line for line in script if not line.startswith("*")] == [" GETMAIN R,LV=8", " GETMAIN R,LV=24"]
+    assert any(note.startswith("standard input:1:72: a character in column 72 says that line 2") for note in notes)
+
+
+SOURCE = " LA 0,8\n GETMAIN R,LV=(0)\n* remark\n"
+
+
+@pytest.mark.parametrize("data, words", [
+    (SOURCE.encode().replace(b"\n", b"\r\n"), []), (SOURCE.encode().replace(b"\n", b"\r"), []),
+    (b"\xef\xbb\xbf" + SOURCE.encode(), []), (SOURCE[:-1].encode(), []),
+    ("".join(line.ljust(80) for line in SOURCE.splitlines()).encode(), []),
+    (SOURCE.encode("cp037"), ["--ebcdic"]), (SOURCE.replace("\n", "\x85").encode("cp037"), ["--ebcdic"]),
+    ("".join(line.ljust(80) for line in SOURCE.splitlines()).encode("cp037"), ["--ebcdic"]),
+])
+def test_line_ends_and_ebcdic(run: Callable, data: bytes, words: list[str]) -> None:
+    done = run(TOOL, *words, given=data)
+    assert done.returncode == 0 and done.stdout.decode().splitlines()[:-1] == ["* LA 0,8", " GETMAIN R,LV=8", "* remark"]
+
+
+@pytest.mark.parametrize("data, why", [
+    (b"", "it's empty"), (b"\0", "standard input:1:1: a character X'00' is in no source text"),
+    (b" MAP\n ST\x07\n", "standard input:2:4: a character X'07'"), (SOURCE.encode("cp037"), "it's EBCDIC"),
+    (SOURCE.encode("utf-16"), "it's UTF-16"), (bytes(range(256)), "is in no source text"),
+])
+def test_what_is_no_source(run: Callable, data: bytes, why: str) -> None:
+    done = run(TOOL, given=data)
+    assert done.returncode == 8 and done.stdout == b"" and why in one_line(done, TOOL)
+
+
+def test_characters_that_vsm_counts_as_several(run: Callable, vsm: str) -> None:
+    text = "* größe €\n GETMAIN R,LV=8      größe\n"
+    for data in (text.encode(), text.replace("€", "").encode("latin-1")):
+        done = run(TOOL, given=data)
+        assert done.returncode == 0 and done.stdout.isascii()
+        assert bench.run(vsm, [], done.stdout).answers[0].line == 2
+
+
+def changed(chance: random.Random, lines: list[str]) -> list[str]:
+    """The lines with some characters, lines and columns 72 changed."""
+    lines = list(lines)
+    for _ in range(chance.randrange(1, 10)):
+        at = chance.randrange(len(lines))
+        column = chance.randrange(len(lines[at]) + 1)
+        lines[at] = chance.choice((
+            lines[at][:column], lines[at].ljust(71) + "X", lines[at][:column] + chance.choice(lines)[column:],
+            lines[at][:column] + chance.choice("'(),= *+-/R09LX&.") + lines[at][column + chance.randrange(2):]))[:72]
+    return [line.rstrip() for line in lines]
+
+
+def test_changed_sources_keep_their_lines(vsm: str) -> None:
+    chance = random.Random(3)
+    sources = [[line[:72] for line in path.read_text().splitlines()] for path in sorted(SOURCES.glob("*.asm"))]
+    for _ in range(300):
+        lines = changed(chance, chance.choice(sources))
+        it = Paste(lines, {}, {})
+        script = it.paste()
+        assert len(script) == len(lines) and all(len(line) <= 72 for line in script)
+        if chance.randrange(5) == 0:
+            done = bench.run(vsm, [], "".join(line + "\n" for line in script).encode())
+            assert [answer.line - 1 for answer in done.answers] == sorted(it.written)
+
+
+def test_expressions() -> None:
+    symbols = Symbols({"A": 5})
+    for text, number in (("1", 1), ("A*A-A", 20), ("7/2", 3), ("-7/2", -3), ("7/0", 0), ("X'FF'+B'11'", 258),
+                         ("C'A'", 0xC1), ("((A))", 5), ("--A", 5), ("2*-A", -10), ("L'A", 1)):
+        assert symbols.number(text) == number, text
+    for text in ("", "(", ")", "1+", "A B", "X''", "X'G'", "*", "'A'", "(" * 3000, "1" * 5000, "Q", "A(1)"):
+        with pytest.raises(Unknown):
+            symbols.number(text)
