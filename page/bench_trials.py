@@ -32,8 +32,8 @@ sys.path[:0] = [str(HERE), str(TOP / "tools"), str(TOP / "tests" / "rows")]
 import bench  # noqa: E402
 from build import BuildFault, joined_script  # noqa: E402
 from chromium import Browser, BrowserFault, installed  # noqa: E402
+from on_page import probed  # noqa: E402
 from trials import Trials  # noqa: E402
-from view_trials import PALE  # noqa: E402
 
 MODULE = TOP / "dist" / "vsm.wasm"
 SECONDS = 60
@@ -216,19 +216,9 @@ def try_opening(page: BenchPage, trials: Trials) -> None:
         trials.want(f"there is the control {name}", page.js(f"Boolean(document.getElementById('{name}'))"))
 
 
-# Texts, and frames of controls, whose contrast is too small; those of the view are tried with it.
-CONTRAST = [("document.querySelector('.run')", "document.getElementById('bench')"),
-            (".run .bar button, .run .task button, .run .ask", ".mine :is(button, select, input):enabled:not([role=tab], .chief)")]
-
-
-def pale() -> str:
-    """What view_trials asks for the view, asked for the whole bench."""
-    text = PALE
-    for of_view, of_bench in CONTRAST:
-        if of_view not in text:
-            raise ValueError(f"view_trials.PALE has no {of_view}")
-        text = text.replace(of_view, of_bench)
-    return text
+# Texts, and frames of controls, whose contrast is too small.
+FRAMED = ".mine :is(button, select, input):enabled:not([role=tab], .chief)"
+PALE = probed(f"pale(document.getElementById('bench'), '{FRAMED}')")
 
 
 def try_looks(page: BenchPage, trials: Trials) -> None:
@@ -241,12 +231,12 @@ def try_looks(page: BenchPage, trials: Trials) -> None:
         for what, act in states.items():
             page.js(act)
             time.sleep(0.4)
-            found = page.js(pale())
+            found = page.js(PALE)
             trials.want(f"the contrast {what}, {scheme}", not found, found)
         trials.want("the help tells the program's own", page.wait("document.querySelector('#note pre').textContent.includes('--residence <MODE>')", 10))
         page.js("document.getElementById('note').close()")
         page.run(b" MAP\n", low="x")
-        found = page.js(pale())
+        found = page.js(PALE)
         trials.want(f"the contrast with an error, {scheme}", not found, found)
         page.forget()
     page.browser.media()
