@@ -20,8 +20,8 @@ export function faultOfScript(text) {
   return null;
 }
 
-/** A file's text as the editor holds it, which knows no carriage returns: right before a line feed they go, as vsm takes
-    them; any other belongs to its line. */
+/** A file's text as the editor holds it, which knows no carriage returns: right before a line feed they go,
+    as vsm takes them; any other belongs to its line. */
 export function editorText(text) {
   const plain = text.replaceAll('\r\n', '\n');
   const alone = plain.indexOf('\r');

@@ -1,11 +1,12 @@
 #!/usr/bin/env python3
 """Trials of the program's module in node, and of the bench in headless Chromium. page/check runs them.
 
-Usage: page/bench_trials.py [MODULE.wasm]     these alone; by default of dist/vsm.wasm. The last line is 'N passed, M failed'.
+Usage: page/bench_trials.py [MODULE.wasm]
+    these alone; by default of dist/vsm.wasm. The last line is 'N passed, M failed'.
 
-In node the module has to give each row of tests/rows and each example, byte for byte, with its status and what it says on
-standard error; scripts come whole, as a file, and byte by byte. In the browser the bench has to give the same for each
-example, and to do what docs/BENCH-IN-A-BROWSER.md says.
+In node the module has to give each row of tests/rows and each example, byte for byte, with its status and
+what it says on standard error; scripts come whole, as a file, and byte by byte. In the browser the bench has
+to give the same for each example, and to do what docs/BENCH-IN-A-BROWSER.md says.
 """
 from __future__ import annotations
 
