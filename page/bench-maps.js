@@ -14,7 +14,8 @@ export function joinedBytes(pieces) {
   return whole;
 }
 
-/** The answers of an output: the number of each one's line, and its text. A map's lines begin with a blank. */
+/** The answers of an output: the number of each one's line, and its text. A map's lines begin with a blank.
+    */
 export function answersOf(output) {
   const found = [];
   for (let at = 0; at < output.length;) {
@@ -28,8 +29,8 @@ export function answersOf(output) {
   return found;
 }
 
-/** The script with a MAP before each of these lines, which ascend, and behind the last. A line that a statement begins on
-    never continues another, so no statement is cut in two. */
+/** The script with a MAP before each of these lines, which ascend, and behind the last. A line that a
+    statement begins on never continues another, so no statement is cut in two. */
 export function withMaps(script, begins) {
   const pieces = [];
   let from = 0, at = 0, line = 1;

@@ -1,6 +1,7 @@
 // Runs in a worker, one at a time; a run that is stopped ends with its worker.
 
-/** `told` is called with each message of the worker; with `{ kind: 'fault', why }` too where there is no worker. */
+/** `told` is called with each message of the worker; with `{ kind: 'fault', why }` too where there is no
+    worker. */
 export function runnerOf(source, wasm, told) {
   let worker = null, isRunning = false;
   const url = URL.createObjectURL(new Blob([source], { type: 'text/javascript' }));

@@ -1,6 +1,6 @@
 // A script as the editor's text and as bytes: each character is one byte.
 
-export const MOST_LINES = 100_000;
+export const MOST_LINES = 20_000; // a text field of many more is slow
 export const MOST_BYTES = 4 * 2 ** 20;
 
 /** Where a place of a text is, in words. */
@@ -20,8 +20,8 @@ export function faultOfScript(text) {
   return null;
 }
 
-/** A file's text as the editor holds it, which knows no carriage returns: right before a line feed they go, as vsm takes
-    them; any other belongs to its line. */
+/** A file's text as the editor holds it, which knows no carriage returns: right before a line feed they go,
+    as vsm takes them; any other belongs to its line. */
 export function editorText(text) {
   const plain = text.replaceAll('\r\n', '\n');
   const alone = plain.indexOf('\r');

@@ -141,9 +141,9 @@ class Bench {
       const found = await readLink(location.hash);
       if (!found) return false;
       const { text, fault } = editorText(found.script);
-      if (fault) return this.say(`The link’s script: ${fault}.`, true) ?? false;
-      this.load({ ...found, script: text });
-      return true;
+      if (!fault) this.load({ ...found, script: text });
+      else this.note('This link can’t be followed', make('p', {}, `${found.name || OWN}, ${fault}.`));
+      return !fault;
     } catch {
       this.note('This link can’t be read', make('p', {}, 'The address holds something that isn’t a script of this bench, perhaps since it was cut short. What this browser has kept is shown in its place.'));
       return false;

@@ -1,7 +1,8 @@
 #!/usr/bin/env python3
 """Makes the bench in a browser: one page, dist/bench.html, of the files here and the program's module.
 
-Usage: page/bench.py [MODULE.wasm [PAGE.html]]     by default dist/vsm.wasm, which page/module makes, and dist/bench.html.
+Usage: page/bench.py [MODULE.wasm [PAGE.html]]
+    by default dist/vsm.wasm, which page/module makes, and dist/bench.html.
 
 Beside the module has to stand its file .json, which says of what commit and kit it is.
 """

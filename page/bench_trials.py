@@ -1,11 +1,12 @@
 #!/usr/bin/env python3
 """Trials of the program's module in node, and of the bench in headless Chromium. page/check runs them.
 
-Usage: page/bench_trials.py [MODULE.wasm]     these alone; by default of dist/vsm.wasm. The last line is 'N passed, M failed'.
+Usage: page/bench_trials.py [MODULE.wasm]
+    these alone; by default of dist/vsm.wasm. The last line is 'N passed, M failed'.
 
-In node the module has to give each row of tests/rows and each example, byte for byte, with its status and what it says on
-standard error; scripts come whole, as a file, and byte by byte. In the browser the bench has to give the same for each
-example, and to do what docs/BENCH-IN-A-BROWSER.md says.
+In node the module has to give each row of tests/rows and each example, byte for byte, with its status and
+what it says on standard error; scripts come whole, as a file, and byte by byte. In the browser the bench has
+to give the same for each example, and to do what docs/BENCH-IN-A-BROWSER.md says.
 """
 from __future__ import annotations
 
@@ -18,6 +19,7 @@ import subprocess
 import sys
 import tempfile
 import time
+import zlib
 from importlib.machinery import SourceFileLoader
 from pathlib import Path
 from types import ModuleType
@@ -31,8 +33,8 @@ sys.path[:0] = [str(HERE), str(TOP / "tools"), str(TOP / "tests" / "rows")]
 import bench  # noqa: E402
 from build import BuildFault, joined_script  # noqa: E402
 from chromium import Browser, BrowserFault, installed  # noqa: E402
+from on_page import probed  # noqa: E402
 from trials import Trials  # noqa: E402
-from view_trials import PALE  # noqa: E402
 
 MODULE = TOP / "dist" / "vsm.wasm"
 SECONDS = 60
@@ -215,19 +217,9 @@ def try_opening(page: BenchPage, trials: Trials) -> None:
         trials.want(f"there is the control {name}", page.js(f"Boolean(document.getElementById('{name}'))"))
 
 
-# Texts, and frames of controls, whose contrast is too small; those of the view are tried with it.
-CONTRAST = [("document.querySelector('.run')", "document.getElementById('bench')"),
-            (".run .bar button, .run .task button, .run .ask", ".mine :is(button, select, input):enabled:not([role=tab], .chief)")]
-
-
-def pale() -> str:
-    """What view_trials asks for the view, asked for the whole bench."""
-    text = PALE
-    for of_view, of_bench in CONTRAST:
-        if of_view not in text:
-            raise ValueError(f"view_trials.PALE has no {of_view}")
-        text = text.replace(of_view, of_bench)
-    return text
+# Texts, and frames of controls, whose contrast is too small.
+FRAMED = ".mine :is(button, select, input):enabled:not([role=tab], .chief)"
+PALE = probed(f"pale(document.getElementById('bench'), '{FRAMED}')")
 
 
 def try_looks(page: BenchPage, trials: Trials) -> None:
@@ -240,12 +232,12 @@ def try_looks(page: BenchPage, trials: Trials) -> None:
         for what, act in states.items():
             page.js(act)
             time.sleep(0.4)
-            found = page.js(pale())
+            found = page.js(PALE)
             trials.want(f"the contrast {what}, {scheme}", not found, found)
         trials.want("the help tells the program's own", page.wait("document.querySelector('#note pre').textContent.includes('--residence <MODE>')", 10))
         page.js("document.getElementById('note').close()")
         page.run(b" MAP\n", low="x")
-        found = page.js(pale())
+        found = page.js(PALE)
         trials.want(f"the contrast with an error, {scheme}", not found, found)
         page.forget()
     page.browser.media()
@@ -315,8 +307,7 @@ def try_keys(page: BenchPage, trials: Trials) -> None:
 
 def long_script() -> bytes:
     """A script whose maps take far longer than a check waits."""
-    obtains = [b" STORAGE OBTAIN,LENGTH=4096,SP=%d\n" % (n % 100 + 1) for n in range(2000)]
-    return b"".join(obtains) + b" STORAGE OBTAIN,LENGTH=8\n" * 40_000
+    return b"".join(b" STORAGE OBTAIN,LENGTH=4096,SP=%d\n" % (n % 100 + 1) for n in range(4000))
 
 
 def workers(page: BenchPage) -> int:
@@ -356,6 +347,9 @@ def try_link(page: BenchPage, trials: Trials) -> None:
     page.open(link)
     held = page.js("['script', 'low', 'high', 'residence', 'history'].map(it => document.getElementById(it).value)")
     trials.want("a link brings script and options back", held == [script.decode("latin-1"), "8", "", "31", "7"], held)
+    packed = zlib.compress(b"\n" * 1_000_000, 9, -zlib.MAX_WBITS)
+    page.open("#script=" + base64.urlsafe_b64encode(packed).decode().rstrip("="))
+    trials.want("a link's script of a million lines is refused in words", page.js("document.getElementById('note').open") and "1,000,000 lines" in page.text("note"), page.text("note"))
     page.open("#script=" + "A" * 40)
     trials.want("a link that can't be read is said", page.js("document.getElementById('note').open") and "can’t be read" in page.text("note"), page.text("note"))
     page.open("#script=%FF%00!")
@@ -383,8 +377,6 @@ def try_limits(page: BenchPage, trials: Trials) -> None:
     page.click("copy")
     trials.want("Copy link says it too", page.wait("document.getElementById('note').open", 10) and "too long" in page.text("note"), page.text("note"))
     page.js("document.getElementById('note').close()")
-    page.run(b"\n" * 1_000_000)
-    trials.want("a script of a million lines is refused in words", "1,000,000 lines" in page.text("errors"), page.text("errors"))
     page.put("script", " BACK 0\n* 12 €\n")
     page.click("run")
     trials.want("a character that isn't a byte is refused with its place", "line 2, column 6" in page.text("errors"), page.text("errors"))

@@ -1,5 +1,6 @@
-// What the program calls of the C library, for a WebAssembly module: a heap, and the calls that the host answers.
-// Compiled for wasm64; the module that comes of it is lowered to wasm32, so no address reaches 4 GiB.
+// What the program calls of the C library, for a WebAssembly module: a heap, and the calls that the host
+// answers. Compiled for wasm64; the module that comes of it is lowered to wasm32, so no address reaches 4
+// GiB.
 typedef unsigned char byte;
 typedef int i32;
 typedef unsigned int u32;
@@ -12,8 +13,8 @@ FROM_HOST("write") i64 host_write(i32 stream, const byte *from, u64 count);
 FROM_HOST("open") i32 host_open(const char *path, u64 length);
 FROM_HOST("arg") i64 host_argument(u64 index, byte *to, u64 most);
 
-// The heap. A block is a power of two of bytes: 16 bytes before what is handed out hold its power, and, while it's free,
-// the next free block of the same size.
+// The heap. A block is a power of two of bytes: 16 bytes before what is handed out hold its power, and, while
+// it's free, the next free block of the same size.
 enum { LEAST_POWER = 5, GREATEST_POWER = 30, HEAD = 16, WASM_PAGE = 65536, PAGES_AT_ONCE = 64 };
 
 typedef struct Block {
@@ -31,7 +32,8 @@ static u64 heap_end;
 static Block *free_blocks[GREATEST_POWER + 1];
 static byte of_no_bytes[HEAD] __attribute__((aligned(HEAD)));
 
-// Makes the memory reach up to `end`. What memory.grow answers isn't asked: the lowering widens its -1 without a sign.
+// Makes the memory reach up to `end`. What memory.grow answers isn't asked: the lowering widens its -1
+// without a sign.
 static i32 reaches(u64 end) {
   u64 pages = __builtin_wasm_memory_size(0);
   if (end <= pages * WASM_PAGE) return 1;
@@ -79,7 +81,8 @@ Allocated rattle_realloc(byte *old, u64 old_bytes, u64 bytes, u64 alignment) {
   return got;
 }
 
-// The system's calls. The error numbers are Linux's: no such file, and a folder, which is what can't be read here.
+// The system's calls. The error numbers are Linux's: no such file, and a folder, which is what can't be read
+// here.
 enum { NO_SUCH_FILE = 2, IS_A_FOLDER = 21 };
 static i32 error_number;
 

@@ -3,16 +3,18 @@
 /** A text's characters as bytes; each has to be below 256. */
 export const latin = text => Uint8Array.from(text, it => it.charCodeAt(0));
 
-/** Bytes as a text, one character for each. (A TextDecoder has no such encoding: its latin1 is another one.) */
+/** Bytes as a text, one character for each. (A TextDecoder has no such encoding: its latin1 is another one.)
+    */
 export function latinText(bytes) {
   let text = '';
   for (let at = 0; at < bytes.length; at += 0x8000) text += String.fromCharCode(...bytes.subarray(at, at + 0x8000));
   return text;
 }
 
-/** Runs the program with words (bytes each) and streams of its caller, and returns the exit status. `read(stream, room)`
-    fills the front of the room and returns how many bytes these are; `write(stream, bytes)` returns how many it took;
-    `open(path)` returns a stream. Each may answer -1, which the program takes for a failure. */
+/** Runs the program with words (bytes each) and streams of its caller, and returns the exit status.
+    `read(stream, room)` fills the front of the room and returns how many bytes these are; `write(stream,
+    bytes)` returns how many it took; `open(path)` returns a stream. Each may answer -1, which the program
+    takes for a failure. */
 export function runProgram(module, words, streams) {
   let memory;
   const told = [latin('vsm'), ...words];

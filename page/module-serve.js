@@ -1,5 +1,6 @@
-// Runs the module in node, once for each line of standard input, a job: words, script, files (each in base64), and whether
-// each read gives one byte alone. For each it writes a line: status, output and errors (in base64), and what it has read.
+// Runs the module in node, once for each line of standard input, a job: words, script, files (each in
+// base64), and whether each read gives one byte alone. For each it writes a line: status, output and errors
+// (in base64), and what it has read.
 import fs from 'node:fs';
 import readline from 'node:readline';
 import { latinText, runProgram } from './module-host.js';
