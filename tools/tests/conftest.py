@@ -34,7 +34,7 @@ def vsm(request: pytest.FixtureRequest) -> str:
 def run() -> Callable[..., Done]:
     """Runs a tool with words, and bytes on standard input."""
     def call(tool: str, *words: object, given: bytes = b"", **more: Any) -> Done:
-        command = [str(TOOLS / tool), *map(str, words)]
+        command = [sys.executable, str(TOOLS / tool), *map(str, words)]
         if "stdout" not in more:
             more["stdout"] = subprocess.PIPE
         return subprocess.run(command, input=given, stderr=subprocess.PIPE, timeout=SECONDS, **more)

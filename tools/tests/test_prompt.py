@@ -1,0 +1,297 @@
+"""vsm-prompt: at a pseudo-terminal, as at a terminal, and with lines from a pipe."""
+from __future__ import annotations
+
+import os
+import pty
+import re
+import select
+import signal
+import sys
+import time
+from pathlib import Path
+from typing import Callable, Iterator
+
+import pytest
+from conftest import TOOLS, TOP, one_line
+
+from vsmtools import bench
+from vsmtools.prompting import is_open, operand_text, with_blank
+from vsmtools.words import completions
+
+TOOL = "vsm-prompt"
+SECONDS = 30
+CODES = re.compile(rb"\x1b\[[0-9;?]*[A-Za-z]|\r|\x07")
+FIRST = TOP / "examples" / "first-steps.vsm"
+
+
+class Terminal:
+    """A tool at a pseudo-terminal."""
+
+    def __init__(self, *words: str, **more: str) -> None:
+        self.pid, self.end = pty.fork()
+        if self.pid == 0:
+            os.environ.update({"TERM": "xterm", "INPUTRC": "/dev/null", "COLUMNS": "200", **more})
+            os.execv(sys.executable, [sys.executable, str(TOOLS / TOOL), *words])
+        self.seen = b""
+
+    def read(self, seconds: float) -> bool:
+        """Takes what has come; whether there may be more."""
+        ready, _, _ = select.select([self.end], [], [], seconds)
+        try:
+            piece = os.read(self.end, 1 << 16) if ready else b""
+        except OSError:
+            return False
+        self.seen += piece
+        return bool(piece)
+
+    def until(self, text: str) -> str:
+        """What has come up to a text; the rest is left for later."""
+        end = time.monotonic() + SECONDS
+        while text.encode() not in CODES.sub(b"", self.seen):
+            if not self.read(max(0, end - time.monotonic())):
+                raise AssertionError("no '%s' in %r" % (text, self.seen))
+        head, _, self.seen = CODES.sub(b"", self.seen).partition(text.encode())
+        return head.decode()
+
+    def type(self, text: str) -> None:
+        os.write(self.end, text.encode())
+
+    def ask(self, text: str, prompt: str) -> str:
+        """A line typed, and what comes up to the next prompt."""
+        self.type(text + "\n")
+        return self.until(prompt)
+
+    def status(self) -> int:
+        """The exit status, once it has ended."""
+        end = time.monotonic() + SECONDS
+        while time.monotonic() < end:
+            done, status = os.waitpid(self.pid, os.WNOHANG)
+            if done:
+                self.pid = 0
+                return os.waitstatus_to_exitcode(status)
+            self.read(0.05)
+        raise AssertionError("it doesn't end: %r" % self.seen)
+
+    def close(self) -> None:
+        if self.pid:
+            os.kill(self.pid, signal.SIGKILL)
+            os.waitpid(self.pid, 0)
+        os.close(self.end)
+
+    def child(self) -> int:
+        """The process of vsm."""
+        return int(Path("/proc/%d/task/%d/children" % (self.pid, self.pid)).read_text().split()[0])
+
+
+@pytest.fixture
+def terminal(vsm: str) -> Iterator[Callable[..., Terminal]]:
+    opened: list[Terminal] = []
+
+    def start(*words: str) -> Terminal:
+        opened.append(Terminal("--vsm", vsm, *words))
+        return opened[-1]
+    yield start
+    for it in opened:
+        it.close()
+
+
+def test_statements_and_the_sign_of_an_open_one(terminal: Callable[..., Terminal]) -> None:
+    it = terminal()
+    it.until("vsm 0> ")
+    assert "0000001 RC=0 A=00006000 L=00000040" in it.ask("storage obtain,length=64,sp=1,addr=p", "vsm 1> ")
+    it.ask("storage obtain,   a remark", "+> ")
+    it.ask("length=8,", "+> ")
+    assert "0000002 RC=0 A=00007000 L=00000008" in it.ask("  sp=2", "vsm 2> ")
+    assert "NAME P 00006000" in it.ask("map", "vsm 2> ")
+    it.type("\x04")
+    assert it.status() == 0
+
+
+def test_history_and_editing(terminal: Callable[..., Terminal]) -> None:
+    it = terminal()
+    it.until("vsm 0> ")
+    it.ask("storage obtain,length=8", "vsm 1> ")
+    it.type("\x1b[A")
+    assert "RC=0 A=00006008 L=00000008" in it.ask("", "vsm 2> ")
+    it.type("storage obtain,length=89\x7f\x1b[D\x1b[D\x1b[C")
+    assert "L=00000008" in it.ask("", "vsm 3> ")
+
+
+def test_completion(terminal: Callable[..., Terminal]) -> None:
+    it = terminal()
+    it.until("vsm 0> ")
+    it.ask("storage obtain,length=8,addr=TABLE", "vsm 1> ")
+    it.type("ST\tREL\tADDR\tTAB\t,LEN\t8\n")
+    assert "RC=0" in it.until("vsm 2> ")
+    it.type(".hel\t\n")
+    assert ".back until P changes" in it.until("vsm 2> ")
+    it.type(".sav\tx y\n")
+    assert "it's .save FILE" in it.until("vsm 2> ")
+
+
+def test_completions() -> None:
+    def given(before: str, text: str) -> list[str]:
+        return completions(before, text, lambda: ["P", "PAGE"], lambda: ["CP"])
+    assert given("", "st") == ["STORAGE "] and "MAP " in given("", "")
+    assert given("storage ", "") == ["OBTAIN,", "RELEASE,"]
+    assert given("GETMAIN R", "") == [] or given("GETMAIN ", "V") == ["VRC,", "VRU,"]
+    assert given("storage obtain,sp=1,", "") == ["LENGTH=", "ADDR=", "BNDRY=", "LOC=", "COND="]
+    assert given("storage obtain,bndry=", "") == ["DBLWD", "PAGE"]
+    assert given("freemain ru,a=", "p") == ["P", "PAGE"] and given("peek ", "pa") == ["PAGE"]
+    assert given("cpool get,cpid=", "") == ["CP"] and given("nothing ", "") == []
+
+
+def test_ctrl_c_drops_what_is_open(terminal: Callable[..., Terminal]) -> None:
+    it = terminal()
+    it.until("vsm 0> ")
+    it.type("storage obt")
+    it.type("\x03")
+    it.until("vsm 0> ")
+    it.ask("storage obtain,", "+> ")
+    it.type("\x03")
+    it.until("vsm 0> ")
+    assert "0000001 RC=0" in it.ask("storage obtain,length=8", "vsm 1> ")
+    for _ in range(5):
+        it.type("\x03")
+        it.until("vsm 1> ")
+    assert "KEPT=1" in it.ask("back 0", "vsm 1> ")
+
+
+def test_ctrl_d_drops_what_is_open_and_then_ends(terminal: Callable[..., Terminal]) -> None:
+    it = terminal()
+    it.until("vsm 0> ")
+    it.ask("storage obtain,", "+> ")
+    it.type("\x04")
+    assert "is dropped" in it.until("vsm 0> ")
+    it.type("\x04")
+    assert it.status() == 0
+
+
+def test_a_vsm_that_ends(terminal: Callable[..., Terminal], tmp_path: Path) -> None:
+    it = terminal()
+    it.until("vsm 0> ")
+    it.ask("storage obtain,length=8", "vsm 1> ")
+    os.kill(it.child(), signal.SIGKILL)
+    assert "ended by signal 9" in it.ask("storage obtain,length=8", "vsm 1> ")
+    assert "vsm has ended" in it.ask("map", "vsm 1> ")
+    assert "1 lines in" in it.ask(".save %s" % (tmp_path / "kept"), "vsm 1> ")
+    assert "0000001 RC=0" in it.ask(".restart", "vsm 1> ")
+    assert "RC=0 A=00006008" in it.ask("storage obtain,length=8", "vsm 2> ")
+    os.kill(it.child(), signal.SIGKILL)
+    it.ask("map", "vsm 2> ")
+    it.type("\x04")
+    assert it.status() == 8
+
+
+def test_nothing_is_left_behind(terminal: Callable[..., Terminal]) -> None:
+    for end in ("\x04", ".quit\n"):
+        it = terminal()
+        it.until("vsm 0> ")
+        child = it.child()
+        it.type(end)
+        assert it.status() == 0 and not Path("/proc/%d" % child).exists()
+
+
+# By pipes.
+
+def talk(run: Callable, vsm: str, text: str, *words: object, status: int = 0) -> tuple[list[str], list[str]]:
+    done = run(TOOL, "--vsm", vsm, *words, given=text.encode())
+    assert done.returncode == status, done.stderr
+    return done.stdout.decode().splitlines(), done.stderr.decode().splitlines()
+
+
+def test_long_lines_are_folded(run: Callable, vsm: str, tmp_path: Path) -> None:
+    statement = "cpool build,pcellct=2,csize=16,sp=1,cpid=%s,hdr='A header,  of Today'" % ("n" * 63)
+    talk(run, vsm, "%s\n.save %s\n" % (statement, tmp_path / "saved"))
+    saved = (tmp_path / "saved").read_text().splitlines()
+    assert len(saved) == 3 and all(len(line) <= 72 for line in saved)
+    answers = bench.run(vsm, [], "\n".join(saved + [" MAP", ""]).encode()).answers
+    assert answers[0].text == "RC=0 A=00006000 L=00000020" and any("'A header,  of Today'" in line
+                                                                   for line in answers[1].rest)
+    _, told = talk(run, vsm, "poke p,x'%s'\n" % ("0" * 700))
+    assert len(told) == 1 and "at most ten lines" in told[0]
+
+
+def test_continuation_lines_as_in_a_file(run: Callable, vsm: str) -> None:
+    shown, told = talk(run, vsm, " STORAGE OBTAIN,LENGTH=8,".ljust(71) + "X\n" + " " * 15 + "SP=1\n MAP\n")
+    assert shown[:2] == ["0000001 RC=0 A=00006000 L=00000008", "0000003 MAP"] and not told
+
+
+def test_what_is_saved_runs_alike(run: Callable, vsm: str, tmp_path: Path) -> None:
+    text = ("storage obtain,length=8,addr=p\n* a comment\nLABEL storage obtain,length=16\npoke p,x'01'\n"
+            "back 2\nwhat\nforward 1\n.save %s\n" % (tmp_path / "saved"))
+    shown, _ = talk(run, vsm, text)
+    answers = bench.run(vsm, [], (tmp_path / "saved").read_bytes()).answers
+    assert shown[:-1] == ["%07d %s" % (answer.line, answer.text) for answer in answers]
+    _, told = talk(run, vsm, "map\n.save %s\n" % (tmp_path / "saved"))
+    assert "there is one already" in told[0]
+    talk(run, vsm, "map\n.save --over %s\n" % (tmp_path / "saved"))
+    assert (tmp_path / "saved").read_text() == " map\n"
+    for path in ("/dev/full", "/nowhere/x", str(tmp_path)):
+        _, told = talk(run, vsm, "map\n.save --over %s\n" % path)
+        assert len(told) == 1 and told[0].startswith("vsm-prompt: %s: can't be written: " % path)
+
+
+def test_back_until_changes(run: Callable, vsm: str) -> None:
+    text = ("storage obtain,length=64,addr=p\npoke p,x'01'\npoke p,x'02'\nstorage obtain,length=8,addr=p\n"
+            ".back until x'6000' changes\n.back until x'6000' changes\n.back until x'7000' changes\nforward 4\n")
+    shown, told = talk(run, vsm, text + ".back until p changes\n.back until\n.back until q,0 changes\n")
+    assert "0000005 KEPT=2" in shown and "  undone last: 3 poke p,x'02'   D=01000000 -> D=02000000" in shown
+    assert "0000006 KEPT=1" in shown and "  none of the 1 changes that are kept changes it" in shown
+    assert "REFUSED UNDONE=3" in "\n".join(shown) and len(told) == 2
+    assert "it's .back until P changes" in told[0] and "no address" in told[1]
+
+
+def test_a_file_to_a_line_and_on(run: Callable, vsm: str) -> None:
+    wanted = ["%07d %s" % (it.line, it.text) for it in bench.run(vsm, [], FIRST.read_bytes()).answers]
+    shown, told = talk(run, vsm, ".step\n.step 2\n.until RC=0 A=\n.run\n", "--stop", 3, FIRST)
+    assert [line for line in shown if line[:1] == "0"] == wanted
+    assert shown[2].startswith("  next is line 3: STORAGE OBTAIN") and not told
+    shown, told = talk(run, vsm, ".until ABEND\n.step\n", "--stop", 1, FIRST)
+    assert shown[-1] == "  no answer up to the file's end has 'ABEND'" and len(told) == 1
+    whole, _ = talk(run, vsm, "", FIRST)
+    assert [line for line in whole if line[:1] == "0"] == wanted
+    assert run(TOOL, "--vsm", vsm, "--stop", 3).returncode == 16
+
+
+def test_files_that_end_open_or_are_none(run: Callable, vsm: str, tmp_path: Path) -> None:
+    path = tmp_path / "open.vsm"
+    path.write_text(" STORAGE OBTAIN,LENGTH=8,".ljust(71) + "X\n")
+    shown, _ = talk(run, vsm, " " * 15 + "SP=1\n", path)
+    assert shown == ["  the file ends where line 1 is continued", "0000001 RC=0 A=00006000 L=00000008"]
+    path.write_bytes(b"\0\xff\n STORAGE\xff\n" + b" " * 70000)
+    assert "more than 65,536" in one_line(run(TOOL, "--vsm", vsm, path), TOOL)
+    path.write_bytes(b"\0\xff\n STORAGE\xff\n")
+    assert talk(run, vsm, "", path)[0] == ["0000001 FAULT COLUMN", "0000002 FAULT OPERATION"]
+    for missing in (tmp_path / "nowhere", tmp_path):
+        assert "can't be read" in one_line(run(TOOL, "--vsm", vsm, missing), TOOL)
+
+
+def test_commands_that_come_later_and_those_that_are_none(run: Callable, vsm: str) -> None:
+    shown, told = talk(run, vsm, ".who X'6000'\n.why 3\n.list\n.nothing\n.\n.step x\n.log\n.until\n")
+    assert [line for line in told if "vsm-explain" in line] == told[:3] and len(told) == 6
+    assert any(".back until P changes" in line for line in shown)
+
+
+def test_a_page(run: Callable, vsm: str, tmp_path: Path) -> None:
+    """By vsm-view where it's there; a word that it isn't where not."""
+    shown, told = talk(run, vsm, "storage obtain,length=8\n.view %s\n" % (tmp_path / "page.html"))
+    if (TOOLS / "vsm-view").exists():
+        assert not told and (tmp_path / "page.html").read_text().lstrip().lower().startswith("<!doctype html")
+    else:
+        assert told == ["vsm-prompt: vsm-view isn't there, beside vsm-prompt"]
+
+
+def test_the_end_of_a_history(run: Callable, vsm: str) -> None:
+    shown, _ = talk(run, vsm, "storage obtain,length=8\n" * 5 + ".log\nback 2\n.log\n", "--history", 2)
+    assert shown[5:] == ["      4 storage obtain,length=8", "      5 storage obtain,length=8",
+                         "0000006 KEPT=0",
+                         "      4 storage obtain,length=8   (undone)",
+                         "      5 storage obtain,length=8   (undone)"]
+
+
+def test_words_of_a_line() -> None:
+    assert operand_text("storage obtain,length=8   remarks, more") == "storage obtain,length=8"
+    assert operand_text("L cpool build,hdr='a  b', x") == "L cpool build,hdr='a  b',"
+    assert is_open("storage obtain,  remark") and not is_open("map   remark,") and not is_open("storage obtain,sp=1  a,")
+    assert with_blank("map") == " map" and with_blank("LABEL map") == "LABEL map" and with_blank("  map") == " map"
