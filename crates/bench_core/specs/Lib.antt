@@ -1,4 +1,5 @@
 pub mod Stands
+pub mod Sparing
 pub use Rattle.vsm_machine.specs.Machine
 pub use Rattle.vsm_machine.specs.Refusals
 pub use Rattle.vsm_machine.specs.declared.refusals.Refusal

@@ -9,6 +9,8 @@ ghost use Rattle.vsm_machine.specs.Planned.{CanCarryOut};
 ghost use Rattle.vsm_machine.specs.Machine.{shown_at};
 ghost use Rattle.vsm_machine.specs.Refusals.{IsRefusedFor};
 ghost use Rattle.vsm_machine.specs.Supplies.{FindsMemory, IsSupplied};
+ghost use Rattle.vsm_machine.specs.declared.refusals.Refusal.TheVariants.{NoMemory};
+ghost use Rattle.bench_core.specs.Sparing.{TakesNoMemory};
 
 use macro_statements::{Family, Statement};
 use name_table::NameTable;
@@ -73,6 +75,8 @@ impl Bench {
     /// for each of what it weighs (subpools that it gives or shares, cells that it makes, and what leaves by it), or
     /// fewer frames, or tables, than it newly assigns pages.
     ///
+    /// A statement that is refused for anything else takes no memory.
+    ///
     /// It's a call of its own, so that no other line of a script pays for the room of a plan.
     #[inline(never)]
     pub fn apply(&mut self, statement: &Statement) -> Result<Reply, Refusal>
@@ -81,6 +85,7 @@ impl Bench {
             (Apply (act_in statement.now)) (answer_to_apply result) (bench_of self.new) }
         ensures settings { settings_in self.new ≡ settings_in self.old }
         ensures needless { IsSupplied self.old.machine (act_in statement.now) → FindsMemory result }
+        ensures sparing { IfErr result (TakesNoMemory self.old.machine self.new.machine) }
     {
         match plan_of(&self.machine, statement) {
             Ok(planned) => self.carry_out(planned),
@@ -97,6 +102,7 @@ impl Bench {
         ensures settings { settings_in self.new ≡ settings_in self.old }
         ensures needless { (x : Act) → CanCarryOut (shown self.old.machine) x planned
             → IsSupplied self.old.machine x → FindsMemory result }
+        ensures wants { IfErr result (λ refusal. refusal ≡ NoMemory) }
     {
         let reply = planned.plan.reply();
         self.history.reserve_place()?;

@@ -1,7 +1,7 @@
 -- The records of a cell pool that comes, hands out a cell, has a further extent, gets a cell back, or goes. Assembler
 -- Services Reference, CPOOL; Assembler Services Guide, "Virtual storage management", "Using the CPOOL macro".
 use Rattle.std.specs.Prelude.{◌≡◌, ℕ, ◌+◌, ◌*◌, ◌/◌, ◌^◌, ◌≤◌, true, false, drop, List, [], ◌∷◌, ◌++◌, length}
-use Rattle.run_set.specs.declared.run.Run.{Run}
+use Rattle.run_set.specs.Runs.{Run}
 use Rattle.vsm_model.specs.declared.Subpool.{Subpool}
 use Rattle.vsm_model.specs.Areas.{Place, Inside, Fresh, Nowhere, address_of}
 use Rattle.vsm_model.specs.Cells.{with_pool}

@@ -2,8 +2,7 @@
 use Rattle.std.proofs.Common.{◌≡◌, ℕ, zero, suc, ◌+◌, ◌-◌, ◌<◌, ◌≤◌, ◌^◌, true, false, ◌||◌, List, [], ◌∷◌, ◌++◌, length, length-append, get_or, take, drop, map, Option, Some, None, IfSome, refl, sym, ap, ◌∙◌, subst, arith}
 use Rattle.std.specs.Prelude.{slice_get}
 use Rattle.std.proofs.Math.Seq.{drop-cons}
-use Rattle.run_set.specs.declared.run.Run.{Run}
-use Rattle.run_set.specs.Runs.{inside, contains}
+use Rattle.run_set.specs.Runs.{Run, inside, contains}
 use Rattle.vsm_model.specs.declared.Subpool.{Subpool}
 use Rattle.cell_extents.specs.declared.settings.Extent.{Extent}
 use Rattle.cell_extents.specs.declared.settings.Settings.{Settings as PoolSettings}

@@ -4,8 +4,7 @@ use Rattle.std.specs.Prelude.{unwrap_or, option_map, Ok}
 use Rattle.std.proofs.Math.Logic.{∥∥₁_map}
 use Rattle.std.proofs.Math.Nat.{mul-pos, mul-le-mul_left}
 use Rattle.std.proofs.lemmas.Bool.{and_parts, cond-false, cond-true, not-false, not-true}
-use Rattle.run_set.specs.declared.run.Run.{Run}
-use Rattle.run_set.specs.Runs.{inside}
+use Rattle.run_set.specs.Runs.{Run, inside}
 use Rattle.vsm_model.specs.declared.Subpool.{Subpool}
 use Rattle.vsm_model.specs.declared.causes.Cause.{Cause}
 use Rattle.vsm_model.specs.declared.causes.Cause.TheVariants.{BadCells, CellPoolExists, TooManyCellPools, NoStorage}

@@ -6,8 +6,7 @@ use Rattle.std.proofs.lemmas.Option.{slice_get_within, get_or_from_slice_get}
 use Rattle.std.proofs.Math.Seq.{drop-cons}
 use Rattle.vsm_model.specs.Search.{all_pass}
 use Rattle.vsm_model.proofs.Least.{all_pass_from, all_pass_none}
-use Rattle.run_set.specs.declared.run.Run.{Run}
-use Rattle.run_set.specs.Runs.{inside, contains, Spaced}
+use Rattle.run_set.specs.Runs.{Run, inside, contains, Spaced}
 use Rattle.cell_plans.specs.Emptied.{IsFreeUpTo}
 
 -- what is behind an index

@@ -4,8 +4,7 @@ use Rattle.std.proofs.lemmas.Bool.{cases_lt, or_cases}
 use Rattle.std.specs.Prelude.{All}
 use Rattle.std.proofs.lemmas.List.{append-nil}
 use Rattle.std.proofs.lemmas.List.Elements.{All-head, All-tail, All-cons, All-nil}
-use Rattle.run_set.specs.declared.run.Run.{Run}
-use Rattle.run_set.specs.Runs.{inside, contains}
+use Rattle.run_set.specs.Runs.{Run, inside, contains}
 use Rattle.vsm_model.specs.declared.Subpool.{Subpool}
 use Rattle.vsm_model.specs.Regions.{doublewords}
 use Rattle.vsm_model.specs.Subpools.{same_subpool}

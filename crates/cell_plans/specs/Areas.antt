@@ -1,6 +1,6 @@
 -- The areas of the extents of a cell pool, in doublewords, and places among them.
 use Rattle.std.specs.Prelude.{◌*◌, ◌/◌, ◌<◌, ◌≤◌, ◌+◌, ◌^◌, All, List, [], map, take, Option, Some, None}
-use Rattle.run_set.specs.declared.run.Run.{Run}
+use Rattle.run_set.specs.Runs.{Run}
 use Rattle.vsm_elements.specs.Store.{Store}
 use Rattle.vsm_model.specs.Regions.{doublewords}
 use Rattle.cell_pool.specs.Pools.{Pool}

@@ -1,7 +1,7 @@
 -- The free storage of a subpool once some areas are given back, from doubleword to doubleword. Assembler Services
 -- Reference, CPOOL DELETE.
 use Rattle.std.specs.Prelude.{◌≡◌, ℕ, ◌*◌, ◌/◌, ◌<◌, ◌≤◌, Bool, true, false, List, [], ◌∷◌}
-use Rattle.run_set.specs.declared.run.Run.{Run}
+use Rattle.run_set.specs.Runs.{Run}
 use Rattle.vsm_model.specs.declared.Subpool.{Subpool}
 use Rattle.vsm_model.specs.Regions.{doublewords}
 use Rattle.cell_extents.specs.declared.settings.Extent.{Extent}

@@ -1,7 +1,7 @@
 -- The lists that a map shows, of the plain machine and of the storage in place.
 -- Assembler Services Guide, "Virtual storage management", "Subpool handling".
 use Rattle.std.specs.Prelude.{◌≡◌, ℕ, ◌+◌, ◌^◌, ◌<◌, true, map, flat_map, slice_get, Some}
-use Rattle.run_set.specs.declared.run.Run.{Run}
+use Rattle.run_set.specs.Runs.{Run}
 use Rattle.subpool_set.specs.Pools as pools
 use Rattle.subpool_storage.specs.Extents as in_place
 use Rattle.subpool_storage.specs.Order.{subpools_in_order}

@@ -1,7 +1,7 @@
 -- The totals of a map as sums over the subpools.
 -- Assembler Services Guide, "Virtual storage management", "Subpool handling".
 use Rattle.std.specs.Prelude.{◌≡◌, ℕ, ◌+◌, ◌*◌, ◌^◌, ◌≤◌, Bool, true, false, nat_lt, if◌then◌else◌, List, [], ◌∷◌}
-use Rattle.run_set.specs.declared.run.Run.{Run}
+use Rattle.run_set.specs.Runs.{Run}
 use Rattle.subpool_storage.specs.Extents.{extents, free_areas}
 use Rattle.subpool_storage.specs.Order.{subpools_in_order}
 use Rattle.subpool_storage.specs.Subpools.{Subpools}

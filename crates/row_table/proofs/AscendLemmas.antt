@@ -6,7 +6,6 @@ use Rattle.vsm_elements.specs.Chain.{Link}
 use Rattle.row_table.specs.declared.row.Row.{Row}
 use Rattle.row_table.specs.Rows.{word, comes_before, is_under, row_in, Single, AllBehind, AllBefore, NoneBehind, Ascends, RowsBehind, AreInOrder, row_among}
 use Rattle.row_table.specs.RowTable.{row_of}
-use Rattle.row_table.specs.Kept.{link_of, IsUnder, IsNext}
 use Rattle.row_table.proofs.RowLemmas.{either, not_both, same_parts, same_by, same_self, first, second, none_by, none_join, row_here, row_behind}
 use Rattle.row_table.proofs.NextLemmas.{before_more, not_before, before_or}
 use Rattle.row_table.proofs.PlaceLemmas.{parts, drop_link}
@@ -98,60 +97,6 @@ at_or_behind a b n ns h e = go (before_or (first n) (second n) a b e) where
 
 pub all_behind_from : (a b : ℕ) (n : Link) (ns : List Link) → Ascends (n ∷ ns) → comes_before a b (first n) (second n) ≡ true → AllBehind a b (n ∷ ns)
 all_behind_from a b n ns h e = (e, behind_more a b (first n) (second n) ns e h.0)
-
--- the two of a list, from an index on
-pub at_place : (ns : List Link) (k : ℕ) (r : Row) → slice_get ns k ≡ Some (link_of r) → k < length ns → Ascends ns → (a b : ℕ) → comes_before (word r.words 0) (word r.words 1) a b ≡ false
-    → {C : Type 0} → C → AllBehind a b (drop k ns) ⊎ (C × IsUnder a b ns k)
-at_place ns k r get within ascends a b e {C} high = go (at_or_behind a b (link_of r) (drop (k + 1) ns) rest e) where
-  rest : Ascends (link_of r ∷ drop (k + 1) ns)
-  rest = let P : List Link → Type 0 = Ascends in ascends_right (take k ns) (link_of r ∷ drop (k + 1) ns) (subst P (parts ns k (link_of r) get within) ascends)
-
-  go : AllBehind a b (link_of r ∷ drop (k + 1) ns) ⊎ (is_under a b r.words ≡ true) → AllBehind a b (drop k ns) ⊎ (C × IsUnder a b ns k)
-  go (inl p) = inl (let P : List Link → Type 0 = AllBehind a b in subst P (sym (drop_link ns k (link_of r) get within)) p)
-  go (inr p) = inr (high, record { link = link_of r; there = get; under = p })
-
-pub behind_place : (ns : List Link) (k : ℕ) (r : Row) → slice_get ns k ≡ Some (link_of r) → k < length ns → Ascends ns → (a b : ℕ) → comes_before a b (word r.words 0) (word r.words 1) ≡ true
-    → AllBehind a b (drop k ns)
-behind_place ns k r get within ascends a b e =
-    let P : List Link → Type 0 = Ascends in
-    let Q : List Link → Type 0 = AllBehind a b in
-    let rest : Ascends (link_of r ∷ drop (k + 1) ns) = ascends_right (take k ns) (link_of r ∷ drop (k + 1) ns) (subst P (parts ns k (link_of r) get within) ascends) in
-    subst Q (sym (drop_link ns k (link_of r) get within)) (all_behind_from a b (link_of r) (drop (k + 1) ns) rest e)
-
--- where nothing stands behind a place
-pub at_end : (ns : List Link) (k : ℕ) → k ≡ length ns → take k ns ≡ ns
-at_end ns k e = take_all k ns (omega (arith, e))
-
--- the row that a key is followed by
-module _ (ns : List Link) (k : ℕ) (r : Row) (get : slice_get ns k ≡ Some (link_of r)) (within : k < length ns) (ascends : Ascends ns)
-    (a b : ℕ) (passed : NoneBehind a b (take k ns)) (behind : AllBehind a b (drop k ns)) where
-  abbrev v : ℕ
-  v = word r.words 0
-
-  abbrev w : ℕ
-  w = word r.words 1
-
-  rest : AllBehind a b (link_of r ∷ drop (k + 1) ns)
-  rest = let P : List Link → Type 0 = AllBehind a b in subst P (drop_link ns k (link_of r) get within) behind
-
-  middle : Ascends (take k ns ++ link_of r ∷ drop (k + 1) ns)
-  middle = let P : List Link → Type 0 = Ascends in subst P (parts ns k (link_of r) get within) ascends
-
-  there : row_in v w ns ≡ Some r
-  there = ap (row_in v w) (parts ns k (link_of r) get within)
-      ∙ row_behind v w (take k ns) (link_of r ∷ drop (k + 1) ns) (none_passed a b v w (take k ns) rest.0 passed)
-      ∙ row_here v w (link_of r) (drop (k + 1) ns) (same_self v w)
-
-  between : (x y : ℕ) → comes_before a b x y ≡ true → comes_before x y v w ≡ true → row_in x y ns ≡ None
-  between x y e f = ap (row_in x y) (parts ns k (link_of r) get within)
-      ∙ none_join x y (take k ns) (link_of r ∷ drop (k + 1) ns) (none_passed a b x y (take k ns) e passed)
-      (none_behind x y (link_of r ∷ drop (k + 1) ns) (all_behind_from x y (link_of r) (drop (k + 1) ns) (ascends_right (take k ns) (link_of r ∷ drop (k + 1) ns) middle) f))
-
-  pub is_next : IsNext (λ x y. row_in x y ns) a b (Some r)
-  is_next = (there, rest.0, between)
-
-pub none_next : (ns : List Link) (k : ℕ) → k ≡ length ns → (a b : ℕ) → NoneBehind a b (take k ns) → IsNext (λ x y. row_in x y ns) a b None
-none_next ns k e a b passed x y f = ap (row_in x y) (sym (at_end ns k e)) ∙ none_passed a b x y (take k ns) f passed
 
 -- the list of rows
 

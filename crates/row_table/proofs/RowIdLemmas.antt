@@ -2,7 +2,10 @@
 use Rattle.std.proofs.Common.{◌≡◌, ℕ, Bool, true, false, ◌||◌, List, [], ◌∷◌, Some, None, inl, inr, refl, sym, ap, ◌∙◌}
 use Rattle.std.proofs.lemmas.Bool.Decides.{eqb_tells}
 use Rattle.vsm_elements.specs.Store.{Store, among}
-use Rattle.vsm_elements.specs.Chain.{Link, links, ids}
+use Rattle.vsm_elements.specs.Chain.{Link, ids}
+use Rattle.row_table.specs.Keys.{links}
+use Rattle.row_table.proofs.KeyLemmas.{owned_links, links_ascend}
+use Rattle.item_tree.specs.Trees.{items}
 use Rattle.vsm_elements.proofs.StoreLemmas.{among_cons, among_later}
 use Rattle.row_table.specs.declared.row.Row.{Row}
 use Rattle.row_table.specs.declared.table.RowTable.{RowTable}
@@ -48,8 +51,8 @@ in_ids (n ∷ ns) a b r e = elim (either (is_under a b n.words)) [
 pub row_ids_are : RowIdsAre
 unfolding row owned IsTable
 row_ids_are s q i h = (
-  (λ m. (let w : Holder (links s q.chain) i = holder (links s q.chain) (single (links s q.chain) h.ascends) i m in (word w.r.words 0, word w.r.words 1, w.r, (w.there, w.is)))),
-  (λ a b r e. in_ids (links s q.chain) a b r e),
+  (λ m. (let w : Holder (links s q.tree) i = holder (links s q.tree) (single (links s q.tree) (links_ascend (items s q.tree) h.ascends)) i (sym (ap (among i) (owned_links s q.tree)) ∙ m) in (word w.r.words 0, word w.r.words 1, w.r, (w.there, w.is)))),
+  (λ a b r e. ap (among r.id) (owned_links s q.tree) ∙ in_ids (links s q.tree) a b r e),
 )
 
 same_bool : (a b : Bool) → (a ≡ true → b ≡ true) → (b ≡ true → a ≡ true) → a ≡ b

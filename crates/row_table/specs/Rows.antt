@@ -1,6 +1,6 @@
 -- Rows as a list: what stands under two numbers.
 use Rattle.std.specs.Prelude.{◌≡◌, ℕ, Bool, true, false, ◌&&◌, ◌==◌, List, [], ◌∷◌, Option, Some, None, slice_index_or}
-use Rattle.std.specs.Prelude.{◌||◌, nat_lt, if◌then◌else◌}
+use Rattle.std.specs.Prelude.{◌||◌, ◌^◌, ◌<◌, nat_lt, if◌then◌else◌}
 use Rattle.vsm_elements.specs.Chain.{Link}
 use Rattle.row_table.specs.declared.row.Row.{Row}
 
@@ -69,3 +69,8 @@ Single (n ∷ ns) = (row_in (word n.words 0) (word n.words 1) ns ≡ None) × Si
 abbrev pub either_of : {A : Type 0} → Option A → Option A → Option A
 either_of None y = y
 either_of (Some x) y = Some x
+
+-- both numbers are such as a row can have
+pub record IsInRange (words : List ℕ) : Type 0 where
+  pub first : word words 0 < 256
+  pub second : word words 1 < 2 ^ 24

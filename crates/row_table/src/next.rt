@@ -2,9 +2,11 @@
 
 ghost use Rattle.std.specs.Prelude.{◌≡◌, ◌+◌, ℕ, IfSome, option_map, slice_get};
 ghost use Rattle.vsm_elements.specs.Store.{Store};
-ghost use Rattle.row_table.specs.Rows.{word, comes_before};
+ghost use Rattle.item_tree.specs.Items.{item_from};
+ghost use Rattle.item_tree.specs.Trees.{items};
 ghost use Rattle.row_table.specs.RowTable.{row, rows, place_index, id_before, IsTable, IsPlace};
 
+use crate::keys::row_of;
 use crate::places::RowPlace;
 use crate::row::Row;
 use crate::table::RowTable;
@@ -24,8 +26,22 @@ impl RowTable {
         RowPlace::FRONT
     }
 
+    // The least key that an item behind the place can have.
+    fn key_behind(&self, elements: &Elements, place: RowPlace) -> u64
+        requires table { IsTable elements.now self.now }
+        requires place { IsPlace elements.now self.now place }
+        ensures { item_from result (items elements.now self.now.tree)
+            ≡ slice_get (items elements.now self.now.tree) place.index }
+    {
+        if place.before == 0 {
+            return 0;
+        }
+        let last = self.tree.get(elements, place.before);
+        u64::from(last.words[0]) + 1
+    }
+
     /// The row behind the place, and the place behind that row; `None` behind the last. From the first place on, the
-    /// rows come in ascending order, each at the cost of one element.
+    /// rows come in ascending order, each at the cost of a look-up.
     pub fn next_row(&self, elements: &Elements, place: RowPlace) -> Option<(Row, RowPlace)>
         requires table { IsTable elements.now self.now }
         requires place { IsPlace elements.now self.now place }
@@ -34,15 +50,16 @@ impl RowTable {
             × (place_index r.1 ≡ place_index place + 1)) }
         ensures before { IfSome result (λ r. id_before r.1 ≡ r.0.id) }
     {
-        let count = self.chain.count;
-        if place.index >= count {
-            return None;
+        let from = self.key_behind(elements, place);
+        match self.tree.find_from(elements, from) {
+            Some(item) => {
+                let next = RowPlace {
+                    index: place.index + 1,
+                    before: item.id,
+                };
+                Some((row_of(item), next))
+            }
+            None => None,
         }
-        let row = self.visit(elements, place);
-        let next = RowPlace {
-            index: place.index + 1,
-            before: row.id,
-        };
-        Some((row, next))
     }
 }

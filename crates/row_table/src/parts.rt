@@ -3,12 +3,14 @@
 ghost use Rattle.std.specs.Prelude.{◌≡◌, ℕ, false, ◌∷◌, Some, None, IsSome, if◌then◌else◌};
 ghost use Rattle.vsm_elements.specs.Store.{at, among};
 ghost use Rattle.vsm_elements.specs.Ownership.{Leaves};
-ghost use Rattle.row_table.specs.Rows.{word, same_key, is_under};
+ghost use Rattle.row_table.specs.Rows.{word, same_key, is_under, IsInRange};
 ghost use Rattle.row_table.specs.RowTable.{row, owned, IsTable};
 
+use crate::keys::{item_words, key_of, row_of};
 use crate::row::Row;
 use crate::table::RowTable;
-use vsm_elements::{Chain, Elements, Id};
+use item_tree::Item;
+use vsm_elements::{Elements, Id};
 
 #[tactic(auto, unfolding(crate::specs::RowTable::row, crate::specs::RowTable::owned, crate::specs::RowTable::IsTable))]
 impl RowTable {
@@ -18,6 +20,7 @@ impl RowTable {
         requires there { IsSome (row elements.old self.old first second) }
         ensures table { IsTable elements.new self.new }
         ensures row { row elements.old self.old first second ≡ Some result }
+        ensures range { IsInRange result.words }
         ensures rows { (a b : ℕ) → row elements.new self.new a b
             ≡ (if same_key first second a b then None else row elements.old self.old a b) }
         ensures live { IsSome (at elements.new result.id) }
@@ -26,17 +29,14 @@ impl RowTable {
             (owned elements.old self.old) (result.id ∷ owned elements.new self.new) }
         ensures spares { elements.new.spare ≡ elements.old.spare }
     {
-        let place = self.seek(elements, first, second);
-        let row = self.visit(elements, place);
-        let mut alone = Chain::new();
-        self.chain
-            .move_link(elements, place.index, place.before, &mut alone);
-        row
+        let item = self.tree.take(elements, key_of(first, second));
+        row_of(item)
     }
 
     // Puts a row with these words in at its place, with a live element that is not the table's.
     pub(crate) fn put_in(&mut self, elements: &mut Elements, id: Id, words: [u32; 7])
         requires table { IsTable elements.old self.old }
+        requires range { IsInRange words }
         requires absent { row elements.old self.old (word words 0) (word words 1) ≡ None }
         requires live { IsSome (at elements.old id) }
         requires out { among id (owned elements.old self.old) ≡ false }
@@ -48,8 +48,10 @@ impl RowTable {
             (id ∷ owned elements.old self.old) (owned elements.new self.new) }
         ensures spares { elements.new.spare ≡ elements.old.spare }
     {
-        let place = self.seek(elements, words[0], words[1]);
-        self.chain
-            .put_link(elements, place.index, place.before, id, words);
+        let item = Item {
+            id,
+            words: item_words(words),
+        };
+        self.tree.put(elements, item);
     }
 }

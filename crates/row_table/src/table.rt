@@ -2,11 +2,12 @@ ghost use Rattle.std.specs.Prelude.{true, ◌≡◌, ℕ, ◌+◌, ◌<◌, ◌+
 ghost use Rattle.std.specs.Prelude.{IfSome, IfNone, option_map, slice_index_or, if◌then◌else◌};
 ghost use Rattle.vsm_elements.specs.Store.{Store, among};
 ghost use Rattle.vsm_elements.specs.Ownership.{Leaves, Apart};
-ghost use Rattle.row_table.specs.Rows.{word, same_key, is_under, either_of};
+ghost use Rattle.row_table.specs.Rows.{word, same_key, is_under, either_of, IsInRange};
 
-use crate::places::{RowPlace, is_before};
+use crate::keys::{key_of, row_of, row_words, with_key};
 use crate::row::Row;
-use vsm_elements::{Chain, Element, Elements, Id};
+use item_tree::ItemTree;
+use vsm_elements::{Element, Elements, Id};
 
 /// The head of a table of rows, of which no two begin with the same two words.
 ///
@@ -14,7 +15,7 @@ use vsm_elements::{Chain, Element, Elements, Id};
 /// alone. A table that is no longer wanted is discarded: its elements stay live until then.
 #[derive(Clone, Copy, Debug, PartialEq, Eq)]
 pub struct RowTable {
-    pub(crate) chain: Chain,
+    pub(crate) tree: ItemTree,
 }
 
 #[tactic(auto, unfolding(
@@ -32,29 +33,22 @@ impl RowTable {
         ensures owned { (s : Store) → owned s result ≡ [] }
     {
         RowTable {
-            chain: Chain::new(),
+            tree: ItemTree::new(),
         }
     }
 
-    /// The row under these two numbers. Each element on the way is read once.
+    /// The row under these two numbers.
     pub fn find(&self, elements: &Elements, first: u32, second: u32) -> Option<Row>
         requires { IsTable elements.now self.now }
         ensures { result ≡ row elements.now self.now first second }
     {
-        let mut id = self.chain.first;
-        let mut left = self.chain.count;
-        while left > 0 {
-            let Element { next, words } = elements.get(id);
-            if !is_before(words[0], words[1], first, second) {
-                if words[0] == first && words[1] == second {
-                    return Some(Row { id, words });
-                }
-                return None;
-            }
-            id = next;
-            left -= 1;
+        if first > 255 {
+            return None;
         }
-        None
+        match self.tree.find(elements, key_of(first, second)) {
+            Some(item) => Some(row_of(item)),
+            None => None,
+        }
     }
 
     /// The words of the row of this id.
@@ -63,7 +57,7 @@ impl RowTable {
         requires row { IsRow elements.now self.now id }
         ensures { result ≡ words_of elements.now id }
     {
-        elements.get(id).words
+        row_words(self.tree.get(elements, id).words)
     }
 
     /// Some row of the table; `None` where it has none.
@@ -74,10 +68,10 @@ impl RowTable {
         ensures some { IfSome result (λ r.
             row elements.now self.now (word r.words 0) (word r.words 1) ≡ Some r) }
     {
-        if self.chain.count == 0 {
-            return None;
+        match self.tree.find_from(elements, 0) {
+            Some(item) => Some(row_of(item)),
+            None => None,
         }
-        Some(self.visit(elements, RowPlace::FRONT))
     }
 
     /// A row with these words. Its key is not in the table.
@@ -85,6 +79,7 @@ impl RowTable {
     /// It takes one element.
     pub fn insert(&mut self, elements: &mut Elements, words: [u32; 7]) -> Id
         requires table { IsTable elements.old self.old }
+        requires range { IsInRange words }
         requires absent { row elements.old self.old (word words 0) (word words 1) ≡ None }
         requires room { 0 < elements.old.spare }
         ensures table { IsTable elements.new self.new }
@@ -95,9 +90,9 @@ impl RowTable {
             (owned elements.old self.old) (owned elements.new self.new) }
         ensures spares { elements.new.spare + 1 ≡ elements.old.spare }
     {
-        let place = self.seek(elements, words[0], words[1]);
-        self.chain
-            .insert(elements, place.index, place.before, words)
+        let id = elements.take(Element::BLANK);
+        self.put_in(elements, id, words);
+        id
     }
 
     /// The row under these two numbers gets other words under the same key. It keeps its element and its place.
@@ -114,9 +109,12 @@ impl RowTable {
             (owned elements.old self.now) (owned elements.new self.now) }
         ensures spares { elements.new.spare ≡ elements.old.spare }
     {
-        let place = self.seek(elements, first, second);
-        let row = self.visit(elements, place);
-        self.chain.set_words(elements, place.index, row.id, words);
+        match self.tree.find(elements, key_of(first, second)) {
+            Some(item) => self
+                .tree
+                .set(elements, item.id, with_key(item.words[0], words)),
+            None => {}
+        }
     }
 
     /// The row under these two numbers gets other words, and keeps its element. Where its key changes, the new
@@ -124,6 +122,7 @@ impl RowTable {
     pub fn set_key(&mut self, elements: &mut Elements, first: u32, second: u32, words: [u32; 7])
         requires table { IsTable elements.old self.old }
         requires there { IsSome (row elements.old self.old first second) }
+        requires range { IsInRange words }
         requires key { (is_under first second words ≡ true)
             ⊎ (row elements.old self.old (word words 0) (word words 1) ≡ None) }
         ensures table { IsTable elements.new self.new }
@@ -150,8 +149,8 @@ impl RowTable {
             (owned elements.old self.old) (owned elements.new self.new) }
         ensures spares { elements.new.spare ≡ elements.old.spare + 1 }
     {
-        let place = self.seek(elements, first, second);
-        self.chain.remove(elements, place.index, place.before);
+        let row = self.take_out(elements, first, second);
+        elements.give(row.id);
     }
 
     /// The row under these two numbers moves to another table, with its element.
@@ -212,12 +211,14 @@ impl RowTable {
         ensures owned { Leaves elements.old elements.new
             (owned elements.old self.old) (owned elements.new self.new) }
     {
-        if self.chain.count == 0 {
-            return None;
+        match self.tree.find_from(elements, 0) {
+            Some(first) => {
+                let item = self.tree.take(elements, u64::from(first.words[0]));
+                elements.give(item.id);
+                Some(row_of(item))
+            }
+            None => None,
         }
-        let row = self.visit(elements, RowPlace::FRONT);
-        self.chain.remove(elements, 0, 0);
-        Some(row)
     }
 
     /// Gives back every element of the table.
@@ -225,6 +226,6 @@ impl RowTable {
         requires { IsTable elements.old self }
         ensures owned { Leaves elements.old elements.new (owned elements.old self) [] }
     {
-        self.chain.discard(elements);
+        self.tree.discard(elements);
     }
 }

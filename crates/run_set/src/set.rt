@@ -8,8 +8,9 @@ ghost use Rattle.run_set.specs.Fits.{Fits, IsLeastFit, IsLongest};
 
 use crate::clip::clipped;
 use crate::places::RunPlace;
-use crate::run::{Cover, Run};
-use vsm_elements::{Chain, Elements};
+use crate::run::Cover;
+use run_tree::{Run, RunTree};
+use vsm_elements::Elements;
 
 /// The head of a set of numbers below 2^29, whose maximal runs stand in elements.
 ///
@@ -17,7 +18,7 @@ use vsm_elements::{Chain, Elements};
 /// alone. A set that is no longer wanted is discarded: its elements stay live until then.
 #[derive(Clone, Copy, Debug, PartialEq, Eq)]
 pub struct RunSet {
-    pub(crate) chain: Chain,
+    pub(crate) tree: RunTree,
 }
 
 #[tactic(auto, unfolding(
@@ -38,7 +39,7 @@ impl RunSet {
         ensures head { result ≡ set_of 0 0 }
     {
         RunSet {
-            chain: Chain::new(),
+            tree: RunTree::new(),
         }
     }
 
@@ -46,7 +47,7 @@ impl RunSet {
     pub fn head(self) -> [u32; 2]
         ensures { set_of (slice_index_or result 0 0) (slice_index_or result 1 0) ≡ self }
     {
-        [self.chain.first, self.chain.count]
+        [self.tree.root, self.tree.count]
     }
 
     /// The set whose head was kept in these words.
@@ -54,8 +55,8 @@ impl RunSet {
         ensures { result ≡ set_of (slice_index_or head 0 0) (slice_index_or head 1 0) }
     {
         RunSet {
-            chain: Chain {
-                first: head[0],
+            tree: RunTree {
+                root: head[0],
                 count: head[1],
             },
         }
@@ -80,9 +81,10 @@ impl RunSet {
         ensures exact { elements.new.spare + 1
             ≡ elements.old.spare + joins (λ n. holds elements.old self.old n) run }
     {
-        let place = self.seek(elements, run.start);
-        let left = self.left_of(elements, place, run.start);
-        let right = self.right_of(elements, place, run.start + run.len);
+        let sought = self.seek(elements, run.start);
+        let place = sought.place;
+        let left = self.left_of(elements, sought, run.start);
+        let right = self.right_of(elements, sought, run.start + run.len);
         match (left, right) {
             (Some(left), Some(right)) => {
                 let len = left.len + run.len + right.len;
@@ -123,8 +125,9 @@ impl RunSet {
         ensures exact { elements.new.spare + joins (λ n. holds elements.old self.old n) run
             ≡ elements.old.spare + 1 }
     {
-        let place = self.seek(elements, run.start);
-        let (whole, _) = self.visit(elements, place);
+        let sought = self.seek(elements, run.start);
+        let place = sought.place;
+        let whole = self.reached(elements, sought);
         let end = run.start + run.len;
         let last = whole.start + whole.len;
         let before = Run {
@@ -153,11 +156,12 @@ impl RunSet {
         requires { IsRunSet elements.now self.now }
         ensures { result ≡ holds elements.now self.now n }
     {
-        let place = self.seek(elements, n);
-        if place.index == self.chain.count {
+        let sought = self.seek(elements, n);
+        let place = sought.place;
+        if place.index == self.tree.count {
             return false;
         }
-        let (here, _) = self.visit(elements, place);
+        let here = self.reached(elements, sought);
         here.start <= n
     }
 
@@ -167,11 +171,12 @@ impl RunSet {
         requires range { (0 < run.len) × (run.start + run.len ≤ 2 ^ 29) }
         ensures { IsCover (λ n. holds elements.now self.now n) run result }
     {
-        let place = self.seek(elements, run.start);
-        if place.index == self.chain.count {
+        let sought = self.seek(elements, run.start);
+        let place = sought.place;
+        if place.index == self.tree.count {
             return Cover::None;
         }
-        let (here, _) = self.visit(elements, place);
+        let here = self.reached(elements, sought);
         let end = run.start + run.len;
         if end <= here.start {
             Cover::None
@@ -186,7 +191,7 @@ impl RunSet {
     pub fn count(&self) -> u32
         ensures { (s : Store) → result ≡ length (runs s self.now) }
     {
-        self.chain.count
+        self.tree.count
     }
 
     /// The place before the first run of any set.
@@ -198,7 +203,7 @@ impl RunSet {
     }
 
     /// The maximal run behind the place, and the place behind that run; `None` behind the last. From the first place
-    /// on, the runs come in ascending order, each at the cost of one element.
+    /// on, the runs come in ascending order, each at the cost of a descent.
     pub fn next_run(&self, elements: &Elements, place: RunPlace) -> Option<(Run, RunPlace)>
         requires set { IsRunSet elements.now self.now }
         requires place { IsPlace elements.now self.now place }
@@ -206,7 +211,7 @@ impl RunSet {
         ensures next { IfSome result (λ r. IsPlace elements.now self.now r.1
             × (place_index r.1 ≡ place_index place + 1)) }
     {
-        if place.index == self.chain.count {
+        if place.index == self.tree.count {
             return None;
         }
         Some(self.visit(elements, place))
@@ -217,15 +222,10 @@ impl RunSet {
         requires { IsRunSet elements.now self.now }
         ensures { result ≡ slice_get (runs elements.now self.now) i }
     {
-        if i >= self.chain.count {
+        if i >= self.tree.count {
             return None;
         }
-        let mut place = RunPlace::FRONT;
-        while place.index < i {
-            (_, place) = self.visit(elements, place);
-        }
-        let (run, _) = self.visit(elements, place);
-        Some(run)
+        Some(self.tree.get(elements, i))
     }
 
     /// The least number on the boundary from which `len` numbers are in the set and in the region.
@@ -244,15 +244,23 @@ impl RunSet {
         ensures least { IfSome result (λ a. IsLeastFit
             (λ n. holds elements.now self.now n) region a len boundary) }
     {
-        let count = self.chain.count;
-        let mut place = RunPlace::FRONT;
-        while place.index < count {
-            let (run, next) = self.visit(elements, place);
-            let (first, end) = clipped(run, boundary, region);
-            if first + len <= end {
+        let count = self.tree.count;
+        let end = region.start + region.len;
+        let mut place = self.tree.seek(elements, region.start);
+        while place < count {
+            let at = self.tree.first_room(elements, place, len, boundary == 512);
+            if at == count {
+                return None;
+            }
+            let (run, _) = self.visit(elements, RunPlace { index: at });
+            let (first, last) = clipped(run, boundary, region);
+            if first + len <= last {
                 return Some(first);
             }
-            place = next;
+            if end <= run.start {
+                return None;
+            }
+            place = at + 1;
         }
         None
     }
@@ -265,16 +273,13 @@ impl RunSet {
         requires region { region.start + region.len ≤ 2 ^ 29 }
         ensures { IsLongest (λ n. holds elements.now self.now n) region result boundary }
     {
-        let count = self.chain.count;
-        let mut most = 0;
-        let mut place = RunPlace::FRONT;
-        while place.index < count {
-            let (run, next) = self.visit(elements, place);
-            let (first, end) = clipped(run, boundary, region);
-            most = most.max(end.saturating_sub(first));
-            place = next;
+        if boundary == 1 {
+            return self.longest_found(elements, 1, region);
         }
-        most
+        if boundary == 512 {
+            return self.longest_found(elements, 512, region);
+        }
+        self.longest_walked(elements, boundary, region)
     }
 
     /// Gives back every element of the set.
@@ -283,6 +288,6 @@ impl RunSet {
         ensures owned { Leaves elements.old elements.new (owned elements.old self) [] }
         ensures spares { elements.old.spare ≤ elements.new.spare }
     {
-        self.chain.discard(elements);
+        self.tree.discard(elements);
     }
 }

@@ -2,8 +2,7 @@
 use Rattle.std.proofs.Common.{◌≡◌, ℕ, zero, suc, ◌+◌, ◌-◌, ◌<◌, ◌≤◌, min, Bool, true, false, not, ◌&&◌, if◌then◌else◌, [], ◌∷◌, Option, Some, None, refl, sym, arith}
 use Rattle.std.specs.Prelude.{◌^◌, ◌/◌}
 use Rattle.std.proofs.lemmas.Bool.{cond-true, cond-false, and_left, and_right}
-use Rattle.run_set.specs.declared.run.Run.{Run}
-use Rattle.run_set.specs.Runs.{inside}
+use Rattle.run_set.specs.Runs.{Run, inside}
 use Rattle.run_set.specs.Counts.{joins}
 use Rattle.run_set.proofs.CountLemmas.{neighbours_stay}
 use Rattle.vsm_model.specs.declared.Subpool.{Subpool}

@@ -2,8 +2,7 @@
 use Rattle.std.proofs.Common.{◌≡◌, ℕ, ◌+◌, ◌-◌, ◌<◌, ◌≤◌, Bool, true, false, ◌||◌, if◌then◌else◌, List, [], ◌∷◌, length, Option, None, IsSome, refl, sym, ◌∙◌, arith, subst, true≢false}
 use Rattle.std.specs.Prelude.{◌^◌, ◌/◌}
 use Rattle.std.proofs.lemmas.Bool.{cond-false, or_left, or_right, or_parts, false_from_ne_true}
-use Rattle.run_set.specs.declared.run.Run.{Run}
-use Rattle.run_set.specs.Runs.{inside, contains, Spaced}
+use Rattle.run_set.specs.Runs.{Run, inside, contains, Spaced}
 use Rattle.run_set.proofs.RunLemmas.{inside_true, true_inside}
 use Rattle.run_set.proofs.PartLemmas.{before}
 use Rattle.storage_changes.specs.declared.record.PagesRecord.{PagesRecord}

@@ -12,3 +12,4 @@ pub mod RegistersSteps
 pub mod WalkLemmas
 pub mod FirstLemmas
 pub mod MeaningLemmas
+mod FreshLemmas

@@ -1,7 +1,6 @@
 -- A run of pages that is assigned, or unassigned, and back.
 use Rattle.std.proofs.Common.{◌≡◌, ℕ, ◌<◌, ◌≤◌, ◌/◌, Bool, true, false, not, Option, None, IsSome, refl, sym, ◌∙◌, arith, subst}
-use Rattle.run_set.specs.declared.run.Run.{Run}
-use Rattle.run_set.specs.Runs.{inside}
+use Rattle.run_set.specs.Runs.{Run, inside}
 use Rattle.run_set.specs.Counts.{joins}
 use Rattle.run_set.proofs.CountLemmas.{neighbours_stay}
 use Rattle.storage_changes.specs.declared.record.PagesRecord.{PagesRecord}

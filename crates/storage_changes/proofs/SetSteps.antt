@@ -1,7 +1,6 @@
 -- An area of free storage and a run of pages, which join a subpool or leave it, and back.
 use Rattle.std.proofs.Common.{◌≡◌, ℕ, ◌<◌, ◌≤◌, Bool, true, false, not, ◌&&◌, if◌then◌else◌, refl, sym, ap, ◌∙◌, arith, subst}
-use Rattle.run_set.specs.declared.run.Run.{Run}
-use Rattle.run_set.specs.Runs.{inside}
+use Rattle.run_set.specs.Runs.{Run, inside}
 use Rattle.run_set.specs.Counts.{joins}
 use Rattle.run_set.proofs.CountLemmas.{neighbours_stay}
 use Rattle.vsm_model.specs.declared.Subpool.{Subpool}

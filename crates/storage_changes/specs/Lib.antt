@@ -8,4 +8,5 @@ pub mod Changes
 pub mod Names
 pub mod Meaning
 pub mod Laws
+pub mod Fresh
 pub mod Props

@@ -1,6 +1,6 @@
 -- How a record stands in the seven words of an element: its kind, its places and their other value.
 use Rattle.std.specs.Prelude.{ℕ, ◌+◌, Bool, List, [], ◌∷◌, ◌++◌, ◌%◌, ◌==◌, slice_index_or, if◌then◌else◌}
-use Rattle.run_set.specs.declared.run.Run.{Run}
+use Rattle.run_set.specs.Runs.{Run}
 use Rattle.vsm_model.specs.declared.Subpool.{Subpool}
 use Rattle.vsm_model.specs.Bytes.{fullword}
 use Rattle.storage_changes.specs.declared.record.RegisterRecord.{RegisterRecord}

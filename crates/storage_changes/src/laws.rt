@@ -3,6 +3,7 @@
 ghost use Rattle.storage_changes.specs.Laws.{ChangesLeadBack, PagesAreNamed, NamedPagesAreThere, JoinedPagesAreNamed};
 ghost use Rattle.storage_changes.specs.Laws.{LeftPagesAreNobodys, AreasAreTaken, AreasAreFreed};
 ghost use Rattle.storage_changes.specs.Laws.{FreeStorageIsFree, UnassignedPagesAreNobodys, AssignedPagesAreBrought};
+ghost use Rattle.storage_changes.specs.Fresh.{FreshIsNew};
 
 /// A change that fits leads to a state at which the exchanged change fits. That one leads back, and its own exchange
 /// gives the change again.
@@ -53,4 +54,9 @@ pub fn free_storage_is_free()
 /// In a sound state a page of the regions is unassigned just where the plain machine assigns it to nobody.
 pub fn unassigned_pages_are_nobodys()
     ensures { UnassignedPagesAreNobodys }
+{}
+
+/// The pages of the run that a change comes to assign are just those that the plain machine newly assigns.
+pub fn fresh_pages_are_newly_assigned()
+    ensures { FreshIsNew }
 {}

@@ -1,7 +1,7 @@
 -- How many elements a reserved change has.
 use Rattle.std.proofs.Common.{◌≡◌, ℕ, zero, suc, ◌+◌, ◌*◌, ◌≤◌, List, [], ◌∷◌, ◌++◌, length, Option, Some, None, Result, Ok, Err, IfOk, refl, ap, ◌∙◌, arith}
 use Rattle.std.proofs.lemmas.List.{length-map, length-append}
-use Rattle.run_set.specs.declared.run.Run.{Run}
+use Rattle.run_set.specs.Runs.{Run}
 use Rattle.vsm_model.specs.declared.Subpool.{Subpool}
 use Rattle.vsm_elements.specs.Store.{Store}
 use Rattle.vsm_elements.specs.Chain.{element, follow, links}

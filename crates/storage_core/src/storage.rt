@@ -19,8 +19,6 @@ use vsm_model::Settings;
 pub struct Storage {
     pub(crate) parts: Parts,
     pub(crate) settings: Settings,
-    // Where the list comes from of which the change of a cell pool that goes is made.
-    pub(crate) alloc: Global,
     ghost held: { IsHeld settings parts } by { IsHeld-prop settings parts },
 }
 
@@ -37,11 +35,7 @@ impl Storage {
     {
         let parts = fresh(alloc, settings)?;
         first_is_first();
-        Ok(Storage {
-            parts,
-            settings,
-            alloc,
-        })
+        Ok(Storage { parts, settings })
     }
 
     /// The settings that it was made with.

@@ -7,8 +7,7 @@ use Rattle.vsm_elements.specs.Store.{Store}
 use Rattle.vsm_elements.specs.Owners.{times, Moves}
 use Rattle.vsm_elements.specs.Ownership.{Leaves}
 use Rattle.vsm_elements.proofs.MoveLemmas.{moves-of}
-use Rattle.run_set.specs.declared.run.Run.{Run}
-use Rattle.run_set.specs.Runs.{inside}
+use Rattle.run_set.specs.Runs.{Run, inside}
 use Rattle.run_set.specs.Counts.{joins}
 use Rattle.run_set.proofs.RunLemmas.{inside_true, true_inside, not_both}
 use Rattle.descriptor_queue.specs.declared.pages.Pages.{Pages as PageSet}

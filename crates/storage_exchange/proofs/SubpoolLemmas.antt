@@ -2,7 +2,7 @@
 use Rattle.std.proofs.Common.{◌≡◌, ℕ, ◌+◌, ◌-◌, ◌/◌, ◌≤◌, Bool, true, false, None, if◌then◌else◌, List, refl, ap, sym, subst, ◌∙◌, arith}
 use Rattle.std.specs.Prelude.{nat_lt}
 use Rattle.vsm_elements.specs.Store.{Store}
-use Rattle.run_set.specs.declared.run.Run.{Run}
+use Rattle.run_set.specs.Runs.{Run}
 use Rattle.run_set.specs.Counts.{joins}
 use Rattle.vsm_model.specs.declared.Subpool.{Subpool}
 use Rattle.raw_region.specs.Frames.{PageFrame}

@@ -3,8 +3,7 @@ use Rattle.std.proofs.Common.{◌≡◌, ℕ, ◌+◌, ◌-◌, ◌*◌, ◌/◌
 use Rattle.std.specs.Prelude.{unwrap_or}
 use Rattle.std.proofs.lemmas.Bool.{and_parts, and_from, cond-false, cond-true, eq-eqb, not-false, not-true}
 use Rattle.std.proofs.lemmas.List.{append_assoc}
-use Rattle.run_set.specs.declared.run.Run.{Run}
-use Rattle.run_set.specs.Runs.{inside}
+use Rattle.run_set.specs.Runs.{Run, inside}
 use Rattle.vsm_model.specs.declared.Subpool.{Subpool}
 use Rattle.vsm_model.specs.declared.limits.Settings.{Settings}
 use Rattle.vsm_model.specs.declared.replies.Reply.TheVariants.{Obtained}

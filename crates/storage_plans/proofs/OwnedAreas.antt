@@ -4,10 +4,9 @@ use Rattle.std.proofs.lemmas.Bool.{and_parts, and_from, or_parts, leb-true, ltb-
 use Rattle.std.proofs.lemmas.Bool.Decides.{nat_tests}
 use Rattle.std.proofs.Math.Bool.{Bool-set}
 use Rattle.std.proofs.Math.Logic.{∥∥₁_elim}
-use Rattle.run_set.specs.declared.run.Run.{Run}
 use Rattle.run_set.specs.declared.run.Cover.{Cover}
 use Rattle.run_set.specs.declared.run.Cover.TheVariants as covers
-use Rattle.run_set.specs.Runs.{inside, IsCover}
+use Rattle.run_set.specs.Runs.{Run, inside, IsCover}
 use Rattle.vsm_model.specs.declared.Subpool.{Subpool}
 use Rattle.vsm_model.specs.declared.limits.Residence.{Residence}
 use Rattle.vsm_model.specs.declared.limits.Residence.TheVariants.{Below, Above}

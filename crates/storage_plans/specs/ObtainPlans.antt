@@ -1,7 +1,7 @@
 -- The change of an obtain, by the place of its area. Assembler Services Guide, "Virtual storage management", "Explicit
 -- requests for virtual storage"; Assembler Services Reference, GETMAIN and STORAGE.
 use Rattle.std.specs.Prelude.{ℕ, ◌*◌, List, ◌∷◌, ◌++◌, Option, Some}
-use Rattle.run_set.specs.declared.run.Run.{Run}
+use Rattle.run_set.specs.Runs.{Run}
 use Rattle.vsm_model.specs.declared.Subpool.{Subpool}
 use Rattle.vsm_model.specs.declared.services.Lengths.{Lengths}
 use Rattle.vsm_model.specs.declared.services.Obtain.{Obtain}

@@ -7,7 +7,7 @@ use Rattle.vsm_elements.specs.Chain.{Link, links, follow, last_or, IsChain, IsCh
 use Rattle.vsm_elements.specs.Ownership.{Leaves, Apart}
 use Rattle.vsm_elements.specs.declared.chain.Chain.{Chain}
 use Rattle.vsm_elements.proofs.OwnerLemmas.{others_stay}
-use Rattle.run_set.specs.declared.run.Run.{Run}
+use Rattle.run_set.specs.Runs.{Run}
 use Rattle.descriptor_queue.specs.declared.extents.Extents.{Extents}
 use Rattle.descriptor_queue.specs.Extents.{extents, has_page, IsExtents}
 use Rattle.descriptor_queue.specs.Extents

@@ -7,8 +7,7 @@ use Rattle.vsm_elements.specs.Ownership.{Leaves}
 use Rattle.vsm_elements.specs.Owners.{times, Moves}
 use Rattle.vsm_elements.proofs.TimesLemmas.{some-from, times-once}
 use Rattle.vsm_elements.proofs.MoveLemmas.{none-or-some, moves-of, moves-follow, moves-by, rest-same, once-after, all-after}
-use Rattle.run_set.specs.declared.run.Run.{Run}
-use Rattle.run_set.specs.Runs.{inside}
+use Rattle.run_set.specs.Runs.{Run, inside}
 use Rattle.run_set.proofs.RunLemmas.{inside_true}
 use Rattle.descriptor_queue.specs.declared.pages.Pages.{Pages as ThePages}
 use Rattle.descriptor_queue.specs.Pages.{is_unassigned, IsPages}

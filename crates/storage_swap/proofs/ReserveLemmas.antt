@@ -6,8 +6,7 @@ use Rattle.vsm_elements.specs.Ownership.{Leaves}
 use Rattle.vsm_elements.specs.declared.chain.Chain.{Chain}
 use Rattle.vsm_elements.specs.Owners.{times, Moves}
 use Rattle.vsm_elements.proofs.MoveLemmas.{moves-of, moves-follow, moves-like, moves-none, rest-same, chain-live, chain-once, chain-kept}
-use Rattle.run_set.specs.declared.run.Run.{Run}
-use Rattle.run_set.specs.Runs.{inside}
+use Rattle.run_set.specs.Runs.{Run, inside}
 use Rattle.run_set.proofs.RunLemmas.{inside_true}
 use Rattle.raw_region.specs.Frames.{PageFrame, zeros}
 use Rattle.raw_region.specs.Pages.{Pages as Tables, byte_of, byte_at, has_table, HaveTables, SamePages, SameTables}

@@ -4,7 +4,7 @@ use Rattle.std.specs.Prelude.{Option, Some, None}
 use Rattle.vsm_elements.specs.Store.{SameElements}
 use Rattle.vsm_elements.specs.Owners.{Moves}
 use Rattle.raw_region.specs.Pages.{Pages, has_table, has_segment, SamePages}
-use Rattle.run_set.specs.declared.run.Run.{Run}
+use Rattle.run_set.specs.Runs.{Run}
 use Rattle.vsm_model.specs.declared.Subpool.{Subpool}
 use Rattle.subpool_storage.specs.Extents.{extents}
 use Rattle.subpool_storage.specs.Subpools.{Subpools, no_subpools, with_own}

@@ -1,8 +1,7 @@
 -- For the test: three pages of the first subpool fit a storage before the first request.
 use Rattle.std.proofs.Common.{◌≡◌, ℕ, ◌+◌, ◌/◌, ◌<◌, ◌≤◌, ◌^◌, Bool, true, false, ◌||◌, if◌then◌else◌, List, [], ◌∷◌, Option, Some, None, IsSome, refl, sym, ap, ◌∙◌, arith, subst}
 use Rattle.std.proofs.Math.Dec.{lit≤}
-use Rattle.run_set.specs.declared.run.Run.{Run}
-use Rattle.run_set.specs.Runs.{inside}
+use Rattle.run_set.specs.Runs.{Run, inside}
 use Rattle.run_set.specs.Counts.{joins}
 use Rattle.run_set.proofs.CountLemmas.{neighbours_stay}
 use Rattle.vsm_model.specs.declared.Subpool.{Subpool}

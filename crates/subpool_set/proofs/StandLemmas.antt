@@ -3,7 +3,10 @@ use Rattle.std.proofs.Common.{◌≡◌, ℕ, Bool, true, false, ◌==◌, List,
 use Rattle.std.specs.Prelude.{map}
 use Rattle.vsm_elements.specs.Store.{Store, among}
 use Rattle.vsm_elements.specs.Ownership.{Apart}
-use Rattle.vsm_elements.specs.Chain.{Link, links}
+use Rattle.vsm_elements.specs.Chain.{Link}
+use Rattle.item_tree.specs.Trees.{items}
+use Rattle.row_table.specs.Keys.{links}
+use Rattle.row_table.proofs.KeyLemmas.{links_ascend}
 use Rattle.vsm_elements.proofs.ChainFrame.{false_if}
 use Rattle.row_table.specs.declared.row.Row.{Row}
 use Rattle.row_table.specs.declared.table.RowTable.{RowTable}
@@ -87,8 +90,8 @@ module _ (s : Store) where
 pub table_stands : (s : Store) (q : RowTable) (others : List ℕ) → IsTable s q → AreApart s (pools_in (row s q)) others → AllStand s (rows s q) × Apart others (ids_in_all s (rows s q))
 unfolding row rows IsTable
 table_stands s q others h was = (
-  all_stand s (row s q) others was (links s q.chain) (single (links s q.chain) h.ascends) (λ a b r e. e),
-  all_beside s (row s q) others was (links s q.chain) (single (links s q.chain) h.ascends) (λ a b r e. e),
+  all_stand s (row s q) others was (links s q.tree) (single (links s q.tree) (links_ascend (items s q.tree) h.ascends)) (λ a b r e. e),
+  all_beside s (row s q) others was (links s q.tree) (single (links s q.tree) (links_ascend (items s q.tree) h.ascends)) (λ a b r e. e),
 )
 
 -- an id is among the queues' just where some subpool has it
@@ -102,7 +105,7 @@ pub record HasId (s : Store) (f : Rows) (i : ℕ) : Type 0 where
 pub id_holder : (s : Store) (q : RowTable) → IsTable s q → (i : ℕ) → among i (ids_in_all s (rows s q)) ≡ true → HasId s (row s q) i
 unfolding row rows IsTable
 id_holder s q h i m =
-    let w : Holder s (links s q.chain) i = holder s (links s q.chain) (single (links s q.chain) h.ascends) i m in
+    let w : Holder s (links s q.tree) i = holder s (links s q.tree) (single (links s q.tree) (links_ascend (items s q.tree) h.ascends)) i m in
     let k : (is_own w.r ≡ true) × (among i (ids_of s (queues_of w.r.words)) ≡ true) = own_of s w.r i w.has in
     record { number = word w.r.words 1; owner = word w.r.words 0; pool = pool_at w.r; there = pool_of s (row s q) w.r w.there k.0; has = k.1 }
 
@@ -120,7 +123,7 @@ pub held_id : (s : Store) (q : RowTable) → (n o : ℕ) (p : Pool) (i : ℕ) �
 unfolding row rows
 held_id s q n o p i e m =
     let k : PoolRow (row s q o n) o p = pool_row o (row s q o n) p e in
-    let key : (word k.r.words 0 ≡ o) × (word k.r.words 1 ≡ n) = under_own o n (links s q.chain) k.r k.there in
+    let key : (word k.r.words 0 ≡ o) × (word k.r.words 1 ≡ n) = under_own o n (links s q.tree) k.r k.there in
     let own : is_own k.r ≡ true = ap (λ (z : ℕ). z == word k.r.words 2) key.0 ∙ ap (λ (z : ℕ). o == z) k.owner_is ∙ eqb_refl o in
-    in_list s (links s q.chain) o n k.r i k.there
+    in_list s (links s q.tree) o n k.r i k.there
     (ap (among i) (if_true (is_own k.r) (ids_of s (queues_of k.r.words)) [] own) ∙ ap (λ (z : Pool). among i (ids_of s z.queues)) (sym k.pool_is) ∙ m)

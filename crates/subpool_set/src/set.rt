@@ -1,7 +1,7 @@
 ghost use Rattle.std.specs.Prelude.{◌≡◌, ◌≢◌, ℕ, ◌+◌, ◌<◌, ◌≤◌, ◌++◌, [], Some, None, IsSome, IfSome, IfNone};
 ghost use Rattle.vsm_elements.specs.Store.{Store, among};
 ghost use Rattle.vsm_elements.specs.Ownership.{Leaves, Apart};
-ghost use Rattle.row_table.specs.Rows.{either_of};
+ghost use Rattle.row_table.specs.Rows.{either_of, IsInRange};
 ghost use Rattle.subpool_set.specs.Pools.{no_queues, sight_with, pools_with, sight_given, pools_given, sight_of_pool};
 ghost use Rattle.subpool_set.specs.Pools.{sight_without, pool_alone};
 ghost use Rattle.subpool_set.specs.Kept.{AreWords};
@@ -29,7 +29,8 @@ pub struct SubpoolSet {
 
 // The words of a row of sight: a subpool's own row has the heads of its queues.
 fn row_words(task: u8, number: u8, owner: u8, queues: Queues) -> [u32; 7]
-    ensures { AreWords result task number owner queues }
+    ensures words { AreWords result task number owner queues }
+    ensures range { IsInRange result }
 {
     let extents = queues.extents.head();
     let free = queues.free.head();

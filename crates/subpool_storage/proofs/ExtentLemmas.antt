@@ -2,8 +2,7 @@
 use Rattle.std.proofs.Common.{◌≡◌, ℕ, zero, suc, ◌+◌, ◌-◌, ◌^◌, ◌<◌, ◌≤◌, ◌==◌, inl, inr, Bool, true, false, ◌||◌, if◌then◌else◌, List, [], ◌∷◌, length, map, Some, refl, sym, ap, ◌∙◌, arith, subst}
 use Rattle.std.proofs.lemmas.List.{length-map}
 use Rattle.std.proofs.lemmas.Bool.{cases_eq, both_ways, eqb-true, eq-eqb, false_from_ne_true}
-use Rattle.run_set.specs.declared.run.Run.{Run}
-use Rattle.run_set.specs.Runs.{inside, contains, Spaced, AreRunsOf}
+use Rattle.run_set.specs.Runs.{Run, inside, contains, Spaced, AreRunsOf}
 use Rattle.run_set.proofs.RunLemmas.{true_inside, Spaced-low, le_or_lt}
 use Rattle.run_set.proofs.PartLemmas.{before, outside}
 use Rattle.run_set.proofs.OneLemmas.{runs_one}

@@ -3,7 +3,9 @@ use Rattle.std.proofs.Common.{◌≡◌, ℕ, zero, suc, Bool, true, false, ◌|
 use Rattle.std.specs.Prelude.{map, unwrap_or, if◌then◌else◌}
 use Rattle.vsm_elements.specs.declared.element.Element.{Element}
 use Rattle.vsm_elements.specs.Store.{Store, at, among, blank}
-use Rattle.vsm_elements.specs.Chain.{Link, links, ids}
+use Rattle.vsm_elements.specs.Chain.{Link, ids}
+use Rattle.row_table.specs.Keys.{seven, links}
+use Rattle.row_table.proofs.KeyLemmas.{owned_links}
 use Rattle.vsm_elements.proofs.StoreLemmas.{among_first, among_later}
 use Rattle.vsm_elements.proofs.TimesLemmas.{times-some}
 use Rattle.row_table.specs.Rows.{word}
@@ -37,13 +39,13 @@ left_among (n ∷ ns) zero i h = here (owner_in (row_of n) == word n.words 0) n.
 
 left_owned : (s : Store) (q : TheSet) (place : PoolPlace) (i : ℕ) → among i (pools_left s q place) ≡ true → among i (owned s q) ≡ true
 unfolding pools_left owned rows RowTable.owned
-left_owned s q place i h = left_among (links s q.rows.chain) (place_index place.next) i h
+left_owned s q place i h = ap (among i) (owned_links s q.rows.tree) ∙ left_among (links s q.rows.tree) (place_index place.next) i h
 
 -- what an id names, by its element alone
 same_named : (s t : Store) (id : ℕ) → at t id ≡ at s id → named t id ≡ named s id
 unfolding number_of owner_of words_of
 same_named s t id e =
-    let w : words_of t id ≡ words_of s id = ap (λ (o : Option Element). (unwrap_or o blank).words) e in
+    let w : words_of t id ≡ words_of s id = ap (λ (o : Option Element). seven (drop 1 ((unwrap_or o blank).words))) e in
     λ i. record { number = word (w i) 1; owner = word (w i) 2 }
 
 same_names : (s t : Store) (xs : List ℕ) → ((i : ℕ) → among i xs ≡ true → at t i ≡ at s i) → map (named t) xs ≡ map (named s) xs

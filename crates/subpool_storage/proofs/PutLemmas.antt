@@ -8,8 +8,7 @@ use Rattle.vsm_elements.specs.Owners.{times, Moves}
 use Rattle.vsm_elements.proofs.ChainFrame.{stays, false_if}
 use Rattle.vsm_elements.proofs.TimesLemmas.{times-none, times-some}
 use Rattle.vsm_elements.proofs.MoveLemmas.{moves-of, moves-by, moves-follow}
-use Rattle.run_set.specs.declared.run.Run.{Run}
-use Rattle.run_set.specs.Runs.{inside}
+use Rattle.run_set.specs.Runs.{Run, inside}
 use Rattle.descriptor_queue.specs.declared.extents.Extents.{Extents}
 use Rattle.free_queue.specs.declared.queue.FreeQueue.{FreeQueue}
 use Rattle.descriptor_queue.specs.Extents.{has_page, IsExtents}

@@ -6,7 +6,6 @@ use Rattle.vsm_elements.specs.Ownership.{Leaves}
 use Rattle.vsm_elements.specs.Owners.{times, Moves}
 use Rattle.vsm_elements.proofs.ChainFrame.{stays, false_if}
 use Rattle.vsm_elements.proofs.MoveLemmas.{moves-of, moves-by}
-use Rattle.run_set.specs.declared.run.Run.{Run}
 use Rattle.descriptor_queue.specs.Extents.{has_page, IsExtents}
 use Rattle.descriptor_queue.specs.Extents
 use Rattle.free_queue.specs.FreeQueue.{is_free, IsFreeQueue}
@@ -27,8 +26,8 @@ use Rattle.subpool_storage.specs.declared.storage.SubpoolStorage.{SubpoolStorage
 use Rattle.subpool_storage.specs.SubpoolStorage.{page_in, free_in, subpools_of, Stands, Becomes}
 use Rattle.subpool_storage.proofs.LiftLemmas.{SetBecomes, lifted}
 use Rattle.std.proofs.Common.{◌∷◌, length}
-use Rattle.run_set.specs.declared.run.Run.{Run}
-use Rattle.run_set.specs.Runs.{contains, AreRunsOf}
+use Rattle.run_set.specs.Runs.{Run}
+use Rattle.run_set.specs.Runs.{Run, contains, AreRunsOf}
 use Rattle.run_set.proofs.SetLemmas.{runs_are_one}
 use Rattle.descriptor_queue.specs.Extents.{extents, IsExtents}
 use Rattle.descriptor_queue.proofs.PageLemmas.{extents_stand}

@@ -1,8 +1,7 @@
 -- The extents of a subpool, and its free areas: the longest runs of its pages and of its free doublewords, ascending.
 -- Assembler Services Guide, "Virtual storage management", "Subpool handling".
 use Rattle.std.specs.Prelude.{◌≡◌, ℕ, ◌^◌, ◌≤◌, false, List, map, length}
-use Rattle.run_set.specs.declared.run.Run.{Run}
-use Rattle.run_set.specs.Runs.{AreRunsOf}
+use Rattle.run_set.specs.Runs.{Run, AreRunsOf}
 use Rattle.vsm_model.specs.declared.Subpool.{Subpool}
 use Rattle.vsm_model.specs.Runs.{runs}
 use Rattle.subpool_storage.specs.Subpools.{Subpools}

@@ -2,8 +2,7 @@
 -- Assembler Services Guide, "Virtual storage management", "Subpool handling"; Assembler Services Reference, CPOOL.
 use Rattle.std.specs.Prelude.{◌≡◌, ◌≢◌, ◌⊎◌, ℕ, Bool, false, ◌&&◌, ◌==◌, if◌then◌else◌, Option, Some, None}
 use Rattle.std.specs.Prelude.{option_map, List, [], ◌∷◌}
-use Rattle.run_set.specs.declared.run.Run.{Run}
-use Rattle.run_set.specs.Runs.{inside}
+use Rattle.run_set.specs.Runs.{Run, inside}
 use Rattle.vsm_model.specs.declared.Subpool.{Subpool}
 use Rattle.vsm_model.specs.Passing.{sight_after_gift}
 use Rattle.vsm_model.specs.Search.{holds}

@@ -8,3 +8,4 @@ mod OwnedNames
 mod Walks
 mod Parks
 mod EndPlans
+mod ParentLemmas

@@ -7,7 +7,7 @@ use Rattle.std.proofs.lemmas.Option.{slice_get_within}
 use Rattle.vsm_elements.specs.Store.{at}
 use Rattle.vsm_elements.specs.Owners.{times}
 use Rattle.vsm_elements.proofs.TimesLemmas.{times-some}
-use Rattle.run_set.specs.declared.run.Run.{Run}
+use Rattle.run_set.specs.Runs.{Run}
 use Rattle.run_set.specs.declared.places.RunPlace.{RunPlace}
 use Rattle.run_set.specs.RunSet.{place_index}
 use Rattle.descriptor_queue.specs.declared.extents.Extents.{Extents as TheExtents}

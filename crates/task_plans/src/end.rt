@@ -19,10 +19,11 @@ ghost use Rattle.storage_swap.specs.Builder.{parked_in, records_in, IsBuilding, 
 ghost use Rattle.storage_swap.specs.Reserve.{Grown, Reserves};
 ghost use Rattle.task_actions.specs.Ending.{ended_below, owned_by_these, emptying_records, removed};
 ghost use Rattle.task_actions.specs.Ending.{released_records, removed_records, unseeing, unshared, unshared_records};
+ghost use Rattle.task_plans.specs.Parents.{AreParents};
 ghost use Rattle.task_plans.specs.TaskPlans.{end_change, owned_among, parked_onto, parks_all};
 ghost use Rattle.task_plans.specs.TaskPlans.{rest_records, unseeing_among, CanBeEnded, CanPark, IsEndPlanned};
 
-use crate::ended::{is_ended, push_ended};
+use crate::ended::{Parents, is_ended, push_ended, read_parents};
 use crate::registers::push_register;
 use descriptor_queue::Extents;
 use std::alloc::AllocError;
@@ -177,26 +178,33 @@ impl EndPlan {
         ensures needless { length (parks_all (state_of storage.old) self.top)
             + length (end_change (state_of storage.old) self).records ≤ storage.old.elements.spare → IsOk result }
     {
-        park_owned(storage, builder, self.top)?;
-        push_released(storage, builder, self.top)?;
+        let parents = read_parents(storage);
+        park_owned(storage, builder, &parents, self.top)?;
+        push_released(storage, builder, &parents, self.top)?;
         builder.push(storage, Record::Turn(TurnRecord { task: self.next }))?;
         let blanks = builder.count();
-        self.push_rest(storage, builder)?;
+        self.push_rest(storage, builder, &parents)?;
         Ok(blanks)
     }
 
     // The records behind the turn.
-    fn push_rest(self, storage: &mut Storage, builder: &mut ChangeBuilder) -> Result<(), AllocError>
-        requires { IsBuilding storage.old builder.old }
+    fn push_rest(
+        self,
+        storage: &mut Storage,
+        builder: &mut ChangeBuilder,
+        parents: &Parents,
+    ) -> Result<(), AllocError>
+        requires building { IsBuilding storage.old builder.old }
+        requires tree { AreParents parents.now.of (state_of storage.old).tasks.parents }
         ensures builds { Builds storage.old builder.old storage.new builder.new }
         ensures ok { OnOk result (Pushes storage.old builder.old
             (rest_records (state_of storage.old) self) storage.new builder.new) }
         ensures needless { length (rest_records (state_of storage.old) self) ≤ storage.old.elements.spare
             → IsOk result }
     {
-        push_unshared(storage, builder, self.top)?;
-        push_removed(storage, builder, self.top)?;
-        push_ended(storage, builder, self.top)?;
+        push_unshared(storage, builder, parents, self.top)?;
+        push_removed(storage, builder, parents, self.top)?;
+        push_ended(storage, builder, parents, self.top)?;
         match self.reply {
             Reply::Returned(code) => push_register(storage, builder, self.next, 15, code),
             _ => Ok(()),
@@ -205,8 +213,14 @@ impl EndPlan {
 }
 
 // An empty subpool is parked under the name of each that a task of the subtree owns.
-fn park_owned(storage: &mut Storage, builder: &mut ChangeBuilder, top: u8) -> Result<(), AllocError>
+fn park_owned(
+    storage: &mut Storage,
+    builder: &mut ChangeBuilder,
+    parents: &Parents,
+    top: u8,
+) -> Result<(), AllocError>
     requires building { IsBuilding storage.old builder.old }
+    requires tree { AreParents parents.now.of (state_of storage.old).tasks.parents }
     requires none { parked_in storage.old builder.old ≡ no_subpools }
     ensures builds { Builds storage.old builder.old storage.new builder.new }
     ensures records { OnOk result (records_in storage.new builder.new ≡ records_in storage.old builder.old) }
@@ -221,7 +235,7 @@ fn park_owned(storage: &mut Storage, builder: &mut ChangeBuilder, top: u8) -> Re
     subpools_are_there();
     let mut place = SubpoolStorage::first_subpool_place();
     while let Some((subpool, next)) = storage.subpools.next_subpool(&storage.elements, place) {
-        park_one(storage, builder, top, subpool)?;
+        park_one(storage, builder, parents, top, subpool)?;
         place = next;
     }
     Ok(())
@@ -231,10 +245,12 @@ fn park_owned(storage: &mut Storage, builder: &mut ChangeBuilder, top: u8) -> Re
 fn park_one(
     storage: &mut Storage,
     builder: &mut ChangeBuilder,
+    parents: &Parents,
     top: u8,
     subpool: Subpool,
 ) -> Result<(), AllocError>
     requires building { IsBuilding storage.old builder.old }
+    requires tree { AreParents parents.now.of (state_of storage.old).tasks.parents }
     requires can { CanPark (parked_in storage.old builder.old) (owned_among (state_of storage.old) top (subpool ∷ [])) }
     ensures builds { Builds storage.old builder.old storage.new builder.new }
     ensures records { OnOk result (records_in storage.new builder.new ≡ records_in storage.old builder.old) }
@@ -247,7 +263,7 @@ fn park_one(
     ensures needless { length (owned_among (state_of storage.old) top (subpool ∷ []))
         ≤ storage.old.elements.spare → IsOk result }
 {
-    if is_ended(storage, top, subpool.owner) {
+    if is_ended(storage, parents, top, subpool.owner) {
         return builder.park(storage, subpool);
     }
     Ok(())
@@ -258,9 +274,11 @@ fn park_one(
 fn push_released(
     storage: &mut Storage,
     builder: &mut ChangeBuilder,
+    parents: &Parents,
     top: u8,
 ) -> Result<(), AllocError>
-    requires { IsBuilding storage.old builder.old }
+    requires building { IsBuilding storage.old builder.old }
+    requires tree { AreParents parents.now.of (state_of storage.old).tasks.parents }
     ensures builds { Builds storage.old builder.old storage.new builder.new }
     ensures ok { OnOk result (Pushes storage.old builder.old
         (released_records (state_of storage.old).subpools (ended_below (state_of storage.old).tasks.parents top))
@@ -270,7 +288,7 @@ fn push_released(
 {
     let mut place = SubpoolStorage::first_subpool_place();
     while let Some((subpool, next)) = storage.subpools.next_subpool(&storage.elements, place) {
-        push_emptied(storage, builder, top, subpool)?;
+        push_emptied(storage, builder, parents, top, subpool)?;
         place = next;
     }
     Ok(())
@@ -280,10 +298,12 @@ fn push_released(
 fn push_emptied(
     storage: &mut Storage,
     builder: &mut ChangeBuilder,
+    parents: &Parents,
     top: u8,
     subpool: Subpool,
 ) -> Result<(), AllocError>
-    requires { IsBuilding storage.old builder.old }
+    requires building { IsBuilding storage.old builder.old }
+    requires tree { AreParents parents.now.of (state_of storage.old).tasks.parents }
     ensures builds { Builds storage.old builder.old storage.new builder.new }
     ensures ok { OnOk result (Pushes storage.old builder.old
         (flat_map (emptying_records (state_of storage.old).subpools)
@@ -291,7 +311,7 @@ fn push_emptied(
     ensures needless { length (flat_map (emptying_records (state_of storage.old).subpools)
         (owned_among (state_of storage.old) top (subpool ∷ []))) ≤ storage.old.elements.spare → IsOk result }
 {
-    if is_ended(storage, top, subpool.owner) {
+    if is_ended(storage, parents, top, subpool.owner) {
         builder.push(storage, Record::Queues(QueuesRecord { subpool }))?;
         return push_extents(storage, builder, subpool);
     }
@@ -328,9 +348,11 @@ fn push_extents(
 fn push_unshared(
     storage: &mut Storage,
     builder: &mut ChangeBuilder,
+    parents: &Parents,
     top: u8,
 ) -> Result<(), AllocError>
-    requires { IsBuilding storage.old builder.old }
+    requires building { IsBuilding storage.old builder.old }
+    requires tree { AreParents parents.now.of (state_of storage.old).tasks.parents }
     ensures builds { Builds storage.old builder.old storage.new builder.new }
     ensures ok { OnOk result (Pushes storage.old builder.old
         (unshared_records (state_of storage.old).subpools (ended_below (state_of storage.old).tasks.parents top))
@@ -340,7 +362,7 @@ fn push_unshared(
 {
     let mut place = SubpoolStorage::first_subpool_place();
     while let Some((subpool, next)) = storage.subpools.next_subpool(&storage.elements, place) {
-        push_unseeing(storage, builder, subpool, next, top)?;
+        push_unseeing(storage, builder, parents, subpool, next, top)?;
         place = next;
     }
     Ok(())
@@ -350,11 +372,13 @@ fn push_unshared(
 fn push_unseeing(
     storage: &mut Storage,
     builder: &mut ChangeBuilder,
+    parents: &Parents,
     subpool: Subpool,
     behind: PoolPlace,
     top: u8,
 ) -> Result<(), AllocError>
     requires building { IsBuilding storage.old builder.old }
+    requires tree { AreParents parents.now.of (state_of storage.old).tasks.parents }
     requires place { IsSubpoolPlace storage.old.elements storage.old.subpools behind }
     requires number { number_at behind ≡ subpool.number }
     ensures builds { Builds storage.old builder.old storage.new builder.new }
@@ -369,7 +393,7 @@ fn push_unseeing(
         .subpools
         .next_sharer(&storage.elements, subpool, place)
     {
-        push_unseen(storage, builder, subpool, top, task)?;
+        push_unseen(storage, builder, parents, subpool, top, task)?;
         place = next;
     }
     Ok(())
@@ -379,11 +403,13 @@ fn push_unseeing(
 fn push_unseen(
     storage: &mut Storage,
     builder: &mut ChangeBuilder,
+    parents: &Parents,
     subpool: Subpool,
     top: u8,
     task: u8,
 ) -> Result<(), AllocError>
-    requires { IsBuilding storage.old builder.old }
+    requires building { IsBuilding storage.old builder.old }
+    requires tree { AreParents parents.now.of (state_of storage.old).tasks.parents }
     ensures builds { Builds storage.old builder.old storage.new builder.new }
     ensures ok { OnOk result (Pushes storage.old builder.old
         (map (unshared subpool) (unseeing_among (state_of storage.old) top subpool (task ∷ [])))
@@ -391,7 +417,7 @@ fn push_unseen(
     ensures needless { length (map (unshared subpool) (unseeing_among (state_of storage.old) top subpool (task ∷ [])))
         ≤ storage.old.elements.spare → IsOk result }
 {
-    if is_ended(storage, top, task) || is_ended(storage, top, subpool.owner) {
+    if is_ended(storage, parents, top, task) || is_ended(storage, parents, top, subpool.owner) {
         let unseen = Record::Sharer(SharerRecord {
             subpool,
             task,
@@ -406,9 +432,11 @@ fn push_unseen(
 fn push_removed(
     storage: &mut Storage,
     builder: &mut ChangeBuilder,
+    parents: &Parents,
     top: u8,
 ) -> Result<(), AllocError>
-    requires { IsBuilding storage.old builder.old }
+    requires building { IsBuilding storage.old builder.old }
+    requires tree { AreParents parents.now.of (state_of storage.old).tasks.parents }
     ensures builds { Builds storage.old builder.old storage.new builder.new }
     ensures ok { OnOk result (Pushes storage.old builder.old
         (removed_records (state_of storage.old).subpools (ended_below (state_of storage.old).tasks.parents top))
@@ -418,7 +446,7 @@ fn push_removed(
 {
     let mut place = SubpoolStorage::first_subpool_place();
     while let Some((subpool, next)) = storage.subpools.next_subpool(&storage.elements, place) {
-        push_gone(storage, builder, top, subpool)?;
+        push_gone(storage, builder, parents, top, subpool)?;
         place = next;
     }
     Ok(())
@@ -428,17 +456,19 @@ fn push_removed(
 fn push_gone(
     storage: &mut Storage,
     builder: &mut ChangeBuilder,
+    parents: &Parents,
     top: u8,
     subpool: Subpool,
 ) -> Result<(), AllocError>
-    requires { IsBuilding storage.old builder.old }
+    requires building { IsBuilding storage.old builder.old }
+    requires tree { AreParents parents.now.of (state_of storage.old).tasks.parents }
     ensures builds { Builds storage.old builder.old storage.new builder.new }
     ensures ok { OnOk result (Pushes storage.old builder.old
         (map removed (owned_among (state_of storage.old) top (subpool ∷ []))) storage.new builder.new) }
     ensures needless { length (map removed (owned_among (state_of storage.old) top (subpool ∷ [])))
         ≤ storage.old.elements.spare → IsOk result }
 {
-    if is_ended(storage, top, subpool.owner) {
+    if is_ended(storage, parents, top, subpool.owner) {
         let gone = Record::Own(OwnRecord {
             subpool,
             present: false,

@@ -6,11 +6,13 @@ ghost use Rattle.storage_exchange.specs.Storage.{state_of, Stand};
 ghost use Rattle.storage_swap.specs.Builder.{IsBuilding, Builds, Pushes};
 ghost use Rattle.task_actions.specs.Ending.{cleared_quarter, is_below_by, ended_below, ended_level, ended_records};
 ghost use Rattle.std.specs.List.{flat_map};
+ghost use Rattle.task_plans.specs.Parents.{AreParents};
 
 use std::alloc::AllocError;
 use storage_changes::{Record, RegistersRecord, TaskRecord};
 use storage_exchange::Storage;
 use storage_swap::ChangeBuilder;
+use task_tree::laws::trees_stand;
 
 /// The most steps from a task of the 64 to the first.
 const MOST_STEPS: u8 = 63;
@@ -18,14 +20,50 @@ const MOST_STEPS: u8 = 63;
 /// Past the last task.
 const TASKS_END: u8 = 65;
 
+/// What stands for no task.
+const NOBODY: u8 = 255;
+
+/// The parent of each task, read once: 0 of the first, and `NOBODY` where there is no such task.
+#[derive(Clone, Copy)]
+pub(crate) struct Parents {
+    of: [u8; 65],
+}
+
+/// The parents of all tasks.
+pub(crate) fn read_parents(storage: &Storage) -> Parents
+    requires stands { Stand storage.now }
+    ensures { AreParents result.of (state_of storage.now).tasks.parents }
+{
+    trees_stand();
+    let mut of = [NOBODY; 65];
+    for task in 1..TASKS_END {
+        let parent = storage.tasks.parent_of(&storage.elements, task);
+        of[usize::from(task)] = parent.unwrap_or(NOBODY);
+    }
+    Parents { of }
+}
+
+// The parent of a task; `None` where there is no such task.
+fn parent_in(storage: &Storage, parents: &Parents, task: u8) -> Option<u8>
+    requires { AreParents parents.now.of (state_of storage.now).tasks.parents }
+    ensures { result ≡ (state_of storage.now).tasks.parents task }
+{
+    let _tasks = &storage.tasks;
+    if task >= TASKS_END {
+        return None;
+    }
+    let parent = parents.of[usize::from(task)];
+    if parent == NOBODY { None } else { Some(parent) }
+}
+
 // Whether the task is just so many steps below the other.
-fn is_below_by(storage: &Storage, top: u8, steps: u8, task: u8) -> bool
-    requires { Stand storage.now }
+fn is_below_by(storage: &Storage, parents: &Parents, top: u8, steps: u8, task: u8) -> bool
+    requires { AreParents parents.now.of (state_of storage.now).tasks.parents }
     ensures { result ≡ is_below_by (state_of storage.now).tasks.parents top steps task }
 {
     let mut above = task;
     for _ in 0..steps {
-        match storage.tasks.parent_of(&storage.elements, above) {
+        match parent_in(storage, parents, above) {
             Some(parent) => above = parent,
             None => return false,
         }
@@ -34,8 +72,8 @@ fn is_below_by(storage: &Storage, top: u8, steps: u8, task: u8) -> bool
 }
 
 /// Whether the task is among those of the subtree.
-pub(crate) fn is_ended(storage: &Storage, top: u8, task: u8) -> bool
-    requires { Stand storage.now }
+pub(crate) fn is_ended(storage: &Storage, parents: &Parents, top: u8, task: u8) -> bool
+    requires { AreParents parents.now.of (state_of storage.now).tasks.parents }
     ensures { result ≡ is_in (ended_below (state_of storage.now).tasks.parents top) task }
 {
     if task == 0 || task >= TASKS_END {
@@ -46,7 +84,7 @@ pub(crate) fn is_ended(storage: &Storage, top: u8, task: u8) -> bool
         if above == top {
             return true;
         }
-        match storage.tasks.parent_of(&storage.elements, above) {
+        match parent_in(storage, parents, above) {
             Some(parent) => above = parent,
             None => return false,
         }
@@ -107,11 +145,13 @@ fn push_ended_task(
 fn push_ended_at(
     storage: &mut Storage,
     builder: &mut ChangeBuilder,
+    parents: &Parents,
     top: u8,
     steps: u8,
     task: u8,
 ) -> Result<(), AllocError>
-    requires { IsBuilding storage.old builder.old }
+    requires building { IsBuilding storage.old builder.old }
+    requires tree { AreParents parents.now.of (state_of storage.old).tasks.parents }
     ensures builds { Builds storage.old builder.old storage.new builder.new }
     ensures ok { OnOk result (Pushes storage.old builder.old
         (flat_map (ended_records (state_of storage.old))
@@ -120,7 +160,7 @@ fn push_ended_at(
         (filter (is_below_by (state_of storage.old).tasks.parents top steps) (task ∷ [])))
         ≤ storage.old.elements.spare → IsOk result }
 {
-    if is_below_by(storage, top, steps, task) {
+    if is_below_by(storage, parents, top, steps, task) {
         return push_ended_task(storage, builder, task);
     }
     Ok(())
@@ -130,10 +170,12 @@ fn push_ended_at(
 fn push_ended_level(
     storage: &mut Storage,
     builder: &mut ChangeBuilder,
+    parents: &Parents,
     top: u8,
     steps: u8,
 ) -> Result<(), AllocError>
-    requires { IsBuilding storage.old builder.old }
+    requires building { IsBuilding storage.old builder.old }
+    requires tree { AreParents parents.now.of (state_of storage.old).tasks.parents }
     ensures builds { Builds storage.old builder.old storage.new builder.new }
     ensures ok { OnOk result (Pushes storage.old builder.old
         (flat_map (ended_records (state_of storage.old))
@@ -142,7 +184,7 @@ fn push_ended_level(
         (ended_level (state_of storage.old).tasks.parents top steps)) ≤ storage.old.elements.spare → IsOk result }
 {
     for task in 1..TASKS_END {
-        push_ended_at(storage, builder, top, steps, task)?;
+        push_ended_at(storage, builder, parents, top, steps, task)?;
     }
     Ok(())
 }
@@ -151,9 +193,11 @@ fn push_ended_level(
 pub(crate) fn push_ended(
     storage: &mut Storage,
     builder: &mut ChangeBuilder,
+    parents: &Parents,
     top: u8,
 ) -> Result<(), AllocError>
-    requires { IsBuilding storage.old builder.old }
+    requires building { IsBuilding storage.old builder.old }
+    requires tree { AreParents parents.now.of (state_of storage.old).tasks.parents }
     ensures builds { Builds storage.old builder.old storage.new builder.new }
     ensures ok { OnOk result (Pushes storage.old builder.old
         (flat_map (ended_records (state_of storage.old))
@@ -162,7 +206,7 @@ pub(crate) fn push_ended(
         (ended_below (state_of storage.old).tasks.parents top)) ≤ storage.old.elements.spare → IsOk result }
 {
     for done in 0..MOST_STEPS {
-        push_ended_level(storage, builder, top, MOST_STEPS - done)?;
+        push_ended_level(storage, builder, parents, top, MOST_STEPS - done)?;
     }
-    push_ended_level(storage, builder, top, 0)
+    push_ended_level(storage, builder, parents, top, 0)
 }

@@ -72,6 +72,7 @@ fn first_words(task: u32, quarter: u32, parent: u32) -> [u32; 7]
 pub(crate) fn add_task(rows: &mut RowTable, elements: &mut Elements, task: u32, parent: u32)
     requires table { IsTable elements.old rows.old }
     requires absent { (k : ℕ) → k < 4 → row elements.old rows.old task k ≡ None }
+    requires range { task < 256 }
     requires room { 4 ≤ elements.old.spare }
     ensures table { IsTable elements.new rows.new }
     ensures rows { (a b : ℕ) → words_at (row elements.new rows.new) a b

@@ -1,3 +1,4 @@
 pub mod Asked
 pub mod Obeys
 pub mod Reached
+pub mod Served

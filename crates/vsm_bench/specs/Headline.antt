@@ -3,7 +3,7 @@ use Rattle.std.specs.Prelude.{◌≡◌, true}
 use Rattle.vsm_model.specs.declared.limits.Settings.{Settings}
 use Rattle.vsm_model.specs.Regions.{settings_valid}
 use Rattle.vsm_model.specs.Names.{first_named_state}
-use Rattle.vsm_model.specs.Standing.{StandsAlone, StaysWithin, GoesForwardAgain}
+use Rattle.vsm_model.specs.Standing.{StandsAlone, StaysWithin, GoesForwardAgain, PlainKeeps, KeepsPlain}
 use Rattle.script_run.specs.Machine.{statement_step}
 
 -- The present state and the replies that stand are those of the standing statements run alone on the plain machine, and
@@ -21,3 +21,11 @@ StaysWithinLimit = (settings : Settings) → settings_valid settings ≡ true
 abbrev pub ForwardGivesBack : Type 0
 ForwardGivesBack = (settings : Settings) → settings_valid settings ≡ true
     → GoesForwardAgain (statement_step settings) settings.history
+
+-- With ample memory each call has an answer, and leaves a bench, that the relation of one call allows,
+abbrev pub AnswersAreAllowed : Type 0
+AnswersAreAllowed = (settings : Settings) → PlainKeeps (statement_step settings) settings.history
+
+-- and it allows no others, but for the refusal for want of memory.
+abbrev pub NoOthersAreAllowed : Type 0
+NoOthersAreAllowed = (settings : Settings) → KeepsPlain (statement_step settings) settings.history

@@ -2,3 +2,4 @@ pub mod Headline
 pub mod Reached
 pub mod Options
 pub mod Command
+pub mod Served

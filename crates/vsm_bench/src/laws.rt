@@ -2,6 +2,8 @@
 ghost use Rattle.macro_reader.specs.Written.{spelled, stored_in, HasBytes};
 ghost use Rattle.macro_reader.specs.Requests.{act, act_in, AskedHasBytes};
 ghost use Rattle.vsm_bench.specs.Headline.{RunsAlone, StaysWithinLimit, ForwardGivesBack};
+ghost use Rattle.vsm_bench.specs.Headline.{AnswersAreAllowed, NoOthersAreAllowed};
+ghost use Rattle.vsm_bench.specs.Served.{AcceptedIsItsService, RefusedHasItsCause};
 ghost use Rattle.vsm_bench.specs.Reached.{AcceptedLeavesWellFormed, ReachedIsWellFormed, BenchIsWellFormed};
 
 use macro_reader::{Content, Statement};
@@ -15,6 +17,14 @@ pub fn standing()
     ensures alone { RunsAlone }
     ensures limit { StaysWithinLimit }
     ensures forward { ForwardGivesBack }
+    ensures allowed { AnswersAreAllowed }
+    ensures only { NoOthersAreAllowed }
+{}
+
+/// A statement is its service.
+pub fn statements_are_served()
+    ensures accepted { AcceptedIsItsService }
+    ensures refused { RefusedHasItsCause }
 {}
 
 /// Under valid settings, an accepted statement leaves a well-formed state well-formed, if it can be written and what it

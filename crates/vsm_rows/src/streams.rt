@@ -214,6 +214,92 @@ fn a_write_error_has_its_text_and_status(rt: HostRuntime) -> Result<(), Fail> {
     Ok(())
 }
 
+/// A reader that gives one byte a call, fails once behind so many, and then goes on.
+#[derive(Drop)]
+struct StumblingReader<'a> {
+    bytes: &'a [u8],
+    until: usize,
+    kind: io::ErrorKind,
+}
+
+impl<'a> Read for StumblingReader<'a> {
+    fn read(&mut self, buf: &mut [u8]) -> io::Result<usize> {
+        if buf.is_empty() {
+            return Ok(0);
+        }
+        if self.until == 0 {
+            self.until = usize::MAX;
+            return Err(io::Error::from(self.kind));
+        }
+        self.until -= 1;
+        let Some((first, rest)) = self.bytes.split_first() else {
+            return Ok(0);
+        };
+        buf[0] = *first;
+        self.bytes = rest;
+        Ok(1)
+    }
+}
+
+/// A writer that takes one byte a call, fails once behind so many, and then goes on.
+#[derive(Drop)]
+struct StumblingWriter {
+    bytes: Vec<u8>,
+    until: usize,
+    kind: io::ErrorKind,
+}
+
+impl Write for StumblingWriter {
+    fn write(&mut self, buf: &[u8]) -> io::Result<usize> {
+        if buf.is_empty() {
+            return Ok(0);
+        }
+        if self.until == 0 {
+            self.until = usize::MAX;
+            return Err(io::Error::from(self.kind));
+        }
+        self.until -= 1;
+        self.bytes.push(buf[0])?;
+        Ok(1)
+    }
+
+    fn flush(&mut self) -> io::Result<()> {
+        Ok(())
+    }
+}
+
+#[test]
+fn a_read_that_fails_once_ends_the_run(rt: HostRuntime) -> Result<(), Fail> {
+    for kind in [io::ErrorKind::Other, io::ErrorKind::Interrupted] {
+        let mut reader = StumblingReader {
+            bytes: SCRIPT,
+            until: 40,
+            kind,
+        };
+        let mut output = Vec::new(rt.alloc());
+        let totals = run(rt.alloc(), &mut reader, &mut output, DEFAULT_SETTINGS);
+        assert!(rt; totals == Err(RunFault::Read));
+        assert_eq!(rt; Some(output.as_slice()), OUTPUT.get(..35));
+    }
+    Ok(())
+}
+
+#[test]
+fn a_write_that_fails_once_ends_the_run(rt: HostRuntime) -> Result<(), Fail> {
+    for kind in [io::ErrorKind::Other, io::ErrorKind::Interrupted] {
+        let mut reader = SCRIPT;
+        let mut writer = StumblingWriter {
+            bytes: Vec::new(rt.alloc()),
+            until: 40,
+            kind,
+        };
+        let totals = run(rt.alloc(), &mut reader, &mut writer, DEFAULT_SETTINGS);
+        assert!(rt; totals == Err(RunFault::Write));
+        assert_eq!(rt; Some(writer.bytes.as_slice()), OUTPUT.get(..40));
+    }
+    Ok(())
+}
+
 /// A reader that gives one byte a call, always the same, and has no end.
 #[derive(Drop)]
 struct Endless {

@@ -1,6 +1,6 @@
 use Rattle.std.proofs.Common.{List, sym, ap, ◌∙◌, length, arith}
 use Rattle.std.specs.Prelude.{slice_get}
-use Rattle.run_set.specs.declared.run.Run.{Run}
+use Rattle.run_set.specs.Runs.{Run}
 use Rattle.cell_plans.specs.Areas.{areas_left}
 use Rattle.cell_plans.proofs.AreaWalks.{at_first, at_later, at_none}
 use Rattle.cell_plans.proofs.areas.area_at.Goals as goal

@@ -1,7 +1,6 @@
 use Rattle.std.proofs.Common.{◌≡◌, ◌<◌, ◌≤◌, ℕ, true, false, List, take, sym, ap, ◌∙◌, subst, arith, inl, inr}
 use Rattle.std.proofs.lemmas.Bool.{cases_lt}
-use Rattle.run_set.specs.declared.run.Run.{Run}
-use Rattle.run_set.specs.Runs.{contains, inside}
+use Rattle.run_set.specs.Runs.{Run, contains, inside}
 use Rattle.storage_exchange.specs.Storage.{state_of}
 use Rattle.cell_plans.specs.Areas.{areas_left, first_areas}
 use Rattle.cell_plans.proofs.AreaWalks.{over_one, in_later, in_first, none_taken, none_is_left}

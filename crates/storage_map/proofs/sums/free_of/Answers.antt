@@ -1,5 +1,5 @@
 use Rattle.std.proofs.Common.{ℕ, drop, sym, ap, subst, arith}
-use Rattle.run_set.specs.declared.run.Run.{Run}
+use Rattle.run_set.specs.Runs.{Run}
 use Rattle.run_set.specs.RunSet.{place_index}
 use Rattle.subpool_storage.specs.Extents.{free_areas}
 use Rattle.map_laws.specs.Totals.{sum_of}

@@ -2,7 +2,7 @@ use Rattle.std.proofs.Common.{◌≡◌, ◌<◌, List, length, Some, None, sym,
 use Rattle.std.specs.Prelude.{slice_get}
 use Rattle.vsm_elements.specs.Chain.{owned}
 use Rattle.vsm_elements.proofs.OwnerLemmas.{calls_follow}
-use Rattle.run_set.specs.declared.run.Run.{Run}
+use Rattle.run_set.specs.Runs.{Run}
 use Rattle.run_set.specs.RunSet.{place_index}
 use Rattle.descriptor_queue.specs.Extents.{extents}
 use Rattle.descriptor_queue.proofs.PageLemmas.{extent_places_stay}

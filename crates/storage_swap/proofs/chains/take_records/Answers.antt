@@ -1,7 +1,7 @@
 use Rattle.std.proofs.Common.{◌++◌, List, [], length, ap, ◌∙◌, arith}
 use Rattle.vsm_elements.specs.Chain.{owned}
 use Rattle.vsm_elements.proofs.OwnerLemmas.{calls_follow}
-use Rattle.run_set.specs.declared.run.Run.{Run}
+use Rattle.run_set.specs.Runs.{Run}
 use Rattle.descriptor_queue.specs.Extents.{extents, owned as owned_extents}
 use Rattle.storage_changes.specs.Changes.{unassigned_records}
 use Rattle.storage_swap.specs.Beside.{records_of}

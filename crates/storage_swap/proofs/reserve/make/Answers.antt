@@ -1,5 +1,5 @@
 use Rattle.std.proofs.Common.{ℕ, ◌+◌, List, ◌++◌, length, ap, sym, ◌∙◌, arith}
-use Rattle.run_set.specs.declared.run.Run.{Run}
+use Rattle.run_set.specs.Runs.{Run}
 use Rattle.subpool_storage.specs.SubpoolStorage.{subpools_of}
 use Rattle.storage_changes.specs.Changes.{change_from}
 use Rattle.storage_swap.specs.Reserve.{emptying}

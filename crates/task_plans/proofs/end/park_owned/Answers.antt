@@ -7,6 +7,7 @@ use Rattle.task_actions.specs.Ending.{ended_below}
 use Rattle.task_plans.specs.TaskPlans.{owned_among, parks_all, CanPark}
 use Rattle.task_plans.proofs.OwnedNames.{owned_are_names}
 use Rattle.task_plans.proofs.Parks.{names_can, parks_none, parks_done, parks_can, parks_more, parks_less}
+use Rattle.task_plans.proofs.ParentLemmas.{still}
 use Rattle.task_plans.proofs.end.park_owned.Goals as goal
 
 pub loop-subpool-init : goal.loop-subpool-init
@@ -54,3 +55,6 @@ loop-subpool-preserved c =
 
 pub returns-clause-parked : goal.returns-clause-parked
 returns-clause-parked c = (parks_done c.args.top c.args.storage.now c.args.builder.now c.loop-subpool.storage c.loop-subpool.builder c.loop-subpool.place c.loop-subpool.invariant c.in_default.ensures.none c.requires.none).0
+
+pub park_one-requires-clause-tree : goal.park_one-requires-clause-tree
+park_one-requires-clause-tree c = still c.args.parents.now.of _ _ (c.loop-subpool.invariant.builds.keeps.shows) c.requires.tree

@@ -8,6 +8,7 @@ use Rattle.storage_changes.specs.declared.record.Record.{Record}
 use Rattle.storage_changes.specs.State.{StorageState}
 use Rattle.storage_exchange.specs.Storage.{state_of}
 use Rattle.task_plans.proofs.Walks.{walk_more, walk_less, mapped_first}
+use Rattle.task_plans.proofs.ParentLemmas.{still}
 use Rattle.task_plans.proofs.end.push_removed.Goals as goal
 
 pub loop-subpool-smaller : goal.loop-subpool-smaller
@@ -33,3 +34,6 @@ loop-subpool-preserved c =
     let added : StorageState → List Record = λ m. map removed (owned_among m top (x ∷ [])) in
     let its : added (state_of t) ≡ h (state_of p) (x ∷ []) = ap added w.leads.builds.keeps.shows in
     walk_more (h (state_of p)) p c.args.builder.now t c.loop-subpool.builder c.loop-subpool.place w (let m = state_of p in mapped_first (λ q. is_in (ended_below m.tasks.parents top) q.owner) removed) c.in-Some.next x c.in-Some.ensures.next (added (state_of t)) its c.push_gone.new.storage c.push_gone.new.builder c.in-Some.ensures.place c.push_gone.ensures.builds c.in_ok-push_gone.ensures.ok
+
+pub push_gone-requires-clause-tree : goal.push_gone-requires-clause-tree
+push_gone-requires-clause-tree c = still c.args.parents.now.of _ _ (c.loop-subpool.invariant.leads.builds.keeps.shows) c.requires.tree

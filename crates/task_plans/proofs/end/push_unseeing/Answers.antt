@@ -8,6 +8,7 @@ use Rattle.storage_exchange.specs.Storage.{state_of}
 use Rattle.task_actions.specs.Ending.{ended_below, unshared}
 use Rattle.task_plans.specs.TaskPlans.{unseeing_among}
 use Rattle.task_plans.proofs.Walks.{sharers_more, sharers_less, mapped_first}
+use Rattle.task_plans.proofs.ParentLemmas.{still}
 use Rattle.task_plans.proofs.end.push_unseeing.Goals as goal
 
 pub loop-task-smaller : goal.loop-task-smaller
@@ -39,3 +40,6 @@ loop-task-preserved c =
     let ended = ended_below (state_of p).tasks.parents top in
     sharers_more (h (state_of p)) q all p c.args.builder.now t c.loop-task.builder c.loop-task.place w (mapped_first (λ k. is_in ended k || is_in ended q.owner) (unshared q)) c.in-Some.next x c.in-Some.ensures.next (h (state_of t) (x ∷ [])) its
     c.push_unseen.new.storage c.push_unseen.new.builder c.in-Some.ensures.place c.push_unseen.ensures.builds c.in_ok-push_unseen.ensures.ok
+
+pub push_unseen-requires-clause-tree : goal.push_unseen-requires-clause-tree
+push_unseen-requires-clause-tree c = still c.args.parents.now.of _ _ (c.loop-task.invariant.leads.builds.keeps.shows) c.requires.tree

@@ -12,7 +12,7 @@ use Rattle.task_plans.proofs.ended.push_ended.Goals as goal
 
 pub loop-done-init : goal.loop-done-init
 unfolding ended_below
-loop-done-init c = leads-none c.args.storage.now c.args.builder.now (flat_map (ended_records (state_of c.args.storage.now)) (ended_below (state_of c.args.storage.now).tasks.parents c.args.top)) c.requires
+loop-done-init c = leads-none c.args.storage.now c.args.builder.now (flat_map (ended_records (state_of c.args.storage.now)) (ended_below (state_of c.args.storage.now).tasks.parents c.args.top)) c.requires.building
 
 pub returns-in_err-push_ended_level-clause-builds : goal.returns-in_err-push_ended_level-clause-builds
 returns-in_err-push_ended_level-clause-builds c = builds-follow _ _ _ _ _ _ c.loop-done.invariant.builds c.push_ended_level.ensures.builds

@@ -8,6 +8,7 @@ use Rattle.storage_swap.proofs.BuilderLemmas.{builds-follow, leads-more, leads-r
 use Rattle.task_actions.specs.Ending.{is_below_by, ended_records}
 use Rattle.task_plans.proofs.Rests.{run_next}
 use Rattle.task_plans.proofs.Walks.{passed_first}
+use Rattle.task_plans.proofs.ParentLemmas.{still}
 use Rattle.task_plans.proofs.ended.push_ended_level.Goals as goal
 
 pub returns-in_err-push_ended_at-clause-builds : goal.returns-in_err-push_ended_at-clause-builds
@@ -41,3 +42,6 @@ loop-task-preserved c =
     ap (each m) (run_next task 65 c.loop-task-test.true) ∙ passed_first (is_below_by m.tasks.parents c.args.top c.args.steps) (ended_records m) task later
     ∙ ap (λ (x : StorageState). each x (task ∷ []) ++ each m later) (sym w.builds.keeps.shows) in
     leads-more _ _ _ _ _ _ w _ _ (each (state_of t) (task ∷ [])) (each m later) is c.push_ended_at.ensures.builds c.in_ok-push_ended_at.ensures.ok
+
+pub push_ended_at-requires-clause-tree : goal.push_ended_at-requires-clause-tree
+push_ended_at-requires-clause-tree c = still c.args.parents.now.of _ _ (c.loop-task.invariant.builds.keeps.shows) c.requires.tree

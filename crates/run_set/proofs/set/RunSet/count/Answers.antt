@@ -5,4 +5,4 @@ use Rattle.run_set.proofs.set.RunSet.count.Goals as goal
 
 pub returns : goal.returns
 unfolding runs
-returns c s = sym (counted-runs s c.args.self.now.chain)
+returns c s = sym (counted-runs s c.args.self.now.tree)

@@ -13,6 +13,7 @@ use Rattle.task_actions.specs.Ending.{ended_below, ended_records, removed_record
 use Rattle.task_plans.specs.TaskPlans.{end_registers}
 use Rattle.task_plans.proofs.RecordCounts.{no_register}
 use Rattle.task_plans.proofs.Walks.{ok_follows}
+use Rattle.task_plans.proofs.ParentLemmas.{still}
 use Rattle.task_plans.proofs.end.EndPlan.push_rest.Goals as goal
 
 pub returns-in_err-push_ended-clause-builds : goal.returns-in_err-push_ended-clause-builds
@@ -67,3 +68,9 @@ returns-in_default c =
       ok = subst P (sym (append-nil base) ∙ sym (ap (λ rows. base ++ register_records (with_turn m next) rows) (no_register c.args.self.reply c.in_default.not-Returned))) three;
       needless = λ room. refl;
     }
+
+pub push_removed-requires-clause-tree : goal.push_removed-requires-clause-tree
+push_removed-requires-clause-tree c = still c.args.parents.now.of _ _ (c.push_unshared.ensures.builds.keeps.shows) c.requires.tree
+
+pub push_ended-requires-clause-tree : goal.push_ended-requires-clause-tree
+push_ended-requires-clause-tree c = still c.args.parents.now.of _ _ (c.push_removed.ensures.builds.keeps.shows ∙ c.push_unshared.ensures.builds.keeps.shows) c.requires.tree

@@ -1,0 +1,12 @@
+pub mod Lists
+pub mod ShapeLemmas
+pub mod TreeLemmas
+pub mod OrderLemmas
+pub mod MergeLemmas
+pub mod SplitLemmas
+pub mod FindLemmas
+pub mod SetLemmas
+pub mod FromLemmas
+pub mod UptoLemmas
+pub mod CallLemmas
+pub mod DiscardLemmas

@@ -1,0 +1,4 @@
+pub mod Items
+pub mod Shape
+pub mod Trees
+pub mod Props

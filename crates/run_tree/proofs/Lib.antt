@@ -1,0 +1,12 @@
+pub mod Lists
+pub mod ShapeLemmas
+pub mod TreeLemmas
+pub mod MergeLemmas
+pub mod SplitLemmas
+pub mod WriteLemmas
+pub mod ItemLemmas
+pub mod CallLemmas
+pub mod DiscardLemmas
+pub mod SearchLemmas
+pub mod CutOutLemmas
+pub mod PutLemmas

@@ -1,0 +1,4 @@
+pub mod Shape
+pub mod Trees
+pub mod Searches
+pub mod Props

@@ -1,0 +1,9 @@
+//! Runs of numbers as a list in a balanced search tree of elements: found, put in and taken out by their place.
+#![tactic(auto)]
+
+mod run;
+mod shape;
+mod tree;
+
+pub use run::Run;
+pub use tree::{Found, RunTree};

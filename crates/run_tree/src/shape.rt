@@ -1,0 +1,129 @@
+ghost use Rattle.std.specs.Prelude.{◌≡◌, ◌+◌, ◌<◌, ◌∷◌, ◌++◌, IsSome, []};
+ghost use Rattle.vsm_elements.specs.Store.{Store, at, Distinct};
+ghost use Rattle.run_tree.specs.Shape.{longest, plain, paged, room_of};
+
+use crate::run::Run;
+use crate::tree::RunTree;
+use vsm_elements::{Element, Elements, Id};
+
+/// A node: its run, its element, and the trees before and behind it.
+#[derive(Clone, Copy, Debug, PartialEq, Eq)]
+pub(crate) struct Node {
+    pub(crate) left: RunTree,
+    pub(crate) id: Id,
+    pub(crate) run: Run,
+    pub(crate) right: RunTree,
+}
+
+// How much room the longest run has, from its first number and from its first number on a page.
+#[derive(Clone, Copy, Debug, PartialEq, Eq)]
+pub(crate) struct Rooms {
+    pub(crate) plain: u32,
+    pub(crate) paged: u32,
+}
+
+// What a run has from its first number on a page.
+pub(crate) fn paged_room(run: Run) -> u32
+    ensures { result ≡ paged run }
+{
+    let start = u64::from(run.start);
+    let end = start + u64::from(run.len);
+    let page = (start + 511) / 512 * 512;
+    end.saturating_sub(page) as u32
+}
+
+// What a run has from its first number, or from its first number on a page.
+pub(crate) fn room(run: Run, paged: bool) -> u32
+    ensures { result ≡ room_of paged run }
+{
+    if paged { paged_room(run) } else { run.len }
+}
+
+impl RunTree {
+    ghost use Rattle.run_tree.specs.Trees.{runs, owned, IsTree, Opens, Joins};
+
+    // The tree without runs.
+    pub(crate) fn empty() -> RunTree
+        ensures tree { (s : Store) → IsTree s result }
+        ensures runs { (s : Store) → runs s result ≡ [] }
+        ensures owned { (s : Store) → owned s result ≡ [] }
+        ensures root { result.root ≡ 0 }
+        ensures count { result.count ≡ 0 }
+    {
+        RunTree { root: 0, count: 0 }
+    }
+
+    // The node at the top.
+    pub(crate) fn open(self, elements: &Elements) -> Node
+        requires tree { IsTree elements.now self }
+        requires some { 0 < self.count }
+        ensures { Opens elements.now self result }
+    {
+        let element = elements.get(self.root);
+        let words = element.words;
+        Node {
+            left: RunTree {
+                root: element.next,
+                count: words[1],
+            },
+            id: self.root,
+            run: Run {
+                start: words[2],
+                len: words[3],
+            },
+            right: RunTree {
+                root: words[0],
+                count: self.count - 1 - words[1],
+            },
+        }
+    }
+
+    // The most room of the tree's runs.
+    pub(crate) fn rooms(self, elements: &Elements) -> Rooms
+        requires tree { IsTree elements.now self }
+        ensures plain { result.plain ≡ longest plain (runs elements.now self) }
+        ensures paged { result.paged ≡ longest paged (runs elements.now self) }
+    {
+        if self.count == 0 {
+            return Rooms { plain: 0, paged: 0 };
+        }
+        let words = elements.get(self.root).words;
+        Rooms {
+            plain: words[4],
+            paged: words[5],
+        }
+    }
+
+    // A live element becomes a node over two trees.
+    pub(crate) fn join(
+        elements: &mut Elements,
+        left: RunTree,
+        id: Id,
+        run: Run,
+        right: RunTree,
+    ) -> RunTree
+        requires left { IsTree elements.old left }
+        requires right { IsTree elements.old right }
+        requires distinct { Distinct (owned elements.old left ++ id ∷ owned elements.old right) }
+        requires live { IsSome (at elements.old id) }
+        ensures { Joins elements.old elements.new left id run right result }
+    {
+        elements.ids_in_range();
+        let before = left.rooms(elements);
+        let behind = right.rooms(elements);
+        let plain = before.plain.max(run.len).max(behind.plain);
+        let paged = before.paged.max(paged_room(run)).max(behind.paged);
+        let words = [right.root, left.count, run.start, run.len, plain, paged, 0];
+        elements.set(
+            id,
+            Element {
+                next: left.root,
+                words,
+            },
+        );
+        RunTree {
+            root: id,
+            count: left.count + right.count + 1,
+        }
+    }
+}

@@ -1,0 +1,341 @@
+ghost use Rattle.std.specs.Prelude.{◌≡◌, ℕ, ◌+◌, ◌<◌, ◌≤◌, ◌++◌, ◌∷◌, [], Some, IsSome, false, Bool, slice_get, slice_set, take, drop, length};
+ghost use Rattle.vsm_elements.specs.Store.{Store, Distinct, at, among};
+ghost use Rattle.vsm_elements.specs.Ownership.{Leaves};
+ghost use Rattle.run_tree.specs.Shape.{longest, room_of};
+
+use crate::run::Run;
+use crate::shape::room;
+use vsm_elements::{Element, Elements, Id};
+
+/// The head of a list of runs, kept in elements as a search tree.
+#[derive(Clone, Copy, Debug, PartialEq, Eq)]
+pub struct RunTree {
+    pub root: Id,
+    pub count: u32,
+}
+
+/// Where a search came to, with the run before the place and the one at it, where there are such.
+#[derive(Clone, Copy, Debug, PartialEq, Eq)]
+pub struct Found {
+    pub index: u32,
+    pub before: Run,
+    pub behind: Run,
+}
+
+// An element of a higher rank stands above one of a lower rank. The ranks are the ids, well mixed: so trees are as
+// flat as those of random ranks. Nothing is proved of that.
+fn rank(id: Id) -> u32 {
+    let a = (id ^ (id >> 16)).wrapping_mul(0x7feb_352d);
+    let b = (a ^ (a >> 15)).wrapping_mul(0x846c_a68b);
+    b ^ (b >> 16)
+}
+
+impl RunTree {
+    ghost use Rattle.run_tree.specs.Trees.{runs, owned, IsTree, Merges, Splits, Puts, CutsOut, Writes};
+    ghost use Rattle.run_tree.specs.Searches.{SeeksTo, FindsRuns, RoomsTo, IsMost};
+
+    // The runs of both, those of the other tree behind.
+    pub(crate) fn merge(self, elements: &mut Elements, other: RunTree) -> RunTree
+        requires first { IsTree elements.old self }
+        requires second { IsTree elements.old other }
+        requires distinct { Distinct (owned elements.old self ++ owned elements.old other) }
+        ensures { Merges elements.old elements.new self other result }
+    {
+        if self.count == 0 {
+            return other;
+        }
+        if other.count == 0 {
+            return self;
+        }
+        if rank(self.root) > rank(other.root) {
+            let node = self.open(elements);
+            let rest = node.right.merge(elements, other);
+            RunTree::join(elements, node.left, node.id, node.run, rest)
+        } else {
+            let node = other.open(elements);
+            let front = self.merge(elements, node.left);
+            RunTree::join(elements, front, node.id, node.run, node.right)
+        }
+    }
+
+    // The first `k` runs, and the rest.
+    pub(crate) fn split(self, elements: &mut Elements, k: u32) -> (RunTree, RunTree)
+        requires tree { IsTree elements.old self }
+        requires place { k ≤ self.count }
+        ensures { Splits elements.old elements.new self k result.0 result.1 }
+    {
+        if self.count == 0 {
+            return (self, self);
+        }
+        let node = self.open(elements);
+        if k <= node.left.count {
+            let (first, rest) = node.left.split(elements, k);
+            let second = RunTree::join(elements, rest, node.id, node.run, node.right);
+            (first, second)
+        } else {
+            let (front, second) = node.right.split(elements, k - node.left.count - 1);
+            let first = RunTree::join(elements, node.left, node.id, node.run, front);
+            (first, second)
+        }
+    }
+
+    // A live element becomes the run at `k`.
+    fn put(self, elements: &mut Elements, k: u32, id: Id, run: Run) -> RunTree
+        requires tree { IsTree elements.old self }
+        requires place { k ≤ self.count }
+        requires live { IsSome (at elements.old id) }
+        requires apart { among id (owned elements.old self) ≡ false }
+        ensures { Puts elements.old elements.new self k id run result }
+    {
+        if self.count == 0 {
+            return RunTree::join(elements, self, id, run, self);
+        }
+        if rank(id) > rank(self.root) {
+            let (before, behind) = self.split(elements, k);
+            return RunTree::join(elements, before, id, run, behind);
+        }
+        let node = self.open(elements);
+        if k <= node.left.count {
+            let left = node.left.put(elements, k, id, run);
+            RunTree::join(elements, left, node.id, node.run, node.right)
+        } else {
+            let right = node.right.put(elements, k - node.left.count - 1, id, run);
+            RunTree::join(elements, node.left, node.id, node.run, right)
+        }
+    }
+
+    // The tree without the run at `k`, and the id of its element, which stays live.
+    fn cut(self, elements: &mut Elements, k: u32) -> (RunTree, Id)
+        requires tree { IsTree elements.old self }
+        requires place { k < self.count }
+        ensures { CutsOut elements.old elements.new self k result.0 result.1 }
+    {
+        let node = self.open(elements);
+        if k < node.left.count {
+            let (left, id) = node.left.cut(elements, k);
+            let rest = RunTree::join(elements, left, node.id, node.run, node.right);
+            (rest, id)
+        } else if k == node.left.count {
+            let rest = node.left.merge(elements, node.right);
+            (rest, node.id)
+        } else {
+            let (right, id) = node.right.cut(elements, k - node.left.count - 1);
+            let rest = RunTree::join(elements, node.left, node.id, node.run, right);
+            (rest, id)
+        }
+    }
+
+    // The run at `k` is another one.
+    fn rewrite(self, elements: &mut Elements, k: u32, run: Run) -> RunTree
+        requires tree { IsTree elements.old self }
+        requires place { k < self.count }
+        ensures { Writes elements.old elements.new self k run result }
+    {
+        let node = self.open(elements);
+        if k < node.left.count {
+            let left = node.left.rewrite(elements, k, run);
+            RunTree::join(elements, left, node.id, node.run, node.right)
+        } else if k == node.left.count {
+            RunTree::join(elements, node.left, node.id, run, node.right)
+        } else {
+            let right = node.right.rewrite(elements, k - node.left.count - 1, run);
+            RunTree::join(elements, node.left, node.id, node.run, right)
+        }
+    }
+
+    /// A list without runs.
+    pub fn new() -> RunTree
+        ensures tree { (s : Store) → IsTree s result }
+        ensures runs { (s : Store) → runs s result ≡ [] }
+        ensures owned { (s : Store) → owned s result ≡ [] }
+        ensures head { (result.root ≡ 0) × (result.count ≡ 0) }
+    {
+        RunTree::empty()
+    }
+
+    /// Puts a run at `k`.
+    pub fn insert(&mut self, elements: &mut Elements, k: u32, run: Run)
+        requires tree { IsTree elements.old self.old }
+        requires place { k ≤ self.old.count }
+        requires room { 0 < elements.old.spare }
+        ensures tree { IsTree elements.new self.new }
+        ensures runs { runs elements.new self.new
+            ≡ take k (runs elements.old self.old) ++ run ∷ drop k (runs elements.old self.old) }
+        ensures owned { Leaves elements.old elements.new
+            (owned elements.old self.old) (owned elements.new self.new) }
+        ensures spares { elements.new.spare + 1 ≡ elements.old.spare }
+    {
+        let id = elements.take(Element::BLANK);
+        *self = self.put(elements, k, id, run);
+    }
+
+    /// Takes the run at `k` out. Its element becomes a spare one.
+    pub fn remove(&mut self, elements: &mut Elements, k: u32)
+        requires tree { IsTree elements.old self.old }
+        requires place { k < self.old.count }
+        ensures tree { IsTree elements.new self.new }
+        ensures runs { runs elements.new self.new
+            ≡ take k (runs elements.old self.old) ++ drop (k + 1) (runs elements.old self.old) }
+        ensures owned { Leaves elements.old elements.new
+            (owned elements.old self.old) (owned elements.new self.new) }
+        ensures spares { elements.new.spare ≡ elements.old.spare + 1 }
+    {
+        let (rest, id) = self.cut(elements, k);
+        elements.give(id);
+        *self = rest;
+    }
+
+    /// The run at `k` is another one. The head stays.
+    pub fn set(self, elements: &mut Elements, k: u32, run: Run)
+        requires tree { IsTree elements.old self }
+        requires place { k < self.count }
+        ensures tree { IsTree elements.new self }
+        ensures runs { runs elements.new self
+            ≡ take k (runs elements.old self) ++ run ∷ drop (k + 1) (runs elements.old self) }
+        ensures owned { Leaves elements.old elements.new (owned elements.old self) (owned elements.new self) }
+        ensures spares { elements.new.spare ≡ elements.old.spare }
+    {
+        let _same = self.rewrite(elements, k, run);
+    }
+
+    /// The run at `k`.
+    pub fn get(self, elements: &Elements, k: u32) -> Run
+        requires tree { IsTree elements.now self }
+        requires place { k < self.count }
+        ensures { slice_get (runs elements.now self) k ≡ Some result }
+    {
+        let node = self.open(elements);
+        if k < node.left.count {
+            node.left.get(elements, k)
+        } else if k == node.left.count {
+            node.run
+        } else {
+            node.right.get(elements, k - node.left.count - 1)
+        }
+    }
+
+    /// How many runs end at `n` or before, where the runs rise.
+    pub fn seek(self, elements: &Elements, n: u32) -> u32
+        requires tree { IsTree elements.now self }
+        ensures { SeeksTo n (runs elements.now self) result }
+    {
+        if self.count == 0 {
+            return 0;
+        }
+        let node = self.open(elements);
+        if u64::from(n) < u64::from(node.run.start) + u64::from(node.run.len) {
+            node.left.seek(elements, n)
+        } else {
+            let rest = node.right.seek(elements, n);
+            node.left.count + 1 + rest
+        }
+    }
+
+    /// The same, with the run before the place and the one at it; `before` and `behind` where there is none.
+    pub fn find(self, elements: &Elements, n: u32, before: Run, behind: Run) -> Found
+        requires tree { IsTree elements.now self }
+        ensures { FindsRuns n before behind (runs elements.now self) result }
+    {
+        if self.count == 0 {
+            return Found {
+                index: 0,
+                before,
+                behind,
+            };
+        }
+        let node = self.open(elements);
+        if u64::from(n) < u64::from(node.run.start) + u64::from(node.run.len) {
+            node.left.find(elements, n, before, node.run)
+        } else {
+            let rest = node.right.find(elements, n, node.run, behind);
+            let index = node.left.count + 1 + rest.index;
+            Found {
+                index,
+                before: rest.before,
+                behind: rest.behind,
+            }
+        }
+    }
+
+    // The most room of all runs, from a number on a page or from any.
+    fn longest_of(self, elements: &Elements, paged: bool) -> u32
+        requires tree { IsTree elements.now self }
+        ensures { result ≡ longest (room_of paged) (runs elements.now self) }
+    {
+        let rooms = self.rooms(elements);
+        if paged { rooms.paged } else { rooms.plain }
+    }
+
+    /// The first place from `from` on where a run has room for `len`; the count of the runs where there is none.
+    pub fn first_room(self, elements: &Elements, from: u32, len: u32, paged: bool) -> u32
+        requires tree { IsTree elements.now self }
+        requires place { from ≤ self.count }
+        ensures { RoomsTo (room_of paged) (runs elements.now self) from len result }
+    {
+        if from == self.count {
+            return self.count;
+        }
+        if self.longest_of(elements, paged) < len {
+            return self.count;
+        }
+        let node = self.open(elements);
+        let middle = node.left.count;
+        if middle < from {
+            let rest = node
+                .right
+                .first_room(elements, from - middle - 1, len, paged);
+            return middle + 1 + rest;
+        }
+        let place = node.left.first_room(elements, from, len, paged);
+        if place < middle {
+            return place;
+        }
+        if room(node.run, paged) >= len {
+            return middle;
+        }
+        let rest = node.right.first_room(elements, 0, len, paged);
+        middle + 1 + rest
+    }
+
+    /// The most room of the runs from `from` to before `to`; 0 where there is none.
+    pub fn most_room(self, elements: &Elements, from: u32, to: u32, paged: bool) -> u32
+        requires tree { IsTree elements.now self }
+        requires place { (from ≤ to) × (to ≤ self.count) }
+        ensures { IsMost (room_of paged) (runs elements.now self) from to result }
+    {
+        if from == to {
+            return 0;
+        }
+        if from == 0 && to == self.count {
+            return self.longest_of(elements, paged);
+        }
+        let node = self.open(elements);
+        let middle = node.left.count;
+        if to <= middle {
+            return node.left.most_room(elements, from, to, paged);
+        }
+        if middle < from {
+            return node
+                .right
+                .most_room(elements, from - middle - 1, to - middle - 1, paged);
+        }
+        let before = node.left.most_room(elements, from, middle, paged);
+        let behind = node.right.most_room(elements, 0, to - middle - 1, paged);
+        before.max(room(node.run, paged)).max(behind)
+    }
+
+    /// Gives back every element of the tree.
+    pub fn discard(self, elements: &mut Elements)
+        requires tree { IsTree elements.old self }
+        ensures owned { Leaves elements.old elements.new (owned elements.old self) [] }
+        ensures spares { elements.new.spare ≡ elements.old.spare + self.count }
+    {
+        if self.count == 0 {
+            return;
+        }
+        let node = self.open(elements);
+        node.left.discard(elements);
+        node.right.discard(elements);
+        elements.give(node.id);
+    }
+}

@@ -1,0 +1,31 @@
+// A script as the editor's text and as bytes: each character is one byte.
+
+export const MOST_LINES = 100_000;
+export const MOST_BYTES = 4 * 2 ** 20;
+
+/** Where a place of a text is, in words. */
+export function placeIn(text, at) {
+  const before = text.slice(0, at).split('\n');
+  return `line ${before.length}, column ${before.at(-1).length + 1}`;
+}
+
+/** What is wrong with a text as a script of this page, in words; or null. */
+export function faultOfScript(text) {
+  const other = /[^\0-\xff]/u.exec(text);
+  if (other) return `${placeIn(text, other.index)}: “${other[0]}” isn’t one byte, so it can’t stand in a script`;
+  let lines = 0;
+  for (let at = 0; at < text.length; lines++) at = text.indexOf('\n', at) + 1 || text.length;
+  if (lines > MOST_LINES) return `the script has ${lines.toLocaleString('en')} lines, and this page takes ${MOST_LINES.toLocaleString('en')}: the program vsm itself runs it`;
+  if (text.length > MOST_BYTES) return `the script has ${text.length.toLocaleString('en')} bytes, and this page takes ${MOST_BYTES.toLocaleString('en')}: the program vsm itself runs it`;
+  return null;
+}
+
+/** A file's text as the editor holds it, which knows no carriage returns: right before a line feed they go, as vsm takes
+    them; any other belongs to its line. */
+export function editorText(text) {
+  const plain = text.replaceAll('\r\n', '\n');
+  const alone = plain.indexOf('\r');
+  if (alone >= 0) return { fault: `${placeIn(plain, alone)}: the editor can’t hold a carriage return within a line` };
+  const fault = faultOfScript(plain);
+  return fault ? { fault } : { text: plain };
+}

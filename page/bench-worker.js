@@ -1,0 +1,70 @@
+// The worker of the bench: it runs a script, and once more with maps put in, and tells how far it is.
+import { answersOf, isSameRun, joinedBytes, withMaps } from './bench-maps.js';
+import { latin, latinText, runProgram } from './module-host.js';
+
+const PIECE = 4096; // bytes of the script that are read at once
+const PAUSE = 100; // milliseconds between two words of how far it is
+const MOST_OUTPUT = 128 * 2 ** 20; // bytes: what the page can go through without a long pause
+let program;
+
+class TooMuch extends Error {}
+
+/** Runs the program over a script; its status, and what it wrote. */
+function ranOver(words, script, part) {
+  const written = { 1: [], 2: [] };
+  let at = 0, bytes = 0, told = performance.now();
+  function tell() {
+    if (performance.now() - told < PAUSE) return;
+    told = performance.now();
+    postMessage({ kind: 'progress', part, share: script.length ? at / script.length : 1, bytes });
+  }
+  const streams = {
+    open: () => -1,
+    read(stream, room) {
+      const piece = script.subarray(at, at + Math.min(room.length, PIECE));
+      room.set(piece);
+      at += piece.length;
+      tell();
+      return piece.length;
+    },
+    write(stream, piece) {
+      bytes += piece.length;
+      if (bytes > MOST_OUTPUT) throw new TooMuch();
+      written[stream].push(piece.slice());
+      tell();
+      return piece.length;
+    },
+  };
+  const status = runProgram(program, words.map(latin), streams);
+  return { status, output: joinedBytes(written[1]), errors: latinText(joinedBytes(written[2])) };
+}
+
+/** What goes wrong within a run, in words. */
+function reasonOf(fault) {
+  if (fault instanceof TooMuch) return `it prints more than ${MOST_OUTPUT / 2 ** 20} MiB`;
+  if (fault instanceof RangeError) return 'this browser has no memory for it';
+  return `the program ended early (${fault.message})`;
+}
+
+function pictureOf(words, script, plain, answers) {
+  try {
+    const { output, status } = ranOver(words, withMaps(script, answers.map(it => it.line)), 'maps');
+    if (status !== plain.status || !isSameRun(answers, answersOf(output))) return { why: 'the answers are others with maps between them, which is a fault of this page' };
+    return { output };
+  } catch (fault) {
+    return { why: fault instanceof TooMuch ? `with a map at each statement ${reasonOf(fault)} (vsm-view makes pages of parts)` : reasonOf(fault) };
+  }
+}
+
+onmessage = ({ data: { wasm, words, script } }) => {
+  try {
+    program ??= new WebAssembly.Module(wasm);
+    const plain = ranOver(words, script, 'script');
+    const answers = answersOf(plain.output);
+    postMessage({ kind: 'ran', ...plain, count: answers.length });
+    if (plain.status === 0 || plain.status === 4) postMessage({ kind: 'picture', ...pictureOf(words, script, plain, answers) });
+    postMessage({ kind: 'end' });
+  } catch (fault) {
+    postMessage({ kind: 'fault', why: reasonOf(fault) });
+  }
+};

@@ -1,0 +1,396 @@
+// The bench in a browser: an editor, the program in a worker, and what a run shows.
+import { showOutput } from './bench-answers.js';
+import { editorOf } from './bench-editor.js';
+import { base64Of, bytesOf, gunzipped, gzipped, keep, kept, linkOf, MOST_LINK, NAMES, readLink } from './bench-keep.js';
+import { runnerOf } from './bench-runner.js';
+import { editorText, faultOfScript } from './bench-script.js';
+import { make } from './elements.js';
+import { latin, latinText } from './module-host.js';
+import { showRun } from './view.js';
+
+const SAVING = 300; // milliseconds from an edit until it's kept
+const OWN = 'script.vsm';
+const byId = id => document.getElementById(id);
+const megabytes = bytes => `${(bytes / 1e6).toFixed(1)} MB`;
+const inSeconds = milliseconds => milliseconds < 1000 ? `${Math.round(milliseconds)} ms` : `${(milliseconds / 1000).toFixed(1)} s`;
+
+/** What this browser lacks, as a sentence; or null. */
+function lackOfBrowser() {
+  const lacks = [typeof WebAssembly === 'undefined' && 'WebAssembly', typeof Worker === 'undefined' && 'workers', typeof DecompressionStream === 'undefined' && 'DecompressionStream',
+    typeof CompressionStream === 'undefined' && 'CompressionStream', !CSS.supports('color', 'light-dark(red, red)') && 'light-dark()'].filter(Boolean);
+  return lacks.length ? `This page is a bench for z/OS virtual storage, but this browser lacks ${lacks.join(' and ')}: Chrome 123, Firefox 120 and Safari 17.5 have what it needs.` : null;
+}
+
+class Bench {
+  constructor(data, wasm) {
+    this.data = data;
+    this.wasm = wasm;
+    this.examples = new Map(data.examples.map(it => [it.name, it.script]));
+    this.name = OWN;
+    this.result = { output: '', script: '', words: [], mapped: null };
+    this.view = null;
+    this.turned = false; // whether the output is shown since there was no picture
+    this.runner = runnerOf(data.worker, wasm, told => this.told(told));
+    this.editor = editorOf(byId('script'), byId('numbers'), byId('caret'), () => this.edited());
+    byId('examples').append(new Option('', ''), ...[...this.examples.keys()].map(it => new Option(it)));
+    byId('identity').textContent = data.identity.line;
+    this.listen();
+  }
+
+  listen() {
+    const clicks = { open: () => byId('file').click(), 'save-script': () => this.saveScript(), 'save-output': () => this.saveOutput(), 'save-page': () => this.savePage(), copy: () => this.copyLink(),
+      teacher: () => this.teach(!this.isTeaching), help: () => this.help(), stop: () => this.stop(), fold: () => this.fold(true), unfold: () => this.fold(false) };
+    for (const [id, act] of Object.entries(clicks)) byId(id).addEventListener('click', act);
+    byId('form').addEventListener('submit', event => {
+      event.preventDefault();
+      this.run();
+    });
+    byId('examples').addEventListener('change', () => this.choose(byId('examples').value));
+    byId('file').addEventListener('change', () => this.openFile());
+    for (const it of NAMES) byId(it).addEventListener('input', () => this.keepSoon());
+    for (const it of ['picture', 'output']) byId(`tab-${it}`).addEventListener('click', () => this.showTab(it));
+    document.querySelector('[role=tablist]').addEventListener('keydown', event => this.moveTab(event));
+    addEventListener('keydown', event => {
+      if (event.key !== 'Enter' || !(event.ctrlKey || event.metaKey)) return;
+      event.preventDefault();
+      this.run();
+    });
+    addEventListener('hashchange', () => this.followLink());
+    // The view's own key T switches the teacher's mode too.
+    new MutationObserver(() => this.view && this.view.teaching !== this.isTeaching && this.setTeaching(this.view.teaching))
+      .observe(byId('picture'), { subtree: true, attributeFilter: ['aria-checked'] });
+  }
+
+  /** Begins with what the link holds, else with what the browser has kept, else with the first example. */
+  async begin() {
+    if (await this.followLink()) return;
+    const before = kept();
+    if (before) this.load(before);
+    else this.choose(this.examples.has('first-steps.vsm') ? 'first-steps.vsm' : [...this.examples.keys()][0]);
+  }
+
+  get options() {
+    return Object.fromEntries(NAMES.map(it => [it, byId(it).value.trim()]));
+  }
+
+  get words() {
+    return Object.entries(this.options).filter(([, value]) => value).flatMap(([name, value]) => [`--${name}`, value]);
+  }
+
+  get isTeaching() {
+    return byId('teacher').getAttribute('aria-checked') === 'true';
+  }
+
+  get state() {
+    return { script: this.editor.text, options: this.options, name: this.name, teacher: this.isTeaching };
+  }
+
+  /** Takes a script with its options, and runs it. */
+  load({ script, options, name, teacher }) {
+    this.setName(name || OWN);
+    for (const it of NAMES) byId(it).value = options[it] ?? '';
+    if (teacher !== undefined) this.setTeaching(teacher);
+    this.editor.text = script;
+    const isExample = this.examples.get(this.name) === script;
+    if (!isExample && this.examples.has(this.name)) this.setName(OWN);
+    byId('examples').value = isExample ? this.name : '';
+    this.keepNow();
+    this.run();
+  }
+
+  choose(name) {
+    if (this.examples.has(name)) this.load({ script: this.examples.get(name), options: {}, name });
+    else if (this.own) this.load(this.own);
+  }
+
+  setName(name) {
+    this.name = name;
+    byId('examples').options[0].text = this.examples.has(name) ? 'of your own' : `${name} (your own)`;
+  }
+
+  edited() {
+    if (byId('examples').value) this.setName(OWN);
+    byId('examples').value = '';
+    this.keepSoon();
+  }
+
+  keepSoon() {
+    clearTimeout(this.keeping);
+    this.keeping = setTimeout(() => this.keepNow(), SAVING);
+  }
+
+  /** Keeps script and options in the browser and, where that's short enough, in the address. */
+  async keepNow() {
+    clearTimeout(this.keeping);
+    const { state } = this, isKept = keep(state);
+    this.kept = state;
+    if (!byId('examples').value) this.own = state;
+    const link = faultOfScript(state.script) ? null : await linkOf(state);
+    const fits = link !== null && link.length <= MOST_LINK;
+    // Another edit may have come while this one was packed.
+    if (this.kept !== state) return { link, fits };
+    history.replaceState(null, '', fits ? link : '#');
+    const where = [isKept && 'in this browser', fits && 'in the address'].filter(Boolean).join(' and ');
+    byId('kept').textContent = (where ? `Kept ${where}` : 'Not kept') + (fits || link === null ? '.' : '; the script is too long for the address.');
+    return { link, fits };
+  }
+
+  /** Takes what the address holds; whether it holds a script. */
+  async followLink() {
+    try {
+      const found = await readLink(location.hash);
+      if (!found) return false;
+      const { text, fault } = editorText(found.script);
+      if (fault) return this.say(`The link’s script: ${fault}.`, true) ?? false;
+      this.load({ ...found, script: text });
+      return true;
+    } catch {
+      this.note('This link can’t be read', make('p', {}, 'The address holds something that isn’t a script of this bench, perhaps since it was cut short. What this browser has kept is shown in its place.'));
+      return false;
+    }
+  }
+
+  run() {
+    const script = this.editor.text, fault = faultOfScript(script);
+    this.runner.stop();
+    this.view?.close();
+    this.view = null;
+    this.fail('');
+    if (fault) return this.refuse(`${this.name}, ${fault}.`);
+    this.result = { script, words: this.words, name: this.name, output: '', mapped: null };
+    this.began = performance.now();
+    this.isCleared = false;
+    this.busy(true);
+    this.say('Running');
+    this.runner.run(this.words, latin(script));
+    this.keepNow();
+  }
+
+  stop() {
+    if (!this.runner.isRunning) return;
+    this.runner.stop();
+    this.busy(false);
+    this.say(`Stopped after ${inSeconds(performance.now() - this.began)}`, true);
+    if (!this.result.mapped) this.withoutPicture('The run was stopped, so there’s no picture.');
+  }
+
+  /** What the worker says. */
+  told(message) {
+    const acts = {
+      progress: () => this.progress(message),
+      ran: () => this.ran(message),
+      picture: () => this.pictured(message),
+      end: () => this.ended(),
+      fault: () => this.refuse(`The run came to no end: ${message.why}.`),
+    };
+    acts[message.kind]();
+  }
+
+  progress({ part, share, bytes }) {
+    byId('progress').value = share;
+    // What is shown of the run before would be taken for this one's.
+    if (!this.isCleared) {
+      this.isCleared = true;
+      this.withoutPicture('The run is under way.');
+      if (part === 'script') this.showOutput();
+    }
+    const what = part === 'script' ? 'Running' : 'Making the picture';
+    byId('far').textContent = `${what}: ${Math.floor(share * 100)}%, ${megabytes(bytes)} printed`;
+  }
+
+  ran({ status, output, errors, count }) {
+    Object.assign(this.result, { status, count, output: latinText(output) });
+    this.showOutput();
+    this.fail(errors);
+    if (status !== 0 && status !== 4) {
+      this.withoutPicture(`The program ended with exit status ${status}, so there’s no picture.`);
+      this.turned ||= byId('output').hidden;
+      this.showTab('output');
+    } else if (this.turned) {
+      this.turned = false;
+      this.showTab('picture');
+    }
+  }
+
+  async pictured({ output, why }) {
+    if (why) return this.withoutPicture(`There’s no picture of this run: ${why}.`);
+    this.result.mapped = output;
+    const { name, script, words } = this.result, { result } = this;
+    const view = await showRun(byId('picture'), { name, options: words, script: script.replace(/\n$/, ''), skipped: 0, text: latinText(output) }, { teacher: this.isTeaching });
+    if (this.result !== result) return view?.close();
+    this.view = view;
+    if (!this.isTeaching) view?.go(view.run.steps);
+  }
+
+  ended() {
+    this.busy(false);
+    const { status, count } = this.result;
+    this.say(`Exit status ${status} · ${count.toLocaleString('en')} ${count === 1 ? 'statement' : 'statements'} · ${inSeconds(performance.now() - this.began)}`, status > 4);
+  }
+
+  /** That there was no run, or no end of it, in words. */
+  refuse(why) {
+    this.busy(false);
+    this.fail(why);
+    this.say('No run', true);
+    this.withoutPicture('There’s no run to be shown.');
+  }
+
+  withoutPicture(why) {
+    byId('picture').replaceChildren(make('p', { class: 'sentence' }, why));
+    byId('picture').classList.add('run');
+  }
+
+  busy(isBusy) {
+    byId('result').setAttribute('aria-busy', String(isBusy));
+    byId('stop').disabled = !isBusy;
+    byId('progress').hidden = !isBusy;
+    byId('progress').value = 0;
+    byId('far').textContent = '';
+  }
+
+  say(text, isBad = false) {
+    byId('status').textContent = text;
+    byId('status').classList.toggle('bad', isBad);
+  }
+
+  fail(text) {
+    byId('errors').hidden = !text;
+    byId('errors').textContent = text;
+  }
+
+  showOutput() {
+    showOutput(byId('output'), this.result, this.isTeaching);
+  }
+
+  setTeaching(isOn) {
+    byId('teacher').setAttribute('aria-checked', String(isOn));
+    this.showOutput();
+    this.keepSoon();
+  }
+
+  teach(isOn) {
+    this.setTeaching(isOn);
+    if (this.view && this.view.teaching !== isOn) {
+      this.view.teach(0);
+      if (isOn) this.view.go(0);
+    }
+  }
+
+  showTab(shown) {
+    for (const it of ['picture', 'output']) {
+      byId(it).hidden = it !== shown;
+      byId(`tab-${it}`).setAttribute('aria-selected', String(it === shown));
+      byId(`tab-${it}`).tabIndex = it === shown ? 0 : -1;
+    }
+  }
+
+  moveTab(event) {
+    if (event.key !== 'ArrowLeft' && event.key !== 'ArrowRight') return;
+    const other = byId('picture').hidden ? 'picture' : 'output';
+    this.showTab(other);
+    byId(`tab-${other}`).focus();
+    event.preventDefault();
+    event.stopPropagation();
+  }
+
+  fold(isFolded) {
+    byId('bench').classList.toggle('folded', isFolded);
+    byId('unfold').hidden = !isFolded;
+    byId(isFolded ? 'unfold' : 'fold').focus();
+  }
+
+  note(title, ...inner) {
+    byId('note-title').textContent = title;
+    byId('note-text').replaceChildren(...inner);
+    byId('note').showModal();
+  }
+
+  help() {
+    const { commit, kit, program, module, bytes } = this.data.identity, asked = make('pre', { tabindex: 0, 'aria-label': 'The program’s own help' });
+    const rows = { Commit: commit, Kit: kit, 'Program (SHA-256)': program, 'Module (SHA-256)': module, 'Module, bytes': bytes.toLocaleString('en') };
+    this.note('The bench', make('p', {}, 'Ctrl+Enter runs the script. A statement begins behind a blank, and a character in the tinted column, the 72nd, continues it on the next line. Each character is one byte. In the picture ', make('kbd', {}, '?'), ' tells the keys.'),
+      make('p', {}, 'Nothing is loaded, and nothing is sent: the page has no access to the network. Script and options are kept in this browser and in the address.'),
+      make('h3', {}, 'What runs here'),
+      make('p', {}, 'The functions of this page’s program are those of vsm that were proved at this commit by this kit. To run in a browser they were compiled to WebAssembly; that step, and the browser, are trusted.'),
+      make('dl', {}, ...Object.entries(rows).flatMap(([name, value]) => [make('dt', {}, name), make('dd', {}, value)])),
+      make('h3', {}, 'What the program says of itself'), asked);
+    const runner = runnerOf(this.data.worker, this.wasm, ({ kind, output, why }) => {
+      if (kind === 'progress') return;
+      runner.stop();
+      asked.textContent = kind === 'ran' ? latinText(output) : why;
+    });
+    runner.run(['--help'], latin(''));
+  }
+
+  async copyLink() {
+    const { link, fits } = await this.keepNow();
+    if (!fits) {
+      const length = link ? `It would have ${link.length.toLocaleString('en')} characters, and a link has ${MOST_LINK.toLocaleString('en')} at most. ` : '';
+      return this.note('The script is too long for a link', make('p', {}, `${length}Save the script as a file in its place.`));
+    }
+    try {
+      await navigator.clipboard.writeText(location.href);
+      this.say('The link is copied');
+    } catch {
+      const field = make('input', { readonly: '', 'aria-label': 'Link' });
+      field.value = location.href;
+      this.note('A link with the script and its options', field);
+      field.select();
+    }
+  }
+
+  async openFile() {
+    const [file] = byId('file').files;
+    byId('file').value = '';
+    if (!file) return;
+    try {
+      const { text, fault } = editorText(latinText(new Uint8Array(await file.arrayBuffer())));
+      if (fault) this.note('This file can’t be opened', make('p', {}, `${file.name}, ${fault}.`));
+      else this.load({ script: text, options: this.options, name: file.name });
+    } catch (fault) {
+      this.note('This file can’t be opened', make('p', {}, `${file.name}: ${fault.message}`));
+    }
+  }
+
+  save(ending, content, type) {
+    const url = URL.createObjectURL(new Blob([content], { type }));
+    make('a', { href: url, download: this.name.replace(/\.vsm$/, '') + ending }).click();
+    setTimeout(() => URL.revokeObjectURL(url), 60_000);
+  }
+
+  saveScript() {
+    const fault = faultOfScript(this.editor.text);
+    if (fault) this.note('This script can’t be saved', make('p', {}, `${this.name}, ${fault}.`));
+    else this.save('.vsm', latin(this.editor.text), 'application/octet-stream');
+  }
+
+  saveOutput() {
+    this.save('.out', latin(this.result.output), 'application/octet-stream');
+  }
+
+  /** Saves the page that vsm-view makes of this run. */
+  async savePage() {
+    const { mapped, name, words, script } = this.result;
+    if (!mapped) return this.note('There’s no picture to be saved', make('p', {}, 'Run the script first.'));
+    const told = { name, options: words, script: script.replace(/\n$/, ''), skipped: 0, output: base64Of(await gzipped(mapped)) };
+    const title = make('title', {}, `${name} · vsm`).outerHTML;
+    const page = this.data.page.replace('<title></title>', () => title).replace('id="data">', () => `id="data">${JSON.stringify(told).replaceAll('<', '\\u003c')}`);
+    this.save('.html', page, 'text/html');
+  }
+}
+
+async function startBench() {
+  const place = byId('bench');
+  try {
+    const lack = lackOfBrowser();
+    if (lack) throw new Error(lack);
+    const data = JSON.parse(byId('data').textContent), wasm = await gunzipped(bytesOf(data.wasm));
+    place.replaceChildren(byId('parts').content.cloneNode(true));
+    await new Bench(data, wasm).begin();
+  } catch (fault) {
+    place.replaceChildren(make('p', { class: 'sentence', role: 'alert' }, fault.message || 'This page can’t start.'));
+  }
+}
+
+startBench();

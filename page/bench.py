@@ -1,0 +1,74 @@
+#!/usr/bin/env python3
+"""Makes the bench in a browser: one page, dist/bench.html, of the files here and the program's module.
+
+Usage: page/bench.py [MODULE.wasm [PAGE.html]]     by default dist/vsm.wasm, which page/module makes, and dist/bench.html.
+
+Beside the module has to stand its file .json, which says of what commit and kit it is.
+"""
+from __future__ import annotations
+
+import base64
+import gzip
+import json
+import sys
+from pathlib import Path
+
+from build import BuildFault, build_page, joined_script
+
+HERE = Path(__file__).resolve().parent
+TOP = HERE.parent
+SHORT = 12  # characters of a commit in the page's last line
+
+
+def identity_of(module: Path) -> dict[str, str | int]:
+    """What page/module wrote beside the module, and the line of it that the page shows."""
+    said = json.loads(module.with_suffix(".json").read_text(encoding="utf-8"))
+    commit = said["commit"].partition(" ")
+    line = f"The program vsm, proved at commit {commit[0][:SHORT]}{commit[1]}{commit[2]} with {said['kit']}."
+    return {**said, "bytes": module.stat().st_size, "line": line}
+
+
+def examples() -> list[dict[str, str]]:
+    """The example scripts, each character one byte."""
+    scripts = sorted((TOP / "examples").glob("*.vsm"))
+    return [{"name": script.name, "script": script.read_bytes().decode("latin-1")} for script in scripts]
+
+
+def bench_page(module: Path) -> str:
+    # The time of the packing isn't put in, so that the same files make the same page.
+    packed = gzip.compress(module.read_bytes(), 9, mtime=0)
+    data = {
+        "identity": identity_of(module),
+        "wasm": base64.b64encode(packed).decode(),
+        "worker": joined_script("bench-worker.js"),
+        "page": build_page(HERE / "view.html", "", {}),
+        "examples": examples(),
+    }
+    return build_page(HERE / "bench.html", "Nilbozad: a bench for z/OS virtual storage", {"data": data})
+
+
+def main(words: list[str]) -> int:
+    if len(words) > 2 or any(word.startswith("-") for word in words):
+        print(__doc__.split("\n")[2], file=sys.stderr)
+        return 16
+    module = Path(words[0]) if words else TOP / "dist" / "vsm.wasm"
+    page = Path(words[1]) if len(words) > 1 else TOP / "dist" / "bench.html"
+    try:
+        text = bench_page(module)
+        page.parent.mkdir(parents=True, exist_ok=True)
+        page.write_text(text, encoding="utf-8")
+    except OSError as fault:
+        print(f"page/bench.py: {fault.filename}: {fault.strerror}", file=sys.stderr)
+        return 1
+    except KeyError as fault:
+        print(f"page/bench.py: {module.with_suffix('.json')}: it lacks {fault}", file=sys.stderr)
+        return 1
+    except (BuildFault, ValueError) as fault:
+        print(f"page/bench.py: the page can't be built: {fault}", file=sys.stderr)
+        return 1
+    print(f"{page}: {page.stat().st_size} bytes")
+    return 0
+
+
+if __name__ == "__main__":
+    sys.exit(main(sys.argv[1:]))

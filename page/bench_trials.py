@@ -1,0 +1,556 @@
+#!/usr/bin/env python3
+"""Trials of the program's module in node, and of the bench in headless Chromium. page/check runs them.
+
+Usage: page/bench_trials.py [MODULE.wasm]     these alone; by default of dist/vsm.wasm. The last line is 'N passed, M failed'.
+
+In node the module has to give each row of tests/rows and each example, byte for byte, with its status and what it says on
+standard error; scripts come whole, as a file, and byte by byte. In the browser the bench has to give the same for each
+example, and to do what docs/BENCH-IN-A-BROWSER.md says.
+"""
+from __future__ import annotations
+
+import base64
+import hashlib
+import json
+import os
+import select
+import subprocess
+import sys
+import tempfile
+import time
+from importlib.machinery import SourceFileLoader
+from pathlib import Path
+from types import ModuleType
+from typing import Any, Callable, Sequence
+
+sys.dont_write_bytecode = True
+HERE = Path(__file__).resolve().parent
+TOP = HERE.parent
+sys.path[:0] = [str(HERE), str(TOP / "tools"), str(TOP / "tests" / "rows")]
+
+import bench  # noqa: E402
+from build import BuildFault, joined_script  # noqa: E402
+from chromium import Browser, BrowserFault, installed  # noqa: E402
+from trials import Trials  # noqa: E402
+from view_trials import PALE  # noqa: E402
+
+MODULE = TOP / "dist" / "vsm.wasm"
+SECONDS = 60
+WORKER_SECONDS = 15  # for a worker to end that computes
+ENDLESS_BYTES = 1 << 22  # of a row that has no end, far more than the program reads of it
+NOT_READ = b" BACK 0\n"
+LACKS = ("WebAssembly", "DecompressionStream", "CompressionStream", "Worker")
+
+
+def encoded(data: bytes) -> str:
+    return base64.b64encode(data).decode()
+
+
+class Node:
+    """The module in one process of node, which runs one job after the other."""
+
+    def __init__(self, module: Path, folder: Path) -> None:
+        program = installed("nodejs", ("node", "nodejs"))
+        script = folder / "serve.mjs"
+        script.write_text(joined_script("module-serve.js"), encoding="utf-8")
+        self.child = subprocess.Popen([program, script, module], stdin=subprocess.PIPE, stdout=subprocess.PIPE)
+        self.held = b""
+
+    def close(self) -> None:
+        self.child.kill()
+        self.child.communicate()
+
+    def line(self) -> bytes:
+        assert self.child.stdout
+        end = time.monotonic() + SECONDS
+        while b"\n" not in self.held:
+            if not select.select([self.child.stdout], [], [], max(0.0, end - time.monotonic()))[0]:
+                raise OSError(f"no end within {SECONDS} seconds")
+            got = os.read(self.child.stdout.fileno(), 1 << 20)
+            if not got:
+                raise OSError("node ended")
+            self.held += got
+        line, _, self.held = self.held.partition(b"\n")
+        return line
+
+    def run(self, words: Sequence[str], script: bytes, files: dict[str, bytes], slowly: bool = False) -> dict[str, Any]:
+        """Status, output and errors of a run, and how many bytes of the script it has read."""
+        job = {"words": [encoded(word.encode()) for word in words], "script": encoded(script), "slowly": slowly,
+               "files": {name: encoded(data) for name, data in files.items()}}
+        assert self.child.stdin
+        self.child.stdin.write(json.dumps(job).encode() + b"\n")
+        self.child.stdin.flush()
+        told = json.loads(self.line())
+        if "fault" in told:
+            raise OSError(told["fault"])
+        return {**told, "output": base64.b64decode(told["output"]), "errors": base64.b64decode(told["errors"])}
+
+
+def rows_check() -> ModuleType:
+    """The check of tests/rows, whose rows and judgement are taken."""
+    path = TOP / "tests" / "rows" / "check"
+    loader = SourceFileLoader("rows_check", str(path))
+    module = ModuleType(loader.name)
+    module.__file__ = str(path)
+    loader.exec_module(module)
+    return module
+
+
+def script_of(row: Any) -> bytes:
+    if not row.is_endless:
+        return b"".join(row.script)
+    pieces, taken = [], 0
+    for piece in row.script:
+        pieces.append(piece)
+        taken += len(piece)
+        if taken >= ENDLESS_BYTES:
+            break
+    return b"".join(pieces)
+
+
+def run_row(node: Node, row: Any, way: str) -> dict[str, Any]:
+    """Runs a row in one of the ways of tests/rows/check."""
+    script = script_of(row)
+    if "file" in way:
+        return node.run([*row.options, "script"], NOT_READ, {"script": script})
+    files = {} if row.file is None else {"script": row.file, "--low": row.file}
+    told = node.run(row.options, script, files, "byte" in way)
+    if row.is_endless and told["read"] >= len(script):
+        raise OSError("a script without an end was read on and on")
+    return told
+
+
+def try_rows(node: Node, trials: Trials) -> None:
+    rows = rows_check()
+    for row in rows.stored_rows() + rows.made_rows():
+        for way, _ in rows.ways(row):
+            try:
+                told = run_row(node, row, way)
+                rows.judge(row, told["output"], told["errors"], told["status"])
+                trials.want(row.name, True)
+            except (rows.Failure, OSError) as fault:
+                trials.want(f"the module at row {row.name}{way}", False, fault)
+
+
+def examples() -> list[tuple[str, bytes, bytes, int]]:
+    """Name, script, output and status of each example."""
+    found = []
+    for script in sorted((TOP / "examples").glob("*.vsm")):
+        output = script.with_suffix(".out").read_bytes()
+        refused = any(line[8:].startswith((b"FAULT ", b"REFUSED ", b"ABEND ")) for line in output.split(b"\n"))
+        found.append((script.name, script.read_bytes(), output, 4 if refused else 0))
+    return found
+
+
+def try_examples(node: Node, trials: Trials) -> None:
+    for name, script, output, status in examples():
+        told = node.run([], script, {})
+        trials.want(f"the module at example {name}", (told["output"], told["errors"], told["status"]) == (output, b"", status), told)
+
+
+class BenchPage:
+    """The bench in a browser, as its user has it."""
+
+    def __init__(self, browser: Browser, path: Path) -> None:
+        self.browser, self.address = browser, path.as_uri()
+
+    def open(self, link: str = "", ready: str = "") -> None:
+        done = "document.getElementById('result')?.getAttribute('aria-busy') === 'false' && document.getElementById('status').textContent"
+        self.browser.open(self.address + link, ready or done)
+        self.browser.settle()
+
+    def js(self, text: str) -> Any:
+        return self.browser.evaluate(text)
+
+    def text(self, element: str) -> str:
+        return self.js(f"document.getElementById('{element}').textContent")
+
+    def click(self, element: str) -> None:
+        self.js(f"document.getElementById('{element}').click()")
+        self.browser.settle()
+
+    def put(self, element: str, value: str, event: str = "input") -> None:
+        """Gives a field a value, as if that had been typed."""
+        self.js(f"(it => {{ it.value = {json.dumps(value)}; it.dispatchEvent(new Event('{event}', {{ bubbles: true }})); }})(document.getElementById('{element}'))")
+
+    def wait(self, expression: str, seconds: float = SECONDS) -> bool:
+        end = time.monotonic() + seconds
+        while not self.js(f"Boolean({expression})"):
+            if time.monotonic() > end:
+                return False
+            time.sleep(0.05)
+        self.browser.settle()
+        return True
+
+    def ended(self, seconds: float = SECONDS) -> bool:
+        return self.wait("document.getElementById('result').getAttribute('aria-busy') === 'false'", seconds)
+
+    def run(self, script: bytes, **options: str) -> None:
+        for name in ("low", "high", "residence", "history"):
+            self.put(name, options.get(name, ""))
+        self.put("script", script.decode("latin-1"))
+        self.click("run")
+        self.ended()
+
+    def output(self) -> bytes:
+        """What the page shows as output."""
+        text = self.js("document.querySelector('#output .text')?.textContent ?? ''")
+        return b"" if text == "No output." else text.encode("latin-1")
+
+    def status(self) -> int:
+        words = self.text("status").split()
+        return int(words[2]) if words[:2] == ["Exit", "status"] else -1
+
+    def forget(self) -> None:
+        self.js("localStorage.clear()")
+
+
+def try_opening(page: BenchPage, trials: Trials) -> None:
+    page.open()
+    identity = json.loads(page.js("document.getElementById('data').textContent"))["identity"]
+    shown = page.text("identity")
+    trials.want("the page says commit and kit", identity["commit"][:12] in shown and identity["kit"] in shown, shown)
+    trials.want("each control has a role and a name", not [it for it in page.browser.controls() if not all(it)], page.browser.controls())
+    for name in ("low", "script", "run", "stop", "open", "copy", "teacher", "help", "examples", "save-script", "tab-output"):
+        trials.want(f"there is the control {name}", page.js(f"Boolean(document.getElementById('{name}'))"))
+
+
+# Texts, and frames of controls, whose contrast is too small; those of the view are tried with it.
+CONTRAST = [("document.querySelector('.run')", "document.getElementById('bench')"),
+            (".run .bar button, .run .task button, .run .ask", ".mine :is(button, select, input):enabled:not([role=tab], .chief)")]
+
+
+def pale() -> str:
+    """What view_trials asks for the view, asked for the whole bench."""
+    text = PALE
+    for of_view, of_bench in CONTRAST:
+        if of_view not in text:
+            raise ValueError(f"view_trials.PALE has no {of_view}")
+        text = text.replace(of_view, of_bench)
+    return text
+
+
+def try_looks(page: BenchPage, trials: Trials) -> None:
+    """Contrast, light and dark, of the bench as it opens, with an error, with its output, and with its help."""
+    states = {"as it opens": "0", "with its output": "document.getElementById('tab-output').click()",
+              "with its help": "document.getElementById('help').click()"}
+    for scheme in ("light", "dark"):
+        page.browser.media(prefers_color_scheme=scheme)
+        page.open()
+        for what, act in states.items():
+            page.js(act)
+            time.sleep(0.4)
+            found = page.js(pale())
+            trials.want(f"the contrast {what}, {scheme}", not found, found)
+        trials.want("the help tells the program's own", page.wait("document.querySelector('#note pre').textContent.includes('--residence <MODE>')", 10))
+        page.js("document.getElementById('note').close()")
+        page.run(b" MAP\n", low="x")
+        found = page.js(pale())
+        trials.want(f"the contrast with an error, {scheme}", not found, found)
+        page.forget()
+    page.browser.media()
+    for width in (420, 900, 1440):
+        page.browser.size(width, 900)
+        page.browser.settle()
+        trials.want(f"{width} pixels hold the page's width", page.js("document.documentElement.scrollWidth <= innerWidth"), page.js("document.documentElement.scrollWidth"))
+
+
+def try_each_example(page: BenchPage, trials: Trials) -> None:
+    for name, _, output, status in examples():
+        page.put("examples", name, "change")
+        page.ended()
+        trials.want(f"the page gives example {name}", (page.output(), page.status(), page.text("errors")) == (output, status, ""), page.text("status"))
+        last = [line[8:].decode() for line in output.split(b"\n") if line and line[:1] != b" "][-1]
+        shown = page.wait(f"document.querySelector('#picture .said strong')?.textContent === {json.dumps(last)}", 10)
+        trials.want(f"the picture of example {name} shows the last reply", shown, last)
+    trials.want("no request leaves the page", not [it for it in page.browser.requests() if not it.startswith((page.address, "blob:null/"))], page.browser.requests())
+    trials.want("nothing is said on the console", not page.browser.messages(), page.browser.messages())
+
+
+ODD_SCRIPTS = {
+    "with the end of a script element": b"* </script><!-- &amp;\n STORAGE OBTAIN,LENGTH=8     </script>\n",
+    "with bytes above 127": b"* \xe4\xff\x80\x9f\xa0\n STORAGE OBTAIN,LENGTH=8     \x80\xff\n",
+    "that ends within a statement": b" STORAGE OBTAIN,LENGTH=8\n STORAGE OBTAIN,LENGTH=8,".ljust(96) + b"X",
+    "of no line": b"",
+    "of one line without an end": b" MAP",
+    "of blank lines": b"\n\n\n",
+}
+
+
+def try_odd_scripts(page: BenchPage, node: Node, trials: Trials) -> None:
+    for what, script in ODD_SCRIPTS.items():
+        page.run(script)
+        told = node.run([], script, {})
+        trials.want(f"a script {what}", (page.output(), page.status()) == (told["output"], told["status"]), page.text("status"))
+    trials.want("odd scripts say nothing on the console", not page.browser.messages(), page.browser.messages())
+
+
+def try_command_line(page: BenchPage, node: Node, trials: Trials) -> None:
+    for options in ({"low": "6"}, {"low": "x"}, {"history": "0"}, {"high": "4294967296"}):
+        words = [word for name, value in options.items() for word in (f"--{name}", value)]
+        page.run(b" MAP\n", **options)
+        told = node.run(words, b" MAP\n", {})
+        trials.want(f"{' '.join(words)} is refused with the program's words",
+                   (page.text("errors").encode(), page.status()) == (told["errors"], 16), (page.text("status"), page.text("errors")))
+    page.run(b" STORAGE OBTAIN,LENGTH=8\n", low="8", high="8", residence="31", history="3")
+    told = node.run("--low 8 --high 8 --residence 31 --history 3".split(), b" STORAGE OBTAIN,LENGTH=8\n", {})
+    trials.want("all options together", (page.output(), page.text("errors")) == (told["output"], ""), page.output())
+
+
+def try_keys(page: BenchPage, trials: Trials) -> None:
+    page.put("script", " BACK 0\n")
+    page.js("document.getElementById('script').focus()")
+    page.browser.key("Enter", modifiers=2)
+    page.ended()
+    trials.want("Ctrl+Enter runs the script", page.output() == b"0000001 KEPT=0\n", page.output())
+    page.js("document.getElementById('tab-picture').click(); document.getElementById('tab-picture').focus()")
+    page.browser.key("ArrowRight")
+    trials.want("an arrow turns to the other tab", page.js("!document.getElementById('output').hidden && document.activeElement.id === 'tab-output'"))
+    page.browser.key("ArrowLeft")
+    page.click("fold")
+    trials.want("the editor can be hidden", page.js("document.getElementById('form').offsetParent === null"))
+    page.click("unfold")
+    trials.want("and shown again", page.js("document.getElementById('form').offsetParent !== null"))
+
+
+def long_script() -> bytes:
+    """A script whose maps take far longer than a check waits."""
+    obtains = [b" STORAGE OBTAIN,LENGTH=4096,SP=%d\n" % (n % 100 + 1) for n in range(2000)]
+    return b"".join(obtains) + b" STORAGE OBTAIN,LENGTH=8\n" * 40_000
+
+
+def workers(page: BenchPage) -> int:
+    """How many workers there are, of those that came since the browser was told to attach to them."""
+    page.js("0")
+    kinds = [it["method"] for it in page.browser.events]
+    return kinds.count("Target.attachedToTarget") - kinds.count("Target.detachedFromTarget")
+
+
+def try_stop(page: BenchPage, trials: Trials) -> None:
+    page.open()
+    attached = {"waitForDebuggerOnStart": False, "flatten": True}
+    page.browser.call("Target.setAutoAttach", autoAttach=True, **attached)
+    page.put("high", "1048576")
+    page.put("low", "16000")
+    page.put("script", long_script().decode())
+    page.click("run")
+    trials.want("a run tells how far it is", page.wait("/\\d%/.test(document.getElementById('far').textContent)"), page.text("far"))
+    trials.want("Stop can be pressed while it runs", page.js("!document.getElementById('stop').disabled && !document.getElementById('progress').hidden"))
+    page.click("stop")
+    trials.want("Stop ends a run", page.ended(2) and page.text("status").startswith("Stopped"), page.text("status"))
+    end = time.monotonic() + WORKER_SECONDS
+    while workers(page) and time.monotonic() < end:
+        time.sleep(0.1)
+    trials.equal("workers that are left", workers(page), 0)
+    page.browser.call("Target.setAutoAttach", autoAttach=False, **attached)
+    page.run(b" BACK 0\n")
+    trials.want("behind a stopped run the next one runs", page.output() == b"0000001 KEPT=0\n", page.text("status"))
+
+
+def try_link(page: BenchPage, trials: Trials) -> None:
+    script = ODD_SCRIPTS["with bytes above 127"] + ODD_SCRIPTS["with the end of a script element"] + b" BACK 1"
+    page.run(script, low="8", residence="31", history="7")
+    page.wait("location.hash.length > 20")
+    link = page.js("location.hash")
+    page.forget()
+    page.open(link)
+    held = page.js("['script', 'low', 'high', 'residence', 'history'].map(it => document.getElementById(it).value)")
+    trials.want("a link brings script and options back", held == [script.decode("latin-1"), "8", "", "31", "7"], held)
+    page.open("#script=" + "A" * 40)
+    trials.want("a link that can't be read is said", page.js("document.getElementById('note').open") and "can’t be read" in page.text("note"), page.text("note"))
+    page.open("#script=%FF%00!")
+    trials.want("so is one of other characters", page.js("document.getElementById('note').open") and page.text("status") != "", page.text("note"))
+
+
+def try_keeping(page: BenchPage, trials: Trials) -> None:
+    page.open()
+    page.put("script", "* kept\n BACK 0\n")
+    page.put("high", "96")
+    page.wait("document.getElementById('kept').textContent.startsWith('Kept in this browser')")
+    page.wait("JSON.parse(localStorage.getItem('nilbozad.bench')).script.startsWith('* kept')")
+    page.open()
+    held = page.js("['script', 'high'].map(it => document.getElementById(it).value)")
+    trials.want("the browser keeps script and options", held == ["* kept\n BACK 0\n", "96"], held)
+    page.js("localStorage.setItem('nilbozad.bench', '{\"script\":7}')")
+    page.open()
+    trials.want("where what was kept is no script the first example stands there", page.js("document.getElementById('examples').value") == "first-steps.vsm")
+
+
+def try_limits(page: BenchPage, trials: Trials) -> None:
+    page.run(b"".join(b"* %x\n" % (n * n * 0x9e3779b97f4a7c15 % (1 << 89)) for n in range(3000)))
+    trials.want("that a script is too long for the address is said", page.wait("document.getElementById('kept').textContent.includes('too long')", 10), page.text("kept"))
+    trials.want("and the address holds none of it", page.js("location.hash.length") < 2)
+    page.click("copy")
+    trials.want("Copy link says it too", page.wait("document.getElementById('note').open", 10) and "too long" in page.text("note"), page.text("note"))
+    page.js("document.getElementById('note').close()")
+    page.run(b"\n" * 1_000_000)
+    trials.want("a script of a million lines is refused in words", "1,000,000 lines" in page.text("errors"), page.text("errors"))
+    page.put("script", " BACK 0\n* 12 €\n")
+    page.click("run")
+    trials.want("a character that isn't a byte is refused with its place", "line 2, column 6" in page.text("errors"), page.text("errors"))
+    page.put("script", " BACK 0\n")
+    page.click("run")
+    page.ended()
+    trials.want("and nothing of that stays", page.output() == b"0000001 KEPT=0\n" and not page.text("errors"))
+
+
+OPENED = {"crlf.vsm": b" MAP\r\n BACK 0\r\n", "high.vsm": b"* \xe4\x80\n BACK 0"}
+REFUSED = {"return.vsm": (b" MAP\n BACK\r 0\n", "line 2, column 6"), "last.vsm": (b" MAP\r", "line 1, column 5"), "many.vsm": (b"\n" * 1_000_000, "1,000,000 lines")}
+
+
+def try_files(page: BenchPage, folder: Path, trials: Trials) -> None:
+    """Files that are opened: which text the editor then has, or why it can't."""
+    page.put("script", "* before\n")
+    document = page.browser.call("DOM.getDocument")["root"]["nodeId"]
+    field = page.browser.call("DOM.querySelector", nodeId=document, selector="#file")["nodeId"]
+
+    def opened(name: str, data: bytes) -> None:
+        (folder / name).write_bytes(data)
+        page.browser.call("DOM.setFileInputFiles", files=[str(folder / name)], nodeId=field)
+
+    for name, (data, why) in REFUSED.items():
+        opened(name, data)
+        said = page.wait("document.getElementById('note').open", 20) and page.text("note-text")
+        trials.want(f"the file {name} isn't opened", name in str(said) and why in str(said), said)
+        trials.equal("the script stays", page.js("document.getElementById('script').value"), "* before\n")
+        page.js("document.getElementById('note').close()")
+    for name, data in OPENED.items():
+        opened(name, data)
+        wanted = data.decode("latin-1").replace("\r\n", "\n")
+        trials.want(f"the file {name} is opened", page.wait(f"document.getElementById('script').value === {json.dumps(wanted)}", 20))
+        trials.want("and its name told", name in page.js("document.getElementById('examples').selectedOptions[0].text"))
+        page.ended()
+
+
+def try_teacher(page: BenchPage, trials: Trials) -> None:
+    page.put("examples", "cell-pools.vsm", "change")
+    page.ended()
+    page.click("teacher")
+    page.wait("document.querySelector('#output .asked')")
+    hidden = page.js("[document.getElementById('output').textContent, document.getElementById('picture').textContent].filter(it => /RC=0|ABEND/.test(it)).length")
+    trials.want("in the teacher's mode no answer is shown", hidden == 0, hidden)
+    count = page.js("document.querySelectorAll('#output .answer button').length")
+    page.js("document.querySelector('#output .answer button').click()")
+    trials.want("an answer comes when it's asked for, and no other", page.js("document.querySelector('#output .answer').textContent") == "RC=0 A=00006000 L=00000048"
+               and page.js("document.querySelectorAll('#output .answer button').length") == count - 1)
+    page.put("examples", "first-steps.vsm", "change")
+    page.ended()
+    trials.want("the next run hides its answers too", page.js("document.querySelectorAll('#output .answer button').length") == 9)
+    page.js("document.activeElement.blur()")
+    page.browser.key("t")
+    trials.want("the view's key switches it off", page.wait("document.getElementById('teacher').getAttribute('aria-checked') === 'false'", 5))
+    page.click("teacher")
+    page.click("teacher")
+    trials.want("switched off, all is shown", page.wait("document.querySelector('#output .text')?.textContent.includes('RC=0')", 10))
+
+
+def try_saving(page: BenchPage, folder: Path, trials: Trials) -> None:
+    page.browser.call("Browser.setDownloadBehavior", behavior="allow", downloadPath=str(folder))
+    name, script, output, _ = examples()[1]
+    page.put("examples", name, "change")
+    page.ended()
+    for button, ending, wanted in (("save-script", ".vsm", script), ("save-output", ".out", output), ("save-page", ".html", None)):
+        page.click(button)
+        saved = (folder / name).with_suffix(ending)
+        end = time.monotonic() + 20
+        while not (saved.exists() and saved.stat().st_size) and time.monotonic() < end:
+            time.sleep(0.05)
+        time.sleep(0.2)
+        got = saved.read_bytes() if saved.exists() else b""
+        trials.want(f"{button} saves a file", got == wanted if wanted is not None else b"<title>" in got, got[:80])
+    page.browser.open(saved.as_uri(), "document.querySelector('.said strong')")
+    trials.want("the saved page is a page of its own", page.js("document.title") == f"{name} · vsm" and not page.browser.messages(), page.browser.messages())
+
+
+def try_lacks(page: BenchPage, trials: Trials) -> None:
+    """A browser without what is needed says so."""
+    for lack in LACKS:
+        script = page.browser.call("Page.addScriptToEvaluateOnNewDocument", source=f"delete globalThis.{lack}")["identifier"]
+        page.open(ready="document.querySelector('#bench .sentence[role=alert]')")
+        said = page.text("bench")
+        trials.want(f"without {lack} there's a sentence", lack.lower()[:6] in said.lower() and said.endswith("."), said)
+        page.browser.call("Page.removeScriptToEvaluateOnNewDocument", identifier=script)
+    throwing = "globalThis.Worker = class { constructor() { throw new Error('no workers here'); } }"
+    script = page.browser.call("Page.addScriptToEvaluateOnNewDocument", source=throwing)["identifier"]
+    page.open()
+    trials.want("a worker that can't be started is said", "no workers here" in page.text("errors"), page.text("errors"))
+    page.browser.call("Page.removeScriptToEvaluateOnNewDocument", identifier=script)
+    plain = page.browser.call("Emulation.setScriptExecutionDisabled", value=True)
+    page.browser.call("Page.navigate", url=page.address)
+    time.sleep(0.5)
+    told = json.dumps(page.browser.call("Accessibility.getFullAXTree"))
+    trials.want("without JavaScript there's a sentence", "It needs JavaScript" in told, plain)
+    page.browser.call("Emulation.setScriptExecutionDisabled", value=False)
+
+
+def try_no_network(page: BenchPage, trials: Trials) -> None:
+    """The policy refuses what a script of the page would ask for; that is said on the console, so it's looked at last."""
+    page.open()
+    refused = page.js("""new Promise(done => {
+      addEventListener('securitypolicyviolation', event => done(event.effectiveDirective));
+      fetch('http://127.0.0.1:9/').catch(() => setTimeout(() => done('nothing'), 500));
+    })""")
+    trials.want("the page's policy refuses the network", refused == "connect-src", refused)
+
+
+def try_page(page: BenchPage, node: Node, folder: Path, trials: Trials) -> None:
+    parts: list[Callable[[], None]] = [
+        lambda: try_opening(page, trials), lambda: try_looks(page, trials), lambda: try_each_example(page, trials),
+        lambda: try_odd_scripts(page, node, trials), lambda: try_command_line(page, node, trials), lambda: try_keys(page, trials),
+        lambda: try_stop(page, trials), lambda: try_link(page, trials), lambda: try_keeping(page, trials),
+        lambda: try_limits(page, trials), lambda: try_files(page, folder, trials), lambda: try_teacher(page, trials),
+        lambda: try_saving(page, folder, trials), lambda: try_lacks(page, trials), lambda: try_no_network(page, trials)]
+    for part in parts:
+        try:
+            part()
+        except (BrowserFault, OSError, ValueError, TypeError, KeyError) as fault:
+            trials.want("a part of the trials comes to its end", False, f"{type(fault).__name__}: {fault}")
+
+
+def try_module(module: Path, browser: Browser, trials: Trials) -> None:
+    """All trials of one module and of the bench with it."""
+    with tempfile.TemporaryDirectory(prefix="bench-trials-") as name:
+        path = Path(name) / "bench.html"
+        path.write_text(bench.bench_page(module), encoding="utf-8")
+        node = Node(module, Path(name))
+        try:
+            trials.subject = module.name
+            try_rows(node, trials)
+            try_examples(node, trials)
+            trials.subject = path.name
+            try_page(BenchPage(browser, path), node, Path(name), trials)
+        finally:
+            node.close()
+
+
+def try_all(trials: Trials, browser: Browser, program: str) -> None:
+    """The module in dist/, which has to be of this program."""
+    trials.subject = "dist/vsm.wasm"
+    if not MODULE.is_file():
+        trials.want("the module is there: page/module makes it", False)
+        return
+    said = json.loads(MODULE.with_suffix(".json").read_text(encoding="utf-8"))
+    trials.equal("the module is of the program", said["program"], hashlib.sha256(Path(program).read_bytes()).hexdigest())
+    trials.equal("the module is the one that page/module made", hashlib.sha256(MODULE.read_bytes()).hexdigest(), said["module"])
+    try:
+        try_module(MODULE, browser, trials)
+    except BuildFault as fault:
+        trials.want("the page can be built", False, fault)
+
+
+def main(words: list[str]) -> int:
+    if len(words) > 1 or any(word.startswith("-") for word in words):
+        print(__doc__.split("\n")[2], file=sys.stderr)
+        return 16
+    trials = Trials()
+    try:
+        with Browser() as browser:
+            try_module(Path(words[0]) if words else MODULE, browser, trials)
+    except (BrowserFault, BuildFault, OSError, ValueError, KeyError) as fault:
+        trials.want("the trials come to their end", False, fault)
+    print(f"{trials.passed} passed, {trials.failed} failed")
+    return trials.failed != 0
+
+
+if __name__ == "__main__":
+    sys.exit(main(sys.argv[1:]))

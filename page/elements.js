@@ -1,0 +1,39 @@
+// Elements, numbers and colours.
+const SVG = 'http://www.w3.org/2000/svg', SVG_NAMES = new Set(['svg', 'path', 'rect', 'g']);
+
+export const hex = value => value.toString(16).toUpperCase().padStart(8, '0');
+export const grouped = value => value.toLocaleString('en');
+export const count = (value, one, many = `${one}s`) => `${grouped(value)} ${value === 1 ? one : many}`;
+
+/** An element with attributes; those that begin with `on` are what it does. What is null is left out. */
+export function make(name, values = {}, ...inner) {
+  const it = SVG_NAMES.has(name) ? document.createElementNS(SVG, name) : document.createElement(name);
+  for (const [key, value] of Object.entries(values)) {
+    if (key.startsWith('on')) it[key] = value;
+    else if (value !== null && value !== undefined && value !== false)
+      it.setAttribute(key, value === true ? '' : value);
+  }
+  it.append(...inner.filter(part => part !== null && part !== undefined));
+  return it;
+}
+
+/** A part of the page with a heading. */
+export const panel = (name, ...inner) =>
+  make('section', {class: 'panel', 'aria-label': name}, make('h2', {}, name), ...inner);
+
+const COLOURS = 8;
+/** The colour of a subpool's number: by its rank among all numbers of the run. */
+export const colourOf = (run, number) => `--c:var(--c${Math.max(0, run.numbers.indexOf(number)) % COLOURS})`;
+
+/** A subpool by colour, number and owner; the owner is left out beside its own name. */
+export function tag(run, subpool, { shared = false, own = false } = {}) {
+  const title = `subpool ${subpool.number}, owned by task ${subpool.owner}`;
+  return make('span', { class: shared ? 'tag shared' : 'tag', style: colourOf(run, subpool.number), title },
+    `SP ${subpool.number}${own ? '' : ` T${subpool.owner}`}`);
+}
+
+/** A line drawing of 16 by 16, beside the label that its button has. */
+export const icon = (d, filled) => make(
+  'svg', {class: filled ? 'icon filled' : 'icon', viewBox: '0 0 16 16', 'aria-hidden': 'true'},
+  make('path', {d})
+);

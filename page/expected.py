@@ -1,0 +1,121 @@
+"""What a page has to show, worked out from the page's data without the page's own script.
+
+Where areas that touch are parted is found in another way than the page does: each accepted statement that
+obtains paints its doublewords, and a line stands where two neighbours were painted by two statements.
+"""
+from __future__ import annotations
+
+import base64
+import gzip
+import json
+import re
+from collections.abc import Iterable
+from dataclasses import dataclass
+from pathlib import Path
+from typing import Any
+
+from vsmtools.bench import Answer, answers
+from vsmtools.maps import PAGE, CellPool, Map, parse_map
+
+UNIT = 8
+MARKED = 24  # units from which on a cell is parted from the next
+GRANTED = re.compile(r"RC=0 A=([0-9A-F]{8}) L=([0-9A-F]{8})")
+DATA = re.compile(r'<script type="application/json" id="data">(.*?)</script>', re.DOTALL)
+
+
+@dataclass
+class Page:
+    """A page, and what is in it."""
+
+    path: Path
+    data: dict[str, Any]
+    answers: list[Answer]
+
+    @staticmethod
+    def of(path: Path) -> Page:
+        found = DATA.search(path.read_text(encoding="utf-8"))
+        data = json.loads(found[1]) if found else {}
+        return Page(path, data, answers(gzip.decompress(base64.b64decode(data["output"]))))
+
+    @property
+    def skipped(self) -> int:
+        """How many answers come before the first map."""
+        return int(self.data["skipped"])
+
+    @property
+    def shown(self) -> list[Answer]:
+        """The answers that have maps before them, in turn."""
+        return self.answers[self.skipped + 1 :: 2]
+
+    @property
+    def steps(self) -> int:
+        return len(self.shown)
+
+    def map_at(self, step: int) -> Map:
+        maps = self.answers[self.skipped :: 2]
+        return parse_map(maps[min(step, len(maps) - 1)].rest)
+
+    def answers_to(self, step: int) -> list[Answer]:
+        return self.answers[: self.skipped] + self.shown[:step]
+
+    def line_of(self, answer: Answer) -> int:
+        """The line of the script that an answer is of: the maps put in before it have lines of their own."""
+        return answer.line - max(0, (self.answers.index(answer) - self.skipped + 1) // 2)
+
+
+def history(told: Iterable[Answer], limit: int) -> tuple[list[Answer], list[Answer]]:
+    """The kept answers that stand, oldest first, and those that can be made again."""
+    kept: list[Answer] = []
+    stand = count = 0
+    for answer in told:
+        if answer.is_kept:
+            kept[stand:] = [answer]
+            stand, count = stand + 1, min(count + 1, limit)
+        elif answer.kept is not None:
+            stand, count = stand + answer.kept - count, answer.kept
+    return kept[:stand], kept[stand:]
+
+
+def owners(stand: list[Answer]) -> dict[int, int]:
+    """By doubleword, which of the standing statements obtained it last."""
+    painted: dict[int, int] = {}
+    for number, answer in enumerate(stand):
+        found = GRANTED.fullmatch(answer.text)
+        if found:
+            first, length = (int(word, 16) // UNIT for word in found.groups())
+            painted.update(dict.fromkeys(range(first, first + length), number))
+    return painted
+
+
+def area_edges(state: Map, painted: dict[int, int]) -> dict[int, set[float]]:
+    """By page, the doublewords before which a line stands: where two areas touch."""
+    edges: dict[int, set[float]] = {}
+    for subpool in state.subpools:
+        free = {unit for area in subpool.free for unit in range(area.start // UNIT, area.end // UNIT)}
+        for extent in subpool.extents:
+            for page in range(extent.start // PAGE, extent.end // PAGE):
+                units = range(page * PAGE // UNIT, (page + 1) * PAGE // UNIT)
+                whose = [None if unit in free else painted.get(unit, -1) for unit in units]
+                pairs = enumerate(zip(whose, whose[1:]), 1)
+                edges[page] = {at for at, (one, next_) in pairs if None not in (one, next_) and one != next_}
+    return edges
+
+
+def cells_of(pool: CellPool) -> list[int]:
+    """The addresses of a pool's cells: as many as the counts say, since an extent's length is rounded up."""
+    counts = [pool.secondary if number else pool.primary for number in range(len(pool.extents))]
+    return [extent.start + k * pool.size for extent, count in zip(pool.extents, counts) for k in range(count)]
+
+
+def cell_edges(state: Map, page: int, scale: int) -> set[float]:
+    """The places in a page where a cell begins that is wide enough to be parted from others."""
+    pools = [pool for pool in state.cell_pools if pool.size / UNIT * scale >= MARKED]
+    places = [cell - page * PAGE for pool in pools for cell in cells_of(pool)]
+    return {place / UNIT for place in places if 0 < place < PAGE}
+
+
+def bytes_by_kind(state: Map) -> dict[str, int]:
+    """How many bytes are taken and free, and how many lie in free cells and in those in use."""
+    free_cells = sum(len(pool.free_cells) * pool.size for pool in state.cell_pools)
+    all_cells = sum(len(cells_of(pool)) * pool.size for pool in state.cell_pools)
+    return {"taken": state.taken, "free": state.free, "freecell": free_cells, "cell": all_cells - free_cells}

@@ -1,0 +1,40 @@
+// The keyboard.
+
+const isOther = target => target.closest?.('textarea, select, [contenteditable], input:not([type=range])');
+
+/** What to do at a key: the view's own where the focus is in it, or nowhere. */
+export function keysOf(view) {
+  const inScript = event => event.target === view.script.element;
+  function upDown(event, by) {
+    if (inScript(event)) view.go(view.step + by);
+    else if (event.target.classList?.contains('page')) view.regions.move(event.target, by);
+    else return false;
+    return true;
+  }
+  const acts = {
+    ArrowLeft: event => view.go(view.step - (event.shiftKey ? 10 : 1)),
+    ArrowRight: event => view.go(view.step + (event.shiftKey ? 10 : 1)),
+    ArrowUp: event => upDown(event, -1),
+    ArrowDown: event => upDown(event, 1),
+    PageUp: () => view.go(view.step - 100),
+    PageDown: () => view.go(view.step + 100),
+    Home: () => view.go(0),
+    End: () => view.go(view.run.steps),
+    '[': () => view.seek(-1),
+    ']': () => view.seek(1),
+    ' ': event => event.target.closest?.('button') ? false : view.play(),
+    Enter: event => event.target.closest?.('button') ? false : view.ask(),
+    t: () => view.teach(),
+    T: () => view.teach(),
+    '?': () => view.help(),
+  };
+  return event => {
+    const { target } = event;
+    const here =
+      target === document.body || target === document.documentElement || view.container.contains(target);
+    // Some keyboards have [ and ] behind AltGr, which is told as Ctrl and Alt too.
+    const isPlain = event.getModifierState('AltGraph') || !(event.ctrlKey || event.altKey || event.metaKey);
+    if (!here || !isPlain || view.dialog.open || isOther(target)) return;
+    if (acts[event.key] && acts[event.key](event) !== false) event.preventDefault();
+  };
+}

@@ -1,0 +1,61 @@
+// The chosen page, near by: 8 rows of 64 doublewords, and its parts as a list.
+import { colourOf, hex, make, tag } from './elements.js';
+import { drawingOf, UNIT } from './drawing.js';
+import { PAGE } from './map.js';
+
+const WIDE = 64, ROWS = PAGE / UNIT / WIDE, SCALE = 8;
+const KINDS = { taken: 'taken', free: 'free', cell: 'cell', freecell: 'free cell' };
+
+/** The parts of a page with its cells in place of the extents that hold them, in order. */
+function listOf(page) {
+  const covered = part =>
+    part.kind === 'taken' && page.cells.some(cell => cell.from < part.to && cell.to > part.from);
+  return [...page.parts.filter(part => !covered(part)), ...page.cells].sort((a, b) => a.from - b.from);
+}
+
+export function lensPart(view) {
+  const element = make('section', { class: 'lens', 'aria-label': 'The chosen page', hidden: true });
+
+  function named(part) {
+    const names = view.moment.state.names.filter(it => it[1] === hex(part.from)).map(it => it[0]);
+    return {
+      kind: part.pool ? `${KINDS[part.kind]} of ${part.pool.name}` : KINDS[part.kind],
+      names: names.join(' ')
+    };
+  }
+  function itemOf(part) {
+    const { kind, names } = named(part);
+    return make(
+      'li', {}, hex(part.from), make('span', { class: 'length' }, String(part.to - part.from)), kind,
+      names && make('b', {}, ` ${names}`)
+    );
+  }
+  function readOut(page, svg, point, event) {
+    const box = svg.getBoundingClientRect();
+    const inside = (value, size, most) => Math.max(0, Math.min(most - 1, Math.floor(value / size * most)));
+    const row = inside(event.clientY - box.top, box.height, ROWS);
+    const place = page.page * PAGE + UNIT * (WIDE * row + inside(event.clientX - box.left, box.width, WIDE));
+    const part = page.cells.find(it => place >= it.from && place < it.to) ??
+      page.parts.find(it => place >= it.from && place < it.to);
+    const { kind, names } = named(part);
+    point.textContent =
+      `${hex(place)}: ${kind}, ${part.to - part.from} bytes from ${hex(part.from)}${names && `, ${names}`}`;
+  }
+  function draw() {
+    const page = view.moment.pages.get(view.chosen);
+    element.hidden = !page;
+    if (!page) return;
+    const svg = drawingOf(page, view.moment.granted, WIDE, SCALE);
+    const point = make('p', { class: 'point muted' }, 'Point at a doubleword.');
+    svg.onpointermove = event => readOut(page, svg, point, event);
+    element.style = colourOf(view.run, page.subpool.number);
+    element.replaceChildren(
+      make(
+        'h2', {}, `Page ${hex(page.page * PAGE)}`,
+        make('span', { class: 'muted' }, '8 rows of 64 doublewords'), tag(view.run, page.subpool)
+      ),
+      svg, point, make('ol', { tabindex: 0, 'aria-label': 'Parts of the page' }, ...listOf(page).map(itemOf))
+    );
+  }
+  return { element, draw };
+}

@@ -1,0 +1,170 @@
+// What vsm printed for a script with maps put in, and the states that these maps show.
+export const PAGE = 4096;
+
+/** What can't be shown, as a sentence for the page. */
+export class Sentence extends Error {}
+
+/** The text that data hold: as it is (`text`), or compressed by gzip and in base64 (`output`). */
+async function textOf(data) {
+  if (typeof data?.script !== 'string') throw new Sentence('This page is damaged: it has no data of a run.');
+  if (typeof data.text === 'string') return data.text;
+  try {
+    const bytes = Uint8Array.from(atob(data.output), it => it.charCodeAt(0));
+    const stream = new Blob([bytes]).stream().pipeThrough(new DecompressionStream('gzip'));
+    return new TextDecoder('latin1').decode(await new Response(stream).arrayBuffer());
+  } catch {
+    throw new Sentence('This page is damaged: what vsm printed can’t be unpacked.');
+  }
+}
+
+/** Where each answer begins (a map's lines begin with a blank, and belong to the answer before them), and
+    what comes up in any map: the numbers of subpools, and the pages that are assigned. It's one pass over
+    the text. */
+function survey(text) {
+  const answers = [], numbers = new Set(), extents = new Set();
+  for (let at = 0; at < text.length; at = text.indexOf('\n', at) + 1 || text.length) {
+    if (text.charCodeAt(at) !== 32) answers.push(at);
+    else if (text.startsWith('SU', at + 1)) numbers.add(text.slice(at + 9, text.indexOf(' ', at + 9)));
+    else if (text.startsWith('E', at + 2)) extents.add(text.slice(at + 9, at + 26));
+  }
+  return { answers, numbers: [...numbers].map(Number).sort(ascending), pages: pagesOfExtents(extents) };
+}
+
+const ascending = (a, b) => a - b;
+
+/** The numbers of the pages of extents, each once, ascending. */
+function pagesOfExtents(extents) {
+  const pages = new Set();
+  for (const it of extents) {
+    const [first, length] = it.split(' ').map(word => parseInt(word, 16));
+    for (let page = Math.floor(first / PAGE); page * PAGE < first + length; page++) pages.add(page);
+  }
+  return [...pages].sort(ascending);
+}
+
+const areaIn = words => [parseInt(words[1], 16), parseInt(words[2], 16)];
+
+/** What a line of a map adds to a state; extents and free areas belong to the subpool or cell pool before
+    them. */
+const LINES = {
+  TASK: (state, words) => state.tasks.push({
+    number: +words[1],
+    parent: +words[3],
+    current: words[4] === 'CURRENT',
+    registers: []
+  }),
+  R0: (state, words) => state.tasks.at(-1).registers.push(...words.slice(1)),
+  R8: (state, words) => state.tasks.at(-1).registers.push(...words.slice(1)),
+  SUBPOOL: (state, words) => state.subpools.push(state.holder = {
+    number: +words[1],
+    owner: +words[3],
+    sharers: words[5] === 'NONE' ? [] : words[5].split(',').map(Number),
+    extents: [],
+    free: []
+  }),
+  CELLPOOL: (state, words, line) => state.pools.push(state.holder = {
+    name: words[1],
+    subpool: +words[3],
+    owner: +words[5],
+    size: +words[7],
+    primary: +words[9],
+    secondary: +words[11],
+    location: words[13],
+    header: / HDR '(.*)'$/.exec(line)?.[1] ?? '',
+    extents: [],
+    free: []
+  }),
+  EXTENT: (state, words) => state.holder.extents.push(areaIn(words)),
+  FREE: (state, words) => state.holder.free.push(areaIn(words)),
+  FREECELL: (state, words) => state.holder.free.push(parseInt(words[1], 16)),
+  PAGES: (state, words) =>
+    Object.assign(state, { low: +words[2], lowOf: +words[4], high: +words[6], highOf: +words[8] }),
+  BYTES: (state, words) => Object.assign(state, { taken: +words[2], free: +words[4] }),
+  NAME: (state, words) => state.names.push([words[1], words[2]]),
+  HISTORY: (state, words) => Object.assign(state, { kept: +words[2], limit: +words[4] }),
+};
+
+/** The state that the map at a place of the text shows. */
+function parseMap(text, at) {
+  const state = { tasks: [], subpools: [], pools: [], names: [], holder: null };
+  for (at = text.indexOf('\n', at) + 1; at && text.charCodeAt(at) === 32;) {
+    const end = text.indexOf('\n', at);
+    const line = text.slice(at, end < 0 ? text.length : end);
+    const words = line.trim().split(' ');
+    if (!LINES[words[0]]) throw new Sentence(`What vsm printed has a map with a line '${line.trim()}'.`);
+    LINES[words[0]](state, words, line);
+    at = end + 1;
+  }
+  if (!state.tasks.length || state.limit === undefined)
+    throw new Sentence('What vsm printed lacks a map where one should be.');
+  return state;
+}
+
+/** A run: the statements that were answered, and the state before and behind each that has maps. */
+export class Run {
+  constructor(data, text) {
+    const { answers, numbers, pages } = survey(text);
+    this.text = text;
+    this.name = data.name;
+    this.options = data.options;
+    this.lines = data.script.split('\n');
+    this.numbers = numbers;
+    this.pages = pages;
+    this.skipped = data.skipped;
+    this.steps = Math.floor((answers.length - data.skipped) / 2);
+    if (this.steps < 0 || answers.length === data.skipped) throw new Sentence('What vsm printed has no map.');
+    this.readAnswers(answers);
+  }
+
+  static async of(data) {
+    return new Run(data, await textOf(data));
+  }
+
+  /** Behind the answers before the first map, a map and an answer come by turns. The last map is missing
+      where the script ends within a statement. A map put in takes a line, so that the numbers of those
+      behind it are one higher. */
+  readAnswers(answers) {
+    const reply = at => this.text.slice(at + 8, this.text.indexOf('\n', at));
+    const line = at => parseInt(this.text.slice(at, at + 7), 10);
+    this.maps = [];
+    this.statements = answers.slice(0, this.skipped).map(at => ({ line: line(at), reply: reply(at) }));
+    for (let k = this.skipped; k < answers.length; k += 2) {
+      if (reply(answers[k]) !== 'MAP')
+        throw new Sentence(`What vsm printed lacks the map behind ${this.statements.length} statements.`);
+      this.maps.push(answers[k]);
+      if (k + 1 < answers.length)
+        this.statements.push({ line: line(answers[k + 1]) - this.maps.length, reply: reply(answers[k + 1]) });
+    }
+    this.atLine = new Map(this.statements.map((it, k) => [it.line, k - this.skipped + 1]));
+  }
+
+  /** The statement of a step; that of step 1 is the first one with maps. */
+  statement(step) {
+    return this.statements[this.skipped + step - 1];
+  }
+
+  /** The replies of all statements up to a step's, also of those before the first map. */
+  repliesTo(step) {
+    return this.statements.slice(0, this.skipped + step).map(it => it.reply);
+  }
+
+  /** The state behind a step's statement; behind step 0 that before the first. */
+  stateAt(step) {
+    return parseMap(this.text, this.maps[Math.min(step, this.maps.length - 1)]);
+  }
+
+  /** The lines of a step's statement: from where it begins on, as long as there is a character in column
+      72. */
+  linesOf(step) {
+    const first = this.statement(step).line;
+    let last = first;
+    const isContinued = number => (this.lines[number - 1][71] ?? ' ') !== ' ';
+    while (last < this.lines.length && isContinued(last) && !this.atLine.has(last + 1)) last++;
+    return [first, last];
+  }
+
+  textOfStatement(step) {
+    const [first, last] = this.linesOf(step);
+    return this.lines.slice(first - 1, last).map(it => it.trimEnd()).join('\n');
+  }
+}

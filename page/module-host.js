@@ -1,0 +1,34 @@
+// What the program's module asks of its host; the same in a browser's worker and in node.
+
+/** A text's characters as bytes; each has to be below 256. */
+export const latin = text => Uint8Array.from(text, it => it.charCodeAt(0));
+
+/** Bytes as a text, one character for each. (A TextDecoder has no such encoding: its latin1 is another one.) */
+export function latinText(bytes) {
+  let text = '';
+  for (let at = 0; at < bytes.length; at += 0x8000) text += String.fromCharCode(...bytes.subarray(at, at + 0x8000));
+  return text;
+}
+
+/** Runs the program with words (bytes each) and streams of its caller, and returns the exit status. `read(stream, room)`
+    fills the front of the room and returns how many bytes these are; `write(stream, bytes)` returns how many it took;
+    `open(path)` returns a stream. Each may answer -1, which the program takes for a failure. */
+export function runProgram(module, words, streams) {
+  let memory;
+  const told = [latin('vsm'), ...words];
+  const bytesAt = (at, count) => new Uint8Array(memory.buffer, Number(at), Number(count));
+  const env = {
+    read: (stream, to, most) => BigInt(streams.read(stream, bytesAt(to, most))),
+    write: (stream, from, count) => BigInt(streams.write(stream, bytesAt(from, count))),
+    open: (path, length) => streams.open(bytesAt(path, length)),
+    arg(index, to, most) {
+      const word = told[Number(index)];
+      if (!word) return -1n;
+      bytesAt(to, most).set(word.subarray(0, Number(most)));
+      return BigInt(word.length);
+    },
+  };
+  const { exports } = new WebAssembly.Instance(module, { env });
+  memory = exports.memory;
+  return exports.main(0, 0n);
+}

@@ -1,0 +1,330 @@
+"""Trials of one page in the browser: what is drawn, each key, the teacher's mode, and how it looks."""
+from __future__ import annotations
+
+import json
+from collections.abc import Callable
+from pathlib import Path
+from typing import Any
+
+from chromium import Browser
+from expected import PAGE, UNIT, Page, area_edges, bytes_by_kind, cell_edges, history, owners
+from trials import Trials
+
+HERE = Path(__file__).resolve().parent
+READY = "document.querySelector('.where')?.textContent || document.querySelector('.sentence[role=alert]')"
+STILL = {"prefers_reduced_motion": "reduce"}  # nothing is waited for then
+MOST_STEPS = 200  # of a page whose drawings are summed up
+IN_PAGE = PAGE // UNIT  # doublewords
+WIDE, ROWS = 64, 8  # of the chosen page, in doublewords
+
+
+def probed(call: str) -> str:
+    """An expression that asks page/probe.js."""
+    return f"(() => {{ {(HERE / 'probe.js').read_text(encoding='utf-8')}; return probe.{call}; }})()"
+
+
+FRAMED = ".run .bar button, .run .task button, .run .ask"
+PALE = probed(f"pale(document.querySelector('.run'), '{FRAMED}')")
+
+
+def text_of(browser: Browser, part: str) -> str:
+    return browser.evaluate(f"document.querySelector({json.dumps(part)})?.textContent ?? ''")
+
+
+def attribute_of(browser: Browser, part: str, name: str) -> str:
+    return browser.evaluate(f"document.querySelector({json.dumps(part)}).getAttribute({json.dumps(name)})")
+
+
+def press(browser: Browser, part: str) -> None:
+    """Clicks a control."""
+    browser.evaluate(f"document.querySelector({json.dumps(part)}).click()")
+    browser.settle()
+
+
+def focus(browser: Browser, part: str) -> None:
+    browser.evaluate(f"document.querySelector({json.dumps(part)}).focus()")
+
+
+def step_of(browser: Browser) -> int:
+    browser.settle()
+    return int(browser.evaluate("document.querySelector('.time input').value"))
+
+
+def total(boxes: list[list[float]]) -> float:
+    """How many bytes boxes cover."""
+    return sum(end - first for first, _, end in boxes) * UNIT
+
+
+def places(edges: list[list[float]], wide: int) -> set[float]:
+    """Where lines stand, in doublewords, of a drawing in rows of so many."""
+    return {row * wide + at for at, row in edges}
+
+
+def by_page(strips: dict[int, dict[str, Any]], kind: str) -> dict[int, set[float]]:
+    return {number: places(strip[kind], IN_PAGE) for number, strip in strips.items()}
+
+
+def try_storage(trials: Trials, page: Page, step: int, drawn: dict[str, Any]) -> None:
+    """The pages that are drawn at a step, against the map and the replies."""
+    state = page.map_at(step)
+    strips = {int(number): it for number, it in drawn["pages"].items()}
+    wanted = bytes_by_kind(state)
+    sums = {kind: sum(total(it[kind]) for it in strips.values()) for kind in wanted}
+    trials.equal(f"step {step}: the bytes that are drawn", sums, wanted)
+    taken, free = (f"{count} byte{'s' * (count != 1)}" for count in (state.taken, state.free))
+    trials.equal(f"step {step}: the totals", drawn["totals"], f"{taken} taken, {free} free")
+    stand, _ = history(page.answers_to(step), state.history)
+    edges = area_edges(state, owners(stand))
+    trials.equal(f"step {step}: the lines between areas", by_page(strips, "edges"), edges)
+    cells = {number: cell_edges(state, number, 1) for number in edges}
+    trials.equal(f"step {step}: the lines between cells", by_page(strips, "ofcells"), cells)
+    chosen = int(drawn["chosen"]) if drawn["chosen"] else -1
+    trials.equal(f"step {step}: the chosen page is near by", drawn["lens"] is not None, chosen in edges)
+    if chosen in edges and drawn["lens"]:
+        lens = drawn["lens"]
+        sums = {kind: total(lens[kind]) for kind in wanted}
+        trials.equal(
+            f"step {step}: the chosen page", sums, {kind: total(strips[chosen][kind]) for kind in wanted}
+        )
+        trials.equal(f"step {step}: its lines", places(lens["edges"], WIDE), edges[chosen])
+        wide = cell_edges(state, chosen, ROWS)
+        trials.equal(f"step {step}: its lines between cells", places(lens["ofcells"], WIDE), wide)
+
+
+def try_history(trials: Trials, page: Page, step: int, drawn: dict[str, Any]) -> None:
+    """What is struck through, as far as it's in sight, and what is told of the history."""
+    state, told = page.map_at(step), page.answers_to(step)
+    stand, again = history(told, state.history)
+    undone = {page.line_of(it) for it in told if it.is_kept} - {page.line_of(it) for it in stand}
+    struck = undone & set(drawn["lines"])
+    trials.equal(f"step {step}: the lines that are struck through", set(drawn["undone"]), struck)
+    wanted = f"{state.kept} kept of at most {state.history}, {len(again)} undone"
+    trials.equal(f"step {step}: the history", drawn["history"], wanted)
+
+
+def without_groups(drawn: dict[str, Any]) -> dict[str, Any]:
+    """Its numbers without the commas of thousands."""
+    texts = {name: drawn[name].replace(", ", "; ").replace(",", "") for name in ("totals", "history")}
+    return {**drawn, **{name: text.replace("; ", ", ") for name, text in texts.items()}}
+
+
+def try_drawings(trials: Trials, browser: Browser, page: Page) -> None:
+    most = MOST_STEPS if page.steps <= 2 * MOST_STEPS else MOST_STEPS // 10
+    steps = sorted({*range(0, page.steps + 1, max(1, page.steps // most)), page.steps})
+    for step, found in zip(steps, browser.evaluate(probed(f"at({steps})"))):
+        drawn = without_groups(found)
+        try_storage(trials, page, step, drawn)
+        if page.steps <= MOST_STEPS:
+            try_history(trials, page, step, drawn)
+        if step:
+            trials.equal(f"step {step}: the reply", drawn["said"], page.shown[step - 1].text)
+
+
+def seek(page: Page, step: int, by: int) -> int:
+    """The step that `[` and `]` lead to."""
+    at = step + by
+    while 0 < at <= page.steps:
+        if page.shown[at - 1].is_refused or page.shown[at - 1].text == "RC=4":
+            return at
+        at += by
+    return step
+
+
+def try_keys(trials: Trials, browser: Browser, page: Page) -> None:
+    """Every key that goes to a statement, from the page itself."""
+    shift = {"modifiers": 8}
+    moves: list[tuple[str, dict[str, int], Callable[[int], int]]] = [
+        ("Home", {}, lambda at: 0),
+        ("ArrowRight", {}, lambda at: at + 1),
+        ("ArrowRight", {}, lambda at: at + 1),
+        ("ArrowLeft", {}, lambda at: at - 1),
+        ("ArrowRight", shift, lambda at: at + 10),
+        ("ArrowLeft", shift, lambda at: at - 10),
+        ("PageDown", {}, lambda at: at + 100),
+        ("PageUp", {}, lambda at: at - 100),
+        ("End", {}, lambda at: page.steps),
+        ("[", {}, lambda at: seek(page, at, -1)),
+        ("[", {}, lambda at: seek(page, at, -1)),
+        ("Home", {}, lambda at: 0),
+        ("]", {}, lambda at: seek(page, at, 1)),
+        ("]", {}, lambda at: seek(page, at, 1)),
+    ]
+    browser.evaluate("document.activeElement.blur()")
+    at = step_of(browser)
+    for key, more, wanted in moves:
+        browser.key(key, **more)
+        at = max(0, min(page.steps, wanted(at)))
+        trials.equal(f"the key {key} {more or ''}", step_of(browser), at)
+
+
+def try_play_and_help(trials: Trials, browser: Browser) -> None:
+    browser.key("Home")
+    browser.key(" ")
+    trials.equal("space plays", attribute_of(browser, ".play", "aria-pressed"), "true")
+    browser.key(" ")
+    trials.equal("space stops", attribute_of(browser, ".play", "aria-pressed"), "false")
+    browser.key("Home")
+    browser.key("?")
+    trials.want("? shows the help", browser.evaluate("document.querySelector('dialog').open"))
+    browser.key("ArrowRight")
+    trials.equal("the help keeps the keys", step_of(browser), 0)
+    browser.key("Escape", windowsVirtualKeyCode=27)
+    trials.want("Escape ends the help", not browser.evaluate("document.querySelector('dialog').open"))
+
+
+def try_focus(trials: Trials, browser: Browser, page: Page) -> None:
+    """The keys of the parts that can have the focus, and the buttons."""
+    one = min(1, page.steps)
+    browser.key("Home")
+    focus(browser, ".script")
+    browser.key("ArrowDown")
+    trials.equal("down in the script", step_of(browser), one)
+    if page.steps:
+        line = page.line_of(page.shown[0])
+        trials.equal("the line that is active", browser.evaluate(probed("active()")), line)
+    browser.key("ArrowUp")
+    trials.equal("up in the script", step_of(browser), 0)
+    focus(browser, ".time input")
+    browser.key("ArrowRight")
+    trials.equal("right on the slider", step_of(browser), one)
+    browser.key("End")
+    rows = browser.evaluate("[...document.querySelectorAll('.page')].map(it => it.dataset.page)")
+    if len(rows) > 1:
+        focus(browser, ".page")
+        for key, row in (("ArrowDown", rows[1]), ("ArrowUp", rows[0])):
+            browser.key(key)
+            trials.equal(f"{key} in the storage", attribute_of(browser, ":focus", "data-page"), row)
+    press(browser, ".task button")
+    trials.want(
+        "a task keeps the focus", browser.evaluate("document.activeElement.closest('.task') !== null")
+    )
+    browser.evaluate("document.activeElement.blur()")
+    for name, wanted in (("first", 0), ("on", one), ("back", 0), ("last", page.steps)):
+        press(browser, f"button.{name}")
+        trials.equal(f"the button {name}", step_of(browser), wanted)
+
+
+def try_question(trials: Trials, browser: Browser, page: Page, step: int) -> None:
+    """The answer of a step is hidden, and shown once it's asked for."""
+    reply, before, behind = page.shown[step - 1].text, page.map_at(step - 1), page.map_at(step)
+    told = browser.evaluate(probed("told()"))
+    hidden = all(reply not in told[place] for place in ("said", "live", "value"))
+    # A reply of two letters may well stand in the statement's own text.
+    trials.want(f"the answer {step} is hidden", hidden or len(reply) < 4, told)
+    trials.want(
+        f"no answer from {step} on is told", len(told["replies"]) < page.skipped + step, told["replies"]
+    )
+    totals = told["totals"].replace(",", "")
+    trials.want(f"the storage before {step} is shown", totals.startswith(f"{before.taken} byte"), totals)
+    assigned = before.low_assigned + before.high_assigned
+    trials.want(f"no page is told that comes by {step}", told["rows"] <= assigned, told["rows"])
+    browser.key("]")
+    trials.equal("no hidden refusal is looked up", step_of(browser), step)
+    browser.key("Enter")
+    trials.equal(f"Enter shows the answer {step}", text_of(browser, ".said strong"), reply)
+    totals = text_of(browser, ".bytes").replace(",", "")
+    trials.want(f"the storage behind {step} is shown", totals.startswith(f"{behind.taken} byte"), totals)
+
+
+def try_teacher(trials: Trials, browser: Browser, page: Page) -> None:
+    """Answers are hidden until they're asked for, statement by statement."""
+    browser.key("Home")
+    browser.key("t")
+    trials.equal("the switch", attribute_of(browser, ".teacher", "aria-checked"), "true")
+    asked = min(page.steps, 3)
+    for step in range(1, asked + 1):
+        browser.key("ArrowRight")
+        try_question(trials, browser, page, step)
+    if page.steps > asked:
+        browser.key("End")
+        told = browser.evaluate(probed("told()"))
+        trials.want(
+            "far ahead nothing is told", len(told["replies"]) <= page.skipped + asked, told["replies"]
+        )
+        press(browser, ".ask")
+        trials.equal("the button shows the answers", text_of(browser, ".said strong"), page.shown[-1].text)
+    browser.key("T")
+    trials.equal("the switch back", attribute_of(browser, ".teacher", "aria-checked"), "false")
+
+
+def try_controls(trials: Trials, browser: Browser) -> None:
+    """Every control has a role and a name."""
+    passive = ("RootWebArea", "scrollable", "none", "generic")
+    controls = [(role, name.strip()) for role, name in browser.controls() if role not in passive]
+    trials.want("every control has a name", all(name for _, name in controls), controls)
+    roles = {role for role, _ in controls}
+    trials.want("the roles of controls", {"slider", "switch", "button", "listbox"} <= roles, roles)
+
+
+def try_themes(trials: Trials, browser: Browser) -> None:
+    """Names and contrast, light and dark; nothing moves where that isn't wanted."""
+    for scheme in ("light", "dark"):
+        browser.media(prefers_color_scheme=scheme, **STILL)
+        for key in ("Home", "End"):
+            browser.key(key)
+            trials.equal(f"{scheme}: the contrast of texts and controls", browser.evaluate(PALE), [])
+        try_controls(trials, browser)
+    trials.equal("reduced motion", browser.evaluate(probed("moving()")), 0)
+    browser.media(forced_colors="active")
+    forced = browser.evaluate(probed("forced()"))
+    if forced["page"] and None not in forced["fills"]:
+        trials.equal("forced colours: the kinds of parts that differ", len(set(forced["fills"])), 4)
+        trials.equal("forced colours: the chosen page is framed", forced["page"], "solid")
+    trials.want("forced colours: the statement is framed", forced["now"] in ("solid", None), forced)
+
+
+def try_sizes(trials: Trials, browser: Browser) -> None:
+    """Printed, and of several widths."""
+    browser.media("print")
+    parts = [".buttons", ".time", ".script", ".teacher"]
+    trials.equal("print: no controls", browser.evaluate(probed(f"visible({parts})")), [])
+    trials.equal("print: nothing is cut", browser.evaluate(probed("cut()")), [])
+    printed = browser.call("Page.printToPDF", printBackground=False)["data"]
+    trials.want("print: a document comes", len(printed) > 1000)
+    browser.media(**STILL)
+    for width in (420, 800, 1100):
+        browser.size(width, 900)
+        browser.settle()
+        wide, *parts = browser.evaluate(probed("wide()"))
+        trials.want(f"{width} wide: nothing is scrolled sideways", wide <= width and not parts, [wide, parts])
+    browser.size(1440, 900)
+
+
+def try_address(trials: Trials, browser: Browser, page: Page, address: str) -> None:
+    """`#2` opens at statement 2, and `#teacher` with all answers hidden."""
+    browser.open(f"{address}#2", READY)
+    trials.equal("#2 in the address", step_of(browser), min(2, page.steps))
+    browser.evaluate("location.hash = '#1'")
+    trials.equal("another number in the address", step_of(browser), min(1, page.steps))
+    browser.open(f"{address}#teacher", READY)
+    browser.settle()
+    trials.equal("#teacher in the address", attribute_of(browser, ".teacher", "aria-checked"), "true")
+    told = browser.evaluate(probed("told()"))
+    trials.equal("#teacher hides all answers", (len(told["replies"]), told["ticks"]), (page.skipped, 0))
+
+
+def try_page(trials: Trials, browser: Browser, path: Path, looks: bool = True) -> None:
+    page, address = Page.of(path), path.resolve().as_uri()
+    trials.subject = path.name
+    browser.media(**STILL)
+    try_address(trials, browser, page, address)
+    browser.open(address, READY)
+    browser.settle()
+    trials.equal(
+        "how many statements there are", int(attribute_of(browser, ".time input", "max")), page.steps
+    )
+    browser.key("End")
+    if page.steps:
+        trials.equal("the last statement's reply", text_of(browser, ".said strong"), page.shown[-1].text)
+        trials.want("what it means", len(text_of(browser, ".said p")) > 3)
+    try_drawings(trials, browser, page)
+    try_keys(trials, browser, page)
+    try_play_and_help(trials, browser)
+    try_focus(trials, browser, page)
+    try_teacher(trials, browser, page)
+    if looks:
+        try_themes(trials, browser)
+        try_sizes(trials, browser)
+    asked = [it for it in browser.requests() if it.split("#")[0] != address]
+    trials.equal("no request leaves the page", asked, [])
+    trials.equal("no message of the console", browser.messages(), [])

@@ -1,0 +1,143 @@
+// What trials ask of a page: what is drawn there, and how it looks. It's given to the browser as it stands.
+const probe = {
+  /** The boxes of a path: from and to, in doublewords, and the row. */
+  boxes: path => [...path.getAttribute('d').matchAll(/M([\d.]+) (\d+)H([\d.]+)/g)]
+    .map(it => [+it[1], +it[2], +it[3]]),
+
+  /** The lines of a path: the doubleword before which each stands, and the row. */
+  edges: path => [...path.getAttribute('d').matchAll(/M([\d.]+) (\d+)v1/g)].map(it => [+it[1], +it[2]]),
+
+  drawing: svg => ({
+    ...Object.fromEntries(
+      ['taken', 'free', 'cell', 'freecell'].map(it => [it, probe.boxes(svg.querySelector(`.${it}`))])
+    ),
+    edges: probe.edges(svg.querySelector('.edge')),
+    ofcells: probe.edges(svg.querySelector('.ofcells')),
+  }),
+
+  /** The numbers of the script's lines that are elements, and have a class. */
+  lines: kind => [...document.querySelectorAll(`.line${kind} .number`)].map(it => +it.textContent),
+
+  shown() {
+    const rows = [...document.querySelectorAll('.page')].filter(row => row.querySelector('svg'));
+    const lens = document.querySelector('.lens');
+    return {
+      lines: probe.lines(''),
+      undone: probe.lines('.undone'),
+      history: document.querySelector('.history').textContent,
+      said: document.querySelector('.said strong')?.textContent,
+      totals: document.querySelector('.bytes').textContent,
+      pages: Object.fromEntries(rows.map(row => [row.dataset.page, probe.drawing(row.querySelector('svg'))])),
+      chosen: document.querySelector('.page[aria-pressed=true]')?.dataset.page ?? null,
+      lens: lens.hidden ? null : probe.drawing(lens.querySelector('svg')),
+    };
+  },
+
+  /** What is shown at each of some steps; the slider is moved as a hand would. */
+  async at(steps) {
+    const slider = document.querySelector('.time input'), all = [];
+    for (const step of steps) {
+      slider.value = step;
+      slider.dispatchEvent(new Event('input'));
+      await new Promise(requestAnimationFrame); // the view has asked for this frame before, and draws first
+      all.push(probe.shown());
+    }
+    return all;
+  },
+
+  /** All places where an answer could be told. */
+  told: () => ({
+    replies: [...document.querySelectorAll('.line .reply')].map(it => it.textContent)
+      .filter(it => it && it !== '?'),
+    said: document.querySelector('.said').innerText,
+    live: document.querySelector('[aria-live]').textContent,
+    value: document.querySelector('.time input').getAttribute('aria-valuetext'),
+    ticks: document.querySelectorAll('.ticks path').length,
+    rows: document.querySelectorAll('.page').length,
+    totals: document.querySelector('.bytes').textContent,
+  }),
+
+  /** How far colours, the lowest first, stand out from a ground of such: the ratio of WCAG. */
+  contrast(over, ground) {
+    const canvas = document.createElement('canvas').getContext('2d', { willReadFrequently: true });
+    const light = layers => {
+      canvas.clearRect(0, 0, 1, 1);
+      for (const it of layers) {
+        canvas.fillStyle = it;
+        canvas.fillRect(0, 0, 1, 1);
+      }
+      const shares = [...canvas.getImageData(0, 0, 1, 1).data].slice(0, 3).map(it => it / 255);
+      const linear = shares.map(it => it <= .04045 ? it / 12.92 : ((it + .055) / 1.055) ** 2.4);
+      return .2126 * linear[0] + .7152 * linear[1] + .0722 * linear[2];
+    };
+    const [low, high] = [light([...ground, ...over]), light(ground)].sort((a, b) => a - b);
+    return (high + .05) / (low + .05);
+  },
+
+  /** The colours that stand behind what is in an element, the lowest first. */
+  ground(element) {
+    const layers = [];
+    for (let at = element; at; at = at.parentElement) layers.unshift(getComputedStyle(at).backgroundColor);
+    return layers;
+  },
+
+  /** Texts and icons in an element, and the frames of some controls, that stand out too little. */
+  pale(root, framed) {
+    const pale = [], known = new Map();
+    const seen = it => it.getClientRects().length && it.checkVisibility() && !it.closest('.unseen');
+    const judge = (it, colour, ground, least) => {
+      const key = [colour, ...ground].join();
+      if (!known.has(key)) known.set(key, probe.contrast([colour], ground));
+      const has = known.get(key);
+      if (has < least) pale.push([it.getAttribute('class'), it.textContent.slice(0, 30), has]);
+    };
+    const walk = document.createTreeWalker(root, NodeFilter.SHOW_TEXT);
+    while (walk.nextNode()) {
+      const it = walk.currentNode.parentElement;
+      if (!walk.currentNode.data.trim() || !seen(it)) continue;
+      judge(it, getComputedStyle(it).color, probe.ground(it), 4.5);
+    }
+    for (const it of root.querySelectorAll('.icon')) {
+      judge(it, getComputedStyle(it).color, probe.ground(it.parentElement), 3);
+    }
+    for (const it of document.querySelectorAll(framed)) {
+      if (seen(it)) judge(it, getComputedStyle(it).borderTopColor, probe.ground(it.parentElement), 3);
+    }
+    return pale;
+  },
+
+  /** In forced colours: how the parts of a page are filled, and whether what is chosen is framed. */
+  forced() {
+    const of = (part, what) => {
+      const it = document.querySelector(part);
+      return it && getComputedStyle(it)[what];
+    };
+    return {
+      fills: ['taken', 'free', 'cell', 'freecell'].map(it => of(`.strip .${it}`, 'fill')),
+      now: of('.now', 'outlineStyle'),
+      page: of('.page[aria-pressed=true]', 'outlineStyle'),
+    };
+  },
+
+  /** What moves by itself. */
+  moving: () => [...document.querySelectorAll('.run *')]
+    .filter(it => parseFloat(getComputedStyle(it).transitionDuration) > 0).length,
+
+  /** Which of these can be seen. */
+  visible: parts => parts.filter(it => document.querySelector(it).checkVisibility()),
+
+  /** What has more than it shows, upright. */
+  cut: () => [...document.querySelectorAll('.columns, .storage, .side, .said, .regions')]
+    .filter(it => it.scrollHeight > it.clientHeight + 2 && getComputedStyle(it).overflowY !== 'visible')
+    .map(it => it.className),
+
+  /** How wide the page is, and what can be scrolled sideways. */
+  wide: () => [document.documentElement.scrollWidth, ...[...document.querySelectorAll('.storage, .side')]
+    .filter(it => it.scrollWidth > it.clientWidth).map(it => it.className)],
+
+  /** The number of the script's line that a screen reader is told of. */
+  active() {
+    const id = document.querySelector('.script').getAttribute('aria-activedescendant');
+    return +document.getElementById(id).querySelector('.number').textContent;
+  },
+};

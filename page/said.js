@@ -1,0 +1,48 @@
+// The statement, its reply, and what that means; in the teacher's mode a question in place of an answer not
+// yet asked for.
+import { count, make } from './elements.js';
+import { meaningOf } from './meanings.js';
+import { kindOf } from './replies.js';
+
+/** What a step says, in one line for those who listen. */
+export function spoken(view) {
+  if (!view.step) return 'Before the first statement.';
+  const statement = view.run.textOfStatement(view.step), { reply } = view.run.statement(view.step);
+  const answer =
+    view.step > view.told ? 'The answer is hidden.' : `${reply}. ${meaningOf(reply, statement).meaning}`;
+  return `Statement ${view.step}. ${statement.split('\n')[0].trim()}. ${answer}`;
+}
+
+const muted = text => make('p', { class: 'muted' }, text);
+
+export function saidPart(view) {
+  const element =
+    make('section', { class: 'said', 'aria-label': 'The statement and its answer', tabindex: 0 });
+
+  function start() {
+    const { steps } = view.run;
+    const advice = steps ? 'Step on with the right arrow key.' : 'The script has no statement that is shown.';
+    const number = make('strong', {}, count(steps, 'statement'));
+    return [muted('Before the first statement'), number, muted(advice)];
+  }
+  function question() {
+    const ahead = view.step > view.told + 1;
+    const name = ahead ? 'Show the answers up to here' : 'Show the answer';
+    const storage = ahead ? ', as far as answers have been asked for.' : '.';
+    return [
+      make('p', {}, make('button', { type: 'button', class: 'ask', onclick: view.ask }, name)),
+      muted(`What does it answer? Enter shows it. The storage is that before the statement${storage}`)
+    ];
+  }
+  function answer(text) {
+    const { reply } = view.run.statement(view.step), { meaning, more } = meaningOf(reply, text);
+    return [make('strong', { class: kindOf(reply) }, reply), make('p', {}, meaning), muted(more)];
+  }
+  function draw() {
+    const text = view.step ? view.run.textOfStatement(view.step) : '';
+    if (!view.step) element.replaceChildren(...start());
+    else element.replaceChildren(make('pre', {}, text), ...view.step > view.told ? question() : answer(text));
+    element.scrollTop = 0;
+  }
+  return { element, draw };
+}

@@ -1,0 +1,76 @@
+// Subpools, names, the history and the totals, as tables.
+import { count, grouped, make, panel, tag } from './elements.js';
+import { PAGE } from './map.js';
+
+const sum = areas => areas.reduce((total, [, length]) => total + length, 0);
+
+/** Pages, taken and free bytes of a subpool; or nothing where there's none. */
+const sizesOf = subpool =>
+  subpool ? [sum(subpool.extents) / PAGE, sum(subpool.extents) - sum(subpool.free), sum(subpool.free)] : [];
+
+function subpoolRow(view, subpool, shared) {
+  const isSame = it => it.number === subpool.number && it.owner === subpool.owner;
+  const was = sizesOf(view.moment.before.subpools.find(isSame));
+  return make('tr', {}, make('td', { class: 'text' }, tag(view.run, subpool)),
+    ...sizesOf(subpool).map((it, k) => make('td', { class: was[k] === it ? null : 'changed' }, grouped(it))),
+    shared ? make('td', { class: 'text sharers' }, subpool.sharers.map(it => `T${it}`).join(' ')) : null);
+}
+
+export function subpoolsPart(view) {
+  const element = make('div', {});
+  function draw() {
+    const { subpools } = view.moment.state;
+    const shared = subpools.some(it => it.sharers.length);
+    const heads = ['subpool', 'pages', 'taken', 'free', ...shared ? ['sharers'] : []];
+    const head =
+      make('tr', {}, ...heads.map((it, k) => make('th', { scope: 'col', class: k % 4 ? null : 'text' }, it)));
+    element.replaceChildren(
+      panel('Subpools', make('table', {}, head, ...subpools.map(it => subpoolRow(view, it, shared))))
+    );
+  }
+  return { element, draw };
+}
+
+export function namesPart(view) {
+  const element = make('div', {});
+  function draw() {
+    const { state, before } = view.moment, was = new Map(before.names);
+    const row = ([name, word]) => make(
+      'tr', {}, make('td', { class: 'text' }, name),
+      make('td', { class: was.get(name) === word ? null : 'changed' }, word)
+    );
+    element.replaceChildren(
+      ...state.names.length ? [panel('Names', make('table', {}, ...state.names.map(row)))] : []
+    );
+  }
+  return { element, draw };
+}
+
+/** A bar in proportion: its parts in turn, of a whole. */
+const barOf = (whole, ...parts) => make(
+  'div', { class: 'share', 'aria-hidden': 'true' },
+  ...parts.map(it => make('i', { style: `width:${whole ? 100 * it / whole : 0}%` }))
+);
+
+export function totalsPart(view) {
+  const element = make('div', {});
+  function draw() {
+    const { state, again } = view.moment;
+    element.replaceChildren(
+      panel(
+        'History', barOf(state.limit, state.kept, again),
+        make(
+          'p', { class: 'history' },
+          `${grouped(state.kept)} kept of at most ${grouped(state.limit)}, ${grouped(again)} undone`
+        )
+      ),
+      panel(
+        'Bytes', barOf(state.taken + state.free, state.taken),
+        make(
+          'p', { class: 'bytes' }, `${count(state.taken, 'byte')} taken, ${count(state.free, 'byte')} free`
+        )
+      )
+    );
+  }
+  return { element, draw };
+}

@@ -1,0 +1,224 @@
+// A run, statement by statement. showRun is all that other pages need.
+import { make } from './elements.js';
+import { helpDialog } from './help.js';
+import { keysOf } from './keys.js';
+import { lensPart } from './lens.js';
+import { PAGE, Run, Sentence } from './map.js';
+import { momentOf } from './moment.js';
+import { poolsPart } from './pools.js';
+import { legend, regionsPart } from './regions.js';
+import { saidPart, spoken } from './said.js';
+import { scriptPart } from './script.js';
+import { namesPart, subpoolsPart, totalsPart } from './tables.js';
+import { registersPart, tasksPart } from './tasks.js';
+import { transportPart } from './transport.js';
+import { kindOf } from './replies.js';
+
+const PLAY = 700, NOTE = 300; // milliseconds: between two statements; until the address is changed
+const LOWEST = 0x6000 / PAGE;
+let made = 0;
+
+/** What this browser lacks, as a sentence; or null. */
+function lackOf() {
+  const lacks = [
+    typeof DecompressionStream === 'undefined' && 'DecompressionStream',
+    !CSS.supports('color', 'light-dark(red, red)') && 'light-dark()'
+  ].filter(Boolean);
+  if (!lacks.length) return null;
+  return `This page shows a run of vsm, but this browser lacks ${lacks.join(' and ')}: ` +
+    'Chrome 123, Firefox 120 and Safari 17.5 have what it needs.';
+}
+
+/** A sentence in place of the run. */
+function apologise(container, fault) {
+  container.classList.add('run');
+  container.replaceChildren(make(
+    'p', { class: 'sentence', role: 'alert' },
+    fault instanceof Sentence ? fault.message : `The run can’t be shown: ${fault}.`
+  ));
+}
+
+/** The view of one run: where it stands, and its parts. */
+class View {
+  constructor(container, run, options) {
+    Object.assign(this, { container, run, options, id: `run-${++made}` });
+    Object.assign(this, { step: 0, told: run.steps, asked: 0, teaching: false, chosen: null, picked: null });
+    Object.assign(this, { clock: null, drawing: null, noting: null });
+    for (const act of ['play', 'ask', 'help']) this[act] = this[act].bind(this);
+    this.dialog = helpDialog();
+    this.live = make('div', { class: 'unseen', 'aria-live': 'polite' });
+    this.regions = regionsPart(this);
+    this.tasks = tasksPart(this);
+    this.script = scriptPart(this);
+    this.build();
+    this.listen();
+  }
+
+  /** Puts the parts in place: the head, and below it the script, the storage, and what else there is. */
+  build() {
+    const head = transportPart(this), said = saidPart(this), lens = lensPart(this);
+    const tables = [registersPart, subpoolsPart, poolsPart, namesPart, totalsPart].map(it => it(this));
+    const side = [this.tasks, ...tables];
+    const within = [said.element, legend(), this.regions.element, lens.element];
+    const storage = make('div', { class: 'storage' }, ...within);
+    const name = 'Tasks, registers, subpools, cell pools and names';
+    const rest = make('div', { class: 'side', role: 'group', 'aria-label': name });
+    rest.append(...side.map(it => it.element));
+    const columns = make('div', { class: 'columns' }, this.script.element, storage, rest);
+    const stage = make('div', { class: 'stage' }, head.element, columns);
+    this.parts = [head, this.script, said, this.regions, lens, ...side];
+    this.container.classList.add('run');
+    this.container.replaceChildren(stage, this.live, this.dialog);
+  }
+
+  listen() {
+    this.ending = new AbortController();
+    const { signal } = this.ending;
+    document.addEventListener('keydown', keysOf(this), { signal });
+    this.resizing = new ResizeObserver(() => this.moment && this.script.resize());
+    this.resizing.observe(this.script.element);
+    if (this.options.address) addEventListener('hashchange', () => this.followAddress(), { signal });
+  }
+
+  /** Ends it: no keys and no clock any more. The container is left as it is. */
+  close() {
+    this.ending.abort();
+    this.resizing.disconnect();
+    clearInterval(this.clock);
+    clearTimeout(this.noting);
+    cancelAnimationFrame(this.drawing);
+  }
+
+  /** To a statement; what comes faster than frames are shown is drawn once. */
+  go(to) {
+    this.step = Math.max(0, Math.min(this.run.steps, to));
+    this.picked = null;
+    this.drawing ??= requestAnimationFrame(() => this.draw());
+  }
+
+  draw() {
+    this.drawing = null;
+    try {
+      this.drawParts();
+    } catch (fault) {
+      this.close();
+      apologise(this.container, fault);
+    }
+  }
+
+  drawParts() {
+    this.told = this.teaching ? this.asked : this.run.steps;
+    const shown = Math.min(this.step, this.told);
+    const key = `${shown} ${shown < this.step}`;
+    if (this.moment?.key !== key) {
+      this.moment = { ...momentOf(this.run, shown, shown < this.step), key };
+      this.turn();
+    }
+    this.task = this.moment.state.tasks.find(it => it.number === this.picked) ??
+      this.moment.state.tasks.find(it => it.current);
+    for (const part of this.parts) part.draw();
+    const text = spoken(this);
+    if (this.live.textContent !== text) this.live.textContent = text;
+    this.note();
+  }
+
+  /** The page that is looked at near by: where something was granted; else the one before, unless another
+      has changed and it hasn't, or it has left. */
+  turn() {
+    const { granted, pages, pagesBefore } = this.moment;
+    const changed = page => pages.get(page)?.key !== pagesBefore.get(page)?.key;
+    if (granted) this.chosen = Math.floor(granted.from / PAGE);
+    else if (!pages.has(this.chosen) || !changed(this.chosen)) {
+      const other = [...pages.keys()].find(changed);
+      this.chosen = other ?? (pages.has(this.chosen) ? this.chosen : [...pages.keys()][0] ?? LOWEST);
+    }
+  }
+
+  choose(page) {
+    this.chosen = page;
+    this.draw();
+    this.regions.focus();
+  }
+
+  pick(task) {
+    this.picked = task;
+    this.draw();
+    this.tasks.focus(task);
+  }
+
+  get playing() {
+    return this.clock !== null;
+  }
+
+  /** Plays to the end, or stops. */
+  play() {
+    clearInterval(this.clock);
+    this.clock = this.playing
+      ? null
+      : setInterval(() => this.step < this.run.steps ? this.go(this.step + 1) : this.play(), PLAY);
+    this.draw();
+  }
+
+  help() {
+    this.dialog.showModal();
+  }
+
+  /** Teacher's mode on or off; switched on, the answers behind the statement that is shown are hidden. */
+  teach(asked = this.step) {
+    this.teaching = !this.teaching;
+    this.asked = asked;
+    this.draw();
+  }
+
+  /** Shows the answers up to the statement that is shown. */
+  ask() {
+    if (!this.teaching || this.step <= this.asked) return false;
+    this.asked = this.step;
+    this.draw();
+    this.script.element.focus({ preventScroll: true });
+    return true;
+  }
+
+  /** To the next statement, back or on, that was refused or answered 4; an answer that is hidden isn't
+      looked at. */
+  seek(by) {
+    for (let step = this.step + by; step > 0 && step <= this.told; step += by) {
+      if (['refused', 'four'].includes(kindOf(this.run.statement(step).reply))) return this.go(step);
+    }
+  }
+
+  /** `#12` in the address is statement 12; `#teacher` is the teacher's mode, from the start. */
+  followAddress() {
+    if (location.hash === '#teacher') {
+      this.step = 0;
+      this.teaching = false;
+      this.teach(0);
+    } else this.go(parseInt(location.hash.slice(1), 10) || 0);
+  }
+
+  note() {
+    clearTimeout(this.noting);
+    if (this.options.address && !this.teaching)
+      this.noting = setTimeout(() => history.replaceState(null, '', `#${this.step}`), NOTE);
+  }
+}
+
+/** Shows a run in an element, in place of what is there, and answers the view, whose close() ends it; null
+    where there is a sentence in its place. `data` has `name`, `options` (words), `script` (text),
+    `skipped` (how many answers come before the first map), and what vsm printed for the script with maps
+    put in: `text`, or `output`, gzip'd and in base64. Options: `address` keeps the statement in the page's
+    address; `teacher` begins in the teacher's mode. */
+export async function showRun(container, data, options = {}) {
+  try {
+    const lack = lackOf();
+    if (lack) throw new Sentence(lack);
+    const view = new View(container, await Run.of(data), options);
+    if (options.teacher) view.teach(0);
+    else if (options.address) view.followAddress();
+    view.draw();
+    return view;
+  } catch (fault) {
+    apologise(container, fault);
+    return null;
+  }
+}

@@ -1,0 +1,203 @@
+"""Trials of the pages that tools/vsm-view makes: those of all examples, of odd scripts, and damaged ones."""
+from __future__ import annotations
+
+import base64
+import gzip
+import random
+import re
+import subprocess
+import sys
+import tempfile
+from importlib import machinery, util
+from pathlib import Path
+from types import ModuleType
+
+import colours
+from chromium import Browser
+from expected import Page
+from on_page import PALE as PALE
+from on_page import READY, try_drawings, try_page
+from trials import Trials
+from vsmtools.lines import split_lines
+
+HERE = Path(__file__).resolve().parent
+TOP = HERE.parent
+TOOL = TOP / "tools" / "vsm-view"
+SENTENCE = "document.querySelector('.sentence')?.innerText ?? ''"
+OUTPUT = re.compile(r'"output":"[^"]*"')
+MADE_SECONDS = 300
+LONG_BYTES = 2_000_000
+LONG_SECONDS = 20  # to open the long page, beside other work
+
+AGAIN = b"""\
+ STORAGE OBTAIN,LENGTH=16,SP=1,ADDR=A
+ STORAGE OBTAIN,LENGTH=16,SP=1,ADDR=B
+ STORAGE OBTAIN,LENGTH=16,SP=1,ADDR=C
+ STORAGE RELEASE,LENGTH=16,ADDR=A,SP=1
+ STORAGE RELEASE,LENGTH=16,ADDR=B,SP=1
+ STORAGE OBTAIN,LENGTH=32,SP=1
+ BACK 2
+ STORAGE OBTAIN,LENGTH=8,SP=1
+ STORAGE OBTAIN,LENGTH=4096,SP=1,BNDRY=PAGE
+ BACK 2
+ FORWARD 1
+ STORAGE OBTAIN,LENGTH=6000,SP=1,COND=YES
+ STORAGE RELEASE,LENGTH=8,ADDR=C,SP=1
+ STORAGE OBTAIN,LENGTH=8,SP=1
+ GETMAIN RU,LV=5000,SP=2,LOC=31
+ CPOOL BUILD,PCELLCT=9,CSIZE=200,CPID=CA,SP=2
+ CPOOL BUILD,PCELLCT=50,CSIZE=100,CPID=CB,SP=2
+ CPOOL GET,CPID=CB
+ BACK 7
+ FORWARD 2
+"""
+ODD: dict[str, bytes] = {
+    "no line": b"",
+    "one line": b" STORAGE OBTAIN,LENGTH=8",
+    "only comments": b"* a\n*\n\n",
+    "the end of an element": b"* </script><script>document.title = 'x'</script> <!-- ]]>\n MAP </script>\n",
+    "bytes above 127": b"* \xc4\xe9\xff\x00\x07\x1b\r\n STORAGE OBTAIN,LENGTH=8,ADDR=P \xe4\r\n PEEK P,8\r\n",
+    "ends within a statement": b" STORAGE OBTAIN,LENGTH=8\n STORAGE OBTAIN,".ljust(96) + b"X",
+    "ends within remarks": b" STORAGE OBTAIN,LENGTH=8".ljust(71) + b"X\n",
+    "areas that come again": AGAIN,
+    "dropped lines": (
+        b" STORAGE OBTAIN,".ljust(71) + b"X\nNO BLANKS".ljust(72) + b"X\n AND ONE MORE\n MAP\n"
+    ),
+}
+
+
+def made(program: str, script: Path, page: Path, *options: str) -> Path:
+    """The page that tools/vsm-view makes of a script."""
+    words = [sys.executable, str(TOOL), "--vsm", program, *options, str(script)]
+    done = subprocess.run(words, stdin=subprocess.DEVNULL, capture_output=True, timeout=MADE_SECONDS)
+    if done.returncode:
+        raise OSError(done.stderr.decode("utf-8", "replace").strip())
+    page.write_bytes(done.stdout)
+    return page
+
+
+def try_odd(trials: Trials, browser: Browser, program: str, folder: Path) -> None:
+    """Scripts that are hard to show, and a part of one."""
+    for name, script in ODD.items():
+        path = folder / f"{name}.vsm"
+        path.write_bytes(script)
+        try_page(trials, browser, made(program, path, folder / f"{name}.html"), looks=False)
+        trials.equal("the title", browser.evaluate("document.title"), f"{name}.vsm · vsm")
+        lines = [line.decode("latin-1") for line in split_lines(script)]
+        shown = browser.evaluate("[...document.querySelectorAll('.line .text')].map(it => it.textContent)")
+        trials.equal("the script's text", shown[: len(lines)], lines)
+    path = TOP / "examples" / "cell-pools.vsm"
+    part = made(program, path, folder / "a part.html", "--first", "8", "--last", "20")
+    try_page(trials, browser, part, looks=False)
+
+
+def damaged(text: str) -> dict[str, str]:
+    """A page, damaged in several ways."""
+
+    def with_output(output: str) -> str:
+        return OUTPUT.sub(f'"output":"{output}"', text, count=1)
+
+    def packed(output: bytes) -> str:
+        return with_output(base64.b64encode(gzip.compress(output)).decode())
+
+    return {
+        "no data": re.sub(r'(id="data">).*?(</script>)', r"\1\2", text, count=1, flags=re.DOTALL),
+        "no gzip": with_output("AAAA"),
+        "no base64": with_output("?"),
+        "no map": packed(b"hello\n"),
+        "half a map": packed(b"0000001 MAP\n TASK 1 PARENT 0 CURRENT\n  R0 00000000\n WHAT\n"),
+    }
+
+
+def try_damaged(trials: Trials, browser: Browser, page: Path, folder: Path) -> None:
+    """A sentence, and never an empty page."""
+    for name, text in damaged(page.read_text(encoding="utf-8")).items():
+        trials.subject = f"a page with {name}"
+        path = folder / f"{name}.html"
+        path.write_text(text, encoding="utf-8")
+        browser.open(path.resolve().as_uri(), READY)
+        said = browser.evaluate(SENTENCE)
+        alone = browser.evaluate("document.querySelector('.stage') === null")
+        trials.want(
+            "a sentence says so", alone and said.startswith(("This page is", "What vsm printed")), said
+        )
+        trials.equal("no message of the console", browser.messages(), [])
+
+
+def try_lacks(trials: Trials, browser: Browser, page: Path) -> None:
+    """A browser without what is needed is told a sentence."""
+    address = page.resolve().as_uri()
+    lacks = {
+        "DecompressionStream": "delete window.DecompressionStream",
+        "light-dark()": "CSS.supports = () => false",
+    }
+    for lack, source in lacks.items():
+        trials.subject = f"a browser without {lack}"
+        added = browser.call("Page.addScriptToEvaluateOnNewDocument", source=source)["identifier"]
+        browser.open(address, READY)
+        trials.want("a sentence says so", lack in browser.evaluate(SENTENCE), browser.evaluate(SENTENCE))
+        browser.call("Page.removeScriptToEvaluateOnNewDocument", identifier=added)
+    trials.subject = "a browser without scripts"
+    browser.call("Emulation.setScriptExecutionDisabled", value=True)
+    browser.open(address, "document.querySelector('.sentence')")
+    trials.want("a sentence says so", "JavaScript" in browser.evaluate(SENTENCE))
+    browser.call("Emulation.setScriptExecutionDisabled", value=False)
+
+
+def walks() -> ModuleType:
+    """The module tests/walks, which makes scripts."""
+    loader = machinery.SourceFileLoader("walks", str(TOP / "tests" / "walks"))
+    spec = util.spec_from_loader("walks", loader)
+    if not spec:
+        raise OSError("tests/walks can't be read")
+    module = util.module_from_spec(spec)
+    loader.exec_module(module)
+    return module
+
+
+def try_long(trials: Trials, browser: Browser, program: str, folder: Path) -> None:
+    """10,000 statements of the walks' kind: small enough, and open soon."""
+    trials.subject = "10,000 statements"
+    source = walks()
+    lines = [line for seed in (1, 2) for line in source.statements(random.Random(seed))]
+    script = folder / "long.vsm"
+    script.write_text("\n".join(lines) + "\n")
+    page = made(program, script, folder / "long.html", *source.OPTIONS)
+    size = page.stat().st_size
+    trials.want(f"the page has at most {LONG_BYTES} bytes", size <= LONG_BYTES, size)
+    took = browser.open(page.resolve().as_uri(), READY)
+    print(f"10,000 statements: {size} bytes, opened in {took:.1f} seconds", flush=True)
+    trials.want("it opens soon", took < LONG_SECONDS, took)
+    found = Page.of(page)
+    trials.equal("how many statements there are", found.steps, len(lines))
+    try_drawings(trials, browser, found)
+    trials.equal("no message of the console", browser.messages(), [])
+
+
+def try_palette(trials: Trials) -> None:
+    """The eight colours of subpools are as the style says."""
+    trials.subject = "view.css"
+    style = (HERE / "view.css").read_text(encoding="utf-8")
+    pairs = re.findall(r"--c\d: light-dark\((#\w{6}), (#\w{6})\);", style)
+    trials.equal("how many colours there are", len(pairs), 8)
+    grounds = re.findall(r"--ground: light-dark\((#\w{6}), (#\w{6})\);", style)
+    for scheme, own, ground in zip(("light", "dark"), zip(*pairs), grounds[0]):
+        for sight in colours.SIGHTS:
+            least = colours.least_distance(list(own), sight)
+            trials.want(f"{scheme}: 30 apart in {sight} sight", round(least) >= 30, least)
+        trials.want(f"{scheme}: contrast to the ground", min(colours.contrast(it, ground) for it in own) >= 3)
+
+
+def try_all(trials: Trials, browser: Browser, program: str) -> None:
+    """The pages of all examples, of odd scripts, and of a long one."""
+    try_palette(trials)
+    with tempfile.TemporaryDirectory(prefix="page-check-") as name:
+        folder = Path(name)
+        scripts = sorted((TOP / "examples").glob("*.vsm"))
+        pages = [made(program, script, folder / f"{script.stem}.html") for script in scripts]
+        for page in pages:
+            try_page(trials, browser, page)
+        try_odd(trials, browser, program, folder)
+        try_damaged(trials, browser, pages[0], folder)
+        try_lacks(trials, browser, pages[0])
+        try_long(trials, browser, program, folder)

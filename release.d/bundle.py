@@ -1,0 +1,256 @@
+"""The files of a release: one tree, from which the tarball and the package for Debian are made."""
+from __future__ import annotations
+
+import gzip
+import os
+import re
+import shutil
+import subprocess
+import sys
+import tarfile
+import time
+from dataclasses import dataclass
+from email.utils import formatdate
+from pathlib import Path
+
+import completions
+import facts
+import manual
+from facts import Commit, Refusal
+
+# What of tools/ and page/ is for the repository alone: tests, and what bench.html is made from.
+NOT_INSTALLED = re.compile(r".*/(tests/|\.)|page/(bench|module|host|check|chromium|\w*trials)")
+DOCS = ("STATEMENTS.md", "MESSAGES.md", "PROTOCOL.md", "ZOS.md", "GLOSSARY.md")
+DESCRIPTION = """\
+Description: bench for the virtual storage of z/OS
+ It carries out scripts of storage macros (STORAGE, GETMAIN, FREEMAIN, CPOOL,
+ ATTACH, DETACH) over a simulated private region, and answers each with its
+ return code and address or its completion code. It steps back and forward
+ over what it did, exactly; that is proved.
+"""
+
+
+@dataclass(frozen=True)
+class Release:
+    top: Path
+    version: str
+    commit: Commit
+    kit: str
+    kit_folder: Path
+    changes: list[str]
+    gate: str
+    files: list[str]
+
+    @property
+    def tools(self) -> list[str]:
+        """The programs of tools/."""
+        return sorted(it.split("/")[1] for it in self.files
+                      if it.count("/") == 1 and it.startswith("tools/") and os.access(self.top / it, os.X_OK))
+
+
+def put(file: Path, data: bytes | str, mode: int = 0o644) -> None:
+    file.parent.mkdir(parents=True, exist_ok=True)
+    file.write_bytes(data.encode() if isinstance(data, str) else data)
+    file.chmod(mode)
+
+
+def copy(source: Path, file: Path) -> None:
+    put(file, source.read_bytes(), 0o755 if os.access(source, os.X_OK) else 0o644)
+
+
+def help_of(program: Path) -> str:
+    """What a program says to --help; at one width, and in one language."""
+    environment = {"PATH": os.environ.get("PATH", ""), "COLUMNS": "80", "LC_ALL": "C.UTF-8", "PYTHONDONTWRITEBYTECODE": "1"}
+    words = [str(program), "--help"]
+    if program.parent.name == "tools":
+        words.insert(0, sys.executable)
+    try:
+        done = subprocess.run(words, env=environment, capture_output=True, text=True, timeout=60, stdin=subprocess.DEVNULL)
+    except (OSError, subprocess.TimeoutExpired) as error:
+        raise Refusal(f"{program} --help: {error}") from None
+    if done.returncode or not done.stdout:
+        raise Refusal(f"{program} --help ended with status {done.returncode}: {done.stderr.strip()[-200:]}")
+    return done.stdout
+
+
+def put_programs(release: Release, root: Path) -> None:
+    program = root / "bin" / "vsm"
+    copy(release.top / "crates" / "vsm" / "out" / "vsm", program)
+    facts.output_of("strip", str(program))
+    share = root / "share" / "nilbozad"
+    for file in release.files:
+        if re.match(r"(tools|page)/", file) and not NOT_INSTALLED.match(file):
+            copy(release.top / file, share / file)
+    if (share / "page").is_dir():
+        # The page tells what each answer means.
+        copy(release.top / "docs" / "MESSAGES.md", share / "docs" / "MESSAGES.md")
+    for name in release.tools:
+        (root / "bin" / name).symlink_to(Path("..") / "share" / "nilbozad" / "tools" / name)
+    if (release.top / "dist" / "bench.html").is_file():
+        copy(release.top / "dist" / "bench.html", share / "bench.html")
+    put(share / "VERSION", f"nilbozad {release.version} ({release.kit})\n")
+
+
+def put_manual(release: Release, root: Path, helps: dict[str, str]) -> None:
+    date = time.strftime("%B %-d, %Y", time.gmtime(release.commit.seconds))
+    docs = {name: (release.top / "docs" / name).read_text(encoding="utf-8") for name in DOCS}
+    pages = {name: manual.Page(name, 1, date) for name in helps}
+    statements, messages = manual.Page("vsm-statements", 5, date), manual.Page("vsm-messages", 7, date)
+    others = [f"{it.name}({it.section})" for it in [*pages.values(), statements, messages]]
+    texts = {statements: manual.page_of_docs(statements, "what can stand in a script of vsm", docs["STATEMENTS.md"], others),
+             messages: manual.page_of_docs(messages, "what vsm prints, and why", docs["MESSAGES.md"], others)}
+    for name, page in pages.items():
+        texts[page] = (manual.page_of_vsm(page, helps[name], docs["MESSAGES.md"], others) if name == "vsm"
+                       else manual.page_of_tool(page, helps[name], others))
+    for page, text in texts.items():
+        put(root / "share" / "man" / f"{page.file}.gz", gzip.compress(text.encode(), 9, mtime=0))
+
+
+def put_completions(root: Path, helps: dict[str, str], zsh_folder: str) -> None:
+    options = {name: completions.options_of(text) for name, text in helps.items()}
+    for name, found in options.items():
+        put(root / "share/bash-completion/completions" / name, completions.bash({name: found}))
+        put(root / zsh_folder / f"_{name}", completions.zsh(name, found))
+        put(root / "share/fish/vendor_completions.d" / f"{name}.fish", completions.fish(name, found))
+
+
+def released_changes(release: Release) -> str:
+    text = (release.top / "CHANGELOG.md").read_text(encoding="utf-8")
+    day = time.strftime("%Y-%m-%d", time.gmtime(release.commit.seconds))
+    text = text.replace(f"## {facts.UNRELEASED}", f"## {release.version} ({day})")
+    # The sentence on ./release is for whoever has the repository.
+    return re.sub(r"\n\n[^#\n].*\n", "\n", text, count=1)
+
+
+def copyright_of(release: Release, licences: dict[str, bytes]) -> str:
+    year = time.strftime("%Y", time.gmtime(release.commit.seconds))
+    lines = ["Nilbozad", f"Copyright {year} The Nilbozad authors", "",
+             "Licensed under either of the Apache License, Version 2.0 (LICENSE-APACHE; on Debian",
+             "/usr/share/common-licenses/Apache-2.0), or the MIT licence (LICENSE-MIT), at your option.", "",
+             "The program vsm has code of these crates of the kit that it is built with. Their licences:", ""]
+    text = (release.top / "LICENSE-MIT").read_text(encoding="utf-8")
+    names = sorted({it.partition("-LICENSE")[0] for it in licences})
+    for name in names:
+        lines.append(f"  {name}: {', '.join('licenses/' + it for it in sorted(licences) if it.startswith(name + '-LICENSE'))}")
+    lines += ["", "The kit's standard library (core, std and what they stand on) has no licence file in the kit.", "", text]
+    return "\n".join(lines)
+
+
+def put_docs(release: Release, root: Path, statement: str) -> None:
+    licences = facts.licences(release.kit_folder, release.top)
+    doc = root / "share" / "doc" / "nilbozad"
+    for name in DOCS:
+        copy(release.top / "docs" / name, doc / name)
+    for file in release.files:
+        if re.fullmatch(r"(examples|conformance)/.*(\.(vsm|out|options)|README\.md)", file):
+            put(doc / file, (release.top / file).read_bytes())
+    for name, data in licences.items():
+        put(doc / "licenses" / name, data)
+    put(doc / "copyright", copyright_of(release, licences))
+    put(doc / "PROVED", statement)
+    put(doc / "CHANGELOG.md", released_changes(release))
+
+
+def settle(root: Path, seconds: int) -> None:
+    """One time and one mode for each file, so that the same commit gives the same bytes."""
+    for path in sorted(root.rglob("*"), reverse=True):
+        if path.is_dir() and not path.is_symlink():
+            path.chmod(0o755)
+        os.utime(path, (seconds, seconds), follow_symlinks=False)
+    os.utime(root, (seconds, seconds))
+
+
+def tarball(release: Release, root: Path, file: Path) -> None:
+    """The tree in a folder of its own, with what one looks for first at its top."""
+    for name in ("LICENSE-MIT", "LICENSE-APACHE"):
+        copy(release.top / name, root / name)
+    for name in ("PROVED", "CHANGELOG.md"):
+        (root / "share/doc/nilbozad" / name).replace(root / name)
+    put(root / "README", read_me(release))
+    settle(root, release.commit.seconds)
+
+    def plain(info: tarfile.TarInfo) -> tarfile.TarInfo:
+        info.uid = info.gid = 0
+        info.uname = info.gname = "root"
+        return info
+
+    with open(file, "wb") as raw, gzip.GzipFile("", "wb", 9, raw, release.commit.seconds) as packed:
+        with tarfile.open(fileobj=packed, mode="w", format=tarfile.GNU_FORMAT) as archive:
+            for path in [root, *sorted(root.rglob("*"))]:
+                archive.add(path, f"nilbozad-{release.version}/{path.relative_to(root)}".rstrip("/."), recursive=False, filter=plain)
+
+
+def read_me(release: Release) -> str:
+    return f"""Nilbozad {release.version}, a bench for the virtual storage of z/OS
+
+    bin/vsm share/doc/nilbozad/examples/first-steps.vsm     runs a script
+    man -l share/man/man1/vsm.1.gz                          tells of the program
+    man -l share/man/man5/vsm-statements.5.gz               what can stand in a script
+    man -l share/man/man7/vsm-messages.7.gz                 what is printed
+
+Copied to /usr/local, bin/ and share/ are found by the shell, by man and by completions. vsm needs x86-64 Linux and glibc;
+the other programs of bin/ need Python 3.11. PROVED says what was proved, CHANGELOG.md what has changed.
+"""
+
+
+def control(release: Release, root: Path) -> str:
+    data = (root / "usr" / "bin" / "vsm").read_bytes()
+    libc = max(tuple(map(int, it.split(b"."))) for it in re.findall(rb"GLIBC_(\d+\.\d+)", data))
+    size = sum(it.lstat().st_size for it in root.rglob("*") if it.is_file()) // 1024 + 1
+    needs = f"libc6 (>= {libc[0]}.{libc[1]})" + (", python3 (>= 3.11)" if release.tools else "")
+    return (f"Package: nilbozad\nVersion: {release.version}\nArchitecture: amd64\nMaintainer: {release.commit.author}\n"
+            f"Installed-Size: {size}\nDepends: {needs}\nSection: devel\nPriority: optional\n{DESCRIPTION}")
+
+
+def debian_changes(release: Release) -> str:
+    lines = [re.sub(r"[`*]", "", it[2:]) for it in release.changes]
+    wrapped = ["\n    ".join(re.findall(r".{1,74}(?:\s|$)", line)) for line in lines]
+    stanza = "\n".join(f"  * {line}".rstrip() for line in wrapped)
+    stanza = re.sub(r"[ \t]+$", "", stanza, flags=re.M)
+    return (f"nilbozad ({release.version}) unstable; urgency=medium\n\n{stanza}\n\n"
+            f" -- {release.commit.author}  {formatdate(release.commit.seconds)}\n")
+
+
+def package(release: Release, root: Path, file: Path) -> None:
+    doc = root / "usr/share/doc/nilbozad"
+    (doc / "CHANGELOG.md").unlink()
+    put(doc / "changelog.gz", gzip.compress(debian_changes(release).encode(), 9, mtime=0))
+    for name in [it for it in (root / "usr/share/nilbozad").rglob("*") if it.is_file()]:
+        data = name.read_bytes()
+        if data.startswith(b"#!/usr/bin/env python3\n"):
+            put(name, data.replace(b"#!/usr/bin/env python3", b"#!/usr/bin/python3", 1), name.stat().st_mode & 0o777)
+    sums = "".join(f"{facts.output_of('md5sum', it.relative_to(root).as_posix(), where=root).split()[0]}  {it.relative_to(root)}\n"
+                   for it in sorted(root.rglob("*")) if it.is_file() and not it.is_symlink())
+    put(root / "DEBIAN" / "control", control(release, root))
+    put(root / "DEBIAN" / "md5sums", sums)
+    settle(root, release.commit.seconds)
+    environment = {**os.environ, "SOURCE_DATE_EPOCH": str(release.commit.seconds)}
+    done = subprocess.run(["dpkg-deb", "--root-owner-group", "-Zxz", "--build", str(root), str(file)], env=environment,
+                          capture_output=True, text=True, timeout=300, stdin=subprocess.DEVNULL)
+    if done.returncode:
+        raise Refusal(f"dpkg-deb: {done.stderr.strip()}")
+
+
+def made(release: Release, room: Path) -> list[Path]:
+    """Makes all files in a folder, and gives those that dist/ is to have."""
+    built = release.top / "crates" / "vsm" / "out" / "vsm"
+    helps = {"vsm": help_of(built), **{name: help_of(release.top / "tools" / name) for name in release.tools}}
+    root, usr, out = room / "tree", room / "debian" / "usr", room / "out"
+    out.mkdir()
+    put_programs(release, root)
+    programs = [f"Program    vsm as it was built, SHA-256 {facts.sha256(built)}",
+                f"           bin/vsm, the same without its symbols, {facts.sha256(root / 'bin' / 'vsm')}"]
+    statement = facts.proved(release.top, release.files, release.version, release.commit, release.kit, release.gate, programs)
+    put_manual(release, root, helps)
+    put_docs(release, root, statement)
+    shutil.copytree(root, usr, symlinks=True)
+    put_completions(root, helps, "share/zsh/site-functions")
+    put_completions(usr, helps, "share/zsh/vendor-completions")
+    names = [out / f"nilbozad-{release.version}-linux-x86_64.tar.gz", out / f"nilbozad_{release.version}_amd64.deb"]
+    tarball(release, root, names[0])
+    package(release, usr.parent, names[1])
+    put(out / "PROVED", statement)
+    bench = release.top / "dist" / "bench.html"
+    sums = [*names, out / "PROVED", *([bench] if bench.is_file() else [])]
+    put(out / "SHA256SUMS", "".join(f"{facts.sha256(it)}  {it.name}\n" for it in sums))
+    return [*names, out / "PROVED", out / "SHA256SUMS"]

@@ -1,0 +1,195 @@
+"""Manual pages in mdoc, made from the pages of docs/ and from what programs say to --help."""
+from __future__ import annotations
+
+import os
+import re
+from dataclasses import dataclass
+
+import markdown
+from markdown import Block, Code, Heading, Items, Paragraph, Table
+
+WIDTH = 78
+PAGES = {"STATEMENTS.md": "vsm-statements(5)", "MESSAGES.md": "vsm-messages(7)"}
+# Columns of a table whose text needs no label in front.
+PLAIN = {"Meaning", "It does", "Why it came", "Why"}
+# A title that mandoc takes for a misspelt one of its own, and the one that stands in its place.
+RENAMED = {"Lines": "Lines of a script"}
+
+
+@dataclass(frozen=True)
+class Page:
+    """Where a page stands, and when the sources are from."""
+    name: str
+    section: int
+    date: str
+
+    @property
+    def file(self) -> str:
+        return f"man{self.section}/{self.name}.{self.section}"
+
+
+def escape(text: str) -> str:
+    """Text that roff prints as it stands."""
+    return text.replace("\\", "\\e").replace("-", "\\-").replace("'", "\\(aq").replace("`", "\\(ga").replace('"', "\\(dq")
+
+
+def shown_link(match: re.Match[str]) -> str:
+    """A link's text, or where that is a page's name, how it's called here."""
+    file = os.path.basename(match[2].partition("#")[0])
+    return PAGES.get(file, match[1]) if match[1].endswith(".md") else match[1]
+
+
+def inline(text: str) -> str:
+    """The text of a paragraph: code and strong words bold, titles in italics."""
+    text = re.sub(r"\[([^]]*)\]\(([^)]*)\)", shown_link, text)
+    for file, page in PAGES.items():
+        text = text.replace(f"docs/{file}", page)
+    found = ""
+    for part in re.split(r"(`[^`]+`|\*\*[^*]+\*\*|\*[^*]+\*)", text):
+        if part.startswith("`"):
+            found += rf"\fB{escape(part[1:-1])}\fR"
+        elif part.startswith("**"):
+            found += rf"\fB{escape(part[2:-2])}\fR"
+        elif part.startswith("*") and len(part) > 1:
+            found += rf"\fI{escape(part[1:-1])}\fR"
+        else:
+            found += escape(part).replace("\\-", "-")
+    return found
+
+
+def guarded(line: str) -> str:
+    """A line that roff doesn't take for a request."""
+    return rf"\&{line}" if line.startswith((".", "'")) else line
+
+
+def filled(text: str) -> list[str]:
+    """Lines of a paragraph: a sentence begins a line, and none is long."""
+    lines: list[str] = []
+    for sentence in re.split(r"(?<=[.?!:;)])\s+(?=\S)", inline(text).strip()):
+        line = ""
+        for word in sentence.split():
+            if line and len(line) + len(word) >= WIDTH:
+                lines.append(line)
+                line = word
+            else:
+                line = f"{line} {word}".strip()
+        lines.append(line)
+    return [guarded(line) for line in lines if line]
+
+
+def literal(lines: tuple[str, ...] | list[str]) -> list[str]:
+    return [".Bd -literal -offset indent", *(guarded(escape(line)) for line in lines), ".Ed"]
+
+
+def quoted(text: str) -> str:
+    """The argument of a macro that is taken as it stands."""
+    return '"' + inline(text) + '"'
+
+
+def listed(items: Items) -> list[str]:
+    lines = [".Bl -enum" if items.is_numbered else ".Bl -bullet"]
+    for item in items.items:
+        lines += [".It", *filled(item)]
+    return [*lines, ".El"]
+
+
+def row(header: tuple[str, ...], found: tuple[str, ...]) -> list[str]:
+    lines = [f".It {quoted(found[0] or '(any)')}"]
+    for title, cell in zip(header[1:], found[1:]):
+        if not cell:
+            continue
+        if len(lines) > 1:
+            lines.append(".br")
+        is_plain = len(header) == 2 or title in PLAIN
+        lines += filled(cell if is_plain else f"{title}: {cell}")
+    return lines
+
+
+def tabled(table: Table) -> list[str]:
+    """A row becomes an entry of a list, since a table is too wide for a terminal."""
+    lines = [".Bl -tag -width Ds"]
+    for found in table.rows:
+        lines += row(table.header, found)
+    return [*lines, ".El"]
+
+
+def body(blocks: list[Block]) -> list[str]:
+    """The text of a section, without a paragraph macro where none may stand."""
+    lines: list[str] = []
+    for block in blocks:
+        if isinstance(block, Heading):
+            title = RENAMED.get(block.text, block.text)
+            lines.append(f".Sh {quoted(title.upper())}" if block.level < 3 else f".Ss {quoted(title)}")
+            continue
+        is_first = not lines or lines[-1].startswith((".Sh", ".Ss"))
+        if not is_first and not isinstance(block, Code):
+            lines.append(".Pp")
+        if isinstance(block, Paragraph):
+            lines += filled(block.text)
+        elif isinstance(block, Code):
+            lines += literal(block.lines)
+        elif isinstance(block, Items):
+            lines += listed(block)
+        else:
+            lines += tabled(block)
+    # A list and a display have the distance in front of them already.
+    return [line for i, line in enumerate(lines)
+            if line != ".Pp" or not lines[i + 1].startswith(".Bl")]
+
+
+def head(page: Page, what: str) -> list[str]:
+    what = what.strip().rstrip(".")
+    return [f".Dd {page.date}", f".Dt {page.name.upper()} {page.section}", ".Os", ".Sh NAME", f".Nm {page.name}",
+            f".Nd {escape(what[:1].lower() + what[1:])}"]
+
+
+def see_also(page: Page, others: list[str]) -> list[str]:
+    """The other pages, by section and then by name. As text, since mandoc looks for references in the system's manual alone."""
+    found = sorted((it for it in others if it != f"{page.name}({page.section})"), key=lambda it: (it[-2], it))
+    return [".Sh SEE ALSO", *filled(", ".join(f"**{it[:-3]}**{it[-3:]}" for it in found))] if found else []
+
+
+def files() -> list[str]:
+    return [".Sh FILES", *filled("The scripts of `examples/` are in `share/doc/nilbozad/examples`, below the folder that this is "
+                                 "installed in; that's `/usr` for a package.")]
+
+
+def page_of_docs(page: Page, what: str, text: str, others: list[str]) -> str:
+    """A whole page of docs/: what stands before the first section is its description."""
+    blocks = [it for it in markdown.parse(text) if not (isinstance(it, Heading) and it.level == 1)]
+    return "\n".join([*head(page, what), ".Sh DESCRIPTION", *body(blocks), *files(), *see_also(page, others)]) + "\n"
+
+
+def split_help(text: str) -> list[list[str]]:
+    """The paragraphs of a help text."""
+    return [part.split("\n") for part in re.split(r"\n{2,}", text.strip("\n"))]
+
+
+def page_of_vsm(page: Page, help_text: str, messages: str, others: list[str]) -> str:
+    """The program's page: from its help, and from the options and the exit status in docs/MESSAGES.md."""
+    blocks = markdown.parse(messages)
+    options, status = markdown.section(blocks, "Options"), markdown.section(blocks, "Standard error and exit status")
+    usage = next(it for it in options if isinstance(it, Code))
+    # The last paragraph tells of the script in a clone.
+    options = [it for it in options if it != usage][:-1]
+    parts = split_help(help_text)
+    at = next(i for i, it in enumerate(parts) if it[0].startswith("Options:"))
+    ends = next(i for i, it in enumerate(parts) if it[0].startswith("Exit status:"))
+    example = next(i for i, it in enumerate(parts) if it[0].startswith("Example:"))
+    description = [Paragraph(" ".join(it)) for it in [parts[0], *parts[at + 1:ends]]]
+    lines = [*head(page, parts[0][0].split(",")[0]), ".Sh SYNOPSIS", *literal(usage.lines), ".Sh DESCRIPTION", *body(description),
+             ".Sh OPTIONS", *body(options), *files(), ".Sh EXIT STATUS", *body(status), ".Sh EXAMPLES"]
+    for part in parts[example:]:
+        text = " ".join(part).removeprefix("Example: ")
+        lines += literal(part) if part[0].startswith(" ") else [*[".Pp"][:part != parts[example]], *filled(text[:1].upper() + text[1:])]
+    return "\n".join([*lines, *see_also(page, others)]) + "\n"
+
+
+def page_of_tool(page: Page, help_text: str, others: list[str]) -> str:
+    """A tool's page: its help, as it's printed."""
+    parts = split_help(help_text)
+    usage = [line.removeprefix("usage: ").removeprefix(" " * len("usage: ")) for line in parts[0]]
+    rest = "\n\n".join("\n".join(part) for part in parts[1:]).split("\n")
+    what = re.split(r"(?<=[.:])(\s|$)", parts[1][0])[0]
+    return "\n".join([*head(page, what.rstrip(":")), ".Sh SYNOPSIS", *literal(usage), ".Sh DESCRIPTION", *literal(rest),
+                      *see_also(page, others)]) + "\n"
