@@ -44,7 +44,8 @@ def test_maps_of_rows_and_examples_come_back(vsm: str) -> None:
     assert made > 80
 
 
-@pytest.mark.parametrize("name, line", [("storage-map", 5), ("storage-map", 7), ("cell-pools", 31), ("first-steps", 8)])
+@pytest.mark.parametrize("name, line",
+                         [("storage-map", 5), ("storage-map", 7), ("cell-pools", 31), ("first-steps", 8)])
 def test_maps_of_examples_by_the_tool(run: Callable, vsm: str, name: str, line: int) -> None:
     done = bench.run(vsm, [], (TOP / "examples" / (name + ".vsm")).read_bytes())
     loaded = run(TOOL, "--vsm", vsm, "--map", line, given=done.output)
@@ -109,8 +110,10 @@ def test_the_map_alone_and_by_a_file(run: Callable, vsm: str, tmp_path: Path) ->
     (b"\n\n", "standard input:1:1: no line of a map"),
     (b"\0\1\2\xff", "standard input:1:1: no line of a map"),
     (b"0000001 RC=0 A=00006000 L=00000010\n", "an output of vsm without one"),
-    (b" TASK 1 PARENT 0\n TASK 2 PARENT 1\n", "standard input:2:1: a line TASK can't stand here: expected R0"),
-    (b"0000001 MAP\n TASK 1 PARENT 0 CURRENT\n", "standard input:2:1: the map is cut short: it ends behind TASK"),
+    (b" TASK 1 PARENT 0\n TASK 2 PARENT 1\n",
+     "standard input:2:1: a line TASK can't stand here: expected R0"),
+    (b"0000001 MAP\n TASK 1 PARENT 0 CURRENT\n",
+     "standard input:2:1: the map is cut short: it ends behind TASK"),
 ])
 def test_what_is_no_map(run: Callable, vsm: str, text: bytes, told: str) -> None:
     done = run(TOOL, "--vsm", vsm, given=text)
@@ -130,7 +133,8 @@ def test_no_such_map_and_no_such_file(run: Callable, vsm: str, tmp_path: Path) -
     assert "can't be read" in one_line(run(TOOL, "--vsm", vsm, tmp_path), TOOL)
 
 
-# What no list of statements makes: the last map of the example, with one text changed. Lines are those of the map.
+# What no list of statements makes: the last map of the example, with one text changed. Lines are those of the
+# map.
 LAST = CELLS.split("0000031 MAP\n")[1]
 
 
@@ -141,7 +145,8 @@ LAST = CELLS.split("0000031 MAP\n")[1]
     ("R0 00000000 00000002", "R0 00000000 00000000", 2, "register 1 is 0"),
     ("R0 00000000 00006060", "R0 00000000 00006061", 5, "can't be one"),
     ("R0 00000000 00006060", "R0 00000007 00006060", 5, "register 0 gets a length"),
-    ("R8 00000000 00000000 00000000 00000000 00000000 00000000", "R8 00000000 00000000 00000000 00000000 00000000 00006000",
+    ("R8 00000000 00000000 00000000 00000000 00000000 00000000",
+     "R8 00000000 00000000 00000000 00000000 00000000 00006000",
      3, "no statement sets register 13"),
     ("00000000 00000000\n TASK 2", "00000000 00000008\n TASK 2", 3, "register 15 is 0 or 4"),
     ("SUBPOOL 0 OWNER 1 SHARERS 2", "SUBPOOL 0 OWNER 1 SHARERS NONE", 4, "each task sees a subpool 0"),
@@ -174,7 +179,8 @@ def test_sharers_that_no_order_of_attaches_makes(run: Callable, vsm: str) -> Non
     script = (" ATTACH\n ATTACH\n RUN 2\n STORAGE OBTAIN,LENGTH=8,SP=5\n ATTACH SHSPV=5\n MAP\n")
     before = bench.run(vsm, [], script.encode()).output.decode()
     assert "SUBPOOL 5 OWNER 2 SHARERS 4" in before
-    done = run(TOOL, "--vsm", vsm, given=before.replace("SUBPOOL 5 OWNER 2 SHARERS 4", "SUBPOOL 5 OWNER 3 SHARERS 4").encode())
+    done = run(TOOL, "--vsm", vsm,
+               given=before.replace("SUBPOOL 5 OWNER 2 SHARERS 4", "SUBPOOL 5 OWNER 3 SHARERS 4").encode())
     assert done.returncode == 8
     assert "a sharer's parent neither shares the subpool nor can have owned it" in one_line(done, TOOL)
 

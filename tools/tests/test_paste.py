@@ -16,8 +16,10 @@ from vsmtools.pasting import MACROS, Paste
 TOOL = "vsm-paste"
 SOURCES = Path(__file__).parent / "sources"
 # How many macros each source has, how many are taken, and of these how many vsm answers without a refusal.
-COUNTS = {"reentrant": (15, 15, 15), "cellserver": (23, 22, 22), "subtasks": (21, 20, 20), "tblbld": (11, 11, 11),
-          # A fragment: five of its macros name lists and fields that it doesn't have, and it releases an area three times.
+COUNTS = {"reentrant": (15, 15, 15), "cellserver": (23, 22, 22), "subtasks": (21, 20, 20),
+          "tblbld": (11, 11, 11),
+          # A fragment: five of its macros name lists and fields that it doesn't have, and it releases an area
+          # three times.
           "bufmgr": (19, 14, 12)}
 
 
@@ -93,7 +95,8 @@ def test_nine_macros_in_ten_are_accepted(name: str) -> None:
 def test_what_is_worked_out(run: Callable, vsm: str, source: str, expected: str) -> None:
     script, _, status = paste(run, source + "\n")
     assert status == 0 and " ".join(script[-1].split("  ")[0].split()) == expected, script
-    assert not any(answer.is_refused for answer in bench.run(vsm, [], "\n".join(script + [""]).encode()).answers)
+    assert not any(answer.is_refused
+                   for answer in bench.run(vsm, [], "\n".join(script + [""]).encode()).answers)
 
 
 @pytest.mark.parametrize("source, line, why", [
@@ -155,8 +158,10 @@ def test_columns_behind_72(run: Callable) -> None:
 def test_a_remark_that_reaches_column_72(run: Callable) -> None:
     source = " GETMAIN R,LV=8   ".ljust(80, "x")
     script, notes, status = paste(run, source + "\n GETMAIN R,LV=16\n GETMAIN R,LV=24\n")
-    assert status == 4 and [line for line in script if not line.startswith("*")] == [" GETMAIN R,LV=8", " GETMAIN R,LV=24"]
-    assert any(note.startswith("standard input:1:72: a character in column 72 says that line 2") for note in notes)
+    assert status == 4 and [line for line in script if not line.startswith("*")] == [" GETMAIN R,LV=8",
+                                                                                     " GETMAIN R,LV=24"]
+    assert any(note.startswith("standard input:1:72: a character in column 72 says that line 2")
+               for note in notes)
 
 
 SOURCE = " LA 0,8\n GETMAIN R,LV=(0)\n* remark\n"
@@ -171,7 +176,8 @@ SOURCE = " LA 0,8\n GETMAIN R,LV=(0)\n* remark\n"
 ])
 def test_line_ends_and_ebcdic(run: Callable, data: bytes, words: list[str]) -> None:
     done = run(TOOL, *words, given=data)
-    assert done.returncode == 0 and done.stdout.decode().splitlines()[:-1] == ["* LA 0,8", " GETMAIN R,LV=8", "* remark"]
+    assert done.returncode == 0 and done.stdout.decode().splitlines()[:-1] == ["* LA 0,8", " GETMAIN R,LV=8",
+                                                                               "* remark"]
 
 
 @pytest.mark.parametrize("data, why", [
@@ -206,7 +212,8 @@ def changed(chance: random.Random, lines: list[str]) -> list[str]:
 
 def test_changed_sources_keep_their_lines(vsm: str) -> None:
     chance = random.Random(3)
-    sources = [[line[:72] for line in path.read_text().splitlines()] for path in sorted(SOURCES.glob("*.asm"))]
+    sources = [[line[:72] for line in path.read_text().splitlines()]
+               for path in sorted(SOURCES.glob("*.asm"))]
     for _ in range(300):
         lines = changed(chance, chance.choice(sources))
         it = Paste(lines, {}, {})

@@ -206,7 +206,8 @@ def test_long_lines_are_folded(run: Callable, vsm: str, tmp_path: Path) -> None:
     saved = (tmp_path / "saved").read_text().splitlines()
     assert len(saved) == 3 and all(len(line) <= 72 for line in saved)
     answers = bench.run(vsm, [], "\n".join(saved + [" MAP", ""]).encode()).answers
-    assert answers[0].text == "RC=0 A=00006000 L=00000020" and any("'A header,  of Today'" in line for line in answers[1].rest)
+    assert answers[0].text == "RC=0 A=00006000 L=00000020" and any("'A header,  of Today'" in line
+                                                                   for line in answers[1].rest)
     _, told = talk(run, vsm, "poke p,x'%s'\n" % ("0" * 700))
     assert len(told) == 1 and "at most ten lines" in told[0]
 
@@ -283,8 +284,10 @@ def test_a_page(run: Callable, vsm: str, tmp_path: Path) -> None:
 
 def test_the_end_of_a_history(run: Callable, vsm: str) -> None:
     shown, _ = talk(run, vsm, "storage obtain,length=8\n" * 5 + ".log\nback 2\n.log\n", "--history", 2)
-    assert shown[5:] == ["      4 storage obtain,length=8", "      5 storage obtain,length=8", "0000006 KEPT=0",
-                         "      4 storage obtain,length=8   (undone)", "      5 storage obtain,length=8   (undone)"]
+    assert shown[5:] == ["      4 storage obtain,length=8", "      5 storage obtain,length=8",
+                         "0000006 KEPT=0",
+                         "      4 storage obtain,length=8   (undone)",
+                         "      5 storage obtain,length=8   (undone)"]
 
 
 def test_words_of_a_line() -> None:

@@ -1,4 +1,5 @@
-"""What holds of each tool: --help, wrong words, a missing vsm, a full disk, a closed pipe, and where it may lie."""
+"""What holds of each tool: --help, wrong words, a missing vsm, a full disk, a closed pipe, and where it may
+lie."""
 from __future__ import annotations
 
 import os
@@ -82,7 +83,8 @@ def test_a_closed_pipe(run: Callable, tool: str, vsm: str) -> None:
 def test_closed_streams(tool: str, vsm: str) -> None:
     command = " ".join([str(TOOLS / tool), *words(tool, vsm)])
     for closed in ("<&-", ">&-", "2>&-"):
-        done = subprocess.run(["sh", "-c", "%s %s" % (command, closed)], input=GIVEN[tool], capture_output=True,
+        done = subprocess.run(["sh", "-c", "%s %s" % (command, closed)], input=GIVEN[tool],
+                              capture_output=True,
                               timeout=SECONDS)
         assert b"Traceback" not in done.stderr
         assert done.returncode == (0 if closed == "2>&-" else 8)
@@ -98,7 +100,8 @@ def test_by_the_systems_python_and_another_name(tool: str, vsm: str, tmp_path: P
     (tmp_path / "bin" / "vsm").symlink_to(vsm)
     (tmp_path / "bin" / tool).symlink_to(Path("..") / "lib" / "nilbozad" / tool)
     (tmp_path / "link").symlink_to(tmp_path / "bin" / tool)
-    expected = subprocess.run([TOOLS / tool, *words(tool, vsm)], input=GIVEN[tool], capture_output=True, timeout=SECONDS)
+    expected = subprocess.run([TOOLS / tool, *words(tool, vsm)], input=GIVEN[tool], capture_output=True,
+                              timeout=SECONDS)
     assert expected.returncode == 0
     for command in ([tmp_path / "bin" / tool], [tmp_path / "link"], ["/usr/bin/python3", tmp_path / "link"]):
         done = subprocess.run(command, input=GIVEN[tool], capture_output=True, timeout=SECONDS, cwd=tmp_path)
@@ -145,14 +148,16 @@ def test_a_map_that_is_none_names_its_line() -> None:
     for at in range(len(whole)):
         with pytest.raises(Fault) as fault:
             maps.parse_map(whole[:at], "m", 7)
-        assert "cut short" in str(fault.value) and str(fault.value).startswith("m:%d:1: " % (7 + at - (at > 0)))
+        assert "cut short" in str(fault.value) and str(fault.value).startswith("m:%d:1: "
+                                                                               % (7 + at - (at > 0)))
         with pytest.raises(Fault) as fault:
             maps.parse_map(whole[:at] + ["what"] + whole[at:], "m", 7)
         assert str(fault.value).startswith("m:%d:1: no line of a map" % (7 + at))
 
 
 def test_folded_statements_are_read_as_one(vsm: str) -> None:
-    for text in (" CPOOL BUILD,PCELLCT=1,SCELLCT=1,CSIZE=8,SP=1,LOC=24,CPID=%s,HDR='a, b,  c ,d'" % ("N" * 63),
+    for text in (" CPOOL BUILD,PCELLCT=1,SCELLCT=1,CSIZE=8,SP=1,LOC=24,CPID=%s,HDR='a, b,  c ,d'"
+                 % ("N" * 63),
                  " STORAGE OBTAIN,LENGTH=8,RELATED=(%s)" % ",".join(["'x, y'"] * 60),
                  " STORAGE OBTAIN,LENGTH=8,RELATED=%s,SP=1" % ("Z" * 400)):
         folded = lines.fold(text)
@@ -170,5 +175,6 @@ def test_a_session_answers_as_a_run_does(vsm: str) -> None:
     with bench.Session(vsm) as session:
         got = [session.say([line.decode() for line in script[it.first - 1:it.last]]) for it in asked]
     expected = bench.run(vsm, [], path.read_bytes()).answers[:len(asked)]
-    assert [(answer.text, answer.rest) for answer in got] == [(answer.text, answer.rest) for answer in expected]
+    assert [(answer.text, answer.rest) for answer in got] == [(answer.text, answer.rest)
+                                                              for answer in expected]
     assert len(asked) > 10

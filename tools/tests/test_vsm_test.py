@@ -12,7 +12,7 @@ import sys
 import time
 import xml.etree.ElementTree as ElementTree
 from pathlib import Path
-from typing import Callable, Sequence
+from typing import Any, Callable
 
 import pytest
 from conftest import TOOLS, TOP
@@ -38,19 +38,21 @@ class Ended:
 
 
 Tool = Callable[..., Ended]
+Put = Callable[..., Path]
+Fake = Callable[[str], str]
 
 
 @pytest.fixture
 def tool(vsm: str, tmp_path: Path) -> Tool:
     """Runs vsm-test with these words in a folder of its own."""
-    def run(*words: object, program: str = vsm, **given: object) -> Ended:
+    def run(*words: object, program: str = vsm, **given: Any) -> Ended:
         command = [sys.executable, str(TOOL), "--program", program, *map(str, words)]
-        return Ended(subprocess.run(command, capture_output=True, cwd=tmp_path, timeout=120, **given))  # type: ignore
+        return Ended(subprocess.run(command, capture_output=True, cwd=tmp_path, timeout=120, **given))
     return run
 
 
 @pytest.fixture
-def put(tmp_path: Path) -> Callable[..., Path]:
+def put(tmp_path: Path) -> Put:
     """Writes a file of that folder."""
     def write(name: str, *data: bytes) -> Path:
         path = tmp_path / name
@@ -61,7 +63,7 @@ def put(tmp_path: Path) -> Callable[..., Path]:
 
 
 @pytest.fixture
-def fake(put: Callable[..., Path]) -> Callable[[str], str]:
+def fake(put: Put) -> Fake:
     """A program that is a shell's script."""
     def make(text: str) -> str:
         path = put("fake", b"#!/bin/sh\n", text.encode(), b"\n")
@@ -77,13 +79,13 @@ def suite_scripts() -> list[expectations.Script]:
 
 # Comparing.
 
-def test_what_is_right_passes(tool: Tool, put: Callable[..., Path]) -> None:
+def test_what_is_right_passes(tool: Tool, put: Put) -> None:
     put("right.vsm", OBTAIN, RIGHT, b" MAP\n")
     done = tool("right.vsm")
     assert (done.status, done.output, done.errors) == (0, "1 passed, 0 failed\n", "")
 
 
-def test_what_differs_is_told_with_file_and_line(tool: Tool, put: Callable[..., Path]) -> None:
+def test_what_differs_is_told_with_file_and_line(tool: Tool, put: Put) -> None:
     put("wrong.vsm", b"* a comment\n", OBTAIN, b"\n* one more\n*> RC=0 A=00006008 L=00000008\n")
     done = tool("wrong.vsm")
     assert done.status == 1
@@ -93,12 +95,12 @@ def test_what_differs_is_told_with_file_and_line(tool: Tool, put: Callable[..., 
 
 @pytest.mark.parametrize("text", [b"RC=0", b"RC=0 A=00006000 L=0000000", b"RC=0 A=00006000 L=00000008 ..",
                                   b" RC=0 A=00006000 L=00000008", b"rc=0 a=00006000 l=00000008"])
-def test_the_whole_line_is_compared(tool: Tool, put: Callable[..., Path], text: bytes) -> None:
+def test_the_whole_line_is_compared(tool: Tool, put: Put, text: bytes) -> None:
     put("part.vsm", OBTAIN, b"*> ", text, b"\n")
     assert tool("part.vsm").status == 1
 
 
-def test_a_map_is_compared_line_by_line(tool: Tool, put: Callable[..., Path]) -> None:
+def test_a_map_is_compared_line_by_line(tool: Tool, put: Put) -> None:
     lesson = put("map.vsm", OBTAIN, b" MAP\n")
     assert tool("--write", "map.vsm").status == 0
     lines = lesson.read_text().splitlines(keepends=True)
@@ -113,7 +115,7 @@ def test_a_map_is_compared_line_by_line(tool: Tool, put: Callable[..., Path]) ->
     assert tool("map.vsm").status == 1
 
 
-def test_options_are_those_of_the_script(tool: Tool, put: Callable[..., Path]) -> None:
+def test_options_are_those_of_the_script(tool: Tool, put: Put) -> None:
     above = b"*> RC=0 A=08000000 L=00000008\n"
     put("above.vsm", b"*! --residence 31\n*!  --low=4\t--history +2\n", OBTAIN, above)
     assert tool("above.vsm").status == 0
@@ -121,28 +123,28 @@ def test_options_are_those_of_the_script(tool: Tool, put: Callable[..., Path]) -
     assert tool("below.vsm").status == 1
 
 
-def test_the_last_statement_of_an_open_script(tool: Tool, put: Callable[..., Path]) -> None:
+def test_the_last_statement_of_an_open_script(tool: Tool, put: Put) -> None:
     put("open.vsm", OBTAIN, RIGHT, b"*>end FAULT CONTINUATION\n", b" BACK 1".ljust(71), b"X\n")
     assert tool("open.vsm").status == 0
     put("other.vsm", OBTAIN, RIGHT, b"*>end FAULT VALUE\n", b" BACK 1".ljust(71), b"X\n")
     assert tool("other.vsm").lines[0].startswith("other.vsm:3: line 4 is answered otherwise")
 
 
-def test_a_blank_is_to_be_filled_in(tool: Tool, put: Callable[..., Path]) -> None:
+def test_a_blank_is_to_be_filled_in(tool: Tool, put: Put) -> None:
     put("open.vsm", OBTAIN, b"*> ?\n")
     done = tool("open.vsm")
     assert (done.status, done.lines[0]) == (1, "open.vsm:2: the answer to line 1 is to be filled in")
     assert "6000" not in done.output
 
 
-def test_a_script_that_expects_nothing_fails(tool: Tool, put: Callable[..., Path]) -> None:
+def test_a_script_that_expects_nothing_fails(tool: Tool, put: Put) -> None:
     put("bare.vsm", OBTAIN)
     done = tool("bare.vsm")
     assert (done.status, done.lines[-1]) == (1, "0 passed, 1 failed")
     assert done.lines[0].startswith("bare.vsm:1: nothing is expected")
 
 
-def test_a_folder_has_all_its_scripts(tool: Tool, put: Callable[..., Path]) -> None:
+def test_a_folder_has_all_its_scripts(tool: Tool, put: Put) -> None:
     put("all/a.vsm", OBTAIN, RIGHT)
     put("all/b/c.vsm", OBTAIN, b"*> OK\n")
     put("all/notes.txt", b"no script")
@@ -151,14 +153,14 @@ def test_a_folder_has_all_its_scripts(tool: Tool, put: Callable[..., Path]) -> N
     assert done.lines[0].startswith("all/b/c.vsm:2:")
 
 
-def test_carriage_returns_are_no_part_of_a_line(tool: Tool, put: Callable[..., Path]) -> None:
+def test_carriage_returns_are_no_part_of_a_line(tool: Tool, put: Put) -> None:
     put("dos.vsm", OBTAIN[:-1], b"\r\n", RIGHT[:-1], b"\r\n")
     assert tool("dos.vsm").status == 0
 
 
 # Filling in, and hiding.
 
-def test_write_keeps_all_else(tool: Tool, put: Callable[..., Path]) -> None:
+def test_write_keeps_all_else(tool: Tool, put: Put) -> None:
     before = (b"*! --history 2\n\n* caf\xe9\t\n NAME  \n", b" MAP    remarks \xff   \n",
               b" STORAGE OBTAIN,".ljust(71), b"X00000100\n", b" " * 15, b"LENGTH=8  \n",
               b" FOO\n*>   FAULT OPERAND\n* behind it\n*> ?\n", b" BACK 9")
@@ -173,7 +175,7 @@ def test_write_keeps_all_else(tool: Tool, put: Callable[..., Path]) -> None:
     assert lesson.read_bytes() == after
 
 
-def test_write_goes_ahead_where_nothing_can_stand_behind(tool: Tool, put: Callable[..., Path]) -> None:
+def test_write_goes_ahead_where_nothing_can_stand_behind(tool: Tool, put: Put) -> None:
     open_line = b" BACK 0".ljust(71) + b"X"
     for tail in (open_line, open_line + b"\n", b" BACK 0\r", open_line + b"\nno blanks".ljust(72) + b"X\n"):
         lesson = put("lesson.vsm", OBTAIN, tail)
@@ -183,7 +185,7 @@ def test_write_goes_ahead_where_nothing_can_stand_behind(tool: Tool, put: Callab
         assert tool("lesson.vsm").status == 0
 
 
-def test_write_and_hide_go_round(tool: Tool, put: Callable[..., Path]) -> None:
+def test_write_and_hide_go_round(tool: Tool, put: Put) -> None:
     before = {put("all/%s-%s" % (script.parent.name, script.name), script.read_bytes()): script.read_bytes()
               for script in sorted(SUITE.rglob("*.vsm"))[::24]}
     for path in before:
@@ -202,11 +204,12 @@ def test_each_script_of_the_suite_goes_round(suite_scripts: list[expectations.Sc
     for script in whole:
         exercise = expectations.read_script(script.name, expectations.hidden(script))
         wanted = [[line.text for line in it.expected] for it in script.tested]
-        given = [Answer(it.extent.first, text[0], tuple(text[1:])) for it, text in zip(exercise.tested, wanted)]
+        given = [Answer(it.extent.first, text[0], tuple(text[1:]))
+                 for it, text in zip(exercise.tested, wanted)]
         assert expectations.filled_in(exercise, given) == script.data
 
 
-def test_write_keeps_mode_and_link(tool: Tool, put: Callable[..., Path], tmp_path: Path) -> None:
+def test_write_keeps_mode_and_link(tool: Tool, put: Put, tmp_path: Path) -> None:
     lesson = put("real/lesson.vsm", OBTAIN)
     lesson.chmod(0o640)
     (tmp_path / "link.vsm").symlink_to(lesson)
@@ -216,7 +219,7 @@ def test_write_keeps_mode_and_link(tool: Tool, put: Callable[..., Path], tmp_pat
     assert os.listdir(lesson.parent) == ["lesson.vsm"]
 
 
-def test_what_cannot_be_written_stays(tool: Tool, put: Callable[..., Path]) -> None:
+def test_what_cannot_be_written_stays(tool: Tool, put: Put) -> None:
     lesson = put("lesson.vsm", OBTAIN, b"* " + b"x" * 999 + b"\n")
     before = lesson.read_bytes()
     # No file may become longer than the script is.
@@ -226,15 +229,16 @@ def test_what_cannot_be_written_stays(tool: Tool, put: Callable[..., Path]) -> N
     assert lesson.read_bytes() == before and os.listdir(lesson.parent) == ["lesson.vsm"]
 
 
-def test_hide_tells_that_nothing_is_expected(tool: Tool, put: Callable[..., Path]) -> None:
+def test_hide_tells_that_nothing_is_expected(tool: Tool, put: Put) -> None:
     put("bare.vsm", OBTAIN)
     done = tool("--hide", "bare.vsm")
-    assert (done.status, done.output) == (1, "") and done.errors.startswith("vsm-test: bare.vsm:1: nothing is expected")
+    assert (done.status, done.output) == (1, "")
+    assert done.errors.startswith("vsm-test: bare.vsm:1: nothing is expected")
 
 
 # Reports.
 
-def test_junit(tool: Tool, put: Callable[..., Path], tmp_path: Path) -> None:
+def test_junit(tool: Tool, put: Put, tmp_path: Path) -> None:
     put("all/a.vsm", OBTAIN, RIGHT)
     put("all/b<&\".vsm", OBTAIN, b"*> <&\x01\xff\"'\n")
     put("all/c.vsm", RIGHT)
@@ -270,9 +274,9 @@ def test_junit(tool: Tool, put: Callable[..., Path], tmp_path: Path) -> None:
     (b" BACK 0".ljust(71) + b"X\n*> KEPT=0\n", "2:1: '*>' can't stand here: column 72 of line 1 isn't blank"),
     (b"*>end KEPT=0\n BACK 0\n" + OBTAIN, "1:1: '*>end' stands right before the last statement"),
     (OBTAIN + b"*>end KEPT=0\n", "2:1: '*>end' stands right before the last statement"),
-    (b"*>end KEPT=0\n BACK 0\n*> KEPT=0\n", "1:1: the last statement has an expectation behind it too, in line 3"),
+    (b"*>end KEPT=0\n BACK 0\n*> KEPT=0\n", "1:1: the last statement has an expectation behind it too, in "),
 ])
-def test_wrong_scripts(tool: Tool, put: Callable[..., Path], data: bytes, told: str) -> None:
+def test_wrong_scripts(tool: Tool, put: Put, data: bytes, told: str) -> None:
     script = put("wrong.vsm", data)
     for words in ([], ["--write"]):
         done = tool(*words, "wrong.vsm")
@@ -281,37 +285,40 @@ def test_wrong_scripts(tool: Tool, put: Callable[..., Path], data: bytes, told: 
     assert script.read_bytes() == data
 
 
-@pytest.mark.parametrize("data, place", [(OBTAIN + b" X\0\n", "2:3"), (OBTAIN.decode().encode("utf-16"), "1:4"),
-                                         (OBTAIN.decode().encode("cp037"), "1:1")])
-def test_what_is_no_text(tool: Tool, put: Callable[..., Path], data: bytes, place: str) -> None:
+@pytest.mark.parametrize("data, place", [
+    (OBTAIN + b" X\0\n", "2:3"),
+    (OBTAIN.decode().encode("utf-16"), "1:4"),
+    (OBTAIN.decode().encode("cp037"), "1:1"),
+])
+def test_what_is_no_text(tool: Tool, put: Put, data: bytes, place: str) -> None:
     put("wrong.vsm", data)
     done = tool("wrong.vsm")
     assert (done.status, done.lines[-1]) == (8, "0 passed, 1 failed")
     assert done.lines[0].startswith("wrong.vsm:%s: this is no text" % place)
 
 
-def test_files_that_cannot_be_read(tool: Tool, put: Callable[..., Path], tmp_path: Path) -> None:
+def test_files_that_cannot_be_read(tool: Tool, put: Put, tmp_path: Path) -> None:
     put("right.vsm", OBTAIN, RIGHT)
     (tmp_path / "empty").mkdir()
     done = tool("right.vsm", "nowhere.vsm", "empty")
     assert done.status == 8
-    assert done.lines == ["nowhere.vsm: can't be read: No such file or directory", "empty: no *.vsm in this folder",
-                          "1 passed, 2 failed"]
+    assert done.lines == ["nowhere.vsm: can't be read: No such file or directory",
+                          "empty: no *.vsm in this folder", "1 passed, 2 failed"]
 
 
-@pytest.mark.parametrize("words", [[], ["--bogus", "a.vsm"], ["--hide", "a.vsm", "b.vsm"], ["--hide", "--write", "a.vsm"],
-                                   ["--seconds", "0", "a.vsm"], ["--seconds", "soon", "a.vsm"], ["--junit"]])
-def test_wrong_words(tool: Tool, words: Sequence[str]) -> None:
-    done = tool(*words)
+@pytest.mark.parametrize("words", ["", "--bogus a.vsm", "--hide a.vsm b.vsm", "--hide --write a.vsm",
+                                   "--seconds 0 a.vsm", "--seconds soon a.vsm", "--junit"])
+def test_wrong_words(tool: Tool, words: str) -> None:
+    done = tool(*words.split())
     assert (done.status, done.output, len(done.errors.splitlines())) == (16, "", 1)
 
 
-@pytest.mark.parametrize("name, text", [("nowhere", None), ("plain", b"no program"), ("lost", b"#!/nowhere/sh\n")])
-def test_a_program_that_is_missing(tool: Tool, put: Callable[..., Path], tmp_path: Path, name: str, text: bytes) -> None:
+@pytest.mark.parametrize("text", [None, b"no program", b"#!/nowhere/sh\n"])
+def test_a_program_that_is_missing(tool: Tool, put: Put, tmp_path: Path, text: bytes) -> None:
     put("right.vsm", OBTAIN, RIGHT)
     if text is not None:
-        put(name, text).chmod(0o755)
-    done = tool("right.vsm", program=str(tmp_path / name))
+        put("bench", text).chmod(0o755)
+    done = tool("right.vsm", program=str(tmp_path / "bench"))
     assert (done.status, done.output, len(done.errors.splitlines())) == (16, "", 1)
 
 
@@ -328,7 +335,7 @@ def test_a_program_that_is_missing(tool: Tool, put: Callable[..., Path], tmp_pat
     ("kill -9 $$", "fake was ended by signal 9"),
     ("sleep 61 & sleep 61", "fake didn't end within 1 seconds"),
 ])
-def test_a_program_that_does_wrong(tool: Tool, put: Callable[..., Path], fake: Callable[[str], str],
+def test_a_program_that_does_wrong(tool: Tool, put: Put, fake: Fake,
                                    text: str, told: str) -> None:
     put("right.vsm", OBTAIN, RIGHT)
     for words in ([], ["--write"]):
@@ -337,7 +344,7 @@ def test_a_program_that_does_wrong(tool: Tool, put: Callable[..., Path], fake: C
         assert (done.status, done.lines[-1], done.errors) == (1, "0 passed, 1 failed", "")
 
 
-def test_a_program_that_ends_early(tool: Tool, put: Callable[..., Path], fake: Callable[[str], str]) -> None:
+def test_a_program_that_ends_early(tool: Tool, put: Put, fake: Fake) -> None:
     put("right.vsm", OBTAIN, RIGHT, b" BACK 0\n*> KEPT=1\n")
     done = tool("right.vsm", program=fake("echo 0000001 RC=0 A=00006000 L=00000008"))
     assert done.lines == ["right.vsm:4: line 3 isn't answered", "-KEPT=1", "0 passed, 1 failed"]
@@ -348,7 +355,7 @@ def test_a_program_that_ends_early(tool: Tool, put: Callable[..., Path], fake: C
     assert given.read_bytes() == OBTAIN + RIGHT + b" BACK 0\n"
 
 
-def test_a_program_that_answers_otherwise_each_time(tool: Tool, put: Callable[..., Path], fake: Callable[[str], str]) -> None:
+def test_a_program_that_answers_otherwise_each_time(tool: Tool, put: Put, fake: Fake) -> None:
     given = put("lesson.vsm", b" BACK 0\n")
     done = tool("--write", "lesson.vsm", program=fake("echo 0000001 KEPT=$(wc -c)"))
     assert done.lines[0].startswith("lesson.vsm: with its answers filled in, line 1 is answered otherwise")
@@ -367,12 +374,13 @@ def left_of(command: str) -> list[str]:
     return found
 
 
-def test_nothing_is_left_behind(put: Callable[..., Path], fake: Callable[[str], str], tmp_path: Path) -> None:
+def test_nothing_is_left_behind(put: Put, fake: Fake, tmp_path: Path) -> None:
     put("right.vsm", OBTAIN, RIGHT)
     waiting = fake("sleep 62.5 & sleep 62.5")
     for stop in (None, signal.SIGTERM, signal.SIGINT):
-        words = [sys.executable, str(TOOL), "--program", waiting, "--seconds", "1" if stop is None else "60", "right.vsm"]
-        child = subprocess.Popen(words, cwd=tmp_path, stdout=subprocess.DEVNULL, stderr=subprocess.DEVNULL)
+        seconds = "1" if stop is None else "60"
+        command = [sys.executable, str(TOOL), "--program", waiting, "--seconds", seconds, "right.vsm"]
+        child = subprocess.Popen(command, cwd=tmp_path, stdout=subprocess.DEVNULL, stderr=subprocess.DEVNULL)
         until = time.monotonic() + 20
         while stop and not left_of("sleep 62.5") and time.monotonic() < until:
             time.sleep(0.05)
@@ -382,18 +390,18 @@ def test_nothing_is_left_behind(put: Callable[..., Path], fake: Callable[[str], 
         assert left_of("sleep 62.5") == []
 
 
-@pytest.mark.parametrize("words", [["right.vsm"], ["--junit", "/dev/full", "right.vsm"], ["--hide", "right.vsm"], ["--help"]])
-def test_a_full_disk(tool: Tool, put: Callable[..., Path], vsm: str, tmp_path: Path, words: list[str]) -> None:
+@pytest.mark.parametrize("words", ["right.vsm", "--junit /dev/full right.vsm", "--hide right.vsm", "--help"])
+def test_a_full_disk(put: Put, vsm: str, tmp_path: Path, words: str) -> None:
     put("right.vsm", OBTAIN, RIGHT)
     with open("/dev/null" if "/dev/full" in words else "/dev/full", "wb") as full:
-        done = subprocess.run([sys.executable, str(TOOL), "--program", vsm, *words], cwd=tmp_path, stdout=full,
-                              stderr=subprocess.PIPE, timeout=60)
+        command = [sys.executable, str(TOOL), "--program", vsm, *words.split()]
+        done = subprocess.run(command, cwd=tmp_path, stdout=full, stderr=subprocess.PIPE, timeout=60)
     errors = done.stderr.decode()
     assert done.returncode == 8 and len(errors.splitlines()) == 1 and "No space left on device" in errors
 
 
 @pytest.mark.parametrize("words", [["wrong.vsm"] * 3000, ["--hide", "right.vsm"]])
-def test_a_closed_pipe(put: Callable[..., Path], vsm: str, tmp_path: Path, words: list[str]) -> None:
+def test_a_closed_pipe(put: Put, vsm: str, tmp_path: Path, words: list[str]) -> None:
     put("wrong.vsm", b"*> \n")
     put("right.vsm", *[OBTAIN, RIGHT] * 30000)
     child = subprocess.Popen([sys.executable, str(TOOL), "--program", vsm, *words], cwd=tmp_path,
@@ -406,7 +414,7 @@ def test_a_closed_pipe(put: Callable[..., Path], vsm: str, tmp_path: Path, words
     assert child.wait(60) == 8 and len(errors.splitlines()) <= 1 and "Traceback" not in errors
 
 
-def test_standard_output_that_is_closed(put: Callable[..., Path], vsm: str, tmp_path: Path) -> None:
+def test_standard_output_that_is_closed(put: Put, vsm: str, tmp_path: Path) -> None:
     put("right.vsm", OBTAIN, RIGHT)
     for words in ("right.vsm", "--hide right.vsm"):
         command = "'%s' '%s' --program '%s' %s >&-" % (sys.executable, TOOL, vsm, words)
@@ -422,11 +430,13 @@ def test_help(tool: Tool) -> None:
 
 # The conformance suite.
 
-def test_the_suite_passes(tool: Tool) -> None:
-    start = time.monotonic()
+def test_the_suite_passes_within_its_time(tool: Tool) -> None:
+    before = resource.getrusage(resource.RUSAGE_CHILDREN)
     done = tool(SUITE)
     assert done.status == 0, done.output
-    assert time.monotonic() - start < 30
+    # Seconds of a processor, since the machine may have much else to do.
+    after = resource.getrusage(resource.RUSAGE_CHILDREN)
+    assert after.ru_utime + after.ru_stime - before.ru_utime - before.ru_stime < 30
 
 
 def test_a_wrong_answer_in_each_of_twenty_files_is_told(tool: Tool, tmp_path: Path) -> None:
@@ -447,16 +457,25 @@ def test_a_wrong_answer_in_each_of_twenty_files_is_told(tool: Tool, tmp_path: Pa
     assert told == [(name, str(planted[name])) for name in sorted(planted)]
 
 
-# What is planted in a copy of the suite, and what the check of its rules says to it.
+def checked_copy(folder: Path) -> Ended:
+    """What the check of the rules says of a copy of the suite, which is made where there is none."""
+    for part in ("conformance", "docs", "tests"):
+        if not (folder / part).exists():
+            shutil.copytree(TOP / part, folder / part)
+    command = [sys.executable, str(SUITE / "check"), str(folder)]
+    return Ended(subprocess.run(command, capture_output=True, timeout=60))
+
+
+# What is planted in such a copy, and what the check says to it.
 PLANTED = [
-    ("conformance/rules", b"a shorter line counts", b"a longer line counts", "isn't in STATEMENTS: Lines any more"),
+    ("conformance/rules", b"a shorter line", b"a longer line", "isn't in STATEMENTS: Lines any more"),
     ("conformance/rules", b"\n5 | ", b"\n6 | ", "rule 6 should have the number 5"),
     ("conformance/rules", b" lines/columns ", b" lines/collums ", "there is no file lines/collums"),
-    ("conformance/rules", b" | STATEMENTS: Lines | ", b" | STATEMENTS: Line | ", "there is no section 'STATEMENTS: Line'"),
+    ("conformance/rules", b" | STATEMENTS: Lines | ", b" | STATEMENTS: Li | ", "no section 'STATEMENTS: Li'"),
     ("conformance/rules", b" | bench | ", b" | hearsay | ", "the manual is one of bench, "),
     ("conformance/rules", b" | lines/columns | ", b" lines/columns ", "a rule has five fields"),
-    ("docs/STATEMENTS.md", b"\n## Values\n", b"\n## Values\n\nA new paragraph.\n", "in no rule: 'A new paragraph.'"),
-    ("docs/STATEMENTS.md", b"| SP is 131 or 132 | U3007 |", b"| SP is 133 | U3007 |", "in no rule: 'SP is 133 | U3007"),
+    ("docs/STATEMENTS.md", b"\n## Values\n", b"\n## Values\n\nA new one.\n", "in no rule: 'A new one.'"),
+    ("docs/STATEMENTS.md", b"| SP is 131 or 132 | U3007 |", b"| SP is 133 | U3007 |", "rule: 'SP is 133 |"),
     ("docs/STATEMENTS.md", b"Column 72 of such a line isn't read.", b"Column 72 of such a line is read.",
      "most like it is 'Column 72 of such a line is read.'"),
     ("docs/MESSAGES.md", b"| `OK` | POKE: the bytes are stored.", b"| `DONE` | POKE: the bytes are stored.",
@@ -465,27 +484,23 @@ PLANTED = [
 
 
 @pytest.mark.parametrize("name, old, new, told", PLANTED)
-def test_what_the_check_of_the_rules_tells(tmp_path: Path, name: str, old: bytes, new: bytes, told: str) -> None:
-    for part in ("conformance", "docs", "tests"):
-        shutil.copytree(TOP / part, tmp_path / part)
-    check = [sys.executable, str(SUITE / "check"), str(tmp_path)]
-    done = Ended(subprocess.run(check, capture_output=True, timeout=60))
+def test_the_check_of_the_rules(tmp_path: Path, name: str, old: bytes, new: bytes, told: str) -> None:
+    done = checked_copy(tmp_path)
     assert done.status == 0 and done.lines[-1].endswith(" passed, 0 failed"), done.output
     path = tmp_path / name
     before = path.read_bytes()
     assert old in before
     path.write_bytes(before.replace(old, new, 1))
-    done = Ended(subprocess.run(check, capture_output=True, timeout=60))
+    done = checked_copy(tmp_path)
     assert done.status in (1, 8) and told in done.output + done.errors, done.output
 
 
 def test_a_script_without_a_rule_or_an_answer(tmp_path: Path) -> None:
-    for part in ("conformance", "docs", "tests"):
-        shutil.copytree(TOP / part, tmp_path / part)
+    checked_copy(tmp_path)
     (tmp_path / "conformance/lines/new.vsm").write_bytes(OBTAIN + RIGHT)
     known = tmp_path / "conformance/lines/case.vsm"
     known.write_bytes(known.read_bytes() + b" MAP\n")
-    done = Ended(subprocess.run([sys.executable, str(SUITE / "check"), str(tmp_path)], capture_output=True, timeout=60))
+    done = checked_copy(tmp_path)
     assert done.status == 1
     assert "conformance/lines/new.vsm: in no rule of conformance/rules" in done.lines
-    assert any("case.vsm" in line and "doesn't say what this statement is answered" in line for line in done.lines)
+    assert any("case.vsm" in line and "doesn't say what this statement" in line for line in done.lines)

@@ -1,6 +1,8 @@
-"""Assembler source as far as its storage macros need it: statements over lines, symbols with their values and lengths.
+"""Assembler source as far as its storage macros need it: statements over lines, symbols with their values and
+lengths.
 
-Nothing is assembled: where a machine instruction stands between two places of a section, how far they're apart isn't known.
+Nothing is assembled: where a machine instruction stands between two places of a section, how far they're
+apart isn't known.
 """
 from __future__ import annotations
 
@@ -11,14 +13,15 @@ from typing import NoReturn, Optional
 
 SYMBOL = r"[A-Za-z$#@_][\w$#@]*"
 # What a statement of these leaves of its section's place.
-WITHOUT_CODE = {"EQU", "USING", "DROP", "TITLE", "EJECT", "SPACE", "PRINT", "AMODE", "RMODE", "ENTRY", "EXTRN", "WXTRN",
-                "PUSH", "POP", "END", "ALIAS", "XATTR", "OPSYN", "ACONTROL", "ADATA", "REPRO", "PUNCH", "MNOTE",
-                "LCLA", "LCLB", "LCLC", "GBLA", "GBLB", "GBLC", "SETA", "SETB", "SETC", "AIF", "AGO", "ANOP", "YREGS",
-                "SYSSTATE", "DSECT", "CSECT", "RSECT", "START", "COM", "LOCTR"}
+WITHOUT_CODE = {"EQU", "USING", "DROP", "TITLE", "EJECT", "SPACE", "PRINT", "AMODE", "RMODE", "ENTRY",
+                "EXTRN", "WXTRN", "PUSH", "POP", "END", "ALIAS", "XATTR", "OPSYN", "ACONTROL", "ADATA",
+                "REPRO", "PUNCH", "MNOTE", "LCLA", "LCLB", "LCLC", "GBLA", "GBLB", "GBLC", "SETA", "SETB",
+                "SETC", "AIF", "AGO", "ANOP", "YREGS", "SYSSTATE", "DSECT", "CSECT", "RSECT", "START",
+                "COM", "LOCTR"}
 SECTIONS = {"DSECT", "CSECT", "RSECT", "START", "COM"}
-LENGTHS = {"A": 4, "Y": 2, "S": 2, "V": 4, "Q": 4, "J": 4, "R": 4, "F": 4, "H": 2, "E": 4, "D": 8, "L": 16, "AD": 8,
-           "FD": 8, "VD": 8, "JD": 8, "RD": 8, "EB": 4, "DB": 8, "LB": 16, "EH": 4, "DH": 8, "LH": 16, "ED": 4, "DD": 8,
-           "LD": 16}
+LENGTHS = {"A": 4, "Y": 2, "S": 2, "V": 4, "Q": 4, "J": 4, "R": 4, "F": 4, "H": 2, "E": 4, "D": 8, "L": 16,
+           "AD": 8, "FD": 8, "VD": 8, "JD": 8, "RD": 8, "EB": 4, "DB": 8, "LB": 16, "EH": 4, "DH": 8,
+           "LH": 16, "ED": 4, "DD": 8, "LD": 16}
 TO_THE_BYTE = ("C", "X", "B", "P", "Z", "CA", "CE")
 MOST_DEPTH = 100
 
@@ -37,7 +40,8 @@ class Circular(Unknown):
 
 @dataclass
 class Statement:
-    """One statement: its lines (from 0), name, operation, operands; of each character of the operands where it stands."""
+    """One statement: its lines (from 0), name, operation, operands; of each character of the operands where
+    it stands."""
     first: int
     last: int
     name: str = ""
@@ -54,7 +58,8 @@ class Statement:
 
 def is_quote(text: str, at: int) -> bool:
     """Whether an apostrophe begins or ends a text, and isn't that of an attribute as L'NAME."""
-    return not (re.search(r"(?:^|[^\w$#@'])[LTKNDIS]$", text[:at].upper()) and re.match(r"[A-Za-z$#@_&*]", text[at + 1:at + 2]))
+    return not (re.search(r"(?:^|[^\w$#@'])[LTKNDIS]$", text[:at].upper())
+                and re.match(r"[A-Za-z$#@_&*]", text[at + 1:at + 2]))
 
 
 def operand_end(text: str, quoted: bool) -> tuple[int, bool]:
@@ -145,7 +150,8 @@ class Section:
 
 @dataclass
 class Symbol:
-    """What a name stands for: a value, an expression of an EQU with the place where that stands, or nothing known."""
+    """What a name stands for: a value, an expression of an EQU with the place where that stands, or nothing
+    known."""
     value: Optional[Value] = None
     expression: str = ""
     here: Optional[Value] = None
@@ -248,8 +254,10 @@ class Symbols:
             section.advance(count * length * values)
 
     def constant(self, text: str) -> tuple[int, str, int, bool, int, bytes]:
-        """A DS or DC operand: how often, its type, the length of one, whether that's written, how many, and its bytes."""
-        found = re.match(r"(\d+|\([^()]*\))?([A-Z]D?|[A-Z][BHAE])(?=[L('\s]|$)(L(\d+|\([^()]*\)))?(.*)$", text, re.I | re.S)
+        """A DS or DC operand: how often, its type, the length of one, whether that's written, how many, and
+        its bytes."""
+        found = re.match(r"(\d+|\([^()]*\))?([A-Z]D?|[A-Z][BHAE])(?=[L('\s]|$)(L(\d+|\([^()]*\)))?(.*)$",
+                         text, re.I | re.S)
         if not found or found[2].upper() not in LENGTHS and found[2].upper() not in TO_THE_BYTE:
             raise Unknown("'%s' is no type of data that's known" % text[:20])
         kind, nominal = found[2].upper(), found[5]
@@ -287,7 +295,8 @@ class Symbols:
         """The number that an expression stands for."""
         value = self.evaluate(text, here)
         if value.places:
-            raise Unknown("'%s' isn't a number but an address of the program" % text if len(value.places) == 1 else
+            raise Unknown("'%s' isn't a number but an address of the program" % text if len(value.places) == 1
+                          else
                           "how far '%s' is isn't known: instructions lie between, or two sections" % text)
         return value.number
 

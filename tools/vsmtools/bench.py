@@ -57,10 +57,11 @@ class Run:
 
 
 def add_words(parser: argparse.ArgumentParser) -> None:
-    """Adds --vsm (--program is the same) and the four options of vsm to a tool's words; vsm itself judges their values."""
+    """Adds --vsm (--program is the same) and the four options of vsm to a tool's words; vsm itself judges
+    their values."""
     group = parser.add_argument_group("the bench")
     group.add_argument("--vsm", "--program", dest="vsm", metavar="PROGRAM",
-                       help="the program vsm (default: the built one of this repository, else vsm on the PATH)")
+                       help="the program vsm (default: the built one here, else vsm on the PATH)")
     for option, what in zip(BENCH_OPTIONS, ("K", "K", "24|31", "N")):
         group.add_argument(option, metavar=what, help="as vsm has it")
 
@@ -72,7 +73,8 @@ def options_of(given: argparse.Namespace) -> list[str]:
 
 
 def find_program(named: Optional[str] = None) -> str:
-    """The path of vsm: the one that is named, else the built one, else one beside the installed tools or on the PATH."""
+    """The path of vsm: the one that is named, else the built one, else one beside the installed tools or on
+    the PATH."""
     if named:
         found = named if os.path.dirname(named) else shutil.which(named) or named
         places = [found]

@@ -27,11 +27,13 @@ class Fault(Exception):
 
 def one_line(text: str) -> str:
     """The text with every control character and line end shown as an escape."""
-    return "".join(c if c.isprintable() else c.encode("unicode_escape", "backslashreplace").decode() for c in text)
+    return "".join(c if c.isprintable() else c.encode("unicode_escape", "backslashreplace").decode()
+                   for c in text)
 
 
 class Words(argparse.ArgumentParser):
-    """A parser of words whose errors are faults of one line. Give it prog, description, and an example as epilog."""
+    """A parser of words whose errors are faults of one line. Give it prog, description, and an example as
+    epilog."""
 
     def __init__(self, **given: object) -> None:
         given.setdefault("formatter_class", argparse.RawDescriptionHelpFormatter)
@@ -67,7 +69,8 @@ def read_input(path: Optional[str]) -> tuple[str, bytes]:
             with open(str(path), "rb") as file:
                 data = file.read(MOST_INPUT + 1)
     except (OSError, ValueError) as fault:
-        raise Fault("can't be read: %s" % (reason(fault) if isinstance(fault, OSError) else fault), name) from None
+        raise Fault("can't be read: %s" % (reason(fault) if isinstance(fault, OSError) else fault),
+                    name) from None
     if len(data) > MOST_INPUT:
         raise Fault("it has more than %d MiB" % (MOST_INPUT >> 20), name)
     return name, data
@@ -129,7 +132,7 @@ def flushed(status: int) -> int:
 
 
 def run_command(name: str, main: Callable[[list[str]], int]) -> NoReturn:
-    """Ends the process with what main answers to the words of the command line: the last line of each tool."""
+    """Ends the process with the status of main(words of the command line): the last line of each tool."""
     for stream in (sys.stdout, sys.stderr):
         if stream is not None:
             stream.reconfigure(encoding="utf-8", errors="backslashreplace")  # type: ignore[union-attr]

@@ -1,4 +1,5 @@
-"""What registers and fields of a source hold, as far as its text in its order tells; branches aren't followed."""
+"""What registers and fields of a source hold, as far as its text in its order tells; branches aren't
+followed."""
 from __future__ import annotations
 
 import re
@@ -8,9 +9,10 @@ from typing import Optional, Union
 from .assembler import SYMBOL, Statement, Symbols, Unknown, split_operands
 
 # Instructions that change no register and no field that a word is loaded from.
-NO_CHANGE = re.compile(r"(B|BC|BCR|BR|BRC|J|JC|NOP|NOPR|[BJ](E|NE|H|NH|L|NL|Z|NZ|O|NO|P|NP|M|NM)R?|BRU|JLU|BRUL|C|CR|CH|CHI|CL|CLR"
-                       r"|CG|CGR|CGHI|CFI|CLFI|CLI|CLC|CLM|CP|TM|TMLL|MVI|OI|NI|XI|EX|STC|STCM|STH|LTORG|CNOP|DS|DC|ORG"
-                       r"|CLCL|SPKA|SPM|NOPR)")
+NO_CHANGE = re.compile(r"B|BC|BCR|BR|BRC|J|JC|NOP|NOPR|[BJ](E|NE|H|NH|L|NL|Z|NZ|O|NO|P|NP|M|NM)R?|BRU|JLU|BRUL"
+                       r"|C|CR|CH|CHI|CL|CLR|CG|CGR|CGHI|CFI|CLFI|CLI|CLC|CLM|CP|TM|TMLL|MVI|OI|NI|XI|EX"
+                       r"|STC|STCM|STH|LTORG|CNOP|DS|DC|ORG|SPKA|SPM")
+IN_PART = {"STC", "STCM", "STH", "MVI", "OI", "NI", "XI"}    # these change a part of a field
 CALLS = {"BAL", "BALR", "BAS", "BASR", "BASSM", "BRAS", "BRASL", "JAS", "JASL", "SVC", "PC"}
 COPIES = {"LR", "LGR", "LTR", "LTGR", "LGFR", "LLGFR"}
 LOADS = {"L", "LG", "LY", "LT", "LLGT", "LGF", "LLGF", "LH", "LHY", "ICM"}
@@ -23,7 +25,8 @@ LINKAGE = (0, 1, 14, 15)
 
 @dataclass(frozen=True)
 class Content:
-    """A word: a number, or the area, cell, cell pool or task that a macro gave; and the line where it got there."""
+    """A word: a number, or the area, cell, cell pool or task that a macro gave; and the line where it got
+    there."""
     kind: str                          # number, area, pool, task, length
     what: Union[int, str]              # of an area the number of its macro
     line: int
@@ -66,9 +69,13 @@ class Contents:
     def take(self, it: Statement) -> None:
         """One instruction, or a macro of no meaning here."""
         line = it.first + 1
-        if it.name and it.operation not in ("EQU", "DS", "DC", "DSECT", "CSECT") and not it.name.startswith("."):
+        is_code = it.operation not in ("EQU", "DS", "DC", "DSECT", "CSECT")
+        if it.name and is_code and not it.name.startswith("."):
             self.label = (line, it.name)
         operands = [text for _, text in split_operands(it.operands)]
+        if it.operation in IN_PART:
+            for field in operands:
+                self.fields.pop(re.sub(r"[(+].*", "", field).upper(), None)
         if NO_CHANGE.fullmatch(it.operation) or it.operation in ("USING", "DROP", "EQU") or not operands:
             return
         first = self.register(operands[0])

@@ -1,12 +1,12 @@
-"""Scripts that say in comments what they're answered: reading, comparing, filling in and hiding the expectations.
+"""Scripts that say in comments what they're answered: reading, comparing, filling in and hiding that.
 
     *! --residence 31                 options of vsm, before the first statement
      STORAGE OBTAIN,LENGTH=8
-    *> RC=0 A=00006000 L=00000008     a line of the answer to the statement above, whole, without the number in front
+    *> RC=0 A=00006000 L=00000008     a line of the answer to the statement above, whole, without its number
     *> ?                              the answer is to be filled in
-    *>end FAULT CONTINUATION          the same of the last statement, which stands below; where nothing can stand behind it
+    *>end FAULT CONTINUATION          the same of the last statement, which stands below this line
 
-All of these are comments, so the file is a script of vsm as it stands, and its statements are answered as without them.
+All of these are comments, so the file is a script of vsm as it stands, and is answered as without them.
 """
 from __future__ import annotations
 
@@ -59,6 +59,10 @@ class Script:
     options_line: Optional[int] = None
     tested: list[Tested] = field(default_factory=list)
 
+    def wrong(self, text: str, line: Optional[int] = None, column: Optional[int] = None) -> Fault:
+        """A fault of this script or of what it's answered: it counts as failed, and the others go on."""
+        return Fault(text, self.name, line, column, FAILED)
+
 
 @dataclass(frozen=True)
 class Difference:
@@ -68,23 +72,19 @@ class Difference:
     diff: tuple[str, ...] = ()
 
 
-def wrong(text: str, file: str, line: Optional[int] = None, column: Optional[int] = None) -> Fault:
-    """A fault of a script or of what it's answered: the file counts as failed, and the others go on."""
-    return Fault(text, file, line, column, FAILED)
-
-
 def check_is_text(name: str, data: bytes) -> None:
-    """Refuses what no editor shows as lines of text: a byte X'00', or records without a line feed in another code."""
+    """Refuses what no editor shows as lines of text: a byte X'00', or EBCDIC."""
     zero = data.find(b"\0")
     if zero >= 0:
         line = data.count(b"\n", 0, zero) + 1
         raise Fault("this is no text: it has a byte X'00'", name, line, zero - data.rfind(b"\n", 0, zero))
-    if data.count(b"\x40") > 2 * data.count(b" ") and max(data.count(code) for code in (b"\xd6", b"\xc5", b"\xe3")):
+    has_letters = any(code in data for code in (b"\xc5", b"\xd6", b"\xe3"))
+    if has_letters and data.count(b"\x40") > 2 * data.count(b" "):
         raise Fault("this is no text: many X'40' and few X'20', as in EBCDIC", name, 1, 1)
 
 
 def read_script(name: str, data: bytes) -> Script:
-    """A script with its expectations. A line that has a form of them in a place where none can stand is a fault."""
+    """A script with its expectations. One in a place where none can stand is a fault."""
     check_is_text(name, data)
     lines = split_lines(data)
     script = Script(name, data, tested=[Tested(extent) for extent in statements(lines)])
@@ -107,55 +107,59 @@ def read_script(name: str, data: bytes) -> Script:
 def check_operation(script: Script, number: int, text: str) -> None:
     found = re.match(r" +(\*[>!])", text)
     if found:
-        raise wrong("'%s' stands in column 1, or it begins a statement" % found[1], script.name, number, found.start(1) + 1)
+        raise script.wrong("'%s' stands in column 1, or it begins a statement" % found[1],
+                           number, found.start(1) + 1)
 
 
 def check_continuation(script: Script, current: Tested, number: int, text: str) -> None:
     if text.startswith((EXPECTED, OPTIONS)):
-        raise wrong("'%s' can't stand here: column 72 of line %d isn't blank, so this line continues the statement of line %d"
-                    % (text[:2], number - 1, current.extent.first), script.name, number, 1)
+        raise script.wrong("'%s' can't stand here: column 72 of line %d isn't blank, so it continues the "
+                           "statement of line %d" % (text[:2], number - 1, current.extent.first), number, 1)
 
 
-def take_comment(script: Script, current: Optional[Tested], ahead: list[ExpectedLine], number: int, text: str) -> None:
+def take_comment(script: Script, current: Optional[Tested], ahead: list[ExpectedLine], number: int,
+                 text: str) -> None:
     """Takes one comment line, where it's an expectation or has options."""
     if text.startswith(OPTIONS):
         take_options(script, current, number, text)
     elif text.startswith(EXPECTED):
         is_ahead = text.startswith(AT_END + " ")
         words = text[len(AT_END if is_ahead else EXPECTED):].rstrip()
-        check_expectation(script.name, number, words)
+        check_expectation(script, number, words)
         if is_ahead:
             ahead.append(ExpectedLine(number, words[1:]))
         elif current is None:
-            raise wrong("an expectation stands behind its statement, and no statement is above this line", script.name, number, 1)
+            raise script.wrong("an expectation stands behind its statement; there is none above", number, 1)
         else:
             current.expected.append(ExpectedLine(number, words[1:]))
 
 
-def check_expectation(name: str, number: int, words: str) -> None:
+def check_expectation(script: Script, number: int, words: str) -> None:
     """Refuses an expectation that no answer can meet by its form. `words` is what stands behind the sign."""
     if not words:
-        raise wrong("an expectation without a text; '*> ?' is one to be filled in", name, number, 3)
+        raise script.wrong("an expectation without a text; '*> ?' is one to be filled in", number, 3)
     if not words.startswith(" "):
-        raise wrong("an unknown form '%s': a blank goes between '*>' and the answer" % ("*>" + words.split()[0]), name, number, 3)
+        form = EXPECTED + words.split()[0]
+        raise script.wrong("an unknown form '%s': a blank goes between '*>' and the answer" % form, number, 3)
     if re.match(r" [0-9]{7} ", words):
-        raise wrong("an answer stands here without its number", name, number, 4)
+        raise script.wrong("an answer stands here without its number", number, 4)
     if words.strip() == BLANK and words != " " + BLANK:
-        raise wrong("an unknown form: one blank goes between '*>' and '?'", name, number, 3)
+        raise script.wrong("an unknown form: one blank goes between '*>' and '?'", number, 3)
 
 
 def take_options(script: Script, current: Optional[Tested], number: int, text: str) -> None:
     words = text[len(OPTIONS):]
     if words[:1] != " " or not words.split():
-        raise wrong("an unknown form '%s': '*! --residence 31' gives options of vsm" % text.split()[0], script.name, number, 1)
+        raise script.wrong("an unknown form '%s': '*! --residence 31' gives options of vsm" % text.split()[0],
+                           number, 1)
     if current is not None:
-        raise wrong("options stand before the first statement, which is in line %d" % script.tested[0].extent.first,
-                    script.name, number, 1)
+        raise script.wrong("options stand before the first statement, which is in line %d"
+                           % script.tested[0].extent.first, number, 1)
     for at, word in enumerate(words.split()):
         before = words.split()[at - 1] if at else ""
         is_value = before.startswith("--") and "=" not in before and not word.startswith("-")
         if not is_value and not re.match(r"--[a-z]", word):
-            raise wrong("'%s' is no option of vsm" % word, script.name, number, text.index(word) + 1)
+            raise script.wrong("'%s' is no option of vsm" % word, number, text.index(word) + 1)
     script.options += words.split()
     script.options_line = script.options_line or number
 
@@ -168,16 +172,18 @@ def place_ahead(script: Script, ahead: Sequence[ExpectedLine]) -> None:
     before = script.tested[-2].extent.last if len(script.tested) > 1 else 0
     for it in ahead:
         if not before < it.line < last.extent.first:
-            raise wrong("'*>end' stands right before the last statement of the script", script.name, it.line, 1)
+            raise script.wrong("'*>end' stands right before the last statement of the script", it.line, 1)
         if last.expected:
-            raise wrong("the last statement has an expectation behind it too, in line %d" % last.expected[0].line,
-                        script.name, it.line, 1)
+            raise script.wrong("the last statement has an expectation behind it too, in line %d"
+                               % last.expected[0].line, it.line, 1)
     last.expected, last.is_ahead = list(ahead), True
 
 
 def run_apart(program: str, script: Script, seconds: float) -> Run:
-    """A run over a script on standard input that leaves no process behind, and has limits of time and of output."""
-    with tempfile.TemporaryFile() as given, tempfile.TemporaryFile() as out, tempfile.TemporaryFile() as errors:
+    """A run over a script on standard input, with limits of time and output; no process is left behind."""
+    name = os.path.basename(program)
+    new = tempfile.TemporaryFile
+    with new() as given, new() as out, new() as errors:
         given.write(script.data)
         given.seek(0)
         try:
@@ -188,9 +194,9 @@ def run_apart(program: str, script: Script, seconds: float) -> Run:
         try:
             status = wait_for(child, (out, errors), seconds)
         except subprocess.TimeoutExpired:
-            raise wrong("%s didn't end within %g seconds" % (os.path.basename(program), seconds), script.name) from None
+            raise script.wrong("%s didn't end within %g seconds" % (name, seconds)) from None
         except OverflowError:
-            raise wrong("%s printed more than %d MiB" % (os.path.basename(program), MOST_OUTPUT >> 20), script.name) from None
+            raise script.wrong("%s printed more than %d MiB" % (name, MOST_OUTPUT >> 20)) from None
         finally:
             end_group(child)
         out.seek(0)
@@ -199,7 +205,7 @@ def run_apart(program: str, script: Script, seconds: float) -> Run:
 
 
 def wait_for(child: subprocess.Popen[bytes], outputs: Sequence[IO[bytes]], seconds: float) -> int:
-    """The status of a program; TimeoutExpired where it takes longer, OverflowError where it prints too much."""
+    """A program's status; TimeoutExpired where it takes longer, OverflowError where it prints too much."""
     last = time.monotonic() + seconds
     while True:
         left = max(0.0, last - time.monotonic())
@@ -222,43 +228,47 @@ def end_group(child: subprocess.Popen[bytes]) -> None:
 
 
 def told(program: str, script: Script, seconds: float) -> list[Answer]:
-    """The answers of a program to a script. Whatever is no whole run of answers is a fault that names the script."""
+    """The answers of a program to a script. Whatever is no whole run of answers is a fault of the script."""
     name = os.path.basename(program)
     done = run_apart(program, script, seconds)
     said = next((line for line in done.errors.splitlines() if line.strip()), "")
     if not done.output.isascii():
-        raise wrong("%s printed bytes above X'7F', which no answer has" % name, script.name)
+        raise script.wrong("%s printed bytes above X'7F', which no answer has" % name)
     if done.status == 16 and script.options_line:
-        raise wrong("%s refuses '%s': %s" % (name, " ".join(script.options), said), script.name, script.options_line, 4)
+        options = " ".join(script.options)
+        raise script.wrong("%s refuses '%s': %s" % (name, options, said), script.options_line, 4)
     if done.status < 0:
-        raise wrong("%s was ended by signal %d" % (name, -done.status), script.name)
+        raise script.wrong("%s was ended by signal %d" % (name, -done.status))
     if done.status not in (0, 4):
-        raise wrong("%s ended with status %d: %s" % (name, done.status, said or "no word on standard error"), script.name)
+        said = said or "no word on standard error"
+        raise script.wrong("%s ended with status %d: %s" % (name, done.status, said))
     try:
         given = answers(done.output)
     except Fault as fault:
-        raise wrong("line %d that %s printed: %s" % (fault.line or 0, name, fault.text), script.name) from None
+        raise script.wrong("line %d that %s printed: %s" % (fault.line or 0, name, fault.text)) from None
     check_run(name, script, done, given)
     return given
 
 
 def check_run(name: str, script: Script, done: Run, given: Sequence[Answer]) -> None:
-    """Numbers ascend, each that of a statement's first line; status and standard error are those of the answers."""
+    """Numbers ascend, each a statement's first line; status and standard error are those of the answers."""
     begins = {it.extent.first for it in script.tested}
     before = 0
     for answer in given:
         if answer.line not in begins:
-            raise wrong("%s answered line %d, '%s', where no statement begins" % (name, answer.line, answer.text), script.name)
+            raise script.wrong("%s answered line %d, '%s', where no statement begins"
+                               % (name, answer.line, answer.text))
         if answer.line <= before:
-            raise wrong("%s answered line %d behind line %d" % (name, answer.line, before), script.name)
+            raise script.wrong("%s answered line %d behind line %d" % (name, answer.line, before))
         before = answer.line
     if done.output and not done.output.endswith(b"\n"):
-        raise wrong("the last line that %s printed has no end" % name, script.name)
+        raise script.wrong("the last line that %s printed has no end" % name)
     wanted = 4 if any(answer.is_refused for answer in given) else 0
     if done.status != wanted:
-        raise wrong("%s ended with status %d, and %d goes with these answers" % (name, done.status, wanted), script.name)
+        raise script.wrong("%s ended with status %d, and %d goes with these answers"
+                           % (name, done.status, wanted))
     if done.errors:
-        raise wrong("%s wrote on standard error: %s" % (name, done.errors.splitlines()[0]), script.name)
+        raise script.wrong("%s wrote on standard error: %s" % (name, done.errors.splitlines()[0]))
 
 
 def texts(answer: Optional[Answer]) -> list[str]:
@@ -278,11 +288,12 @@ def compare(script: Script, given: Iterable[Answer]) -> list[Difference]:
 
 def unanswered(tested: Tested) -> Difference:
     line = tested.expected[0].line if tested.expected else tested.extent.first
-    return Difference(line, "line %d isn't answered" % tested.extent.first, tuple("-" + it.text for it in tested.expected))
+    return Difference(line, "line %d isn't answered" % tested.extent.first,
+                      tuple("-" + it.text for it in tested.expected))
 
 
 def differs(tested: Tested, got: list[str]) -> Optional[Difference]:
-    """How an answer differs from what is expected of a statement: the line of the first that isn't as expected."""
+    """How an answer differs from what is expected of a statement, and in which line of the script first."""
     wanted = [it.text for it in tested.expected]
     statement = tested.extent.first
     if tested.is_blank:
@@ -292,8 +303,8 @@ def differs(tested: Tested, got: list[str]) -> Optional[Difference]:
         return unanswered(tested)
     if not wanted or wanted == got:
         return None
-    same = next((at for at, (one, other) in enumerate(zip(wanted, got)) if one != other), min(len(wanted), len(got)))
-    line = tested.expected[min(same, len(wanted) - 1)].line
+    unlike = (at for at, (one, other) in enumerate(zip(wanted, got)) if one != other)
+    line = tested.expected[min(next(unlike, len(got)), len(wanted) - 1)].line
     return Difference(line, "line %d is answered otherwise (- expected, + answered)" % statement,
                       tuple(diff_lines(wanted, got)))
 
@@ -310,13 +321,13 @@ def line_end(line: bytes) -> bytes:
 
 
 def must_be_ahead(script: Script, tested: Tested, last: bytes) -> bool:
-    """Whether a line behind a statement would change its answer: it would continue it, or end its last line."""
+    """Whether a line behind a statement would change its answer: it would continue it, or end its line."""
     is_last = tested is script.tested[-1] and tested.extent.last == len(split_lines(script.data))
     return is_last and (is_continued(last) or (not line_end(last) and last.endswith(b"\r")))
 
 
 def replace_expectations(script: Script, wanted: dict[int, list[str]]) -> bytes:
-    """The script with these texts as what is expected of the statements of these first lines; all else byte for byte."""
+    """The script with these texts as expectations of the statements of these first lines; all else stays."""
     lines = split_keeping(script.data)
     end = next((line_end(line) for line in lines if line_end(line)), b"\n")
     dropped: set[int] = set()
@@ -347,7 +358,7 @@ def split_keeping(data: bytes) -> list[bytes]:
 
 def join_lines(lines: Sequence[bytes], before: dict[int, list[bytes]], behind: dict[int, list[bytes]],
                dropped: set[int], end: bytes) -> bytes:
-    """The lines, numbered from 1, without the dropped ones and with what stands before and behind some of them."""
+    """The lines, from 1, without the dropped ones, and with what is put before and behind some of them."""
     put: list[bytes] = []
     for number, line in enumerate(lines, 1):
         put += before.get(number, [])
@@ -366,13 +377,14 @@ def filled_in(script: Script, given: Iterable[Answer]) -> bytes:
     for it in script.tested:
         if it.extent.first not in wanted:
             lost = unanswered(it)
-            raise wrong(lost.text, script.name, lost.line)
-    right = {it.extent.first for it in script.tested if [line.text for line in it.expected] == wanted[it.extent.first]}
+            raise script.wrong(lost.text, lost.line)
+    right = {it.extent.first for it in script.tested
+             if [line.text for line in it.expected] == wanted[it.extent.first]}
     return replace_expectations(script, {line: text for line, text in wanted.items() if line not in right})
 
 
 def hidden(script: Script) -> bytes:
     """The script as an exercise: one blank to be filled in for each answer that is expected."""
     if not any(it.expected for it in script.tested):
-        raise wrong(NOTHING, script.name, 1)
+        raise script.wrong(NOTHING, 1)
     return replace_expectations(script, {it.extent.first: [BLANK] for it in script.tested if it.expected})

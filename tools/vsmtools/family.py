@@ -1,8 +1,8 @@
-"""In which order tasks have to be attached so that each ends with its number, parent, subpools and register 1.
+"""In which order tasks are attached so that each ends with its number, parent, subpools and register 1.
 
-An event is an ATTACH: ("create", task) of a task of the map; ("help", k) of helper k, which sees some subpools, obtains
-there, and ends when all is done, so that the registers of the map's tasks stay as they are; ("temp", task) of a task that
-gives its number to register 1 of the one that attaches it, and ends.
+An event is an ATTACH: ("create", task) of a task of the map; ("help", k) of helper k, which sees some
+subpools, obtains there, and ends when all is done, so that the registers of the map's tasks stay as they are;
+("temp", task) of a task that gives its number to register 1 of the one that attaches it, and ends.
 """
 from __future__ import annotations
 
@@ -21,7 +21,8 @@ MOST_ORDERS = 5000
 
 @dataclass
 class Helper:
-    """A task for the work on subpools: which task attaches it, which numbers it shares, and whose storage it makes."""
+    """A task for the work on subpools: which task attaches it, which numbers it shares, and whose storage it
+    makes."""
     actor: int
     numbers: list[int]
     serves: list[Key]
@@ -30,7 +31,7 @@ class Helper:
 
 @dataclass
 class Block:
-    """Children that are attached while their parent sees one subpool, and the child that it's given to then."""
+    """Children that are attached while their parent sees a subpool, and the child that it's given to."""
     sharers: set[Event] = field(default_factory=set)
     gift: Optional[Event] = None
 
@@ -43,8 +44,8 @@ class Family:
     """The tasks of a map, their subpools, and what has to come before what."""
 
     def __init__(self, shown: Map, source: str, own_work: set[Key], direct: set[int]) -> None:
-        """own_work: the subpools whose storage their owner makes without setting register 1; direct: the tasks that can
-        set their register 1 once all storage is made, so that they need no helper."""
+        """own_work: the subpools whose storage their owner makes without setting register 1; direct: the
+        tasks that can set their register 1 once all storage is made, so that they need no helper."""
         self.map, self.source = shown, source
         self.parent = {task.number: task.parent for task in shown.tasks}
         self.line = {task.number: task.line for task in shown.tasks}
@@ -71,7 +72,8 @@ class Family:
     def chain(self, key: Key) -> list[int]:
         """The tasks that owned a subpool in turn: from the first that had to, down to its owner."""
         it, path = self.subpools[key], [key[1]]
-        while any(self.parent[task] not in path and self.parent[task] not in it.sharers for task in it.sharers):
+        while any(self.parent[task] not in path and self.parent[task] not in it.sharers
+                  for task in it.sharers):
             above = self.parent[path[0]]
             if above == 0 or it.number == 0:
                 self.refuse(it, "a sharer's parent neither shares the subpool nor can have owned it")
@@ -79,7 +81,8 @@ class Family:
         return path
 
     def find_helpers(self, wanted: list[Key]) -> None:
-        """As few helpers as a greedy choice finds, so that one sees each subpool whose storage is to be made."""
+        """As few helpers as a greedy choice finds, so that one sees each subpool whose storage is to be
+        made."""
         left = list(wanted)
         while left:
             sights = {task: [key for key in left if task in self.viewers(key) and self.can_help(task, key)]
@@ -93,10 +96,12 @@ class Family:
             self.help_at_gift(owner, [key for key in left if key[1] == owner])
 
     def can_help(self, task: int, key: Key) -> bool:
-        """Whether a task can have a helper for a subpool: one attached anything, and isn't bound to give it last."""
+        """Whether a task can have a helper for a subpool: one attached anything, and isn't bound to give it
+        last."""
         last = self.first[task]
         is_given_last = self.parent.get(last) == task and any(
-            number == key[0] and (task, last) in zip(chain, chain[1:]) for (number, _), chain in self.chains.items())
+            number == key[0] and (task, last) in zip(chain, chain[1:])
+            for (number, _), chain in self.chains.items())
         return last != 0 and not is_given_last
 
     def help_at_gift(self, owner: int, keys: list[Key]) -> None:
@@ -139,10 +144,11 @@ class Family:
         return found
 
     def blocks(self, task: int, number: int) -> dict[str, list[Block]]:
-        """The blocks of a task for a subpool's number, by whether the task comes to it, and whether it passes it on.
+        """The blocks of a task for a subpool's number, by whether the task comes to it, and whether it passes
+        it on.
 
-        "stays" is a subpool that the task was given or shares, and sees to the end; "first" one that it was given and
-        gave further; "middle" those that it made and gave; "last" one that it made and has.
+        "stays" is a subpool that the task was given or shares, and sees to the end; "first" one that it was
+        given and gave further; "middle" those that it made and gave; "last" one that it made and has.
         """
         found: dict[str, list[Block]] = {"stays": [], "first": [], "middle": [], "last": []}
         for key, chain in self.chains.items():
@@ -205,7 +211,8 @@ class Family:
             found = sort(self.needs(sequence))
             if found is not None:
                 return found
-        refuse(self.source, self.map.tasks[-1].line, "each order of ATTACHes breaks what a subpool's sharers, its owner, "
+        refuse(self.source, self.map.tasks[-1].line,
+               "each order of ATTACHes breaks what a subpool's sharers, its owner, "
                "or a task's number in register 1 ask for")
 
 

@@ -1,4 +1,5 @@
-"""Whether the lines of a map agree with each other and with the regions: what no list of statements makes is refused."""
+"""Whether the lines of a map agree with each other and with the regions: what no list of statements makes is
+refused."""
 from __future__ import annotations
 
 from bisect import bisect_right
@@ -82,14 +83,16 @@ class Judge:
             if 1 <= register <= 12 and word and not (register == 1 and 2 <= word <= MOST_TASKS):
                 self.address(word, place, "register %d" % register)
         if not words[1] and any(words[:13]):
-            self.refuse(line + 1, "register 1 is 0, and each statement that sets another register sets it too")
+            self.refuse(line + 1,
+                        "register 1 is 0, and each statement that sets another register sets it too")
         if not words[1] and task in parents.values():
             self.refuse(line + 1, "register 1 is 0, and the task attached one")
 
     def address(self, word: int, line: int, what: str) -> None:
         """An address that an obtain or a GET of a cell can give."""
         if word % 4 or not self.side(Area(word - word % 8, 8)):
-            self.refuse(line, "%s gets the address of an area or a cell, and X'%08X' can't be one" % (what, word))
+            self.refuse(line, "%s gets the address of an area or a cell, and X'%08X' can't be one"
+                        % (what, word))
 
     def subpools(self) -> None:
         seen: dict[tuple[int, int], int] = {}
@@ -105,7 +108,8 @@ class Judge:
                 if task not in numbers:
                     self.refuse(it.line, "there is no task %d" % task)
                 if (it.number, task) in seen:
-                    self.refuse(it.line, "task %d sees another subpool %d (line %d)" % (task, it.number, seen[it.number, task]))
+                    self.refuse(it.line, "task %d sees another subpool %d (line %d)"
+                                % (task, it.number, seen[it.number, task]))
                 seen[it.number, task] = it.line
         for shown in self.map.tasks:
             if (0, shown.number) not in seen:
@@ -126,12 +130,14 @@ class Judge:
         runs.sort()
         for one, other in zip(runs, runs[1:]):
             if one[1] > other[0]:
-                self.refuse(max(one[2], other[2]), "a page of it is in the extent of line %d too" % min(one[2], other[2]))
+                self.refuse(max(one[2], other[2]), "a page of it is in the extent of line %d too"
+                            % min(one[2], other[2]))
 
     def ascending(self, subpool: Subpool, areas: Sequence[Area], what: str, first: int) -> None:
         for k, (one, other) in enumerate(zip(areas, areas[1:])):
             if one.end >= other.start:
-                self.refuse(subpool.line + first + k + 1, "%s ascend, with something between two of them" % what)
+                self.refuse(subpool.line + first + k + 1, "%s ascend, with something between two of them"
+                            % what)
 
     def free_area(self, subpool: Subpool, free: Area, line: int) -> None:
         if free.start % 8 or free.length % 8 or not free.length:
@@ -179,7 +185,8 @@ class Judge:
     def cell_pools_apart(self) -> None:
         names = [pool.name for pool in self.map.cell_pools]
         if names != sorted(set(names)) or len(names) > MOST_POOLS:
-            self.refuse(self.map.cell_pools[-1].line, "cell pools ascend by name, and there are at most %d" % MOST_POOLS)
+            self.refuse(self.map.cell_pools[-1].line, "cell pools ascend by name, and there are at most %d"
+                        % MOST_POOLS)
         taken = [(extent.start, extent.end, pool.line + 1 + k)
                  for pool in self.map.cell_pools for k, extent in enumerate(pool.extents)]
         free = [(area.start, area.end, it.line + 1 + len(it.extents) + k)
@@ -198,7 +205,8 @@ class Judge:
             self.refuse(it.pages_line, "the extents have %d pages below the line and %d above" % (low, high))
         free = sum(area.length for subpool in it.subpools for area in subpool.free)
         if (it.taken, it.free) != ((low + high) * PAGE - free, free):
-            self.refuse(it.bytes_line, "of the pages %d bytes are taken and %d free" % ((low + high) * PAGE - free, free))
+            self.refuse(it.bytes_line, "of the pages %d bytes are taken and %d free"
+                        % ((low + high) * PAGE - free, free))
         if it.low_pages < 1 or it.high_pages < 1:
             self.refuse(it.pages_line, "each region has a page")
 
@@ -208,7 +216,8 @@ class Judge:
             if name.name in seen or len(seen) == MOST_NAMES:
                 self.refuse(name.line, "a name is defined once, and at most %d are" % MOST_NAMES)
             if not self.map.tasks[0].registers[1]:
-                self.refuse(name.line, "what defines a name sets register 1 of its task, and that of task 1 is 0")
+                self.refuse(name.line,
+                            "what defines a name sets register 1 of its task, and that of task 1 is 0")
             seen.add(name.name)
             self.address(name.word, name.line, "a name")
 

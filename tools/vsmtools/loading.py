@@ -1,8 +1,9 @@
 """A script that makes the region which a map shows.
 
-In this order: the first task's words; the tasks, each with its words, by family's order; subpools that are empty; then all
-pages, as areas that fill them; the extents of cell pools, each where just its own storage is free; cells that are in use and
-free ones; the free areas; and last the end of the tasks that helped, and register 15.
+In this order: the first task's words; the tasks, each with its words, by family's order; subpools that are
+empty; then all pages, as areas that fill them; the extents of cell pools, each where just its own storage is
+free; cells that are in use and free ones; the free areas; and last the end of the tasks that helped, and
+register 15.
 """
 from __future__ import annotations
 
@@ -71,8 +72,10 @@ class Loader:
         self.map, self.source, self.script = shown, source, Script()
         Judge(shown, source).judge()
         self.first = {task.number: task.registers[1] for task in shown.tasks}
-        self.own_work = {(it.number, it.owner) for it in shown.subpools if self.is_own_work((it.number, it.owner))}
-        self.homes = {task.number: home for task in shown.tasks if (home := self.home(task.number)) is not None}
+        self.own_work = {(it.number, it.owner) for it in shown.subpools
+                         if self.is_own_work((it.number, it.owner))}
+        self.homes = {task.number: home for task in shown.tasks
+                      if (home := self.home(task.number)) is not None}
         self.family = Family(shown, source, self.own_work, set(self.homes))
         self.direct = set(self.family.workers.values())
         self.created: set[int] = set()
@@ -94,11 +97,12 @@ class Loader:
         assert it is not None
         pools = [pool for pool in self.map.cell_pools if (pool.subpool, pool.owner) == key]
         extents = [pool.extents[0] for pool in pools]
-        return (not self.first[key[1]] and all(len(pool.extents) == 1 and pool.free_cells == pool.cells for pool in pools)
+        return (not self.first[key[1]]
+                and all(len(pool.extents) == 1 and pool.free_cells == pool.cells for pool in pools)
                 and sum(area.length for area in extents + it.free) == sum(area.length for area in it.extents))
 
     def home(self, task: int) -> Optional[int]:
-        """The number of the subpool that a task sees and in which its register 1 is the address of no cell."""
+        """The number of the subpool that a task sees in which its register 1 is the address of no cell."""
         area = Area(self.first[task], 8)
         if area.start <= MOST_TASKS or area.start % 8 or any(
                 extent.start < area.end and area.start < extent.end
@@ -147,7 +151,8 @@ class Loader:
         self.addresses(task, wanted)
 
     def addresses(self, task: int, wanted: list[tuple[str, int]]) -> None:
-        """Gives names and registers addresses, where no page is assigned; what is obtained for that goes again.
+        """Gives names and registers addresses, where no page is assigned; what is obtained for that goes
+        again.
 
         All up to the last one is filled, so that only the doubleword that's wanted is free.
         """
@@ -261,7 +266,8 @@ class Loader:
         for number, owner in self.family.subpools:
             if (number, owner) not in self.made:
                 self.script.by(owner)
-                self.script.put("CPOOL BUILD,PCELLCT=1,CSIZE=8,CPID=%s,SP=%d,LOC=24" % (self.spare_name(), number))
+                self.script.put("CPOOL BUILD,PCELLCT=1,CSIZE=8,CPID=%s,SP=%d,LOC=24"
+                                % (self.spare_name(), number))
                 self.script.put("CPOOL DELETE,CPID=%s" % self.spare_name())
 
     def worker(self, key: Key) -> int:
@@ -293,10 +299,12 @@ class Loader:
 
 
 class Pages:
-    """Assigns the pages and makes what lies in them, once all tasks and subpools are there and no page is assigned.
+    """Assigns the pages and makes what lies in them, once all tasks and subpools are there and no page is
+    assigned.
 
-    A subpool's storage is first taken by areas. Where its owner may not obtain (`own_work`), it's taken by cell pools that
-    only BUILD and DELETE touch; these are cut where a free area or an extent of the map begins.
+    A subpool's storage is first taken by areas. Where its owner may not obtain (`own_work`), it's taken by
+    cell pools that only BUILD and DELETE touch; these are cut where a free area or an extent of the map
+    begins.
     """
 
     def __init__(self, loader: Loader) -> None:
@@ -388,7 +396,7 @@ class Pages:
     # Cell pools.
 
     def extents_in_order(self) -> list[tuple[CellPool, int]]:
-        """All extents, those of a pool in turn, and one that takes new pages before others in its last page."""
+        """All extents, those of a pool in turn, and one of new pages before the others in its last page."""
         nodes = [(pool, k) for pool in self.map.cell_pools for k in range(len(pool.extents))]
         waits = {(pool.name, k): k > 0 for pool, k in nodes}
         count = {place: int(wait) for place, wait in waits.items()}
@@ -416,7 +424,8 @@ class Pages:
                     heapq.heappush(ready, (other.name, j))
         if len(found) < len(nodes):
             place = next(place for place in count if count[place])
-            refuse(self.loader.source, pools[place[0]].line + 1 + place[1], "it would come before an extent that comes "
+            refuse(self.loader.source, pools[place[0]].line + 1 + place[1],
+                   "it would come before an extent that comes "
                    "before it")
         return found
 

@@ -140,7 +140,8 @@ class Reader:
         if word not in PATTERNS:
             self.fault("no line of a map: '%s'" % line[:60])
         if known not in follows:
-            self.fault("a line %s can't stand here: expected %s" % (word, " or ".join(follows) or "the map's end"))
+            self.fault("a line %s can't stand here: expected %s"
+                       % (word, " or ".join(follows) or "the map's end"))
         found = PATTERNS[word].fullmatch(line)
         if not found:
             self.fault("not a whole line %s of a map: '%s'" % (word, line[:60]))
@@ -175,7 +176,8 @@ class Reader:
 
     def pages(self, found: re.Match[str]) -> None:
         it = self.map
-        it.low_assigned, it.low_pages, it.high_assigned, it.high_pages = (int(word) for word in found.groups())
+        numbers = [int(word) for word in found.groups()]
+        it.low_assigned, it.low_pages, it.high_assigned, it.high_pages = numbers
         it.pages_line = self.line
 
     def bytes(self, found: re.Match[str]) -> None:
@@ -190,7 +192,8 @@ class Reader:
 
 TAKERS: dict[str, Callable[[Reader, re.Match[str]], None]] = {
     "TASK": Reader.task, "R0": Reader.registers, "R8": Reader.registers, "SUBPOOL": Reader.subpool,
-    "EXTENT": Reader.extent, "FREE": Reader.free, "CELLPOOL": Reader.cell_pool, "POOLEXTENT": Reader.pool_extent,
+    "EXTENT": Reader.extent, "FREE": Reader.free, "CELLPOOL": Reader.cell_pool,
+    "POOLEXTENT": Reader.pool_extent,
     "FREECELL": Reader.free_cell, "PAGES": Reader.pages, "BYTES": Reader.bytes, "NAME": Reader.name,
     "HISTORY": Reader.history,
 }
@@ -219,9 +222,11 @@ def map_lines(shown: Map) -> list[str]:
     """The lines of a map, as vsm prints them."""
     lines: list[str] = []
     for task in shown.tasks:
-        lines.append(" TASK %d PARENT %d%s" % (task.number, task.parent, " CURRENT" if task.is_current else ""))
+        lines.append(" TASK %d PARENT %d%s"
+                     % (task.number, task.parent, " CURRENT" if task.is_current else ""))
         for start in (0, 8):
-            lines.append("  R%d" % start + "".join(" %08X" % word for word in task.registers[start:start + 8]))
+            words = task.registers[start:start + 8]
+            lines.append("  R%d" % start + "".join(" %08X" % word for word in words))
     for subpool in shown.subpools:
         sharers = ",".join(map(str, subpool.sharers)) or "NONE"
         lines.append(" SUBPOOL %d OWNER %d SHARERS %s" % (subpool.number, subpool.owner, sharers))

@@ -1,7 +1,7 @@
 """Storage macros of assembler source as statements of a script, one line for each line.
 
-A number is worked out, or a macro isn't taken, with the reason; nothing that isn't known is written. What a register holds
-is followed through the text in its order.
+A number is worked out, or a macro isn't taken, with the reason; nothing that isn't known is written. What a
+register holds is followed through the text in its order.
 """
 from __future__ import annotations
 
@@ -16,11 +16,12 @@ from .lines import fold
 MACROS = {"STORAGE", "GETMAIN", "FREEMAIN", "CPOOL", "ATTACH", "ATTACHX", "DETACH"}
 OWN = {"RUN", "ENDTASK", "POKE", "PEEK", "MAP", "BACK", "FORWARD"}
 NUMBERS = {"LENGTH", "LV", "SP", "PCELLCT", "SCELLCT", "CSIZE", "GSPV", "SHSPV"}
-NO_MEANING = {"KEY", "CALLRKY", "TCBADDR", "OWNER", "EXECUTABLE", "CHECKZERO", "STARTBDY", "CONTBDY", "RTCD", "BRANCH",
-              "TCB", "ECB", "ETXR", "EPLOC", "DE", "DCB", "PARAM", "VL", "LPMOD", "DPMOD", "SF", "ESTAI", "STAI",
-              "TASKLIB", "STAE"}
+NO_MEANING = {"KEY", "CALLRKY", "TCBADDR", "OWNER", "EXECUTABLE", "CHECKZERO", "STARTBDY", "CONTBDY",
+              "RTCD", "BRANCH", "TCB", "ECB", "ETXR", "EPLOC", "DE", "DCB", "PARAM", "VL", "LPMOD", "DPMOD",
+              "SF", "ESTAI", "STAI", "TASKLIB", "STAE"}
 AS_THEY_STAND = {"COND", "BNDRY", "SZERO", "RELATED", "LINKAGE", "REGS"}
-LIST_FORMS = {"GETMAIN": {"LC", "LU", "VC", "VU"}, "FREEMAIN": {"L", "LC", "LU", "V", "VC", "VU"}, "CPOOL": {"LIST"}}
+LIST_FORMS = {"GETMAIN": {"LC", "LU", "VC", "VU"}, "FREEMAIN": {"L", "LC", "LU", "V", "VC", "VU"},
+              "CPOOL": {"LIST"}}
 LOCATIONS = re.compile(r"(BELOW|24|ANY|31|RES)|\((BELOW|24|ANY|31|RES)(,(BELOW|ANY|24|31|64))?\)")
 NAME = re.compile(r"[A-Z$#@_][A-Z0-9$#@_]{0,62}")
 CONDITIONAL = {"EXITM", "AIF", "AGO", "COPY", "SETA", "SETB", "SETC"}
@@ -95,12 +96,14 @@ class Paste:
             it = read_statement(self.lines, at)
             for number in range(it.first + 1, it.last + 1):
                 if self.lines[number][:15].strip():
-                    self.note(number, 72, "a character in column 72 says that line %d continues this one, and columns "
+                    self.note(number, 72,
+                              "a character in column 72 says that line %d continues this one, and columns "
                               "1 to 15 there aren't blank" % (number + 1))
                     hidden = re.match(r"\S*\s+(\w+)", self.lines[number])
                     self.left += bool(hidden and hidden[1].upper() in MACROS)
             if it.operation == "MACRO":
-                self.note(it.first + 1, 1, "a macro definition isn't taken, nor are calls of its macro worked out")
+                self.note(it.first + 1, 1,
+                          "a macro definition isn't taken, nor are calls of its macro worked out")
                 depth += 1
             if depth and not it.is_comment:
                 depth -= it.operation == "MEND"
@@ -308,7 +311,9 @@ class Paste:
 
     def tell_register(self, it: Macro, what: str, number: int, line: int) -> None:
         label = self.contents.label
-        between = "; a branch to %s in line %d may bring another" % (label[1], label[0]) if line < label[0] else ""
+        between = ""
+        if line < label[0]:
+            between = "; a branch to %s in line %d may bring another" % (label[1], label[0])
         self.note(it.line, 1, "%s is taken as %d, of line %d%s" % (what, number, line, between))
 
     def subpool(self, it: Macro, number: int) -> int:
@@ -318,7 +323,8 @@ class Paste:
         elif number <= 127:
             return number
         else:
-            literal = {int(text) for line in self.lines for text in re.findall(r"SPV?=(\d{1,3})(?!\d)", line[:71])}
+            literal = {int(text) for line in self.lines
+                       for text in re.findall(r"SPV?=(\d{1,3})(?!\d)", line[:71])}
             free = [k for k in range(127, 0, -1) if k not in self.chosen and k not in literal
                     and k not in self.equated()]
             if not free:
@@ -341,7 +347,8 @@ class Paste:
         if len(data) < 2 or data[0] + 1 > len(data):
             raise Unknown("%s is no list whose bytes are known" % text)
         if data[0] != 1:
-            raise Unknown("a list of %d subpools would have to lie in storage: write an ATTACH for each, or a POKE" % data[0])
+            raise Unknown("a list of %d subpools would have to lie in storage: write an ATTACH for each, or a "
+                          "POKE" % data[0])
         return str(self.subpool(it, data[1]))
 
     def location(self, text: str) -> str:
@@ -368,7 +375,8 @@ class Paste:
             if content is None or content.kind != "pool":
                 raise Unknown("%s isn't known to name a cell pool that a BUILD before made" % text)
             if content.what != text.upper():
-                self.note(it.line, 1, "CPID=%s is taken as %s, of line %d" % (text, content.what, content.line))
+                self.note(it.line, 1, "CPID=%s is taken as %s, of line %d"
+                          % (text, content.what, content.line))
             return str(content.what)
         name = text.upper() if register is None else "CPID%d" % register
         if not NAME.fullmatch(name):
@@ -413,7 +421,8 @@ class Paste:
                 raise Unknown("%s isn't known to hold an address that a macro before gave" % text)
             return str(self.symbols.number(text))
         if content.kind == "number":
-            raise Unknown("%s holds the number %s, of line %d, and no address" % (text, content.what, content.line))
+            raise Unknown("%s holds the number %s, of line %d, and no address"
+                          % (text, content.what, content.line))
         if content.kind != "area":
             raise Unknown("%s holds no area, but what line %d gave" % (text, content.line))
         number = int(content.what)
@@ -426,7 +435,8 @@ class Paste:
         else:
             found = self.name_of(macro, number)
         if found not in (text.upper(), "(%s)" % wanted):
-            self.note(it.line, 1, "%s is taken as %s, which has the address of line %d" % (text, found, macro.line))
+            self.note(it.line, 1, "%s is taken as %s, which has the address of line %d"
+                      % (text, found, macro.line))
         return found
 
     def name_of(self, macro: Macro, number: int) -> str:

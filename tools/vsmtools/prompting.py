@@ -1,4 +1,5 @@
-"""A session with vsm at a prompt: its lines, the changes that are kept, and the commands that begin with a period."""
+"""A session with vsm at a prompt: its lines, the changes that are kept, and the commands that begin with a
+period."""
 from __future__ import annotations
 
 import os
@@ -15,8 +16,8 @@ from .lines import LAST_COLUMN, fold, is_continued, is_passed_over, statements
 from .maps import Map, parse_map
 from .words import FORMS
 
-HELP = """  STATEMENT                  no blank is needed in column 1; operands that end with a comma go on behind '+>'
-  .back until P changes      steps back to before the last change of the 4 bytes at P; P,N for N bytes; an address will do
+HELP = """  STATEMENT                  no blank is needed in column 1; behind a last comma '+>' asks for more
+  .back until P changes      steps back to before the last change of the 4 bytes at P; P,N: of N bytes
   .until ABEND               goes on in FILE until an answer has this text
   .step [N], .run            goes on in FILE by N statements, or to its end
   .log                       the statements that are kept, and those that are undone
@@ -91,7 +92,8 @@ class Bench:
     def ask(self, lines: Sequence[str]) -> Answer:
         """The answer of vsm to one statement's lines; not to be cut in two by Ctrl+C."""
         if self.session is None:
-            raise Fault("vsm has ended (%s); .save FILE keeps the lines, .restart runs them again" % self.ended)
+            raise Fault("vsm has ended (%s); .save FILE keeps the lines, .restart runs them again"
+                        % self.ended)
         try:
             return self.session.say(lines)
         except Fault as fault:
@@ -101,7 +103,8 @@ class Bench:
             raise
 
     def carry_out(self, lines: Sequence[str]) -> Answer:
-        """One statement's lines: into the log, to vsm, and its answer with the number that it has in the log."""
+        """One statement's lines: into the log, to vsm, and its answer with the number that it has in the
+        log."""
         with Deferred():
             answer = self.ask(lines)
             begin = len(self.log)
@@ -220,7 +223,8 @@ class Prompt:
         lines = [line.rstrip("\r") for line in (lines if lines[-1] else lines[:-1])]
         longest = max(map(len, lines), default=0)
         if longest > 65536:
-            raise Fault("a line has more than 65,536 characters", name, 1 + [len(it) > 65536 for it in lines].index(True))
+            raise Fault("a line has more than 65,536 characters", name,
+                        1 + [len(it) > 65536 for it in lines].index(True))
         found = statements([line.encode("utf-8", "surrogateescape") for line in lines])
         at = 0
         for extent in found:
@@ -249,7 +253,8 @@ class Prompt:
         for lines in self.rest:
             at += len(lines)
             if not is_passed_over(lines[0].encode("utf-8", "surrogateescape")):
-                self.show("  next is line %d: %s" % (at - len(lines) + 1, one_line(lines[0].strip()[:LAST_COLUMN])))
+                self.show("  next is line %d: %s"
+                          % (at - len(lines) + 1, one_line(lines[0].strip()[:LAST_COLUMN])))
                 return
         self.show("  the file is at its end")
 
@@ -258,8 +263,10 @@ class Prompt:
     def command(self, line: str) -> None:
         words = line[1:].split()
         name = words[0].lower() if words else "help"
-        known = {"help": self.help, "quit": self.quit, "back": self.back, "until": self.until, "step": self.steps,
-                 "run": self.run, "log": self.list_kept, "save": self.save, "view": self.view, "restart": self.restart}
+        known = {"help": self.help, "quit": self.quit, "back": self.back, "until": self.until,
+                 "step": self.steps,
+                 "run": self.run, "log": self.list_kept, "save": self.save, "view": self.view,
+                 "restart": self.restart}
         if name in EXPLAINED:
             raise Fault(".%s comes with the program vsm-explain, which isn't there yet" % name)
         if name not in known:
@@ -355,7 +362,8 @@ class Prompt:
         except FileExistsError:
             raise Fault("there is one already: .save --over %s replaces it" % names[0], names[0]) from None
         except (OSError, ValueError) as fault:
-            raise Fault("can't be written: %s" % (reason(fault) if isinstance(fault, OSError) else fault), names[0]) from None
+            raise Fault("can't be written: %s" % (reason(fault) if isinstance(fault, OSError) else fault),
+                        names[0]) from None
         self.show("  %d lines in %s" % (len(self.bench.log), names[0]))
 
     def view(self, words: list[str]) -> None:
@@ -388,5 +396,6 @@ class Prompt:
         self.bench.close()
         self.bench.start()
         rest, self.rest = self.rest, []
-        self.load("the session", "".join(line + "\n" for line in lines).encode("utf-8", "surrogateescape"), None)
+        self.load("the session", "".join(line + "\n" for line in lines).encode("utf-8", "surrogateescape"),
+                  None)
         self.rest = rest

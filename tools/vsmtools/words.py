@@ -1,4 +1,5 @@
-"""The words of a script: operations, their forms and keywords, and the values of these, as docs/STATEMENTS.md has them."""
+"""The words of a script: operations, their forms and keywords, and the values of these, as
+docs/STATEMENTS.md has them."""
 from __future__ import annotations
 
 import re
@@ -6,7 +7,8 @@ from typing import Callable, Iterable
 
 FORMS = {
     "STORAGE": ("OBTAIN", "RELEASE"), "GETMAIN": ("R", "RC", "RU", "VRC", "VRU", "EC", "EU"),
-    "FREEMAIN": ("R", "RC", "RU", "E", "EC", "EU"), "CPOOL": ("BUILD", "GET", "FREE", "DELETE"), "ATTACH": (), "DETACH": (),
+    "FREEMAIN": ("R", "RC", "RU", "E", "EC", "EU"), "CPOOL": ("BUILD", "GET", "FREE", "DELETE"), "ATTACH": (),
+         "DETACH": (),
     "RUN": (), "ENDTASK": (), "POKE": (), "PEEK": (), "MAP": (), "BACK": (), "FORWARD": (),
 }
 KEYWORDS = {
@@ -19,7 +21,8 @@ KEYWORDS = {
     "ATTACH": ("EP", "GSPV", "GSPL", "SHSPV", "SHSPL", "SZERO"),
 }
 VALUES = {
-    "BNDRY": ("DBLWD", "PAGE"), "LOC": ("BELOW", "24", "ANY", "31", "RES"), "COND": ("YES", "NO"), "SZERO": ("YES", "NO"),
+    "BNDRY": ("DBLWD", "PAGE"), "LOC": ("BELOW", "24", "ANY", "31", "RES"), "COND": ("YES", "NO"),
+          "SZERO": ("YES", "NO"),
 }
 NAMED = ("ADDR", "A", "CELL", "LENGTH", "LV", "GSPL", "SHSPL")
 WITH_NAMES = ("POKE", "PEEK", "DETACH", "RUN")
@@ -29,7 +32,8 @@ def starting(candidates: Iterable[str], text: str) -> list[str]:
     return [it for it in candidates if it.startswith(text.upper())]
 
 
-def completions(before: str, text: str, names: Callable[[], Iterable[str]], pools: Callable[[], Iterable[str]]) -> list[str]:
+def completions(before: str, text: str, names: Callable[[], Iterable[str]],
+                pools: Callable[[], Iterable[str]]) -> list[str]:
     """What the word that begins with a text can be, behind the part of the line that stands before it."""
     head = before.split()
     if not head or not re.search(r"\s$", before) and len(head) == 1 and not re.search(r"[,=(]", before):
