@@ -115,6 +115,7 @@ def test_what_is_worked_out(run: Callable, vsm: str, source: str, expected: str)
     (" GETMAIN VRU,LA=L,SP=1\n", 1, "names a list"),
     (" ATTACH EP=A,MF=(E,L)\n", 1, "names a list"),
     (" DETACH (5)\n", 1, "what register 5 holds"),
+    (" ATTACH EP=A,SF=L\n", 1, "names a list"),
     (" FREEMAIN RU,LV=8,A=BUF\n", 1, "isn't known to hold an address"),
     (" CPOOL GET,CPID=P\n", 1, "isn't known to name a cell pool"),
     (" STORAGE OBTAIN,LENGTH=8,LOC=EXPLICIT,INADDR=X\n", 1, "LOC=EXPLICIT isn't read"),
@@ -136,6 +137,19 @@ def test_what_comes_from_elsewhere_is_told(run: Callable) -> None:
     text = "\n".join(notes)
     assert "standard input:4:1: LV=(0) is taken as 8, of line 1; a branch to THERE in line 3 may bring another" in text
     assert "standard input:5:1: subpool 230 is taken as 127" in text and "KEY=9 has no meaning here and is dropped" in text
+
+
+def test_lengths_in_register_0(run: Callable) -> None:
+    two = " GETMAIN VRU,LV=(64,8)\n LR 5,0\n GETMAIN VRU,LV=(32,8)\n LR 6,0\n"
+    script, notes, status = paste(run, two + " GETMAIN RU,LV=(6)\n GETMAIN RU,LV=(5)\n")
+    assert script[4] == " GETMAIN RU,LV=(0)" and script[5].startswith("*") and status == 4
+    assert "standard input:5:1: LV=(6) is the length that line 3 gets, in register 0" in notes
+
+
+def test_behind_a_step_or_another_task_nothing_is_known(run: Callable) -> None:
+    for own in (" RUN 1", " BACK 1", " FORWARD 0"):
+        script, notes, status = paste(run, " LA 5,8\n ATTACH EP=A\n ST 1,T\n%s\n GETMAIN RU,LV=(5)\n DETACH T\n" % own)
+        assert script[3] == own and script[4].startswith("*") and script[5].startswith("*") and status == 4
 
 
 def test_options(run: Callable) -> None:

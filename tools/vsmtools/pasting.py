@@ -18,7 +18,7 @@ OWN = {"RUN", "ENDTASK", "POKE", "PEEK", "MAP", "BACK", "FORWARD"}
 NUMBERS = {"LENGTH", "LV", "SP", "PCELLCT", "SCELLCT", "CSIZE", "GSPV", "SHSPV"}
 NO_MEANING = {"KEY", "CALLRKY", "TCBADDR", "OWNER", "EXECUTABLE", "CHECKZERO", "STARTBDY", "CONTBDY",
               "RTCD", "BRANCH", "TCB", "ECB", "ETXR", "EPLOC", "DE", "DCB", "PARAM", "VL", "LPMOD", "DPMOD",
-              "SF", "ESTAI", "STAI", "TASKLIB", "STAE"}
+              "ESTAI", "STAI", "TASKLIB", "STAE"}
 AS_THEY_STAND = {"COND", "BNDRY", "SZERO", "RELATED", "LINKAGE", "REGS"}
 LIST_FORMS = {"GETMAIN": {"LC", "LU", "VC", "VU"}, "FREEMAIN": {"L", "LC", "LU", "V", "VC", "VU"},
               "CPOOL": {"LIST"}}
@@ -80,7 +80,7 @@ class Paste:
         self.held: dict[int, int] = {}          # which macro's address vsm's registers have
         self.names: dict[str, int] = {}         # and names
         self.pools: set[str] = set()
-        self.tasks = {1}
+        self.tasks, self.are_tasks_known = {1}, True
         self.written: dict[int, list[str]] = {}
 
     def note(self, line: int, column: int, text: str) -> None:
@@ -123,7 +123,7 @@ class Paste:
             if it.operation in MACROS:
                 self.macro(it)
             elif it.operation in OWN:
-                self.written[it.first] = self.lines[it.first:it.last + 1]
+                self.own(it)
             else:
                 if it.operation in CONDITIONAL:
                     self.note(it.first + 1, 1, "%s isn't carried out" % it.operation)
@@ -134,6 +134,13 @@ class Paste:
         if self.symbols.registers_taken:
             self.note(1, 1, "R0 to R15 that the source doesn't define are taken as registers 0 to 15")
         return self.whole()
+
+    def own(self, it: Statement) -> None:
+        """A statement of the bench's own. Behind one that leads to another task or time nothing is known."""
+        self.written[it.first] = self.lines[it.first:it.last + 1]
+        if it.operation in ("RUN", "ENDTASK", "BACK", "FORWARD"):
+            self.contents, self.held, self.names = Contents(self.symbols), {}, {}
+            self.are_tasks_known = False
 
     def whole(self) -> list[str]:
         found: list[str] = []
@@ -194,11 +201,12 @@ class Paste:
                 self.names[it.place] = number
                 self.contents.fields[it.place] = Content("area", number, it.line)
             if any(text.startswith(("LENGTH=(", "LV=(")) and "," in text for text in it.operands):
-                self.contents.set(0, Content("length", 0, it.line), it.line)
+                self.contents.set(0, Content("length", number, it.line), it.line)
+                self.held[0] = number
         elif it.operation == "ATTACH":
             task = min(set(range(1, 65)) - self.tasks, default=65)
             self.tasks.add(task)
-            self.contents.set(1, Content("task", task, it.line), it.line)
+            self.contents.set(1, Content("task", task, it.line) if self.are_tasks_known else None, it.line)
             self.held[1] = number
         elif it.operation == "DETACH":
             self.tasks.discard(int(it.operands[0]))
@@ -236,7 +244,7 @@ class Paste:
             it.operands.append(self.positional(it, text))
             return
         key, value = head[1].upper(), head[2]
-        if key in ("MF", "LA", "INADDR") or key == "SF" and value.upper() != "L":
+        if key in ("MF", "LA", "SF", "INADDR"):
             raise Unknown("%s= names a list or place in the program's storage" % key)
         if key in NO_MEANING:
             it.remarks.append("%s dropped" % key)
@@ -299,7 +307,8 @@ class Paste:
             number = self.symbols.number(text)
         else:
             content = self.contents.in_register(register)
-            if content.kind == "length" and self.held.get(1) is not None:
+            if content.kind == "length" and self.held.get(0) == content.what:
+                self.note(it.line, 1, "%s=%s is the length that line %d gets, in register 0" % (key, text, content.line))
                 return "(0)"
             if content.kind != "number":
                 raise Unknown("register %d holds an address or a name of line %d" % (register, content.line))
