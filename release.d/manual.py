@@ -171,18 +171,25 @@ def split_help(text: str) -> list[list[str]]:
     return [part.split("\n") for part in re.split(r"\n{2,}", text.strip("\n"))]
 
 
+def part_at(parts: list[list[str]], start: str) -> int:
+    """Which paragraph of a help text begins so."""
+    for number, part in enumerate(parts):
+        if part[0].startswith(start):
+            return number
+    raise LookupError(f"the help of vsm has no paragraph {start!r}")
+
+
 def page_of_vsm(page: Page, help_text: str, messages: str, others: list[str]) -> str:
     """The program's page: from its help, and from the options and the exit status in docs/MESSAGES.md."""
     blocks = markdown.parse(messages)
     options = markdown.section(blocks, "Options")
     status = markdown.section(blocks, "Standard error and exit status")
-    usage = next(it for it in options if isinstance(it, Code))
+    if not options or not isinstance(options[0], Code):
+        raise LookupError("the section 'Options' doesn't begin with the usage")
     # The last paragraph tells of the script in a clone.
-    options = [it for it in options if it != usage][:-1]
+    usage, options = options[0], options[1:-1]
     parts = split_help(help_text)
-    at = next(i for i, it in enumerate(parts) if it[0].startswith("Options:"))
-    ends = next(i for i, it in enumerate(parts) if it[0].startswith("Exit status:"))
-    example = next(i for i, it in enumerate(parts) if it[0].startswith("Example:"))
+    at, ends, example = (part_at(parts, it) for it in ("Options:", "Exit status:", "Example:"))
     description = [Paragraph(" ".join(it)) for it in [parts[0], *parts[at + 1:ends]]]
     examples: list[Block] = []
     for part in parts[example:]:

@@ -99,7 +99,9 @@ def parse(text: str) -> list[Block]:
 
 def section(blocks: list[Block], title: str) -> list[Block]:
     """What stands behind the heading of this title, up to the next one of its level."""
-    at = next(i for i, it in enumerate(blocks) if isinstance(it, Heading) and it.text == title)
+    at = next((i for i, it in enumerate(blocks) if isinstance(it, Heading) and it.text == title), None)
+    if at is None:
+        raise LookupError(f"a page of docs/ has no section {title!r}")
     level = blocks[at].level
     rest = blocks[at + 1:]
     ends = [i for i, it in enumerate(rest) if isinstance(it, Heading) and it.level <= level]
