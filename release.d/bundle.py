@@ -2,6 +2,7 @@
 from __future__ import annotations
 
 import gzip
+import hashlib
 import os
 import re
 import shutil
@@ -20,6 +21,8 @@ from facts import Commit, Refusal
 
 # What of tools/ and page/ is for the repository alone: tests, and what bench.html is made from.
 NOT_INSTALLED = re.compile(r".*/(tests/|\.)|page/(bench|module|host|check|chromium|\w*trials)")
+# How the tools begin, and how a package wants them to.
+FREE_PYTHON, SYSTEM_PYTHON = b"#!/usr/bin/env python3\n", b"#!/usr/bin/python3\n"
 DOCS = ("STATEMENTS.md", "MESSAGES.md", "PROTOCOL.md", "ZOS.md", "GLOSSARY.md")
 DESCRIPTION = """\
 Description: bench for the virtual storage of z/OS
@@ -60,12 +63,14 @@ def copy(source: Path, file: Path) -> None:
 
 def help_of(program: Path) -> str:
     """What a program says to --help; at one width, and in one language."""
-    environment = {"PATH": os.environ.get("PATH", ""), "COLUMNS": "80", "LC_ALL": "C.UTF-8", "PYTHONDONTWRITEBYTECODE": "1"}
+    environment = {"PATH": os.environ.get("PATH", ""), "COLUMNS": "80", "LC_ALL": "C.UTF-8",
+                   "PYTHONDONTWRITEBYTECODE": "1"}
     words = [str(program), "--help"]
     if program.parent.name == "tools":
         words.insert(0, sys.executable)
     try:
-        done = subprocess.run(words, env=environment, capture_output=True, text=True, timeout=60, stdin=subprocess.DEVNULL)
+        done = subprocess.run(words, env=environment, capture_output=True, text=True, timeout=60,
+                              stdin=subprocess.DEVNULL)
     except (OSError, subprocess.TimeoutExpired) as error:
         raise Refusal(f"{program} --help: {error}") from None
     if done.returncode or not done.stdout:
@@ -97,8 +102,11 @@ def put_manual(release: Release, root: Path, helps: dict[str, str]) -> None:
     pages = {name: manual.Page(name, 1, date) for name in helps}
     statements, messages = manual.Page("vsm-statements", 5, date), manual.Page("vsm-messages", 7, date)
     others = [f"{it.name}({it.section})" for it in [*pages.values(), statements, messages]]
-    texts = {statements: manual.page_of_docs(statements, "what can stand in a script of vsm", docs["STATEMENTS.md"], others),
-             messages: manual.page_of_docs(messages, "what vsm prints, and why", docs["MESSAGES.md"], others)}
+    texts = {
+        statements: manual.page_of_docs(statements, "what can stand in a script of vsm",
+                                        docs["STATEMENTS.md"], others),
+        messages: manual.page_of_docs(messages, "what vsm prints, and why", docs["MESSAGES.md"], others),
+    }
     for name, page in pages.items():
         texts[page] = (manual.page_of_vsm(page, helps[name], docs["MESSAGES.md"], others) if name == "vsm"
                        else manual.page_of_tool(page, helps[name], others))
@@ -129,10 +137,11 @@ def copyright_of(release: Release, licences: dict[str, bytes]) -> str:
              "/usr/share/common-licenses/Apache-2.0), or the MIT licence (LICENSE-MIT), at your option.", "",
              "The program vsm has code of these crates of the kit that it is built with. Their licences:", ""]
     text = (release.top / "LICENSE-MIT").read_text(encoding="utf-8")
-    names = sorted({it.partition("-LICENSE")[0] for it in licences})
-    for name in names:
-        lines.append(f"  {name}: {', '.join('licenses/' + it for it in sorted(licences) if it.startswith(name + '-LICENSE'))}")
-    lines += ["", "The kit's standard library (core, std and what they stand on) has no licence file in the kit.", "", text]
+    for name in sorted({it.partition("-LICENSE")[0] for it in licences}):
+        own = [f"licenses/{it}" for it in sorted(licences) if it.startswith(f"{name}-LICENSE")]
+        lines.append(f"  {name}: {', '.join(own)}")
+    lines += ["", "The kit's standard library (core, std and what they stand on) has no licence file there.", "",
+              text]
     return "\n".join(lines)
 
 
@@ -177,7 +186,8 @@ def tarball(release: Release, root: Path, file: Path) -> None:
     with open(file, "wb") as raw, gzip.GzipFile("", "wb", 9, raw, release.commit.seconds) as packed:
         with tarfile.open(fileobj=packed, mode="w", format=tarfile.GNU_FORMAT) as archive:
             for path in [root, *sorted(root.rglob("*"))]:
-                archive.add(path, f"nilbozad-{release.version}/{path.relative_to(root)}".rstrip("/."), recursive=False, filter=plain)
+                name = f"nilbozad-{release.version}/{path.relative_to(root)}".rstrip("/.")
+                archive.add(path, name, recursive=False, filter=plain)
 
 
 def read_me(release: Release) -> str:
@@ -188,8 +198,9 @@ def read_me(release: Release) -> str:
     man -l share/man/man5/vsm-statements.5.gz               what can stand in a script
     man -l share/man/man7/vsm-messages.7.gz                 what is printed
 
-Copied to /usr/local, bin/ and share/ are found by the shell, by man and by completions. vsm needs x86-64 Linux and glibc;
-the other programs of bin/ need Python 3.11. PROVED says what was proved, CHANGELOG.md what has changed.
+Copied to /usr/local, bin/ and share/ are found by the shell, by man and by completions. vsm needs x86-64
+Linux and glibc; the other programs of bin/ need Python 3.11. PROVED says what was proved, CHANGELOG.md what
+has changed.
 """
 
 
@@ -198,8 +209,9 @@ def control(release: Release, root: Path) -> str:
     libc = max(tuple(map(int, it.split(b"."))) for it in re.findall(rb"GLIBC_(\d+\.\d+)", data))
     size = sum(it.lstat().st_size for it in root.rglob("*") if it.is_file()) // 1024 + 1
     needs = f"libc6 (>= {libc[0]}.{libc[1]})" + (", python3 (>= 3.11)" if release.tools else "")
-    return (f"Package: nilbozad\nVersion: {release.version}\nArchitecture: amd64\nMaintainer: {release.commit.author}\n"
-            f"Installed-Size: {size}\nDepends: {needs}\nSection: devel\nPriority: optional\n{DESCRIPTION}")
+    return (f"Package: nilbozad\nVersion: {release.version}\nArchitecture: amd64\n"
+            f"Maintainer: {release.commit.author}\nInstalled-Size: {size}\nDepends: {needs}\n"
+            f"Section: devel\nPriority: optional\n{DESCRIPTION}")
 
 
 def debian_changes(release: Release) -> str:
@@ -215,20 +227,26 @@ def package(release: Release, root: Path, file: Path) -> None:
     doc = root / "usr/share/doc/nilbozad"
     (doc / "CHANGELOG.md").unlink()
     put(doc / "changelog.gz", gzip.compress(debian_changes(release).encode(), 9, mtime=0))
-    for name in [it for it in (root / "usr/share/nilbozad").rglob("*") if it.is_file()]:
+    found = [it for it in sorted(root.rglob("*")) if it.is_file() and not it.is_symlink()]
+    for name in found:
         data = name.read_bytes()
-        if data.startswith(b"#!/usr/bin/env python3\n"):
-            put(name, data.replace(b"#!/usr/bin/env python3", b"#!/usr/bin/python3", 1), name.stat().st_mode & 0o777)
-    sums = "".join(f"{facts.output_of('md5sum', it.relative_to(root).as_posix(), where=root).split()[0]}  {it.relative_to(root)}\n"
-                   for it in sorted(root.rglob("*")) if it.is_file() and not it.is_symlink())
+        if data.startswith(FREE_PYTHON):
+            put(name, data.replace(FREE_PYTHON, SYSTEM_PYTHON, 1), name.stat().st_mode & 0o777)
+    sums = "".join(f"{hashlib.md5(it.read_bytes()).hexdigest()}  {it.relative_to(root)}\n" for it in found)
     put(root / "DEBIAN" / "control", control(release, root))
     put(root / "DEBIAN" / "md5sums", sums)
     settle(root, release.commit.seconds)
     environment = {**os.environ, "SOURCE_DATE_EPOCH": str(release.commit.seconds)}
-    done = subprocess.run(["dpkg-deb", "--root-owner-group", "-Zxz", "--build", str(root), str(file)], env=environment,
-                          capture_output=True, text=True, timeout=300, stdin=subprocess.DEVNULL)
+    words = ["dpkg-deb", "--root-owner-group", "-Zxz", "--build", str(root), str(file)]
+    done = subprocess.run(words, env=environment, capture_output=True, text=True, timeout=300,
+                          stdin=subprocess.DEVNULL)
     if done.returncode:
         raise Refusal(f"dpkg-deb: {done.stderr.strip()}")
+
+
+def statement_head(release: Release) -> list[str]:
+    return [f"What was proved of Nilbozad {release.version}", "", f"Commit     {release.commit.name}",
+            f"Kit        {release.kit}", f"Gate       {release.gate}"]
 
 
 def made(release: Release, room: Path) -> list[Path]:
@@ -240,13 +258,14 @@ def made(release: Release, room: Path) -> list[Path]:
     put_programs(release, root)
     programs = [f"Program    vsm as it was built, SHA-256 {facts.sha256(built)}",
                 f"           bin/vsm, the same without its symbols, {facts.sha256(root / 'bin' / 'vsm')}"]
-    statement = facts.proved(release.top, release.files, release.version, release.commit, release.kit, release.gate, programs)
+    statement = facts.proved(release.top, release.files, statement_head(release), programs)
     put_manual(release, root, helps)
     put_docs(release, root, statement)
     shutil.copytree(root, usr, symlinks=True)
     put_completions(root, helps, "share/zsh/site-functions")
     put_completions(usr, helps, "share/zsh/vendor-completions")
-    names = [out / f"nilbozad-{release.version}-linux-x86_64.tar.gz", out / f"nilbozad_{release.version}_amd64.deb"]
+    names = [out / f"nilbozad-{release.version}-linux-x86_64.tar.gz",
+             out / f"nilbozad_{release.version}_amd64.deb"]
     tarball(release, root, names[0])
     package(release, usr.parent, names[1])
     put(out / "PROVED", statement)

@@ -4,7 +4,7 @@ from __future__ import annotations
 import re
 from dataclasses import dataclass
 
-# An option's line: flags with a word for the value, and behind two blanks what it does, if that isn't on the lines below.
+# An option's line: flags with a word for the value; behind two blanks what it does, if that isn't below it.
 OPTION = re.compile(r"^\s{2,}(-\S.*?)(?:\s{2,}(.*))?$")
 CHOICES = re.compile(r"\[possible values: ([^]]*)\]")
 
@@ -46,6 +46,16 @@ def options_of(help_text: str) -> list[Option]:
     return [option_of(flags, text) for flags, text in found]
 
 
+def quoted(text: str) -> str:
+    """A word of a shell between apostrophes."""
+    return "'" + text.replace("'", r"'\''") + "'"
+
+
+def compgen(how: str) -> str:
+    """What bash gives for the word that is being written."""
+    return f'mapfile -t COMPREPLY < <(compgen {how} -- "$word")'
+
+
 def bash(programs: dict[str, list[Option]]) -> str:
     lines = ["# Completions for bash. Without bash-completion: source this file."]
     for name, options in programs.items():
@@ -54,25 +64,21 @@ def bash(programs: dict[str, list[Option]]) -> str:
         for option in options:
             if option.takes_value:
                 words = " ".join(option.choices)
-                act = f"mapfile -t COMPREPLY < <(compgen -W '{words}' -- \"$word\"); return" if words else "return"
+                act = f"{compgen('-W ' + quoted(words))}; return" if words else "return"
                 lines.append(f"    {' | '.join(option.flags)}) {act} ;;")
         flags = " ".join(flag for option in options for flag in option.flags)
-        lines += ["  esac", "  case $word in", f"    -*) mapfile -t COMPREPLY < <(compgen -W '{flags}' -- \"$word\") ;;",
-                  "    *) compopt -o filenames 2>/dev/null; mapfile -t COMPREPLY < <(compgen -f -- \"$word\") ;;",
+        lines += ["  esac", "  case $word in", f"    -*) {compgen('-W ' + quoted(flags))} ;;",
+                  f"    *) compopt -o filenames 2>/dev/null; {compgen('-f')} ;;",
                   "  esac", "}", f"complete -F {function} {name}"]
     return "\n".join(lines) + "\n"
-
-
-def quoted(text: str) -> str:
-    """A word of a shell between apostrophes."""
-    return "'" + text.replace("'", r"'\''") + "'"
 
 
 def zsh(name: str, options: list[Option]) -> str:
     words = []
     for option in options:
         text = re.sub(r"([\[\]:])", r"\\\1", option.help)
-        value = f":value:({' '.join(option.choices)})" if option.choices else ":value:" if option.takes_value else ""
+        value = ":value:" if option.takes_value else ""
+        value += f"({' '.join(option.choices)})" if option.choices else ""
         for flag in option.flags:
             words.append(quoted(f"{flag}[{text}]{value}"))
     return f"#compdef {name}\n" + " \\\n  ".join(["_arguments -S", *words, quoted("*:file:_files")]) + "\n"

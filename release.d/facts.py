@@ -28,7 +28,8 @@ class Commit:
 
 def output_of(*words: str, where: Path | None = None) -> str:
     try:
-        done = subprocess.run(words, cwd=where, capture_output=True, text=True, timeout=120, stdin=subprocess.DEVNULL)
+        done = subprocess.run(words, cwd=where, capture_output=True, text=True, timeout=120,
+                              stdin=subprocess.DEVNULL)
     except (OSError, subprocess.TimeoutExpired, UnicodeDecodeError) as error:
         raise Refusal(f"{words[0]} can't be run: {error}") from None
     if done.returncode:
@@ -40,7 +41,8 @@ def commit_of(top: Path) -> Commit:
     changed = output_of("git", "status", "--porcelain", "--", ".", ":!dist", where=top)
     if changed:
         raise Refusal(f"there are changes that aren't committed: {changed.split(chr(10))[0].strip()}")
-    name, seconds, author = output_of("git", "log", "-1", "--format=%H%n%ct%n%an <%ae>", where=top).strip().split("\n")
+    told = output_of("git", "log", "-1", "--format=%H%n%ct%n%an <%ae>", where=top)
+    name, seconds, author = told.strip().split("\n")
     return Commit(name, int(seconds), author)
 
 
@@ -107,7 +109,8 @@ def contracts_in(text: str) -> tuple[int, int]:
     return functions, clauses
 
 
-def proved(top: Path, files: list[str], version: str, commit: Commit, kit: str, gate: str, programs: list[str]) -> str:
+def proved(top: Path, files: list[str], head: list[str], programs: list[str]) -> str:
+    """The text of PROVED: what it's of, what is counted in the sources, and the programs."""
     crates, _ = crates_of(top)
     sources = [it for it in files if re.fullmatch(r"crates/\w+/src/.*\.rt", it)]
     texts = {it: (top / it).read_text(encoding="utf-8") for it in sources}
@@ -116,16 +119,15 @@ def proved(top: Path, files: list[str], version: str, commit: Commit, kit: str, 
     tests = sum(text.count("#[test]") for text in texts.values())
     rows = sum(bool(re.fullmatch(r"tests/rows/.*\.vsm", it)) for it in files)
     lessons = sum(bool(re.fullmatch(r"examples/.*\.vsm", it)) for it in files)
-    lines = [f"What was proved of Nilbozad {version}", "",
-             f"Commit     {commit.name}", f"Kit        {kit}",
+    lines = [*head,
              f"Contracts  {sum(a for a, _ in counts)} functions with {sum(b for _, b in counts)} clauses, "
              f"in {len(crates)} crates: all that the program vsm stands on",
              f"Edits      {edits} wrong bodies, each of which the prover has to refuse",
              f"Tests      {tests} test functions, {rows} worked scripts in tests/rows, {lessons} lessons",
-             f"Gate       {gate}", *programs, "",
-             "The last line of the gate is 'N passed, M failed'; 'not told' means that ./release wasn't given its output.",
-             "'Proved' says no more than the contracts do: README.md of the repository has what can be relied on, what was only",
-             "tested, and what is trusted. The other programs (tools/, bench.html's page) are tested and not proved."]
+             *programs, "",
+             "Gate is the last line of the gate's output, or 'not told' where ./release wasn't given that.",
+             "'Proved' says no more than the contracts do: README.md of the repository has what can be relied on,",
+             "what was only tested, and what is trusted. The other programs and the pages are tested and not proved."]
     return "\n".join(lines) + "\n"
 
 
@@ -134,7 +136,7 @@ def sha256(file: Path) -> str:
 
 
 def licences(kit: Path, top: Path) -> dict[str, bytes]:
-    """The licence files of the kit's crates that are linked in, by the name that each gets; those of crates below them too."""
+    """The licence files of the kit's crates that are linked in, and of those below them, by new names."""
     found: dict[str, bytes] = {}
     left = [it for it in crates_of(top)[1] if it not in STANDARD]
     seen = set(left) | STANDARD
@@ -146,14 +148,10 @@ def licences(kit: Path, top: Path) -> dict[str, bytes]:
             raise Refusal(f"the kit's crate {name} is linked in, and {folder} has no licence")
         for file in files:
             found[f"{name}-{file.name}"] = file.read_bytes()
-        more = {it for it in used_by(folder) if it not in seen and (kit / "rattle" / it).is_dir() and has_licence(kit / "rattle" / it)}
+        more = {it for it in used_by(folder) - seen if any((kit / "rattle" / it).glob("LICENSE*"))}
         seen |= more
         left += more
     return found
-
-
-def has_licence(folder: Path) -> bool:
-    return any(folder.glob("LICENSE*"))
 
 
 def used_by(folder: Path) -> set[str]:

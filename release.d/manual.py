@@ -10,6 +10,8 @@ from markdown import Block, Code, Heading, Items, Paragraph, Table
 
 WIDTH = 78
 PAGES = {"STATEMENTS.md": "vsm-statements(5)", "MESSAGES.md": "vsm-messages(7)"}
+# Signs that roff would print as others, or read as its own.
+SIGNS = {"\\": "\\e", "-": "\\-", "'": "\\(aq", "`": "\\(ga", '"': "\\(dq"}
 # Columns of a table whose text needs no label in front.
 PLAIN = {"Meaning", "It does", "Why it came", "Why"}
 # A title that mandoc takes for a misspelt one of its own, and the one that stands in its place.
@@ -30,7 +32,7 @@ class Page:
 
 def escape(text: str) -> str:
     """Text that roff prints as it stands."""
-    return text.replace("\\", "\\e").replace("-", "\\-").replace("'", "\\(aq").replace("`", "\\(ga").replace('"', "\\(dq")
+    return "".join(SIGNS.get(character, character) for character in text)
 
 
 def shown_link(match: re.Match[str]) -> str:
@@ -139,25 +141,29 @@ def body(blocks: list[Block]) -> list[str]:
 
 def head(page: Page, what: str) -> list[str]:
     what = what.strip().rstrip(".")
-    return [f".Dd {page.date}", f".Dt {page.name.upper()} {page.section}", ".Os", ".Sh NAME", f".Nm {page.name}",
-            f".Nd {escape(what[:1].lower() + what[1:])}"]
+    return [f".Dd {page.date}", f".Dt {page.name.upper()} {page.section}", ".Os", ".Sh NAME",
+            f".Nm {page.name}", f".Nd {escape(what[:1].lower() + what[1:])}"]
 
 
 def see_also(page: Page, others: list[str]) -> list[str]:
-    """The other pages, by section and then by name. As text, since mandoc looks for references in the system's manual alone."""
+    """The other pages. As text, since mandoc looks for what is referred to in the system's manual alone."""
     found = sorted((it for it in others if it != f"{page.name}({page.section})"), key=lambda it: (it[-2], it))
     return [".Sh SEE ALSO", *filled(", ".join(f"**{it[:-3]}**{it[-3:]}" for it in found))] if found else []
 
 
 def files() -> list[str]:
-    return [".Sh FILES", *filled("The scripts of `examples/` are in `share/doc/nilbozad/examples`, below the folder that this is "
-                                 "installed in; that's `/usr` for a package.")]
+    return [".Sh FILES", *filled("The scripts of `examples/` are in `share/doc/nilbozad/examples`, below the "
+                                 "folder that this is installed in; that's `/usr` for a package.")]
+
+
+def joined(*parts: list[str]) -> str:
+    return "".join(f"{line}\n" for part in parts for line in part)
 
 
 def page_of_docs(page: Page, what: str, text: str, others: list[str]) -> str:
     """A whole page of docs/: what stands before the first section is its description."""
     blocks = [it for it in markdown.parse(text) if not (isinstance(it, Heading) and it.level == 1)]
-    return "\n".join([*head(page, what), ".Sh DESCRIPTION", *body(blocks), *files(), *see_also(page, others)]) + "\n"
+    return joined(head(page, what), [".Sh DESCRIPTION"], body(blocks), files(), see_also(page, others))
 
 
 def split_help(text: str) -> list[list[str]]:
@@ -165,24 +171,34 @@ def split_help(text: str) -> list[list[str]]:
     return [part.split("\n") for part in re.split(r"\n{2,}", text.strip("\n"))]
 
 
+def part_at(parts: list[list[str]], start: str) -> int:
+    """Which paragraph of a help text begins so."""
+    for number, part in enumerate(parts):
+        if part[0].startswith(start):
+            return number
+    raise LookupError(f"the help of vsm has no paragraph {start!r}")
+
+
 def page_of_vsm(page: Page, help_text: str, messages: str, others: list[str]) -> str:
     """The program's page: from its help, and from the options and the exit status in docs/MESSAGES.md."""
     blocks = markdown.parse(messages)
-    options, status = markdown.section(blocks, "Options"), markdown.section(blocks, "Standard error and exit status")
-    usage = next(it for it in options if isinstance(it, Code))
+    options = markdown.section(blocks, "Options")
+    status = markdown.section(blocks, "Standard error and exit status")
+    if not options or not isinstance(options[0], Code):
+        raise LookupError("the section 'Options' doesn't begin with the usage")
     # The last paragraph tells of the script in a clone.
-    options = [it for it in options if it != usage][:-1]
+    usage, options = options[0], options[1:-1]
     parts = split_help(help_text)
-    at = next(i for i, it in enumerate(parts) if it[0].startswith("Options:"))
-    ends = next(i for i, it in enumerate(parts) if it[0].startswith("Exit status:"))
-    example = next(i for i, it in enumerate(parts) if it[0].startswith("Example:"))
+    at, ends, example = (part_at(parts, it) for it in ("Options:", "Exit status:", "Example:"))
     description = [Paragraph(" ".join(it)) for it in [parts[0], *parts[at + 1:ends]]]
-    lines = [*head(page, parts[0][0].split(",")[0]), ".Sh SYNOPSIS", *literal(usage.lines), ".Sh DESCRIPTION", *body(description),
-             ".Sh OPTIONS", *body(options), *files(), ".Sh EXIT STATUS", *body(status), ".Sh EXAMPLES"]
+    examples: list[Block] = []
     for part in parts[example:]:
         text = " ".join(part).removeprefix("Example: ")
-        lines += literal(part) if part[0].startswith(" ") else [*[".Pp"][:part != parts[example]], *filled(text[:1].upper() + text[1:])]
-    return "\n".join([*lines, *see_also(page, others)]) + "\n"
+        is_code = part[0].startswith(" ")
+        examples.append(Code(tuple(part)) if is_code else Paragraph(text[:1].upper() + text[1:]))
+    return joined(head(page, parts[0][0].split(",")[0]), [".Sh SYNOPSIS"], literal(usage.lines),
+                  [".Sh DESCRIPTION"], body(description), [".Sh OPTIONS"], body(options), files(),
+                  [".Sh EXIT STATUS"], body(status), [".Sh EXAMPLES"], body(examples), see_also(page, others))
 
 
 def page_of_tool(page: Page, help_text: str, others: list[str]) -> str:
@@ -191,5 +207,5 @@ def page_of_tool(page: Page, help_text: str, others: list[str]) -> str:
     usage = [line.removeprefix("usage: ").removeprefix(" " * len("usage: ")) for line in parts[0]]
     rest = "\n\n".join("\n".join(part) for part in parts[1:]).split("\n")
     what = re.split(r"(?<=[.:])(\s|$)", parts[1][0])[0]
-    return "\n".join([*head(page, what.rstrip(":")), ".Sh SYNOPSIS", *literal(usage), ".Sh DESCRIPTION", *literal(rest),
-                      *see_also(page, others)]) + "\n"
+    return joined(head(page, what.rstrip(":")), [".Sh SYNOPSIS"], literal(usage),
+                  [".Sh DESCRIPTION"], literal(rest), see_also(page, others))

@@ -1,4 +1,4 @@
-"""The parts of a page of docs/ that its pages are written with: headings, paragraphs, lists, tables and code."""
+"""What pages of docs/ are written with: headings, paragraphs, lists, tables and code."""
 from __future__ import annotations
 
 import re
@@ -40,7 +40,7 @@ NESTED = re.compile(r"\s+- ")
 
 
 def cells(line: str) -> tuple[str, ...]:
-    """The cells of a table's line; a bar within code may be written with a backslash or stand between backticks."""
+    """The cells of a table's line; a bar behind a backslash or between backticks is text."""
     found, cell, in_code = [], "", False
     for character in line.strip().strip("|").replace(r"\|", "\0"):
         in_code ^= character == "`"
@@ -98,8 +98,10 @@ def parse(text: str) -> list[Block]:
 
 
 def section(blocks: list[Block], title: str) -> list[Block]:
-    """What stands behind the heading of this title, up to the next one of its level; the heading isn't part of it."""
-    at = next(i for i, it in enumerate(blocks) if isinstance(it, Heading) and it.text == title)
+    """What stands behind the heading of this title, up to the next one of its level."""
+    at = next((i for i, it in enumerate(blocks) if isinstance(it, Heading) and it.text == title), None)
+    if at is None:
+        raise LookupError(f"a page of docs/ has no section {title!r}")
     level = blocks[at].level
     rest = blocks[at + 1:]
     ends = [i for i, it in enumerate(rest) if isinstance(it, Heading) and it.level <= level]

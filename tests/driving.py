@@ -1,4 +1,4 @@
-"""Programs that are run, or written to and read from while they run, and copies of the repository: for the tests beside this module."""
+"""For the tests beside this module: programs that are driven while they run, and copies of the repository."""
 import os
 import pty
 import select
@@ -48,7 +48,8 @@ class Driven:
 
 
 def by_pipes(words: list[str]) -> Driven:
-    child = subprocess.Popen(words, bufsize=0, stdin=subprocess.PIPE, stdout=subprocess.PIPE, stderr=subprocess.PIPE)
+    child = subprocess.Popen(words, bufsize=0, stdin=subprocess.PIPE, stdout=subprocess.PIPE,
+                             stderr=subprocess.PIPE)
     return Driven(child, child.stdin.fileno(), child.stdout.fileno())
 
 
@@ -59,7 +60,8 @@ def by_terminal(words: list[str]) -> Driven:
     how[1] &= ~termios.OPOST
     how[3] &= ~termios.ECHO
     termios.tcsetattr(follower, termios.TCSANOW, how)
-    child = subprocess.Popen(words, stdin=follower, stdout=follower, stderr=subprocess.PIPE, start_new_session=True)
+    child = subprocess.Popen(words, stdin=follower, stdout=follower, stderr=subprocess.PIPE,
+                             start_new_session=True)
     os.close(follower)
     return Driven(child, leader, leader)
 

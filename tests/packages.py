@@ -1,4 +1,4 @@
-"""The programs that a check needs beside the kit, from Debian's packages: installed where that can be done."""
+"""What a check needs beside the kit, from Debian's packages, installed where that can be done."""
 import os
 import shutil
 import subprocess
@@ -13,15 +13,16 @@ class Missing(Exception):
 def apt_get(*words: str) -> bool:
     """Whether apt-get did it. It waits for another one that is at work."""
     environment = {**os.environ, "DEBIAN_FRONTEND": "noninteractive"}
+    command = ["apt-get", "-o", "DPkg::Lock::Timeout=300", *words]
     try:
-        return subprocess.run(["apt-get", "-o", "DPkg::Lock::Timeout=300", *words], env=environment, timeout=SECONDS,
-                              stdin=subprocess.DEVNULL, stdout=subprocess.DEVNULL, stderr=subprocess.DEVNULL).returncode == 0
+        return subprocess.run(command, env=environment, timeout=SECONDS, stdin=subprocess.DEVNULL,
+                              stdout=subprocess.DEVNULL, stderr=subprocess.DEVNULL).returncode == 0
     except (OSError, subprocess.TimeoutExpired):
         return False
 
 
 def install(packages: list[str]) -> bool:
-    """Installs packages by apt-get, where this is root's process. The lists are fetched where they don't have them."""
+    """Installs packages, where this is root's process. The lists are fetched where they don't have them."""
     if os.geteuid() != 0 or not shutil.which("apt-get"):
         return False
     words = ["install", "-y", "--no-install-recommends", *packages]
