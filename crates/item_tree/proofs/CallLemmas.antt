@@ -1,16 +1,16 @@
 -- An item that is put in, and one that is taken out.
-use Rattle.std.proofs.Common.{◌≡◌, ◌≢◌, ℕ, suc, ◌+◌, ◌<◌, ◌≤◌, ◌==◌, Bool, true, false, ◌||◌, inl, inr, List, [], ◌∷◌, ◌++◌, length, Option, Some, None, refl, sym, ap, ◌∙◌, arith, IsSome, subst, append_assoc, length-append}
+use Rattle.std.proofs.Common.{◌≡◌, ℕ, ◌+◌, ◌<◌, ◌==◌, Bool, true, false, ◌||◌, inl, inr, List, [], ◌∷◌, ◌++◌, length, Option, Some, None, refl, sym, ap, ◌∙◌, arith, IsSome, subst, append_assoc, length-append}
 use Rattle.std.specs.Prelude.{map}
 use Rattle.std.proofs.lemmas.Bool.Decides.{eqb_tells}
 use Rattle.vsm_elements.specs.Store.{Store, at, among, Distinct}
-use Rattle.vsm_elements.proofs.StoreLemmas.{among_first, among_later, among_cons}
+use Rattle.vsm_elements.proofs.StoreLemmas.{among_first}
 use Rattle.vsm_elements.proofs.ChainLemmas.{among-append, not_both, distinct_insert, distinct_remove}
 use Rattle.item_tree.specs.declared.item.Item.{Item}
 use Rattle.item_tree.specs.declared.tree.ItemTree.{ItemTree}
 use Rattle.item_tree.specs.declared.shape.Node.{Node}
 use Rattle.item_tree.specs.Items.{key, item_in, AllBelow, AllFrom, Ascends}
-use Rattle.item_tree.specs.Trees.{items, owned, count, IsTree, Opens, Joins, Merges, Splits, IsPut, Puts, Takes}
-use Rattle.item_tree.proofs.Lists.{in_left, in_right, out_parts, out_of, out_cons, out_of_cons, distinct_left, distinct_right, distinct_apart, distinct_apart_back, not_middle}
+use Rattle.item_tree.specs.Trees.{items, owned, IsTree, Opens, Joins, Merges, Splits, Puts, Takes}
+use Rattle.item_tree.proofs.Lists.{out_parts, out_of, out_cons, out_of_cons, distinct_left, distinct_apart, distinct_apart_back}
 use Rattle.item_tree.proofs.ShapeLemmas.{id_of}
 use Rattle.item_tree.proofs.OrderLemmas.{from_less, from_left, ascends_left, ascends_right, ascends_join, in_none_below, in_behind, in_here, in_front}
 use Rattle.item_tree.proofs.TreeLemmas.{tree_kept, items_kept, owned_kept, owned_live, owned_distinct, owned_ids, no_items}

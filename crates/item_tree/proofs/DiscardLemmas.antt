@@ -1,8 +1,7 @@
 -- A tree that is given back.
-use Rattle.std.proofs.Common.{◌≡◌, ℕ, ◌+◌, true, false, inl, inr, List, [], ◌∷◌, ◌++◌, length, Option, Some, None, refl, sym, ap, ◌∙◌, arith, IsSome, subst, length-append}
+use Rattle.std.proofs.Common.{◌≡◌, ℕ, ◌+◌, true, false, inl, inr, List, [], ◌∷◌, ◌++◌, None, refl, sym, ap, ◌∙◌, arith, IsSome, subst, length-append}
 use Rattle.std.proofs.lemmas.Bool.Decides.{eqb_tells}
-use Rattle.vsm_elements.specs.declared.element.Element.{Element}
-use Rattle.vsm_elements.specs.Store.{Store, at, among, Distinct, Updates}
+use Rattle.vsm_elements.specs.Store.{Store, at, among, Updates}
 use Rattle.vsm_elements.specs.Ownership.{Leaves}
 use Rattle.vsm_elements.proofs.StoreLemmas.{among_first, among_later, among_cons}
 use Rattle.vsm_elements.proofs.ChainLemmas.{not_both}

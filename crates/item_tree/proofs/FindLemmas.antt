@@ -1,12 +1,12 @@
 -- What stands under a key, by the node at the top.
-use Rattle.std.proofs.Common.{◌≡◌, ℕ, ◌+◌, ◌<◌, ◌≤◌, true, false, inl, inr, List, [], ◌∷◌, ◌++◌, Option, Some, None, refl, sym, ap, ◌∙◌, arith, subst}
+use Rattle.std.proofs.Common.{◌≡◌, ℕ, ◌+◌, ◌<◌, ◌≤◌, inl, inr, List, ◌∷◌, ◌++◌, Option, Some, None, sym, ap, ◌∙◌, arith, subst}
 use Rattle.std.specs.Prelude.{if◌then◌else◌, Bool}
 use Rattle.std.proofs.lemmas.Bool.Decides.{leb_tells}
 use Rattle.vsm_elements.specs.Store.{Store}
 use Rattle.item_tree.specs.declared.item.Item.{Item}
 use Rattle.item_tree.specs.declared.tree.ItemTree.{ItemTree}
 use Rattle.item_tree.specs.declared.shape.Node.{Node}
-use Rattle.item_tree.specs.Trees.{items, IsTree, Opens}
+use Rattle.item_tree.specs.Trees.{items, Opens}
 use Rattle.item_tree.specs.Items.{key, AllBelow, AllFrom, Ascends, item_in, item_from}
 use Rattle.item_tree.proofs.OrderLemmas.{below_more, from_less, below_middle, ascends_left, ascends_right, in_none_below, in_behind, in_here, in_later, in_front, from_behind, from_here, from_some, from_none}
 use Rattle.item_tree.proofs.TreeLemmas.{no_items}

@@ -1,8 +1,6 @@
 -- Lists of ids in parts.
 use Rattle.std.proofs.Common.{◌≡◌, ◌≢◌, ℕ, Bool, true, false, ◌||◌, ◌⊎◌, inl, inr, List, [], ◌∷◌, ◌++◌, refl, sym, ap, ◌∙◌}
-use Rattle.std.proofs.lemmas.Bool.Decides.{eqb_tells}
 use Rattle.vsm_elements.specs.Store.{among, Distinct}
-use Rattle.vsm_elements.specs.Ownership.{Apart}
 use Rattle.vsm_elements.proofs.StoreLemmas.{among_first, among_later, among_cons}
 use Rattle.vsm_elements.proofs.ChainLemmas.{among-append, not_both, distinct_remove}
 use Rattle.vsm_elements.proofs.OwnerLemmas.{Distinct-parts}

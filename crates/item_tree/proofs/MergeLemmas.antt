@@ -1,14 +1,13 @@
 -- Two trees that become one.
-use Rattle.std.proofs.Common.{◌≡◌, ℕ, ◌+◌, true, false, List, [], ◌∷◌, ◌++◌, refl, sym, ap, ◌∙◌, arith, IsSome, subst, append_assoc}
+use Rattle.std.proofs.Common.{◌≡◌, ℕ, true, false, List, [], ◌∷◌, ◌++◌, refl, sym, ap, ◌∙◌, IsSome, subst, append_assoc}
 use Rattle.std.proofs.lemmas.List.{append-nil}
-use Rattle.vsm_elements.specs.declared.element.Element.{Element}
 use Rattle.vsm_elements.specs.Store.{Store, at, among, Distinct}
 use Rattle.vsm_elements.proofs.StoreLemmas.{among_first, among_later}
 use Rattle.item_tree.specs.declared.item.Item.{Item}
 use Rattle.item_tree.specs.declared.tree.ItemTree.{ItemTree}
 use Rattle.item_tree.specs.declared.shape.Node.{Node}
 use Rattle.item_tree.specs.Trees.{items, owned, IsTree, Opens, Joins, Merges}
-use Rattle.item_tree.proofs.Lists.{in_left, out_parts, out_of, out_cons, out_of_cons, distinct_left, distinct_right, distinct_apart, distinct_apart_back, in_middle}
+use Rattle.item_tree.proofs.Lists.{out_parts, out_cons, out_of_cons, distinct_left, distinct_right, distinct_apart, distinct_apart_back}
 use Rattle.item_tree.proofs.TreeLemmas.{tree_kept, items_kept, owned_kept, no_items, none_owned}
 
 pub merged_first : (s : Store) (a b : ItemTree) → IsTree s a → IsTree s b → a.root ≡ 0 → Merges s s a b b

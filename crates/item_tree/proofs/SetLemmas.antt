@@ -1,21 +1,21 @@
 -- An item of a tree by its id: what it says, and that it is written.
-use Rattle.std.proofs.Common.{◌≡◌, ◌≢◌, ℕ, ◌+◌, ◌≤◌, ◌==◌, Bool, true, false, inl, inr, List, [], ◌∷◌, ◌++◌, length, drop, get_or, Option, Some, None, refl, sym, ap, ◌∙◌, arith, IsSome, subst, append_assoc}
+use Rattle.std.proofs.Common.{◌≡◌, ◌≢◌, ℕ, ◌≤◌, Bool, true, false, inl, inr, List, [], ◌∷◌, ◌++◌, length, drop, get_or, Some, None, refl, sym, ap, ◌∙◌, IsSome, subst, append_assoc}
 use Rattle.std.specs.Prelude.{if◌then◌else◌}
 use Rattle.std.proofs.lemmas.Bool.Decides.{eqb_tells}
 use Rattle.vsm_elements.specs.declared.element.Element.{Element}
-use Rattle.vsm_elements.specs.Store.{Store, at, among, made, Distinct, Updates}
+use Rattle.vsm_elements.specs.Store.{Store, at, among, Distinct, Updates}
 use Rattle.vsm_elements.specs.Chain.{element}
-use Rattle.vsm_elements.proofs.StoreLemmas.{among_first, among_later, among_cons}
+use Rattle.vsm_elements.proofs.StoreLemmas.{among_cons}
 use Rattle.vsm_elements.proofs.ChainLemmas.{not_both}
 use Rattle.vsm_elements.proofs.ChainCalls.{element_is, some_of}
 use Rattle.item_tree.specs.declared.item.Item.{Item}
 use Rattle.item_tree.specs.declared.tree.ItemTree.{ItemTree}
 use Rattle.item_tree.specs.Items.{item_named}
-use Rattle.item_tree.specs.Shape.{Shape, leaf, node, items_in, ids_in, size, top, written, Held, grown, limit, IsTreeOf}
+use Rattle.item_tree.specs.Shape.{Shape, leaf, node, items_in, ids_in, top, written, Held, grown, limit, IsTreeOf}
 use Rattle.item_tree.specs.Trees.{items, owned, IsTree, IsSet, Writes}
-use Rattle.item_tree.proofs.Lists.{in_parts, out_parts, out_cons, in_left, in_last, in_middle, distinct_left, distinct_right, distinct_apart, distinct_apart_back}
+use Rattle.item_tree.proofs.Lists.{in_parts, out_parts, out_cons, distinct_left, distinct_right, distinct_apart, distinct_apart_back}
 use Rattle.item_tree.proofs.ShapeLemmas.{Held-same}
-use Rattle.item_tree.proofs.TreeLemmas.{is_tree, items_are, owned_are, owned_live}
+use Rattle.item_tree.proofs.TreeLemmas.{is_tree, items_are, owned_are}
 
 -- the node of an id holds its element
 same_element : (s : Store) (i : ℕ) (e f : Element) → at s i ≡ Some e → at s i ≡ Some f → e ≡ f

@@ -1,9 +1,9 @@
 -- What a shape holds, and that it is read off the elements.
-use Rattle.std.proofs.Common.{◌≡◌, ℕ, zero, suc, ◌+◌, ◌<◌, ◌≤◌, true, false, inl, inr, List, [], ◌∷◌, ◌++◌, length, drop, Option, Some, refl, sym, ap, ◌∙◌, arith, IsSome, length-append}
+use Rattle.std.proofs.Common.{◌≡◌, ℕ, zero, suc, ◌+◌, ◌<◌, ◌≤◌, true, false, inl, inr, List, [], ◌∷◌, ◌++◌, length, drop, refl, sym, ap, ◌∙◌, arith, IsSome, length-append}
 use Rattle.std.specs.Prelude.{slice_index_or, map}
 use Rattle.std.proofs.lemmas.Bool.Decides.{eqb_tells}
 use Rattle.vsm_elements.specs.declared.element.Element.{Element}
-use Rattle.vsm_elements.specs.Store.{Store, at, among, Distinct}
+use Rattle.vsm_elements.specs.Store.{Store, at, among}
 use Rattle.vsm_elements.specs.Chain.{element}
 use Rattle.vsm_elements.proofs.StoreLemmas.{in_table_bounds, among_cons}
 use Rattle.vsm_elements.proofs.StoreSteps.{is_live}

@@ -1,12 +1,12 @@
 -- One tree that becomes two.
-use Rattle.std.proofs.Common.{◌≡◌, ℕ, ◌+◌, ◌-◌, ◌<◌, ◌≤◌, true, false, List, [], ◌∷◌, ◌++◌, refl, sym, ap, ◌∙◌, arith, IsSome, subst, append_assoc}
+use Rattle.std.proofs.Common.{◌≡◌, ℕ, ◌+◌, ◌<◌, ◌≤◌, true, false, List, [], ◌∷◌, ◌++◌, refl, sym, ap, ◌∙◌, arith, IsSome, subst, append_assoc}
 use Rattle.vsm_elements.specs.Store.{Store, at, among, Distinct}
 use Rattle.vsm_elements.proofs.StoreLemmas.{among_first, among_later}
 use Rattle.item_tree.specs.declared.item.Item.{Item}
 use Rattle.item_tree.specs.declared.tree.ItemTree.{ItemTree}
 use Rattle.item_tree.specs.declared.shape.Node.{Node}
 use Rattle.item_tree.specs.Trees.{items, owned, IsTree, Opens, Joins, Splits}
-use Rattle.item_tree.proofs.Lists.{in_left, in_right, out_parts, out_cons, out_of_cons, distinct_left, distinct_right, distinct_apart, distinct_apart_back, not_middle}
+use Rattle.item_tree.proofs.Lists.{out_parts, out_cons, out_of_cons, distinct_left, distinct_right, distinct_apart, distinct_apart_back}
 use Rattle.item_tree.specs.Items.{key, AllBelow, AllFrom, Ascends}
 use Rattle.item_tree.proofs.OrderLemmas.{below_more, from_less, below_join, from_join, ascends_left, ascends_right, below_middle}
 use Rattle.item_tree.proofs.TreeLemmas.{tree_kept, items_kept, owned_kept, no_items, none_owned}

@@ -1,7 +1,6 @@
 -- Trees of elements: what a node opens to, what is joined, and that a tree stays whose elements are as they were.
-use Rattle.std.proofs.Common.{◌≡◌, ℕ, zero, suc, ◌+◌, ◌-◌, ◌<◌, ◌≤◌, true, false, List, [], ◌∷◌, ◌++◌, length, drop, get_or, Option, Some, refl, sym, ap, ◌∙◌, arith, IsSome, subst, inl, inr, length-append}
+use Rattle.std.proofs.Common.{◌≡◌, ℕ, ◌<◌, ◌≤◌, true, List, [], ◌∷◌, ◌++◌, length, drop, get_or, Some, refl, sym, ap, ◌∙◌, arith, IsSome, subst, inl, inr, length-append}
 use Rattle.std.specs.Prelude.{map}
-use Rattle.std.proofs.lemmas.List.{nil_from_length}
 use Rattle.std.proofs.lemmas.Bool.Decides.{eqb_tells}
 use Rattle.vsm_elements.specs.declared.element.Element.{Element}
 use Rattle.vsm_elements.specs.Store.{Store, at, among, Distinct, Updates}
@@ -10,10 +9,10 @@ use Rattle.vsm_elements.proofs.ChainCalls.{element_is, some_of}
 use Rattle.item_tree.specs.declared.item.Item.{Item}
 use Rattle.item_tree.specs.declared.tree.ItemTree.{ItemTree}
 use Rattle.item_tree.specs.declared.shape.Node.{Node}
-use Rattle.item_tree.specs.Shape.{Shape, leaf, node, items_in, ids_in, size, top, written, Held, grown, limit, IsTreeOf}
+use Rattle.item_tree.specs.Shape.{Shape, leaf, node, items_in, ids_in, top, written, grown, limit, IsTreeOf}
 use Rattle.item_tree.specs.Trees.{items, owned, count, IsTree, Opens, Joins}
 use Rattle.item_tree.proofs.Lists.{in_parts, in_left, in_right, out_cons, distinct_left, distinct_right, not_middle}
-use Rattle.item_tree.proofs.ShapeLemmas.{size_node, Held-same, live_in, positive, read_off, length-items, id_of, ids_are}
+use Rattle.item_tree.proofs.ShapeLemmas.{size_node, Held-same, live_in, read_off, length-items, id_of, ids_are}
 
 -- from a shape
 

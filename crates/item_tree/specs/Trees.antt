@@ -1,12 +1,12 @@
 -- What a contract sees of a tree: its items in order, and its elements in the order of their items.
-use Rattle.std.specs.Prelude.{◌≡◌, ℕ, ◌+◌, ◌≤◌, false, List, [], ◌∷◌, ◌++◌, IsSome, None, Some, length, drop}
+use Rattle.std.specs.Prelude.{◌≡◌, ℕ, ◌+◌, false, List, [], ◌∷◌, ◌++◌, IsSome, length, drop}
 use Rattle.vsm_elements.specs.Store.{Store, at, made, among, Distinct}
 use Rattle.vsm_elements.specs.Chain.{element}
 use Rattle.item_tree.specs.declared.item.Item.{Item}
 use Rattle.item_tree.specs.declared.tree.ItemTree.{ItemTree}
 use Rattle.item_tree.specs.declared.shape.Node.{Node}
-use Rattle.item_tree.specs.Items.{key, item_in, AllBelow, AllFrom, Ascends}
-use Rattle.item_tree.specs.Shape.{Shape, grown, limit, items_in, ids_in, IsTreeOf}
+use Rattle.item_tree.specs.Items.{key, AllBelow, AllFrom, Ascends}
+use Rattle.item_tree.specs.Shape.{grown, limit, items_in, ids_in, IsTreeOf}
 
 -- the items, in order
 unfoldable pub items : Store → ItemTree → List Item

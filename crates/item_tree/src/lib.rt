@@ -8,6 +8,3 @@ mod tree;
 
 pub use item::Item;
 pub use tree::ItemTree;
-
-#[cfg(test)]
-mod tests;

@@ -1,4 +1,4 @@
-use Rattle.std.proofs.Common.{◌≡◌, ◌+◌, arith, rules, ap, length}
+use Rattle.std.proofs.Common.{◌≡◌, rules, ap, length}
 use Rattle.item_tree.specs.Trees.{count}
 use Rattle.item_tree.proofs.DiscardLemmas.{discard_none, right_tree, right_owned, top_live, discarded}
 use Rattle.item_tree.proofs.tree.ItemTree.+discard.Goals as goal

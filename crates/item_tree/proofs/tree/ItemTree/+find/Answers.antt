@@ -1,4 +1,4 @@
-use Rattle.std.proofs.Common.{◌≡◌, ◌<◌, ◌≤◌, ◌+◌, arith, refl, rules, ◌∙◌}
+use Rattle.std.proofs.Common.{◌<◌, arith, rules, ◌∙◌}
 use Rattle.item_tree.specs.Items.{key}
 use Rattle.item_tree.proofs.FindLemmas.{none_in, left_order, right_order, in_left, in_middle, in_right}
 use Rattle.item_tree.proofs.tree.ItemTree.+find.Goals as goal

@@ -1,4 +1,4 @@
-use Rattle.std.proofs.Common.{◌≡◌, ◌<◌, ◌≤◌, ◌+◌, arith, rules}
+use Rattle.std.proofs.Common.{◌<◌, ◌≤◌, arith, rules}
 use Rattle.item_tree.specs.Items.{key}
 use Rattle.item_tree.proofs.FindLemmas.{left_order, right_order}
 use Rattle.item_tree.proofs.UptoLemmas.{none_upto, upto_right, upto_left}

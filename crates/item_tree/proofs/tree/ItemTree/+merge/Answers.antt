@@ -1,4 +1,4 @@
-use Rattle.std.proofs.Common.{◌≡◌, ◌<◌, ◌+◌, arith, rules}
+use Rattle.std.proofs.Common.{rules}
 use Rattle.item_tree.proofs.MergeLemmas.{merged_first, merged_second, back_distinct, left_tree, up_distinct, up_live, merged_above, front_distinct, right_tree, up_distinct', up_live', merged_below}
 use Rattle.item_tree.proofs.tree.ItemTree.+merge.Goals as goal
 

@@ -1,4 +1,4 @@
-use Rattle.std.proofs.Common.{◌≡◌, ◌<◌, ◌≤◌, ◌+◌, arith, refl, rules}
+use Rattle.std.proofs.Common.{◌<◌, ◌≤◌, arith, rules}
 use Rattle.item_tree.specs.Items.{key}
 use Rattle.item_tree.proofs.SplitLemmas.{split_none, left_order, right_order, right_tree, up_distinct, up_live, split_left, left_tree, up_distinct', up_live', split_right}
 use Rattle.item_tree.proofs.tree.ItemTree.+split.Goals as goal

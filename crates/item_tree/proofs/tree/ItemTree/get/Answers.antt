@@ -1,4 +1,4 @@
-use Rattle.std.proofs.Common.{◌≡◌, ℕ, List, Some, drop, sym, ap, ◌∙◌}
+use Rattle.std.proofs.Common.{ℕ, List, Some, drop, sym, ap, ◌∙◌}
 use Rattle.vsm_elements.specs.declared.element.Element.{Element}
 use Rattle.vsm_elements.proofs.ChainCalls.{element_is}
 use Rattle.item_tree.proofs.TreeLemmas.{owned_live}

@@ -1,4 +1,4 @@
-use Rattle.std.proofs.Common.{◌≡◌, List, ℕ, drop, get_or, sym, subst}
+use Rattle.std.proofs.Common.{List, ℕ, get_or, sym, subst}
 use Rattle.item_tree.specs.Trees.{Opens}
 use Rattle.item_tree.proofs.TreeLemmas.{opens, top_live}
 use Rattle.item_tree.proofs.tree.ItemTree.open.Goals as goal

@@ -1,4 +1,3 @@
-use Rattle.std.proofs.Common.{ap, ℕ, ◌+◌}
 use Rattle.item_tree.proofs.CallLemmas.{at_key, first_tree, first_distinct, second_tree, second_distinct, puts}
 use Rattle.item_tree.proofs.tree.ItemTree.put.Goals as goal
 

@@ -1,4 +1,4 @@
-use Rattle.std.proofs.Common.{◌≡◌, ℕ, List, Some, sym, ap, ◌∙◌, ◌∷◌, get_or}
+use Rattle.std.proofs.Common.{◌≡◌, ℕ, List, ap, ◌∷◌, get_or}
 use Rattle.vsm_elements.specs.declared.element.Element.{Element}
 use Rattle.item_tree.proofs.TreeLemmas.{owned_live}
 use Rattle.item_tree.proofs.SetLemmas.{writes}
