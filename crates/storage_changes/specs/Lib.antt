@@ -1,5 +1,6 @@
 pub mod State
 pub mod Records
+pub mod InWords
 pub mod Walk
 pub mod Steps
 pub mod Turned

@@ -2,6 +2,7 @@
 //! frames; and that the exchanged change leads back.
 #![tactic(auto)]
 
+mod in_words;
 pub mod laws;
 mod record;
 

@@ -157,7 +157,7 @@ impl Default for Record {
     }
 }
 
-const AREA: u32 = 0;
+pub(crate) const AREA: u32 = 0;
 
 const EXTENT: u32 = 1;
 
@@ -167,7 +167,7 @@ const OWN: u32 = 3;
 
 const QUEUES: u32 = 4;
 
-const REGISTER: u32 = 5;
+pub(crate) const REGISTER: u32 = 5;
 
 const TASK: u32 = 6;
 
@@ -388,7 +388,7 @@ fn one_cell(cell: u32) -> Run
     }
 }
 
-fn area_of(words: [u32; 7]) -> AreaRecord
+pub(crate) fn area_of(words: [u32; 7]) -> AreaRecord
     ensures { result ≡ record { subpool = subpool_in words; area = run_in words; free = word words 5 == 1 } }
 {
     AreaRecord {
@@ -473,7 +473,7 @@ fn run_of(words: [u32; 7]) -> Run
     }
 }
 
-fn register_of(words: [u32; 7]) -> RegisterRecord
+pub(crate) fn register_of(words: [u32; 7]) -> RegisterRecord
     ensures { result ≡ register_in words }
 {
     RegisterRecord {

@@ -7,6 +7,7 @@ ghost use Rattle.subpool_storage.specs.declared.storage.SubpoolStorage.{SubpoolS
 ghost use Rattle.storage_changes.specs.declared.record.Record.TheVariants.{Area, Extent, Own, Queues};
 ghost use Rattle.storage_changes.specs.declared.record.Record.TheVariants.{Pages as Assignment, Bytes};
 ghost use Rattle.storage_changes.specs.declared.record.Record.TheVariants.{Register, Registers};
+ghost use Rattle.storage_changes.specs.Records.{record_of};
 ghost use Rattle.storage_changes.specs.Turned.{turned, read, four_words};
 ghost use Rattle.storage_changes.specs.Fits.{Fits, AreaFits, ExtentFits, PagesFits, OwnFits, QueuesFits};
 ghost use Rattle.storage_changes.specs.Fits.{RegisterFits, RegistersFits, BytesFits};
@@ -80,6 +81,32 @@ impl Storage {
             Record::Cell(r) => Record::Cell(self.exchange_cell(r)),
             Record::Bytes(r) => Record::Bytes(self.exchange_bytes(r)),
         }
+    }
+
+    /// Exchanges a record that stands in words with the storage, and answers it so: the words of most records stay but
+    /// for one.
+    pub fn exchange_words(
+        &mut self,
+        given: &mut Parked,
+        parked: &mut SubpoolStorage,
+        words: [u32; 7],
+    ) -> [u32; 7]
+        requires stands { StandsWith self.old parked.old }
+        requires fits { (kept : ℕ) × (kept ≤ self.old.elements.spare)
+            × Fits (walk_of self.old given.old parked.old kept) (record_of words) }
+        ensures exchanges { Exchanges self.old self.new given.old given.new parked.old parked.new (record_of words) }
+        ensures turned { record_of result ≡ turned (state_of self.old) (record_of words) }
+    {
+        if let Some(r) = RegisterRecord::in_words(words) {
+            let turned = self.exchange_register(r);
+            return RegisterRecord::with_word(words, turned.word);
+        }
+        if let Some(r) = AreaRecord::in_words(words) {
+            self.exchange_area(r);
+            return AreaRecord::with_free(words, !r.free);
+        }
+        let change = Record::from_words(words);
+        self.exchange_record(given, parked, change).words()
     }
 
     // The doublewords of an area become free, or taken.

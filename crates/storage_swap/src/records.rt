@@ -9,7 +9,6 @@ ghost use Rattle.storage_exchange.specs.Storage.{walk_of};
 ghost use Rattle.storage_swap.specs.Beside.{records_of, Beside, SwapsFirst, SwapsAll};
 
 use raw_region::Parked;
-use storage_changes::Record;
 use storage_exchange::Storage;
 use subpool_storage::SubpoolStorage;
 use vsm_elements::{Chain, Elements};
@@ -28,9 +27,9 @@ fn swap_first(
     ensures { (r : TheRecord) (rs : List TheRecord) → records_of storage.old.elements records.now ≡ r ∷ rs
         → SwapsFirst storage.old storage.new given.old given.new parked.old parked.new records.now r rs }
 {
-    let first = Record::from_words(records.words(&storage.elements, 0, records.first));
-    let turned = storage.exchange_record(given, parked, first);
-    records.set_words(&mut storage.elements, 0, records.first, turned.words());
+    let first = records.words(&storage.elements, 0, records.first);
+    let turned = storage.exchange_words(given, parked, first);
+    records.set_words(&mut storage.elements, 0, records.first, turned);
 }
 
 // Every record changes sides with the storage. They then stand in reverse order.

@@ -1,0 +1,8 @@
+-- A record of an area, as it stands in words.
+use Rattle.std.specs.Prelude.{ℕ, List, ◌==◌}
+use Rattle.storage_changes.specs.declared.record.AreaRecord.{AreaRecord}
+use Rattle.storage_changes.specs.Records.{word, subpool_in, run_in}
+
+-- the doublewords of a subpool in a run, and whether they become free
+abbrev pub area_in : List ℕ → AreaRecord
+area_in words = record { subpool = subpool_in words; area = run_in words; free = word words 5 == 1 }
