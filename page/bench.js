@@ -25,7 +25,7 @@ class Bench {
   constructor(data, wasm) {
     this.data = data;
     this.wasm = wasm;
-    this.examples = new Map(data.examples.map(it => [it.name, it.script]));
+    this.examples = new Map(data.examples.map(it => [it.name, it]));
     this.name = OWN;
     this.result = { output: '', script: '', words: [], mapped: null };
     this.view = null;
@@ -91,7 +91,7 @@ class Bench {
     for (const it of NAMES) byId(it).value = options[it] ?? '';
     if (teacher !== undefined) this.setTeaching(teacher);
     this.editor.text = script;
-    const isExample = this.examples.get(this.name) === script;
+    const isExample = this.examples.get(this.name)?.script === script;
     if (!isExample && this.examples.has(this.name)) this.setName(OWN);
     byId('examples').value = isExample ? this.name : '';
     this.keepNow();
@@ -99,7 +99,7 @@ class Bench {
   }
 
   choose(name) {
-    if (this.examples.has(name)) this.load({ script: this.examples.get(name), options: {}, name });
+    if (this.examples.has(name)) this.load(this.examples.get(name));
     else if (this.own) this.load(this.own);
   }
 

@@ -29,10 +29,23 @@ def identity_of(module: Path) -> dict[str, str | int]:
     return {**said, "bytes": module.stat().st_size, "line": line}
 
 
-def examples() -> list[dict[str, str]]:
-    """The example scripts, each character one byte."""
-    scripts = sorted((TOP / "examples").glob("*.vsm"))
-    return [{"name": script.name, "script": script.read_bytes().decode("latin-1")} for script in scripts]
+def option_words(script: Path) -> list[str]:
+    """The options of an example, a word a line of the file beside it; none where that isn't there."""
+    try:
+        return script.with_suffix(".options").read_text(encoding="utf-8").split()
+    except FileNotFoundError:
+        return []
+
+
+def example(script: Path) -> dict[str, object]:
+    """An example script, each character one byte, and its options by their names."""
+    words = option_words(script)
+    options = {name.removeprefix("--"): value for name, value in zip(words[::2], words[1::2])}
+    return {"name": script.name, "script": script.read_bytes().decode("latin-1"), "options": options}
+
+
+def examples() -> list[dict[str, object]]:
+    return [example(script) for script in sorted((TOP / "examples").glob("*.vsm"))]
 
 
 def bench_page(module: Path) -> str:

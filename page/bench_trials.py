@@ -134,20 +134,20 @@ def try_rows(node: Node, trials: Trials) -> None:
                 trials.want(f"the module at row {row.name}{way}", False, fault)
 
 
-def examples() -> list[tuple[str, bytes, bytes, int]]:
-    """Name, script, output and status of each example."""
+def examples() -> list[tuple[Path, bytes, bytes, int]]:
+    """Place, script, output and status of each example."""
     found = []
     for script in sorted((TOP / "examples").glob("*.vsm")):
         output = script.with_suffix(".out").read_bytes()
         refused = any(line[8:].startswith((b"FAULT ", b"REFUSED ", b"ABEND ")) for line in output.split(b"\n"))
-        found.append((script.name, script.read_bytes(), output, 4 if refused else 0))
+        found.append((script, script.read_bytes(), output, 4 if refused else 0))
     return found
 
 
 def try_examples(node: Node, trials: Trials) -> None:
-    for name, script, output, status in examples():
-        told = node.run([], script, {})
-        trials.want(f"the module at example {name}", (told["output"], told["errors"], told["status"]) == (output, b"", status), told)
+    for path, script, output, status in examples():
+        told = node.run(bench.option_words(path), script, {})
+        trials.want(f"the module at example {path.name}", (told["output"], told["errors"], told["status"]) == (output, b"", status), told)
 
 
 class BenchPage:
@@ -248,7 +248,8 @@ def try_looks(page: BenchPage, trials: Trials) -> None:
 
 
 def try_each_example(page: BenchPage, trials: Trials) -> None:
-    for name, _, output, status in examples():
+    for path, _, output, status in examples():
+        name = path.name
         page.put("examples", name, "change")
         page.ended()
         trials.want(f"the page gives example {name}", (page.output(), page.status(), page.text("errors")) == (output, status, ""), page.text("status"))
@@ -438,7 +439,8 @@ def try_teacher(page: BenchPage, trials: Trials) -> None:
 
 def try_saving(page: BenchPage, folder: Path, trials: Trials) -> None:
     page.browser.call("Browser.setDownloadBehavior", behavior="allow", downloadPath=str(folder))
-    name, script, output, _ = examples()[1]
+    path, script, output, _ = examples()[1]
+    name = path.name
     page.put("examples", name, "change")
     page.ended()
     for button, ending, wanted in (("save-script", ".vsm", script), ("save-output", ".out", output), ("save-page", ".html", None)):
@@ -469,8 +471,11 @@ def try_lacks(page: BenchPage, trials: Trials) -> None:
     page.browser.call("Page.removeScriptToEvaluateOnNewDocument", identifier=script)
     plain = page.browser.call("Emulation.setScriptExecutionDisabled", value=True)
     page.browser.call("Page.navigate", url=page.address)
-    time.sleep(0.5)
-    told = json.dumps(page.browser.call("Accessibility.getFullAXTree"))
+    end = time.monotonic() + 10
+    told = ""
+    while "It needs JavaScript" not in told and time.monotonic() < end:
+        time.sleep(0.2)
+        told = json.dumps(page.browser.call("Accessibility.getFullAXTree"))
     trials.want("without JavaScript there's a sentence", "It needs JavaScript" in told, plain)
     page.browser.call("Emulation.setScriptExecutionDisabled", value=False)
 

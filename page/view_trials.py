@@ -13,6 +13,7 @@ from pathlib import Path
 from types import ModuleType
 
 import colours
+from bench import option_words
 from chromium import Browser
 from expected import Page
 from on_page import PALE as PALE
@@ -195,7 +196,7 @@ def try_all(trials: Trials, browser: Browser, program: str) -> None:
     with tempfile.TemporaryDirectory(prefix="page-check-") as name:
         folder = Path(name)
         scripts = sorted((TOP / "examples").glob("*.vsm"))
-        pages = [made(program, script, folder / f"{script.stem}.html") for script in scripts]
+        pages = [made(program, script, folder / f"{script.stem}.html", *option_words(script)) for script in scripts]
         for page in pages:
             try_page(trials, browser, page)
         try_odd(trials, browser, program, folder)
