@@ -20,7 +20,7 @@ import manual
 from facts import Commit, Refusal
 
 # What of tools/ and page/ is for the repository alone: tests, and what bench.html is made from.
-NOT_INSTALLED = re.compile(r".*/(tests/|\.)|page/(bench|module|host|check|chromium|\w*trials)")
+NOT_INSTALLED = re.compile(r".*/(tests/|\.)|(page|tools)/check|page/(bench|module|host|chromium|\w*trials)")
 # How the tools begin, and how a package wants them to.
 FREE_PYTHON, SYSTEM_PYTHON = b"#!/usr/bin/env python3\n", b"#!/usr/bin/python3\n"
 DOCS = ("STATEMENTS.md", "MESSAGES.md", "PROTOCOL.md", "ZOS.md", "GLOSSARY.md")
@@ -46,9 +46,9 @@ class Release:
 
     @property
     def tools(self) -> list[str]:
-        """The programs of tools/."""
-        return sorted(it.split("/")[1] for it in self.files
-                      if it.count("/") == 1 and it.startswith("tools/") and os.access(self.top / it, os.X_OK))
+        """The programs of tools/ that are installed."""
+        return sorted(it.split("/")[1] for it in self.files if it.count("/") == 1 and it.startswith("tools/")
+                      and not NOT_INSTALLED.match(it) and os.access(self.top / it, os.X_OK))
 
 
 def put(file: Path, data: bytes | str, mode: int = 0o644) -> None:
