@@ -1,5 +1,6 @@
 pub mod Stands
 pub mod Sparing
+pub mod Causes
 pub use Rattle.vsm_machine.specs.Machine
 pub use Rattle.vsm_machine.specs.Refusals
 pub use Rattle.vsm_machine.specs.declared.refusals.Refusal

@@ -3,6 +3,7 @@
 
 mod bench;
 mod maps;
+mod readings;
 
 pub use bench::Bench;
-pub use vsm_machine::{NewFault, Refusal};
+pub use vsm_machine::{NewFault, Refusal, UnknownName};

@@ -40,12 +40,12 @@ impl CellPools {
     ghost use Rattle.cell_pool.specs.CellPools.{pool, pools, by_id, owned, IsCellPools, IsParked};
     ghost use Rattle.cell_pool.specs.CellPools.{parked_pool, parked_by_id, parked_owned};
 
-    /// No cell pool. It has no element.
     #[tactic(auto, unfolding(
     // what a name and an id show
     crate::specs::CellPools::pool, crate::specs::CellPools::by_id,
     // whose the elements are
     crate::specs::CellPools::owned, crate::specs::CellPools::IsCellPools))]
+    /// No cell pool. It has no element.
     pub fn new() -> CellPools
         ensures pools { (s : Store) → IsCellPools s result }
         ensures empty { (s : Store) (n : List ℕ) → pool s result n ≡ None }

@@ -5,3 +5,4 @@ pub mod WrittenLines
 pub mod ReadRequests
 pub mod Above
 pub mod Blanks
+mod LineRoles

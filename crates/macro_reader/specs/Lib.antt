@@ -18,4 +18,5 @@ pub use Rattle.macro_statements.specs.Statements
 pub mod Columns
 pub mod Continuation
 pub mod Scripts
+pub mod Roles
 pub mod Modes

@@ -1,6 +1,7 @@
 //! The operand field of a statement over its continuation lines.
 
-ghost use Rattle.std.specs.Prelude.{◌≡◌, ◌++◌, ◌+◌, ◌*◌, ◌≤◌, ◌<◌, ◌^◌, length, take, drop, MatchBool, IsTrue, Some, None};
+ghost use Rattle.std.specs.Prelude.{◌≡◌, ◌++◌, ◌+◌, ◌*◌, ◌≤◌, ◌<◌, ◌^◌, length, take, drop, MatchBool, IsTrue, Some};
+ghost use Rattle.std.specs.Prelude.{None};
 ghost use Rattle.arrayvec.specs.ArrayVec.{array_vec_len};
 ghost use Rattle.operand_texts.specs.Field.{field_len};
 ghost use Rattle.macro_statements.specs.Statements.{IsHead};

@@ -4,6 +4,7 @@ ghost use Rattle.std.specs.Prelude.{◌≡◌, ◌≤◌, [], ◌∷◌, List, O
 ghost use Rattle.macro_statements.specs.Requests.{Asked, IsValidAsked, AskedHasBytes, HasRoom};
 ghost use Rattle.macro_reader.specs.Columns.{Line};
 ghost use Rattle.macro_reader.specs.Scripts.{Answer, Answers};
+ghost use Rattle.macro_reader.specs.Roles.{RolesAreOfParts, RolesAreOfBroken, RolesAreOfOpen};
 
 /// A list of lines has one list of answers: any two are the same.
 pub fn one_reading()
@@ -20,4 +21,12 @@ pub fn every_script_is_read()
 pub fn valid_requests_are_read()
     ensures { (asked : Asked) → AskedHasBytes asked → IsValidAsked asked → HasRoom asked
         → (lines : List Line) × (length lines ≤ 10) × Answers lines (record { line = 1; what = Ok asked } ∷ []) }
+{}
+
+/// What each line of a script is to a reader, whether it begins a statement, goes on with one, breaks it off or is
+/// dropped, is what the parts of the script say; also where it ends in a broken statement, or in one that is open.
+pub fn lines_have_roles()
+    ensures whole { RolesAreOfParts }
+    ensures broken { RolesAreOfBroken }
+    ensures open_still { RolesAreOfOpen }
 {}

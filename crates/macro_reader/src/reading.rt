@@ -5,6 +5,7 @@ ghost use Rattle.macro_reader.specs.Columns.{Line, is_continued};
 ghost use Rattle.macro_reader.specs.Scripts.{Answer, Answers, IsBehind, IsValidFed, told_by, told_at_end, moved};
 ghost use Rattle.macro_reader.specs.Scripts.{behind_break, awaiting};
 ghost use Rattle.macro_reader.specs.Modes.{mode_of, due_of, most_lines};
+ghost use Rattle.macro_reader.specs.Roles.{IsStand};
 ghost use Rattle.macro_reader.specs.declared.modes.OpenStatement.{OpenStatement};
 ghost use Rattle.macro_reader.specs.declared.modes.Mode.TheVariants.{Awaiting, Gathering};
 
@@ -49,6 +50,17 @@ impl Model for Reader {
     ghost Value = { Kept };
 
     ghost view = { λ r. record { count = r.count; mode = mode_of r.mode r.statement } };
+}
+
+/// Where a reader stands between two lines.
+#[derive(Clone, Copy, Debug, PartialEq, Eq)]
+pub enum Stand {
+    /// It awaits a statement.
+    Awaiting,
+    /// It drops the lines behind a statement that is broken.
+    Dropping,
+    /// Its statement is open.
+    Gathering,
 }
 
 /// How a line moves a reader that awaits a statement, and which answer is due.
@@ -132,6 +144,17 @@ impl Reader {
             count: 0,
             mode: Mode::Awaiting,
             statement: OpenStatement::none(),
+        }
+    }
+
+    /// Where the reader stands: what the next line is to it, by whether that is skipped, or breaks a rule.
+    pub fn stand(&self) -> Stand
+        ensures { IsStand self.now.mode result }
+    {
+        match self.mode {
+            Mode::Awaiting => Stand::Awaiting,
+            Mode::Dropping => Stand::Dropping,
+            Mode::Gathering => Stand::Gathering,
         }
     }
 

@@ -1,6 +1,7 @@
 mod RunLists
 mod Ranges
 pub mod Lists
+mod Unassigned
 pub mod Order
 pub mod Sums
 mod Counts

@@ -37,11 +37,11 @@ inside_alone : (b c d : Bool) → b ≡ true → c ≡ d → (b && c) ≡ d
 inside_alone true c d e h = h
 inside_alone false c d e h = absurd (let no : false ≡ true = e in cc)
 
-as_runs : (xs : List (ℕ × ℕ)) → map pair_of (map run_in xs) ≡ xs
+pub as_runs : (xs : List (ℕ × ℕ)) → map pair_of (map run_in xs) ≡ xs
 as_runs [] = refl
 as_runs (x ∷ xs) = ap (λ (z : List (ℕ × ℕ)). x ∷ z) (as_runs xs)
 
-append_nil : (xs : List (ℕ × ℕ)) → xs ++ [] ≡ xs
+pub append_nil : (xs : List (ℕ × ℕ)) → xs ++ [] ≡ xs
 append_nil [] = refl
 append_nil (x ∷ xs) = ap (λ (z : List (ℕ × ℕ)). x ∷ z) (append_nil xs)
 
@@ -109,7 +109,7 @@ two_between low mid high (x ∷ xs) ys early late h k =
     (h.0, h.1, let ends : x.0 + x.1 ≤ mid = h.2 in omega (arith, ends, late), two_between low mid high xs ys early late h.3 k)
 
 -- runs of two ranges end by the end of the second
-ends_of_two : (f : ℕ → Bool) (a n b m top : ℕ) (i : ℕ) (r : Run) (xs : List (ℕ × ℕ)) → a + n < b → b + m < top → xs ≡ runs f a n ++ runs f b m
+pub ends_of_two : (f : ℕ → Bool) (a n b m top : ℕ) (i : ℕ) (r : Run) (xs : List (ℕ × ℕ)) → a + n < b → b + m < top → xs ≡ runs f a n ++ runs f b m
     → slice_get (map run_in xs) i ≡ Some r → r.start + r.len < top
 ends_of_two f a n b m top i r xs gap room e at =
     let P : List (ℕ × ℕ) → Type 0 = Between a (b + m) in

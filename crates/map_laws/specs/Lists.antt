@@ -1,7 +1,7 @@
 -- The lists that a map shows, of the plain machine and of the storage in place.
 -- Assembler Services Guide, "Virtual storage management", "Subpool handling".
-use Rattle.std.specs.Prelude.{◌≡◌, ℕ, ◌+◌, ◌^◌, ◌<◌, true, map, flat_map, slice_get, Some}
-use Rattle.run_set.specs.Runs.{Run}
+use Rattle.std.specs.Prelude.{◌≡◌, ℕ, ◌+◌, ◌^◌, ◌<◌, true, not, ◌&&◌, is_some, List, map, flat_map, slice_get, Some}
+use Rattle.run_set.specs.Runs.{Run, AreRunsOf}
 use Rattle.subpool_set.specs.Pools as pools
 use Rattle.subpool_storage.specs.Extents as in_place
 use Rattle.subpool_storage.specs.Order.{subpools_in_order}
@@ -9,8 +9,10 @@ use Rattle.storage_changes.specs.State.{StorageState}
 use Rattle.storage_changes.specs.Meaning.{model_of, IsSound}
 use Rattle.vsm_model.specs.declared.Subpool.{Subpool}
 use Rattle.vsm_model.specs.declared.limits.Settings.{Settings}
-use Rattle.vsm_model.specs.Regions.{settings_valid}
+use Rattle.vsm_model.specs.Regions.{Region, settings_valid, within}
 use Rattle.vsm_model.specs.Areas as plain
+use Rattle.vsm_model.specs.Runs.{runs}
+use Rattle.vsm_model.specs.State.{State}
 use Rattle.vsm_model.specs.Map.{ascending_regions, numbers, sharers, subpool_lines}
 
 -- a run as its first number and how many numbers it has
@@ -52,3 +54,25 @@ abbrev pub SubpoolsAreShown : Type 0
 SubpoolsAreShown = (settings : Settings) (m : StorageState)
     → flat_map (λ number. flat_map (subpool_lines settings (model_of m) number) (numbers 1 65)) (numbers 0 128)
     ≡ flat_map (λ p. subpool_lines settings (model_of m) p.number p.owner) (subpools_in_order m.subpools)
+
+-- The longest runs of unassigned pages of a region,
+abbrev pub unassigned_in : State → Region → List (ℕ × ℕ)
+unassigned_in s r = runs (λ k. within r k && not (is_some (s.pages k))) r.first r.count
+
+-- and those that the storage in place has: closed, since they may be many.
+unfoldable pub unassigned_runs : StorageState → List Run
+unassigned_runs m = map in_place.run_in (runs m.unassigned 0 (2 ^ 29))
+
+-- They are those of the region below the line, and then those above it;
+abbrev pub UnassignedAreShown : Type 0
+UnassignedAreShown = (settings : Settings) (m : StorageState) → settings_valid settings ≡ true → IsSound settings m
+    → flat_map (unassigned_in (model_of m)) (ascending_regions settings) ≡ map pair_of (unassigned_runs m)
+
+-- none ends behind the last page that there can be;
+abbrev pub UnassignedEndInRegions : Type 0
+UnassignedEndInRegions = (settings : Settings) (m : StorageState) (i : ℕ) (r : Run) → settings_valid settings ≡ true
+    → IsSound settings m → slice_get (unassigned_runs m) i ≡ Some r → r.start + r.len < 2 ^ 20
+
+-- and there is no other list of maximal runs of the unassigned pages.
+abbrev pub UnassignedAreOne : Type 0
+UnassignedAreOne = (m : StorageState) (rs : List Run) → AreRunsOf rs m.unassigned → rs ≡ unassigned_runs m

@@ -2,6 +2,7 @@
 
 ghost use Rattle.map_laws.specs.Lists.{ExtentsAreShown, FreeAreasAreShown, SharersAreShown, SubpoolsAreShown};
 ghost use Rattle.map_laws.specs.Lists.{ExtentsEndInRegions, FreeAreasEndInRegions};
+ghost use Rattle.map_laws.specs.Lists.{UnassignedAreShown, UnassignedEndInRegions, UnassignedAreOne};
 ghost use Rattle.map_laws.specs.Cells.{CellExtentsEndInRegions};
 ghost use Rattle.map_laws.specs.Totals.{PagesAreCounted, BytesAreCounted, TotalsAreFew};
 
@@ -14,6 +15,14 @@ pub fn runs_are_shown()
     ensures areas { FreeAreasAreShown }
     ensures extents_end { ExtentsEndInRegions }
     ensures areas_end { FreeAreasEndInRegions }
+{}
+
+/// The runs of unassigned pages are those that the plain machine has in the region below the line, and then those above
+/// it; none of them ends behind the regions; and no other list has just the maximal runs of these pages.
+pub fn unassigned_are_shown()
+    ensures shown { UnassignedAreShown }
+    ensures end { UnassignedEndInRegions }
+    ensures one { UnassignedAreOne }
 {}
 
 /// The sharers of a subpool, and the subpools by number and owner, are those that the plain machine has.

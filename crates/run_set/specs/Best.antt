@@ -8,4 +8,6 @@ use Rattle.run_tree.specs.Searches.{run_at}
 -- so many fit somewhere, and no more from a number of a run from one place to before another
 pub record IsBest (zs : List Run) (region : Run) (boundary from to most : ℕ) : Type 0 where
   pub reached : 0 < most → (a : ℕ) × Fits (λ n. contains n zs) region a most boundary
-  pub greatest : (i : ℕ) → from ≤ i → i < to → (a n : ℕ) → inside a (run_at zs i) ≡ true → Fits (λ d. contains d zs) region a n boundary → n ≤ most
+  pub greatest :
+      (i : ℕ) → from ≤ i → i < to → (a n : ℕ) → inside a (run_at zs i) ≡ true →
+      Fits (λ d. contains d zs) region a n boundary → n ≤ most

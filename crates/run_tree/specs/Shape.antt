@@ -1,6 +1,7 @@
 -- A tree of elements: each node has its run, the list before it and the list behind it, and writes into its element
 -- how many are before it and how long the longest of all its runs is.
-use Rattle.std.specs.Prelude.{◌≡◌, ℕ, zero, suc, ◌+◌, ◌-◌, ◌*◌, ◌/◌, max, Bool, true, false, List, [], ◌∷◌, ◌++◌, length, Some, slice_index_or}
+use Rattle.std.specs.Prelude.{◌≡◌, ℕ, zero, suc, ◌+◌, ◌-◌, ◌*◌, ◌/◌, max, Bool, true, false, List, [], ◌∷◌, ◌++◌}
+use Rattle.std.specs.Prelude.{length, Some, slice_index_or}
 use Rattle.vsm_elements.specs.declared.element.Element.{Element}
 use Rattle.vsm_elements.specs.Store.{Store, at, Distinct}
 use Rattle.vsm_elements.specs.Chain.{element}
@@ -49,7 +50,8 @@ longest room (r ∷ rs) = max (room r) (longest room rs)
 abbrev pub written : Shape → Run → Shape → Element
 written l r q = record {
   next = top l;
-  words = top q ∷ size l ∷ r.start ∷ r.len ∷ longest plain (runs_in l ++ r ∷ runs_in q) ∷ longest paged (runs_in l ++ r ∷ runs_in q) ∷ 0 ∷ [];
+  words = top q ∷ size l ∷ r.start ∷ r.len ∷ longest plain (runs_in l ++ r ∷ runs_in q) ∷
+      longest paged (runs_in l ++ r ∷ runs_in q) ∷ 0 ∷ [];
 }
 
 abbrev pub Held : Store → Shape → Type 0
@@ -61,7 +63,10 @@ abbrev pub grown : Store → ℕ → ℕ → Shape
 grown s zero id = leaf
 grown s (suc n) zero = leaf
 grown s (suc n) (suc i) = node (grown s n ((element s (suc i)).next)) (suc i)
-    (record { start = slice_index_or ((element s (suc i)).words) 2 0; len = slice_index_or ((element s (suc i)).words) 3 0 })
+    (record {
+      start = slice_index_or ((element s (suc i)).words) 2 0;
+      len = slice_index_or ((element s (suc i)).words) 3 0;
+    })
     (grown s n (slice_index_or ((element s (suc i)).words) 0 0))
 
 -- the tree of this head is just this one

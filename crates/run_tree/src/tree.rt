@@ -1,4 +1,5 @@
-ghost use Rattle.std.specs.Prelude.{◌≡◌, ℕ, ◌+◌, ◌<◌, ◌≤◌, ◌++◌, ◌∷◌, [], Some, IsSome, false, Bool, slice_get, slice_set, take, drop, length};
+ghost use Rattle.std.specs.Prelude.{◌≡◌, ℕ, ◌+◌, ◌<◌, ◌≤◌, ◌++◌, ◌∷◌, [], Some, IsSome, false, Bool, slice_get};
+ghost use Rattle.std.specs.Prelude.{slice_set, take, drop, length};
 ghost use Rattle.vsm_elements.specs.Store.{Store, Distinct, at, among};
 ghost use Rattle.vsm_elements.specs.Ownership.{Leaves};
 ghost use Rattle.run_tree.specs.Shape.{longest, room_of};

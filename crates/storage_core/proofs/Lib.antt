@@ -9,5 +9,6 @@ mod Made
 pub mod FramesBrought
 pub mod GivenFrames
 mod PlanCases
+mod Owners
 mod TaskCounts
 mod CellPoolCounts

@@ -10,14 +10,16 @@ mod changes;
 mod plans;
 mod positions;
 mod reading;
+mod reasons;
 mod storage;
 mod walks;
 
 pub use free_queue::Area;
 pub use plans::Plan;
-pub use run_set::Run;
+pub use run_set::{Run, RunPlace};
 pub use storage::Storage;
 pub use storage_plans::STORE_MOST;
+pub use storage_plans::reasons::SideReason;
 pub use storage_swap::{Change, Released};
 pub use subpool_storage::{PoolPlace, SharerPlace};
 pub use vsm_model::{

@@ -1,6 +1,7 @@
 //! What a storage holds, one after the other, in the order in which the storage map shows it. Nothing takes memory.
 ghost use Rattle.std.specs.Prelude.{◌≡◌, ℕ, ◌+◌, ◌^◌, ◌<◌, [], ◌∷◌, option_map, slice_get, true, IfNone, IfSome};
 ghost use Rattle.vsm_model.specs.declared.Subpool.{Subpool as Named};
+ghost use Rattle.run_set.specs.RunSet.{place_index};
 ghost use Rattle.subpool_set.specs.Pools.{sharers};
 ghost use Rattle.subpool_storage.specs.Extents.{extents, free_areas};
 ghost use Rattle.subpool_storage.specs.Order.{subpools_in_order};
@@ -8,11 +9,14 @@ ghost use Rattle.subpool_storage.specs.Subpools.{is_there};
 ghost use Rattle.storage_core.specs.Meaning.{state_in_place, state_of};
 ghost use Rattle.storage_core.specs.Walks.{IsSubpoolPlace, subpools_left, IsBehindSubpool, subpool_before};
 ghost use Rattle.storage_core.specs.Walks.{IsSharerPlace, sharers_left, IsExtentPlace, IsFreeAreaPlace};
+ghost use Rattle.storage_core.specs.Walks.{IsUnassignedPlace};
+ghost use Rattle.map_laws.specs.Lists.{unassigned_runs};
 
 use crate::storage::Storage;
-use descriptor_queue::Extents;
+use descriptor_queue::laws::pages_stand;
+use descriptor_queue::{Extents, Pages};
 use free_queue::{Area, FreeQueue};
-use map_laws::laws::runs_are_shown;
+use map_laws::laws::{runs_are_shown, unassigned_are_shown};
 use run_set::{Run, RunPlace};
 use subpool_storage::{PoolPlace, SharerPlace, SubpoolStorage};
 use vsm_model::Subpool;
@@ -168,5 +172,28 @@ impl Storage {
         let FreeAreaPlace { areas, place } = place;
         let (area, place) = areas.next_area(&self.parts.elements, place)?;
         Some((area, FreeAreaPlace { areas, place }))
+    }
+
+    /// The place before the first run of unassigned pages of any storage.
+    pub fn first_unassigned() -> RunPlace
+        ensures place { (s : Storage) → IsUnassignedPlace s result }
+        ensures index { place_index result ≡ 0 }
+    {
+        Pages::first_place()
+    }
+
+    /// The run of unassigned pages behind the place, and the place behind that run; `None` behind the last. From the
+    /// first place on, the longest runs come in ascending order, below and above the 16 MB line.
+    pub fn next_unassigned(&self, place: RunPlace) -> Option<(Run, RunPlace)>
+        requires { IsUnassignedPlace self.now place }
+        ensures is { option_map (λ r. r.0) result
+            ≡ slice_get (unassigned_runs (state_in_place self.now)) (place_index place) }
+        ensures next { IfSome result (λ r. IsUnassignedPlace self.now r.1
+            × (place_index r.1 ≡ place_index place + 1)) }
+        ensures end { IfSome result (λ r. r.0.start + r.0.len < 2 ^ 20) }
+    {
+        unassigned_are_shown();
+        pages_stand();
+        self.parts.unassigned.next_run(&self.parts.elements, place)
     }
 }

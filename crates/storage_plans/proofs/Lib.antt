@@ -4,6 +4,7 @@ pub mod Assigning
 pub mod Carried
 mod Obtained
 pub mod AskedLengths
+mod SidePlaces
 pub mod LeastFits
 pub mod Regions
 mod Stores

@@ -1,4 +1,5 @@
 pub mod Places
+pub mod Reasons
 pub mod Reading
 pub mod Plans
 pub mod ObtainPlans

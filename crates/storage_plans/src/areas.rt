@@ -52,7 +52,7 @@ pub fn side_of(settings: Settings, location: Location) -> Residence
 }
 
 // The doublewords from one boundary to the next.
-fn spacing_of(boundary: Boundary) -> u32
+pub(crate) fn spacing_of(boundary: Boundary) -> u32
     ensures value { result ≡ spacing boundary }
     ensures range { (0 < result) × (result ≤ 512) }
 {
@@ -81,7 +81,7 @@ pub fn subpool_for(storage: &Storage, settings: Settings, number: u8) -> (Subpoo
 }
 
 // The least length in bytes that will do, as it was asked for: that of a fixed length is itself.
-fn minimum_of(lengths: Lengths) -> u32
+pub(crate) fn minimum_of(lengths: Lengths) -> u32
     ensures { result ≡ minimum lengths }
 {
     match lengths {

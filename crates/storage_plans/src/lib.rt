@@ -8,6 +8,7 @@ pub mod obtain;
 pub mod places;
 pub mod plan;
 mod reading;
+pub mod reasons;
 mod release;
 mod searches;
 mod store;

@@ -15,9 +15,9 @@ use crate::set::{PoolId, SubpoolSet};
 use row_table::{Row, RowPlace, RowTable};
 use vsm_elements::Elements;
 
+// The place behind the last row that was passed, that row's number, and the place before the first row of that number.
 /// A place before, between or behind the subpools of a set, from which [`SubpoolSet::next_pool`] goes on, and
 /// [`SubpoolSet::first_sharer`] begins. It is one as long as the set stays as it is.
-// The place behind the last row that was passed, that row's number, and the place before the first row of that number.
 #[derive(Clone, Copy, Debug, PartialEq, Eq)]
 pub struct PoolPlace {
     pub(crate) next: RowPlace,

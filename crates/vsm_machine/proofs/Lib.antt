@@ -1,3 +1,4 @@
 pub mod Planning
+mod FirstCause
 mod BackLemmas
 mod FrameLemmas

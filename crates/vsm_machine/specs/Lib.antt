@@ -3,6 +3,7 @@ pub mod Changes
 pub mod Laws
 pub mod Machine
 pub mod Planned
+pub mod Causes
 pub mod Refusals
 pub mod Supplies
 pub use Rattle.storage_core.specs.Meaning

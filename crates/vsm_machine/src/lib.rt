@@ -6,6 +6,7 @@
 //! back.
 #![tactic(auto)]
 
+mod causes;
 pub mod laws;
 mod machine;
 mod plans;
@@ -13,8 +14,10 @@ mod refusals;
 mod services;
 mod values;
 
+pub use causes::{UnknownName, cause_of};
 pub use machine::{Change, Machine};
 pub use plans::{Planned, plan_of, reserve};
 pub use refusals::{NewFault, Refusal};
+pub use services::service_of;
 pub use storage_core::{Reply, Settings, Storage};
 pub use values::look_up;

@@ -32,7 +32,7 @@ pub struct Planned {
 }
 
 /// Whether the name is a new one, and as many as there may be are defined.
-fn is_one_too_many(names: &NameTable, name: Option<&Name>) -> bool
+pub(crate) fn is_one_too_many(names: &NameTable, name: Option<&Name>) -> bool
     ensures { result ≡ is_one_too_many (rows_of names.now) (option_map (λ n. n.now.bytes) name.entry) }
 {
     match name {

@@ -258,7 +258,7 @@ fn run_of<'a>(machine: &Machine, task: &Value) -> Option<Service<'a>>
 
 /// The service that a statement asks for, with the words of its values; `None` where a name in one of them isn't
 /// defined. A value that is stored is written into `room`.
-pub(crate) fn service_of<'a>(
+pub fn service_of<'a>(
     machine: &Machine,
     statement: &'a Statement,
     room: &'a mut [u8; 4],

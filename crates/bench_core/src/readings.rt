@@ -1,0 +1,94 @@
+//! What a bench shows of its present state: its storage, the words of its names, the words of values, and what a
+//! statement would ask for there, with the first cause for which it would be refused.
+ghost use Rattle.std.specs.Prelude.{◌≡◌, option_map, slice_get};
+ghost use Rattle.name_table.specs.Table.{row_of};
+ghost use Rattle.vsm_machine.specs.Machine.{looked_up, service_asked};
+ghost use Rattle.vsm_machine.specs.Meaning.{settings_of, state_of};
+ghost use Rattle.vsm_model.specs.Meaning.{service_in};
+ghost use Rattle.vsm_model.specs.Names.{word_of};
+ghost use Rattle.macro_statements.specs.Requests.{act_in, written_in, IsValidAct, IsValue};
+ghost use Rattle.bench_core.specs.Causes.{IsFirstCause};
+ghost use Rattle.bench_core.specs.Stands.{bench_of, settings_in};
+
+use crate::bench::Bench;
+use macro_statements::Statement;
+use name_table::Name;
+use operand_texts::Value;
+use vsm_machine::{Settings, Storage, UnknownName, cause_of, look_up, service_of};
+use vsm_model::{Cause, Service};
+
+impl Bench {
+    /// The private storage as it is, to be read by its walks.
+    pub fn storage(&self) -> &Storage
+        ensures state { state_of result.now ≡ (bench_of self.now).present.storage }
+        ensures settings { settings_of result.now ≡ settings_in self.now }
+    {
+        &self.machine.storage
+    }
+
+    /// The settings that the bench was made with.
+    pub fn settings(&self) -> Settings
+        ensures { result ≡ settings_in self.now }
+    {
+        self.machine.storage.settings()
+    }
+
+    /// The word that a name stands for; `None` where it isn't defined.
+    pub fn name(&self, name: &Name) -> Option<u32>
+        ensures { result ≡ word_of (bench_of self.now).present.names name.now.bytes }
+    {
+        self.machine.names.word(name)
+    }
+
+    /// The defined name of this index with its word, in the order in which names were defined; `None` past the last.
+    pub fn name_at(&self, index: usize) -> Option<(Name, u32)>
+        ensures { option_map row_of result ≡ slice_get (bench_of self.now).present.names index }
+    {
+        self.machine.names.name_at(index)
+    }
+
+    /// The task that makes the requests.
+    pub fn current(&self) -> u8
+        ensures { result ≡ (bench_of self.now).present.storage.current }
+    {
+        self.machine.storage.current()
+    }
+
+    /// The word of a register of a task: 0 where there is no such task, and for a number past 15.
+    pub fn register(&self, task: u8, register: u8) -> u32
+        ensures { result ≡ (bench_of self.now).present.storage.words task register }
+    {
+        self.machine.storage.register(task, register)
+    }
+
+    /// The word that a value stands for; `None` where it's a name that isn't defined.
+    pub fn word(&self, value: &Value) -> Option<u32>
+        requires { IsValue (written_in value.now) }
+        ensures { result ≡ looked_up (bench_of self.now).present (written_in value.now) }
+    {
+        look_up(&self.machine, value)
+    }
+
+    /// The service that a statement would ask for, with the words of its values; `None` where a name in one of them
+    /// isn't defined. A value that would be stored is written into `room`. Reads alone.
+    pub fn service_of<'a>(
+        &self,
+        statement: &'a Statement,
+        room: &'a mut [u8; 4],
+    ) -> Option<Service<'a>>
+        requires { IsValidAct (act_in statement.now) }
+        ensures { option_map service_in result
+            ≡ service_asked (bench_of self.now).present (act_in statement.now) }
+    {
+        service_of(&self.machine, statement, room)
+    }
+
+    /// The first cause of a statement: why it would be refused, or, in its conditional form, answered 4; none where it
+    /// would have its effect, and where a conditional GET would be answered 4. Reads alone, and takes no memory.
+    pub fn cause_of(&self, statement: &Statement) -> Result<Option<Cause>, UnknownName>
+        requires { IsValidAct (act_in statement.now) }
+        ensures { IsFirstCause (settings_in self.now) (bench_of self.now).present (act_in statement.now) result }
+    {
+        cause_of(&self.machine, statement)
+    }
+}

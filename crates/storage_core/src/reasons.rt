@@ -1,0 +1,74 @@
+//! Why an area goes where it goes, or has no place; and whose a page, or a subpool that a task sees, is. Reads alone,
+//! and takes no memory.
+ghost use Rattle.std.specs.Prelude.{◌≡◌, ◌*◌, ◌^◌, ◌<◌, ◌≤◌, ◌↔◌, true, None, IfSome};
+ghost use Rattle.vsm_model.specs.declared.limits.Residence.TheVariants.{Below};
+ghost use Rattle.vsm_model.specs.Areas.{is_nowhere, place};
+ghost use Rattle.vsm_model.specs.Obtaining.{longest, place_for};
+ghost use Rattle.vsm_model.specs.Regions.{regions_for, doublewords};
+ghost use Rattle.vsm_model.specs.Services.{maximum, minimum};
+ghost use Rattle.storage_plans.specs.Reasons.{IsReason, reasons_place};
+ghost use Rattle.storage_core.specs.Meaning.{settings_of, state_of};
+
+use crate::storage::Storage;
+use storage_plans::areas::subpool_for;
+use storage_plans::reasons::{SideReason, obtain_reasons, reasons};
+use vsm_model::{Obtain, Residence, Subpool};
+
+impl Storage {
+    /// What each side of the line that is looked at has for an area of `count` doublewords of the subpool, on a
+    /// boundary of `spacing` doublewords: above the line first, where it may be there.
+    pub fn area_reasons(
+        &self,
+        side: Residence,
+        subpool: Subpool,
+        count: u32,
+        spacing: u32,
+    ) -> (SideReason, Option<SideReason>)
+        requires { (0 < count) × (count ≤ 2 ^ 29) × (0 < spacing) × (spacing ≤ 512) }
+        ensures first { IsReason (settings_of self.now) (state_of self.now) side subpool count spacing result.0 }
+        ensures second { IfSome result.1
+            (IsReason (settings_of self.now) (state_of self.now) Below subpool count spacing) }
+        ensures place { reasons_place result
+            ≡ place (state_of self.now) (regions_for (settings_of self.now) side) subpool count spacing }
+    {
+        reasons(&self.parts, self.settings, side, subpool, count, spacing)
+    }
+
+    /// Why a request for storage finds an area for its minimum, or none: there is none just where the request wants
+    /// storage.
+    pub fn obtain_reasons(&self, o: Obtain) -> (SideReason, Option<SideReason>)
+        requires number { o.number ≤ 127 }
+        requires some { 0 < minimum o.lengths }
+        requires ordered { minimum o.lengths ≤ maximum o.lengths }
+        ensures place { reasons_place result
+            ≡ place_for (settings_of self.now) (state_of self.now) o (doublewords (minimum o.lengths)) }
+        ensures none { (is_nowhere (reasons_place result) ≡ true)
+            ↔ (longest (settings_of self.now) (state_of self.now) o ≡ None) }
+    {
+        let (subpool, _) = subpool_for(&self.parts, self.settings, o.number as u8);
+        obtain_reasons(&self.parts, self.settings, o, subpool)
+    }
+
+    /// The owner of the subpool that the task sees at the number; `None` where it sees none.
+    pub fn owner_seen(&self, task: u8, number: u8) -> Option<u8>
+        ensures { result ≡ (state_of self.now).sight task number }
+    {
+        self.parts
+            .subpools
+            .owner_seen(&self.parts.elements, task, number)
+    }
+
+    /// The subpool that a page is assigned to; `None` where it isn't assigned. A page is an address divided by 4,096.
+    pub fn subpool_of_page(&self, page: u32) -> Option<Subpool>
+        ensures { result ≡ (state_of self.now).pages page }
+    {
+        match self
+            .parts
+            .subpools
+            .subpool_of_page(&self.parts.elements, page)
+        {
+            Some(subpool) => Some(subpool),
+            None => None,
+        }
+    }
+}

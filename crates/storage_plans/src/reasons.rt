@@ -1,0 +1,110 @@
+//! Why an area goes where it goes, or has no place: what each side of the line has for it.
+ghost use Rattle.std.specs.Prelude.{◌≡◌, ◌*◌, ◌^◌, ◌<◌, ◌≤◌, ◌↔◌, true, None, IfSome};
+ghost use Rattle.vsm_model.specs.declared.limits.Residence.TheVariants.{Below};
+ghost use Rattle.vsm_model.specs.Areas.{is_nowhere, place, spacing};
+ghost use Rattle.vsm_model.specs.Obtaining.{longest, place_for};
+ghost use Rattle.vsm_model.specs.Regions.{regions_for, settings_valid, side, doublewords};
+ghost use Rattle.vsm_model.specs.Services.{maximum, minimum};
+ghost use Rattle.vsm_model.specs.Subpools.{seen_or_own};
+ghost use Rattle.storage_changes.specs.Meaning.{model_of};
+ghost use Rattle.storage_exchange.specs.Storage.{state_of};
+ghost use Rattle.storage_plans.specs.Places.{StandsSound};
+ghost use Rattle.storage_plans.specs.Reasons.{IsReason, reasons_place};
+
+use crate::areas::{minimum_of, side_of, spacing_of};
+use crate::places::longest_place;
+use crate::searches::{PAGE_DOUBLEWORDS, least_area, least_pages, longest_area, longest_pages};
+use storage_exchange::Storage;
+use vsm_model::{Obtain, Residence, Settings, Subpool};
+
+/// What one side of the line has for an area.
+#[derive(Clone, Copy, Debug, PartialEq, Eq)]
+pub struct SideReason {
+    pub side: Residence,
+    /// The least doubleword of the subpool's free storage at which the area fits.
+    pub inside: Option<u32>,
+    /// The first page of the least run of unassigned pages that is long enough.
+    pub fresh: Option<u32>,
+    /// The most doublewords that fit in the subpool's free storage, on the boundary that is asked for.
+    pub longest_inside: u32,
+    /// The most unassigned pages in a row.
+    pub longest_run: u32,
+}
+
+/// What one side of the line has for an area of `count` doublewords of the subpool, on a boundary of `spacing`.
+fn reason_on(
+    storage: &Storage,
+    settings: Settings,
+    side: Residence,
+    subpool: Subpool,
+    count: u32,
+    spacing: u32,
+) -> SideReason
+    requires sound { StandsSound settings storage.now }
+    requires valid { settings_valid settings ≡ true }
+    requires asked { (0 < count) × (count ≤ 2 ^ 29) × (0 < spacing) × (spacing ≤ 512) }
+    ensures { IsReason settings (model_of (state_of storage.now)) side subpool count spacing result }
+{
+    let pages = count.div_ceil(PAGE_DOUBLEWORDS);
+    SideReason {
+        side,
+        inside: least_area(storage, settings, side, subpool, count, spacing),
+        fresh: least_pages(storage, settings, side, pages),
+        longest_inside: longest_area(storage, settings, side, subpool, spacing),
+        longest_run: longest_pages(storage, settings, side),
+    }
+}
+
+/// What each side has that is looked at, in the order in which they are: above the line first, where it may be.
+pub fn reasons(
+    storage: &Storage,
+    settings: Settings,
+    side: Residence,
+    subpool: Subpool,
+    count: u32,
+    spacing: u32,
+) -> (SideReason, Option<SideReason>)
+    requires sound { StandsSound settings storage.now }
+    requires valid { settings_valid settings ≡ true }
+    requires asked { (0 < count) × (count ≤ 2 ^ 29) × (0 < spacing) × (spacing ≤ 512) }
+    ensures first { IsReason settings (model_of (state_of storage.now)) side subpool count spacing result.0 }
+    ensures second { IfSome result.1
+        (IsReason settings (model_of (state_of storage.now)) Below subpool count spacing) }
+    ensures place { reasons_place result
+        ≡ place (model_of (state_of storage.now)) (regions_for settings side) subpool count spacing }
+{
+    let first = reason_on(storage, settings, side, subpool, count, spacing);
+    match side {
+        Residence::Below => (first, None),
+        Residence::Above => {
+            let low = reason_on(storage, settings, Residence::Below, subpool, count, spacing);
+            (first, Some(low))
+        }
+    }
+}
+
+/// Why a request for storage finds an area for its minimum, or none: there is none just where the request wants
+/// storage.
+pub fn obtain_reasons(
+    storage: &Storage,
+    settings: Settings,
+    o: Obtain,
+    subpool: Subpool,
+) -> (SideReason, Option<SideReason>)
+    requires sound { StandsSound settings storage.now }
+    requires valid { settings_valid settings ≡ true }
+    requires subpool { subpool ≡ seen_or_own (model_of (state_of storage.now)) o.number }
+    requires some { 0 < minimum o.lengths }
+    requires ordered { minimum o.lengths ≤ maximum o.lengths }
+    ensures place { reasons_place result
+        ≡ place_for settings (model_of (state_of storage.now)) o (doublewords (minimum o.lengths)) }
+    ensures none { (is_nowhere (reasons_place result) ≡ true)
+        ↔ (longest settings (model_of (state_of storage.now)) o ≡ None) }
+{
+    let least = minimum_of(o.lengths).div_ceil(8);
+    let side = side_of(settings, o.location);
+    let spacing = spacing_of(o.boundary);
+    // Only what is proved needs it: each length up to it has a place, and no other.
+    let _ = longest_place(storage, settings, side, subpool, spacing);
+    reasons(storage, settings, side, subpool, least, spacing)
+}
