@@ -1,6 +1,1 @@
-pub mod Columns
-pub mod Feeds
-pub mod Standings
-pub mod Takes
-pub mod Tellings
 pub mod Outcomes

@@ -4,19 +4,19 @@ use Rattle.std.proofs.lemmas.List.{append-nil}
 use Rattle.std.specs.Io.KnownBytes.{Appends, Consumes, IsAtEnd}
 use Rattle.vsm_model.specs.declared.limits.Settings.{Settings}
 use Rattle.vsm_model.specs.Standing.{nothing_stands}
-use Rattle.script_run.specs.Output.{Marked, output}
-use Rattle.script_run.specs.Script.{last_line}
-use Rattle.script_run.specs.Taken.{Took, Unended, PassesBound, IsTold}
+use Rattle.script_steps.specs.Output.{Marked, output}
+use Rattle.script_steps.specs.Script.{last_line}
+use Rattle.script_steps.specs.Taken.{Took, Unended, PassesBound, IsTold}
 use Rattle.text_output.specs.Writing.{AppendsFront, Holds, Puts, IsEmpty}
 use Rattle.script_run.specs.Run.{Runs, Passes, Takes, TakesLine, FaultAt, Finishes, Ran}
-use Rattle.script_run.specs.declared.faults.RunTotals.{RunTotals}
+use Rattle.script_steps.specs.declared.totals.RunTotals.{RunTotals}
 use Rattle.script_run.specs.declared.faults.RunFault.{RunFault}
 use Rattle.script_run.specs.declared.faults.RunFault.TheVariants as fault
-use Rattle.script_run.specs.declared.session.Session.{Session}
-use Rattle.script_run.specs.declared.session.TooLong.{TooLong}
+use Rattle.script_steps.specs.declared.session.Session.{Session}
+use Rattle.script_steps.specs.declared.session.TooLong.{TooLong}
 use Rattle.text_output.specs.declared.writing.Gathered.{Gathered}
 use Rattle.text_output.proofs.Gathering.{empty_holds, empty_out}
-use Rattle.script_run.proofs.Standings.{texts_push}
+use Rattle.script_steps.proofs.Standings.{texts_push}
 
 -- the fault that a conversion makes
 pub passed_up : {T : Type 0} (r : Result T RunFault) (e : RunFault) → IsErrAnd r (λ x. x ≡ e) → r ≡ Err e

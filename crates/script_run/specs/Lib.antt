@@ -1,8 +1,4 @@
-pub mod Responses
-pub mod Output
-pub mod Answers
-pub mod Script
-pub mod Taken
 pub mod Run
 pub use Rattle.bench_core.specs.Machine
 pub use Rattle.bench_core.specs.NewFault
+pub use Rattle.script_steps.specs.declared.totals.RunTotals

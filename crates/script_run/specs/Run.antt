@@ -3,16 +3,16 @@ use Rattle.std.specs.Prelude.{◌≡◌, ◌⊎◌, ℕ, List, [], ◌++◌, tak
 use Rattle.std.specs.Io.KnownBytes.{Consumes, Appends, IsAtEnd}
 use Rattle.vsm_model.specs.declared.limits.Settings.{Settings}
 use Rattle.vsm_model.specs.Regions.{settings_valid}
-use Rattle.script_run.specs.Output.{Marked, output}
-use Rattle.script_run.specs.Taken.{Took, Ended, Unended, PassesBound, Counts}
+use Rattle.script_steps.specs.Output.{Marked, output}
+use Rattle.script_steps.specs.Taken.{Took, Ended, Unended, PassesBound, Counts}
 use Rattle.text_output.specs.Writing.{AppendsFront, Holds}
 use Rattle.script_run.specs.declared.faults.RunFault.{RunFault}
 use Rattle.script_run.specs.declared.faults.RunFault.TheVariants as fault
-use Rattle.script_run.specs.declared.faults.RunTotals.{RunTotals}
+use Rattle.script_steps.specs.declared.totals.RunTotals.{RunTotals}
 use Rattle.bench_core.specs.NewFault.{NewFault}
 use Rattle.bench_core.specs.NewFault.TheVariants as new_fault
-use Rattle.script_run.specs.declared.session.Session.{Session}
-use Rattle.script_run.specs.declared.session.TooLong.{TooLong}
+use Rattle.script_steps.specs.declared.session.Session.{Session}
+use Rattle.script_steps.specs.declared.session.TooLong.{TooLong}
 use Rattle.text_output.specs.declared.writing.Gathered.{Gathered}
 
 -- The session took these bytes, and the lines of its answers stand behind what the writer held at first, but for what

@@ -1,16 +1,8 @@
 //! How a run ends.
 
-use crate::session::TooLong;
-use bench_core::NewFault;
+use script_steps::{NewFault, TooLong};
 use text_output::WriteFault;
 use thiserror::Error;
-
-/// What a run counted: the numbered lines of output, and those of them that are faults, refusals or abends.
-#[derive(Clone, Copy, Debug, PartialEq, Eq)]
-pub struct RunTotals {
-    pub statements: u32,
-    pub refused: u32,
-}
 
 /// Why a run ended before the end of its script. What went out stands for the statements that were complete.
 #[derive(Clone, Copy, Debug, PartialEq, Eq, Error)]

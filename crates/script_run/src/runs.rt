@@ -1,65 +1,16 @@
 //! A run over a reader and a writer.
-ghost use Rattle.std.specs.Prelude.{◌≡◌, ◌++◌, [], ◌∷◌, ◌<◌, ◌≤◌, ℕ, List, Option, length, slice_index, take, IfOk};
-ghost use Rattle.std.specs.Prelude.{OnOk};
+ghost use Rattle.std.specs.Prelude.{◌++◌, [], ◌∷◌, ◌<◌, ◌≤◌, ℕ, List, Option, length, IfOk, OnOk};
 ghost use Rattle.std.specs.Io.KnownBytes.{IsAtEnd};
 ghost use Rattle.vsm_model.specs.declared.limits.Settings.{Settings};
-ghost use Rattle.bench_core.specs.Stands.{bench_of, settings_in};
-ghost use Rattle.script_run.specs.Answers.{told_text};
-ghost use Rattle.script_run.specs.Responses.{lines_behind};
-ghost use Rattle.script_run.specs.Script.{NoFeed};
-ghost use Rattle.text_output.specs.Writing.{Puts, IsEmpty};
+ghost use Rattle.text_output.specs.Writing.{IsEmpty};
 ghost use Rattle.script_run.specs.Run.{Runs, Takes, TakesLine, TakesRead, Finishes, Ran};
 
-use crate::faults::{RunFault, RunTotals};
-use crate::responses::Response;
-use crate::session::{LINES, Session, TooLong};
-use crate::texts::put_numbered;
-use bench_core::Bench;
-use memchr::memchr;
+use crate::faults::RunFault;
+use script_steps::{Bench, LINES, RunTotals, Session, TooLong, before_feed, put_told};
 use std::alloc::Global;
 use std::io::{Read, Write};
 use text_output::Gathered;
 use vsm_model::Settings;
-
-/// Puts the lines behind that of a response: the map of the bench behind that of a map, and none behind another.
-fn put_behind<W: Write>(gathered: &mut Gathered, writer: &mut W, bench: &Bench, response: &Response)
-    ensures { Puts (W.contents writer.old) (W.contents writer.new) gathered.old gathered.new
-        (lines_behind (settings_in bench.now) (bench_of bench.now).present (length (bench_of bench.now).past)
-        response.now) }
-{
-    if let Response::Map = response {
-        bench.put_map(gathered, writer);
-    }
-}
-
-/// Puts the line of a response, if there is one, and the lines behind it.
-#[tactic(auto, using(text_output::proofs::Gathering::puts_both))]
-fn put_told<W: Write>(
-    gathered: &mut Gathered,
-    writer: &mut W,
-    bench: &Bench,
-    told: &Option<(u32, Response)>,
-)
-    ensures { Puts (W.contents writer.old) (W.contents writer.new) gathered.old gathered.new
-        (told_text (settings_in bench.now) (bench_of bench.now) told.now) }
-{
-    if let Some((line, response)) = told {
-        put_numbered(gathered, writer, *line, response);
-        put_behind(gathered, writer, bench, response);
-    }
-}
-
-/// How many bytes stand before the first line feed.
-fn before_feed(bytes: &[u8]) -> usize
-    ensures within { result ≤ length bytes.now }
-    ensures plain { NoFeed (take result bytes.now) }
-    ensures feed { result < length bytes.now → slice_index bytes.now result ≡ 10 }
-{
-    match memchr(b'\n', bytes) {
-        Some(place) => place,
-        None => bytes.len(),
-    }
-}
 
 /// Takes a line feed, and puts the response to the line that it ends.
 fn take_feed<W: Write>(
@@ -71,11 +22,11 @@ fn take_feed<W: Write>(
         → Runs settings first (W.contents writer.old) gathered.old given session.old
         → Takes settings first (W.contents writer.new) gathered.new (given ++ 10 ∷ []) session.new result }
 {
-    if session.lines >= LINES {
+    if session.lines() >= LINES {
         return Err(TooLong);
     }
     let told = session.end_line();
-    put_told(gathered, writer, &session.bench, &told);
+    put_told(gathered, writer, session.bench(), &told);
     Ok(())
 }
 

@@ -1,15 +1,21 @@
 -- What the program does, and its exit status.
-use Rattle.std.specs.Prelude.{◌≡◌, ℕ, ◌==◌, ◌⊎◌, if◌then◌else◌, List, [], ◌∷◌, Option, Some, None, Result, Ok, Err}
+use Rattle.std.specs.Prelude.{◌≡◌, ℕ, ◌==◌, ◌⊎◌, ◌++◌, Bool, if◌then◌else◌, List, [], ◌∷◌, Option, Some, None, Result}
+use Rattle.std.specs.Prelude.{Ok, Err}
+use Rattle.std.specs.Io.KnownBytes.{Appends}
 use Rattle.clap.specs.Words.{Row, Text, Kinds, IsAmong, fault_of, matches_of}
 use Rattle.clap.specs.declared.error.ErrorKind.{ErrorKind}
 use Rattle.clap.specs.declared.error.ErrorKind.TheVariants as kind
 use Rattle.vsm_model.specs.declared.limits.Settings.{Settings}
+use Rattle.text_output.specs.Writing.{AppendsFront}
+use Rattle.script_run.specs.NewFault.TheVariants as new_fault
 use Rattle.script_run.specs.Run.{Ran}
-use Rattle.vsm_bench.specs.Options.{Residences, AreResidences, command_line, default_settings, settings_asked}
-use Rattle.vsm_bench.specs.Options.{file_asked}
+use Rattle.bench_options.specs.Options.{Residences, AreResidences, default_settings, settings_asked}
+use Rattle.vsm_bench.specs.Help.{help_end}
+use Rattle.vsm_bench.specs.Messages.{Says, fault_text}
+use Rattle.vsm_bench.specs.Options.{command_line, file_asked}
 use Rattle.script_run.specs.declared.faults.RunFault.{RunFault}
 use Rattle.script_run.specs.declared.faults.RunFault.TheVariants as fault
-use Rattle.script_run.specs.declared.faults.RunTotals.{RunTotals}
+use Rattle.script_run.specs.RunTotals.{RunTotals}
 
 abbrev pub fault_status : RunFault → ℕ
 fault_status fault.Read = 8
@@ -22,51 +28,89 @@ abbrev pub status : Result RunTotals RunFault → ℕ
 status (Ok totals) = if totals.refused == 0 then 0 else 4
 status (Err e) = fault_status e
 
--- A run with these settings, and its status.
-abbrev pub CommandedWith : Settings → Option (List ℕ) → Option (List ℕ) → Option (List ℕ) → Option (List ℕ) → ℕ → Type 0
-CommandedWith settings unread left at_first now code =
-    (outcome : Result RunTotals RunFault) × Ran settings unread left at_first now outcome × (code ≡ status outcome)
+-- 0 where help went out
+abbrev pub help_status : Result (Unit {0}) RunFault → ℕ
+help_status (Ok u) = 0
+help_status (Err e) = fault_status e
 
--- A run with the default settings, and its status.
-abbrev pub Commanded : Option (List ℕ) → Option (List ℕ) → Option (List ℕ) → Option (List ℕ) → ℕ → Type 0
-Commanded = CommandedWith default_settings
+-- Help went out, the end of which is known; or a front of it; or there was no memory to begin with, and nothing is
+-- written.
+abbrev pub Helped : Option (List ℕ) → Option (List ℕ) → Result (Unit {0}) RunFault → Type 0
+Helped at_first now (Ok u) = (options : List ℕ) × Appends at_first now (options ++ help_end)
+Helped at_first now (Err fault.Write) = (options : List ℕ) × AppendsFront at_first now (options ++ help_end)
+Helped at_first now (Err (fault.New new_fault.NoMemory)) = Appends at_first now []
+Helped at_first now (Err _) = ⊥
 
--- The script that was opened was run, and what is read is what it had left (`unread`); or none was opened, and nothing
--- is written.
-abbrev pub RunsOpened : {F O : Type 0} → (F → Option (List ℕ)) → (O → Option (List ℕ)) → Settings → O → O → ℕ
-    → Option F → Type 0
-RunsOpened {F} unread contents settings output later code (Some script) =
-    (rest : F) × CommandedWith settings (unread script) (unread rest) (contents output) (contents later) code
-RunsOpened unread contents settings output later code None = (later ≡ output) × (code ≡ 8)
+-- `said` is what is said to standard error, which is `errors` at first and `told` then.
+module _ {E : Type 0} (said : E → E → List ℕ → Bool → Type 0) (errors told : E) where
+  -- a fault has its text, and nothing is said where there is none
+  abbrev pub Reports : {T : Type 0} → Result T RunFault → Type 0
+  Reports (Ok x) = told ≡ errors
+  Reports (Err e) = Says said errors told (fault_text e)
 
--- An answer to words that ask for no run: help, with status 0; or status 16, and nothing is written.
-abbrev pub Answers : {O : Type 0} → ErrorKind → O → O → ℕ → Type 0
-Answers kind.DisplayHelp output later code = code ≡ 0
-Answers _ output later code = (later ≡ output) × (code ≡ 16)
+  -- A run with these settings, its status, and what is said of its fault.
+  abbrev pub CommandedWith : Settings → Option (List ℕ) → Option (List ℕ) → Option (List ℕ) → Option (List ℕ) → ℕ
+      → Type 0
+  CommandedWith settings unread left at_first now code =
+      (outcome : Result RunTotals RunFault) × Ran settings unread left at_first now outcome × (code ≡ status outcome)
+      × Reports outcome
+
+  -- A run with the default settings.
+  abbrev pub Commanded : Option (List ℕ) → Option (List ℕ) → Option (List ℕ) → Option (List ℕ) → ℕ → Type 0
+  Commanded = CommandedWith default_settings
+
+  -- The script that was opened was run, and what is read is what it had left (`unread`); or none was opened, and
+  -- nothing is written.
+  abbrev pub RunsOpened : {F O : Type 0} → (F → Option (List ℕ)) → (O → Option (List ℕ)) → Settings → O → O → ℕ
+      → Option F → Type 0
+  RunsOpened {F} unread contents settings output later code (Some script) =
+      (rest : F) × CommandedWith settings (unread script) (unread rest) (contents output) (contents later) code
+  RunsOpened unread contents settings output later code None =
+      (later ≡ output) × (code ≡ 8) × Says said errors told (fault_text fault.Read)
+
+  -- Nothing is written, and a new bench isn't begun for this fault.
+  abbrev pub Refuses : {O : Type 0} → O → O → ℕ → RunFault → Type 0
+  Refuses output later code e = (later ≡ output) × (code ≡ fault_status e) × Says said errors told (fault_text e)
+
+  -- Help, with its status and what is said of its fault.
+  abbrev pub Helps : Option (List ℕ) → Option (List ℕ) → ℕ → Type 0
+  Helps at_first now code =
+      (outcome : Result (Unit {0}) RunFault) × Helped at_first now outcome × (code ≡ help_status outcome)
+      × Reports outcome
+
+  -- An answer to words that ask for no run: help; or want of memory, which is said; or status 16, and nothing is
+  -- written.
+  abbrev pub Answers : {O : Type 0} → (O → Option (List ℕ)) → ErrorKind → O → O → ℕ → Type 0
+  Answers contents kind.DisplayHelp output later code = Helps (contents output) (contents later) code
+  Answers contents kind.OutOfMemory output later code = Refuses output later code (fault.New new_fault.NoMemory)
+  Answers contents _ output later code = (later ≡ output) × (code ≡ 16)
 
 -- What the program does with its input, its output and its status. `opened` says what opening a path gave, and `unread`
 -- what an open script has left to be read.
-module _ {F I O : Type 0} (opened : Text → Option F → Type 0) (unread : F → Option (List ℕ))
-    (remaining : I → Option (List ℕ)) (contents : O → Option (List ℕ))
-    (input left : I) (output later : O) (code : ℕ) where
+module _ {F I O E : Type 0} (opened : Text → Option F → Type 0) (unread : F → Option (List ℕ))
+    (remaining : I → Option (List ℕ)) (contents : O → Option (List ℕ)) (said : E → E → List ℕ → Bool → Type 0)
+    (input left : I) (output later : O) (errors told : E) (code : ℕ) where
   -- the input is read where the words name no file, and else left as it was
   abbrev pub Runs : Settings → Option Text → Type 0
-  Runs settings None = CommandedWith settings (remaining input) (remaining left) (contents output) (contents later) code
+  Runs settings None = CommandedWith said errors told settings (remaining input) (remaining left) (contents output)
+      (contents later) code
   Runs settings (Some path) = (left ≡ input) × ((script : Option F) × opened path script
-      × RunsOpened unread contents settings output later code script)
+      × RunsOpened said errors told unread contents settings output later code script)
 
   -- a number above 32 bits is refused before the file is opened
   abbrev pub Obeys : Option Settings → Option Text → Type 0
-  Obeys None file = (left ≡ input) × (later ≡ output) × (code ≡ 16)
+  Obeys None file = (left ≡ input) × Refuses said errors told output later code (fault.New new_fault.Setting)
   Obeys (Some settings) file = Runs settings file
 
   -- by the faults of the words, and by what they say where they have none
   abbrev pub DoesBy : Kinds → List Row → Type 0
   DoesBy [] rows = Obeys (settings_asked rows) (file_asked rows)
-  DoesBy (k ∷ ks) rows = (what : ErrorKind) × IsAmong what (k ∷ ks) × (left ≡ input) × Answers what output later code
+  DoesBy (k ∷ ks) rows =
+      (what : ErrorKind) × IsAmong what (k ∷ ks) × (left ≡ input)
+      × Answers said errors told contents what output later code
 
-  -- or there is no memory to read the words
+  -- or there is no memory to read the words, which is said
   abbrev pub Does : List Text → Type 0
-  Does words = ((left ≡ input) × (later ≡ output) × (code ≡ 16))
+  Does words = ((left ≡ input) × Refuses said errors told output later code (fault.New new_fault.NoMemory))
       ⊎ ((values : Residences) × AreResidences values
       × DoesBy (fault_of (command_line values) words) (matches_of (command_line values) words))

@@ -1,5 +1,7 @@
 pub mod Headline
 pub mod Reached
 pub mod Options
+pub mod Help
+pub mod Messages
 pub mod Command
 pub mod Served

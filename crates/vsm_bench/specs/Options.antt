@@ -1,82 +1,14 @@
 -- What the words of the command line ask for.
-use Rattle.std.specs.Prelude.{◌≡◌, ◌&&◌, ◌^◌, ℕ, Bool, List, [], ◌∷◌, length, map, nat_lt, if◌then◌else◌, codes, Option}
-use Rattle.std.specs.Prelude.{Some, None, Result, Ok, Err}
-use Rattle.std.specs.List.{list_all}
-use Rattle.std.specs.Option.{option_map_or}
-use Rattle.std.specs.Borrow.{Bor}
-use Rattle.std.specs.Char.{digit_value}
-use Rattle.std.specs.Str.{bytes_eq}
-use Rattle.std.specs.Str.Parse.{digits_value, without_leading_plus}
-use Rattle.clap.specs.Words.{App, Row, Rule, Text, new_app, new_rule, with_rule, first_of, one_of, rows_of, found_of}
-use Rattle.clap.specs.Words.{matches_of, fault_of, HasKind}
-use Rattle.clap.specs.declared.builder.ValueParser.TheVariants as parser
+use Rattle.std.specs.Prelude.{◌≡◌, List, [], codes, Option, Result, Ok, Err}
+use Rattle.clap.specs.Words.{App, Row, Text, new_app, new_rule, with_rule, first_of, rows_of, found_of, matches_of}
+use Rattle.clap.specs.Words.{fault_of, HasKind}
 use Rattle.clap.specs.declared.parser.ArgMatches.{ArgMatches}
 use Rattle.clap.specs.declared.Error.{Error}
-use Rattle.vsm_model.specs.declared.limits.Settings.{Settings}
-use Rattle.vsm_model.specs.declared.limits.Residence.{Residence}
-use Rattle.vsm_model.specs.declared.limits.Residence.TheVariants.{Below, Above}
+use Rattle.bench_options.specs.Options.{Residences, with_settings}
 
--- ---- the options
-
-abbrev pub number_option : Text → Rule
-number_option name =
-    record (new_rule name) { long = Some name; value_names = 1; parser = Some (parser.Unsigned 0 18446744073709551615) }
-
--- what --residence takes
-abbrev pub Residences : Type 0
-Residences = Bor (List (Bor Text))
-
-abbrev pub AreResidences : Residences → Type 0
-AreResidences values = map (λ s. s.now) values.now ≡ codes "24" ∷ codes "31" ∷ []
-
-abbrev pub residence_option : Residences → Rule
-residence_option values = record (new_rule (codes "residence"))
-    { long = Some (codes "residence"); value_names = 1; parser = Some (parser.Names values) }
-
--- four options and an operand, each of them once at most
+-- the four options of a bench, and an operand
 abbrev pub command_line : Residences → App
-command_line values =
-    with_rule (with_rule (with_rule (with_rule (with_rule (new_app (codes "vsm"))
-    (number_option (codes "low"))) (number_option (codes "high"))) (residence_option values))
-    (number_option (codes "history")))
-    (new_rule (codes "FILE"))
-
--- ---- what they say
-
--- where no option is written: 64K below the line and above it, a caller below it, and 1,024 changes that can be undone
-abbrev pub default_settings : Settings
-default_settings = record { low_k = 64; high_k = 64; residence = Below; history = 1024 }
-
-abbrev pub is_numeral : Text → Bool
-is_numeral digits = nat_lt 0 (length digits) && list_all (λ d. nat_lt (digit_value d) 10) digits
-
--- the number that a text writes, where it has 32 bits
-abbrev pub number_in : Text → Option ℕ
-number_in text =
-    let digits = without_leading_plus text in
-    if is_numeral digits && nat_lt (digits_value 10 digits) (2 ^ 32) then Some (digits_value 10 digits) else None
-
-abbrev pub number_asked : Text → ℕ → List Row → Option ℕ
-number_asked name default rows = option_map_or number_in (one_of name rows) (Some default)
-
-abbrev pub residence_in : Text → Residence
-residence_in text = if bytes_eq text (codes "31") then Above else Below
-
-abbrev pub residence_asked : List Row → Residence
-residence_asked rows = option_map_or residence_in (first_of (codes "residence") rows) default_settings.residence
-
-abbrev pub settings_from : Option ℕ → Option ℕ → Residence → Option ℕ → Option Settings
-settings_from (Some low) (Some high) residence (Some history) =
-    Some (record { low_k = low; high_k = high; residence = residence; history = history })
-settings_from _ _ residence _ = None
-
--- the settings, unless a number has more than 32 bits
-abbrev pub settings_asked : List Row → Option Settings
-settings_asked rows = settings_from
-    (number_asked (codes "low") default_settings.low_k rows)
-    (number_asked (codes "high") default_settings.high_k rows)
-    (residence_asked rows)
-    (number_asked (codes "history") default_settings.history rows)
+command_line values = with_rule (with_settings values (new_app (codes "vsm"))) (new_rule (codes "FILE"))
 
 abbrev pub file_asked : List Row → Option Text
 file_asked rows = first_of (codes "FILE") rows

@@ -10,19 +10,21 @@ use Rattle.vsm_model.specs.Services.{Service}
 use Rattle.vsm_model.specs.Standing.{Accepted, Refused}
 use Rattle.vsm_model.specs.Step.{step, causes}
 use Rattle.macro_reader.specs.Requests.{Act}
-use Rattle.script_run.specs.Machine.{Why, unknown_name, abended, service_asked, name_asked, family_asked, statement_step}
+use Rattle.script_run.specs.Machine.{Why, unknown_name, abended, service_asked, name_asked, family_asked}
+use Rattle.script_run.specs.Machine.{statement_step}
 
 -- An accepted statement does to the storage what its service does, and gives the address of its area or cell to the
 -- name that it names.
 abbrev pub AcceptedIsItsService : Type 0
 AcceptedIsItsService =
-    (settings : Settings) (m n : NamedState) (x : Act) (reply : Reply) → statement_step settings m x ≡ Accepted n reply →
+    (settings : Settings) (m n : NamedState) (x : Act) (reply : Reply) →
+    statement_step settings m x ≡ Accepted n reply →
     (service : Service) × (service_asked m x ≡ Some service)
     × (step settings (is_one_too_many m.names (name_asked x)) m.storage service ≡ Accepted n.storage reply)
     × (n.names ≡ names_after m.names (name_asked x) reply)
 
--- A refused one has a name that isn't defined; or its service is refused for the first of its causes that holds, with the
--- completion code of the statement's form.
+-- A refused one has a name that isn't defined; or its service is refused for the first of its causes that holds, with
+-- the completion code of the statement's form.
 abbrev pub RefusedHasItsCause : Type 0
 RefusedHasItsCause =
     (settings : Settings) (m : NamedState) (x : Act) (why : Why) → statement_step settings m x ≡ Refused why →

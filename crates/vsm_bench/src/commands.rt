@@ -3,10 +3,13 @@ ghost use Rattle.std.specs.Prelude.{◌≡◌, ◌≤◌, length, map};
 ghost use Rattle.std.specs.Result.{result_ok};
 ghost use Rattle.std.specs.String.{string_bytes};
 ghost use Rattle.clap.specs.Words.{kind_of};
-ghost use Rattle.vsm_bench.specs.Command.{Answers, Commanded, CommandedWith, Does, RunsOpened, fault_status};
+ghost use Rattle.vsm_bench.specs.Command.{Answers, Commanded, CommandedWith, Does, Helps, RunsOpened, fault_status};
+ghost use Rattle.vsm_bench.specs.Messages.{Says, fault_text};
 
-use crate::options::{file_asked, read_words, settings_asked};
-use crate::script_files::ScriptFiles;
+use crate::help::write_help;
+use crate::messages::{Messages, fault_text};
+use crate::options::{file_asked, read_words};
+use bench_options::{ScriptFiles, settings_asked};
 use clap::Error;
 use clap::error::ErrorKind;
 use script_run::{NewFault, RunFault, run};
@@ -26,23 +29,24 @@ fn fault_status(fault: RunFault) -> u8
 }
 
 /// Reports a fault, and gives its exit status.
-fn report_fault<E: Write>(errors: &mut E, fault: RunFault) -> u8
-    ensures { result ≡ fault_status fault }
+fn report_fault<E: Messages>(errors: &mut E, fault: RunFault) -> u8
+    ensures status { result ≡ fault_status fault }
+    ensures says { Says E.said errors.old errors.new (fault_text fault) }
 {
-    let _ = writeln!(errors, "vsm: {fault}");
+    let _ = errors.say(fault_text(fault));
     fault_status(fault)
 }
 
 /// Runs a script, reports a fault, and gives the exit status.
-fn run_script<I: Read, O: Write, E: Write>(
+fn run_script<I: Read, O: Write, E: Messages>(
     alloc: Global,
     settings: Settings,
     input: &mut I,
     output: &mut O,
     errors: &mut E,
 ) -> u8
-    ensures { CommandedWith settings (I.remaining input.old) (I.remaining input.new) (O.contents output.old)
-        (O.contents output.new) result }
+    ensures { CommandedWith E.said errors.old errors.new settings (I.remaining input.old) (I.remaining input.new)
+        (O.contents output.old) (O.contents output.new) result }
 {
     match run(alloc, input, output, settings) {
         Ok(totals) => { if totals.refused == 0 { 0 } else { 4 } }
@@ -51,14 +55,15 @@ fn run_script<I: Read, O: Write, E: Write>(
 }
 
 /// Runs the script that was opened. Where none was, that is a fault of reading.
-fn run_opened<S: Read + Drop, O: Write, E: Write>(
+fn run_opened<S: Read + Drop, O: Write, E: Messages>(
     alloc: Global,
     opened: io::Result<S>,
     settings: Settings,
     output: &mut O,
     errors: &mut E,
 ) -> u8
-    ensures { RunsOpened S.remaining O.contents settings output.old output.new result (result_ok opened) }
+    ensures { RunsOpened E.said errors.old errors.new S.remaining O.contents settings output.old output.new result
+        (result_ok opened) }
 {
     match opened {
         Ok(mut script) => run_script(alloc, settings, &mut script, output, errors),
@@ -66,15 +71,22 @@ fn run_opened<S: Read + Drop, O: Write, E: Write>(
     }
 }
 
+/// Writes help, reports a fault, and gives the exit status.
+fn help<O: Write, E: Messages>(alloc: Global, options: &Error, output: &mut O, errors: &mut E) -> u8
+    ensures { Helps E.said errors.old errors.new (O.contents output.old) (O.contents output.new) result }
+{
+    match write_help(alloc, options, output) {
+        Ok(()) => 0,
+        Err(fault) => report_fault(errors, fault),
+    }
+}
+
 /// Answers words that ask for no run: writes help to `output`, and what is wrong with the words to `errors`.
-fn answer<O: Write, E: Write>(error: &Error, output: &mut O, errors: &mut E) -> u8
-    ensures { Answers (kind_of error.now) output.old output.new result }
+fn answer<O: Write, E: Messages>(alloc: Global, error: &Error, output: &mut O, errors: &mut E) -> u8
+    ensures { Answers E.said errors.old errors.new O.contents (kind_of error.now) output.old output.new result }
 {
     match error.kind() {
-        ErrorKind::DisplayHelp => {
-            let _ = write!(output, "{error}");
-            0
-        }
+        ErrorKind::DisplayHelp => help(alloc, error, output, errors),
         ErrorKind::OutOfMemory => report_fault(errors, RunFault::New(NewFault::NoMemory)),
         _ => {
             let _ = write!(errors, "{error}");
@@ -88,26 +100,26 @@ fn answer<O: Write, E: Write>(error: &Error, output: &mut O, errors: &mut E) -> 
 /// status.
 ///
 /// Where the words name a file, what `rt` opens for it is what is run, from where it stands when it's opened, and
-/// `input` isn't read. The status is 0 where no statement was refused or help was asked for, 4 where a statement was
+/// `input` isn't read. The status is 0 where no statement was refused or help went out, 4 where a statement was
 /// refused, 8 where the file can't be opened, reading or writing failed or the script is too long, and 16 where the
 /// words are wrong, the settings are out of their limits or there is no memory. What is wrong is found in this order:
 /// the words, a number above 32 bits, opening the file, the run. Before the run nothing is read, and nothing but help
-/// is written to `output`.
-pub fn command<R: ScriptFiles + AllocGlobal, I: Read, O: Write, E: Write>(
+/// is written to `output`. With status 8 or 16 one message is said to `errors`, and with another none.
+pub fn command<R: ScriptFiles + AllocGlobal, I: Read, O: Write, E: Messages>(
     rt: &R,
     words: &[String],
     input: &mut I,
     output: &mut O,
     errors: &mut E,
 ) -> u8
-    ensures runs { length words.now ≤ 1 → Commanded (I.remaining input.old) (I.remaining input.new)
-        (O.contents output.old) (O.contents output.new) result }
-    ensures does { Does (R.opened rt.now) R.Script.remaining I.remaining O.contents input.old input.new output.old
-        output.new result (map string_bytes words.now) }
+    ensures runs { length words.now ≤ 1 → Commanded E.said errors.old errors.new (I.remaining input.old)
+        (I.remaining input.new) (O.contents output.old) (O.contents output.new) result }
+    ensures does { Does (R.opened rt.now) R.Script.remaining I.remaining O.contents E.said input.old input.new
+        output.old output.new errors.old errors.new result (map string_bytes words.now) }
 {
     let matches = match read_words(rt.alloc(), words) {
         Ok(matches) => matches,
-        Err(error) => return answer(&error, output, errors),
+        Err(error) => return answer(rt.alloc(), &error, output, errors),
     };
     let Some(settings) = settings_asked(&matches) else {
         return report_fault(errors, RunFault::New(NewFault::Setting));

@@ -2,16 +2,17 @@
 #![tactic(auto)]
 
 mod commands;
+mod help;
 pub mod laws;
+mod messages;
 mod options;
-mod script_files;
 
+pub use bench_options::{DEFAULT_SETTINGS, ScriptFiles};
 pub use commands::command;
 pub use macro_reader::{
     Content, Family, Form, Header, Length, Name, NewCellPool, Place, Statement, Subpools, Value,
 };
-pub use options::DEFAULT_SETTINGS;
-pub use script_files::ScriptFiles;
+pub use messages::Messages;
 pub use script_run::{Bench, NewFault, Refusal, RunFault, RunTotals, run};
 pub use step_history::{TooFar, TooFarAhead};
 pub use vsm_model::{Boundary, Code, Location, Reply, Residence, Settings};

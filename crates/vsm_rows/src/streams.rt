@@ -214,6 +214,23 @@ fn a_write_error_has_its_text_and_status(rt: HostRuntime) -> Result<(), Fail> {
     Ok(())
 }
 
+#[test]
+fn help_that_is_cut_off_is_a_write_error(rt: HostRuntime) -> Result<(), Fail> {
+    let mut words = Vec::new(rt.alloc());
+    words.push(String::from_str(rt.alloc(), "vsm")?)?;
+    words.push(String::from_str(rt.alloc(), "--help")?)?;
+    for fails in [false, true] {
+        let mut reader = SCRIPT;
+        let mut writer = Narrow::with_room(rt.alloc(), 13, fails);
+        let mut errors = Vec::new(rt.alloc());
+        let status = command(&rt, words.as_slice(), &mut reader, &mut writer, &mut errors);
+        assert_eq!(rt; writer.bytes.as_slice(), b"Runs a script".as_slice());
+        assert_eq!(rt; errors.as_slice(), b"vsm: write\n".as_slice());
+        assert_eq!(rt; status, 8);
+    }
+    Ok(())
+}
+
 /// A reader that gives one byte a call, fails once behind so many, and then goes on.
 #[derive(Drop)]
 struct StumblingReader<'a> {

@@ -1,8 +1,8 @@
 use Rattle.std.proofs.Common.{◌≡◌, ◌∙◌, ◌++◌, inr, sym, subst}
 use Rattle.bench_core.specs.Stands.{bench_of, settings_in}
-use Rattle.script_run.specs.Answers.{told_text}
+use Rattle.script_steps.specs.Answers.{told_text}
 use Rattle.script_run.specs.Run.{Finishes}
-use Rattle.script_run.specs.Taken.{IsTold}
+use Rattle.script_steps.specs.Taken.{IsTold}
 use Rattle.script_run.specs.declared.faults.RunFault.TheVariants as fault
 use Rattle.text_output.proofs.Gathering.{puts_both}
 use Rattle.script_run.proofs.Outcomes.{out_more, passed_up}

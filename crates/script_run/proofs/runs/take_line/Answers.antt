@@ -1,7 +1,7 @@
 use Rattle.std.proofs.Common.{◌+◌, ◌<◌, ◌++◌, length, take, drop, subst, arith}
 use Rattle.std.proofs.lemmas.List.{take-append-drop}
 use Rattle.script_run.specs.Run.{Runs, Passes}
-use Rattle.script_run.proofs.Feeds.{feed_behind}
+use Rattle.script_steps.proofs.Feeds.{feed_behind}
 use Rattle.script_run.proofs.Outcomes.{passes_behind, line_past}
 use Rattle.script_run.proofs.runs.take_line.Goals as goal
 

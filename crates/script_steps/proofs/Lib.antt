@@ -1,0 +1,6 @@
+pub mod Columns
+pub mod Feeds
+pub mod Standings
+pub mod Takes
+pub mod Tellings
+pub mod LineEnds

@@ -1,0 +1,34 @@
+-- One line of a script that lies in memory, taken with its line feed.
+use Rattle.std.specs.Prelude.{◌≡◌, ◌+◌, ◌-◌, ◌<◌, ◌≤◌, ℕ, List, ◌++◌, length, take, drop, slice_index}
+use Rattle.std.specs.Prelude.{Option, Some, None, Result, Ok, Err}
+use Rattle.vsm_model.specs.declared.limits.Settings.{Settings}
+use Rattle.bench_core.specs.Stands.{bench_of}
+use Rattle.script_steps.specs.Answers.{told_text}
+use Rattle.script_steps.specs.Output.{Marked}
+use Rattle.script_steps.specs.Script.{NoFeed}
+use Rattle.script_steps.specs.Taken.{Took, PassesBound, IsTold}
+use Rattle.script_steps.specs.declared.session.Session.{Session}
+use Rattle.script_steps.specs.declared.session.TooLong.{TooLong}
+use Rattle.script_steps.specs.declared.steps.Step.{Step}
+
+-- The first line feed from a place on ends the line, and the next line begins behind it.
+pub record IsLineOf (script : List ℕ) (at next : ℕ) : Type 0 where
+  pub some : at < next
+  pub within : next ≤ length script
+  pub plain : NoFeed (take (next - 1 - at) (drop at script))
+  pub feed : slice_index script (next - 1) ≡ 10
+
+-- The line from a place on, in which these answers brought these further ones; a rest without a line feed, of which
+-- nothing is taken; or a byte that passes a bound, whatever follows the script.
+abbrev pub TakesStep : Settings → List ℕ → ℕ → List Marked → Session → Result (Option Step) TooLong → Type 0
+TakesStep settings script at answers s (Ok (Some step)) =
+    (more : List Marked) × IsTold settings answers more (told_text settings (bench_of s.bench) step.told)
+    × Took settings (take step.next script) (answers ++ more) s
+TakesStep settings script at answers s (Ok None) = Took settings (take at script) answers s
+TakesStep settings script at answers s (Err e) = PassesBound settings script answers
+
+-- Where the line is that was taken.
+abbrev pub StepsOver : List ℕ → ℕ → Result (Option Step) TooLong → Type 0
+StepsOver script at (Ok (Some step)) = (step.start ≡ at) × IsLineOf script at step.next
+StepsOver script at (Ok None) = NoFeed (drop at script)
+StepsOver script at (Err e) = at < length script

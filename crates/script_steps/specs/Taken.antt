@@ -1,0 +1,84 @@
+-- The bytes of a script that a run has taken, and the answers that it gave to them.
+use Rattle.std.specs.Prelude.{◌≡◌, ℕ, List, ◌∷◌, ◌++◌, length, take, map, Result, Ok, Err}
+use Rattle.macro_reader.specs.Scripts as grammar
+use Rattle.vsm_model.specs.declared.limits.Settings.{Settings}
+use Rattle.vsm_model.specs.Names.{NamedState, first_named_state}
+use Rattle.vsm_model.specs.Standing.{Bench, Leads, new_bench, nothing_stands}
+use Rattle.bench_core.specs.Machine.{statement_step}
+use Rattle.script_steps.specs.Output.{Marked, AllMet, heard_all, refusals, stands_all, texts}
+use Rattle.script_steps.specs.Script.{columns, Within, IsPast, last_line}
+use Rattle.bench_core.specs.Stands.{bench_of, settings_in}
+use Rattle.script_steps.specs.declared.totals.RunTotals.{RunTotals}
+use Rattle.script_steps.specs.declared.session.Session.{Session}
+use Rattle.script_steps.specs.declared.session.TooLong.{TooLong}
+
+abbrev pub answers_of : List Marked → List grammar.Answer
+answers_of = map (λ m. m.answer)
+
+-- the answers to the complete lines of a script that has not ended
+abbrev pub Told : List (List ℕ) → List grammar.Answer → Type 0
+Told lines answers = (kept : grammar.Kept) × grammar.IsBehind lines answers kept
+
+-- A bench is led by the answers so far, of which only statements that would have been accepted were refused for want of
+-- memory.
+pub record Led (settings : Settings) (answers : List Marked) (b : Bench NamedState) : Type 0 where
+  pub leads : Leads (statement_step settings) settings.history (new_bench first_named_state)
+      (heard_all settings nothing_stands answers) b
+  pub met : AllMet settings nothing_stands answers
+
+-- The answers of a script that passes no bound and has ended,
+pub record Ended (settings : Settings) (given : List ℕ) (answers : List Marked) : Type 0 where
+  pub lines : List (List ℕ)
+  pub rest : List ℕ
+  pub within : Within given lines rest
+  pub told : grammar.Answers (map columns lines ++ last_line rest) (answers_of answers)
+  pub met : AllMet settings nothing_stands answers
+
+-- of one that has not ended, where an incomplete last line and an open statement are left out,
+pub record Unended (settings : Settings) (given : List ℕ) (answers : List Marked) : Type 0 where
+  pub lines : List (List ℕ)
+  pub rest : List ℕ
+  pub within : Within given lines rest
+  pub told : Told (map columns lines) (answers_of answers)
+  pub met : AllMet settings nothing_stands answers
+
+-- and of one that passes a bound at a byte, up to that byte.
+pub record PassesBound (settings : Settings) (given : List ℕ) (answers : List Marked) : Type 0 where
+  pub front : List ℕ
+  pub byte : ℕ
+  pub more : List ℕ
+  pub split : given ≡ front ++ byte ∷ more
+  pub lines : List (List ℕ)
+  pub rest : List ℕ
+  pub within : Within front lines rest
+  pub past : IsPast lines rest byte
+  pub told : Told (map columns lines) (answers_of answers)
+  pub met : AllMet settings nothing_stands answers
+
+-- A session that has taken these bytes, and given these answers.
+pub record Took (settings : Settings) (given : List ℕ) (answers : List Marked) (s : Session) : Type 0 where
+  pub lines : List (List ℕ)
+  pub rest : List ℕ
+  pub within : Within given lines rest
+  pub count : s.lines ≡ length lines
+  pub long : s.length ≡ length rest
+  pub kept : s.kept.items ≡ take 80 rest
+  pub told : grammar.IsBehind (map columns lines) (answers_of answers) s.reader
+  pub led : Led settings answers (bench_of s.bench)
+  pub under : settings_in s.bench ≡ settings
+  pub statements : s.statements ≡ length answers
+  pub refused : s.refused ≡ refusals settings nothing_stands answers
+
+-- Bytes of a line were taken; or one of them passes a bound, whatever stands behind them.
+abbrev pub TakesBytes : Settings → List ℕ → List Marked → Session → Result (Unit {0}) TooLong → Type 0
+TakesBytes settings given answers s (Ok u) = Took settings given answers s
+TakesBytes settings given answers s (Err e) = (behind : List ℕ) → PassesBound settings (given ++ behind) answers
+
+-- These further answers are told by this text.
+abbrev pub IsTold : Settings → List Marked → List Marked → List ℕ → Type 0
+IsTold settings answers more text = text ≡ texts settings (stands_all settings nothing_stands answers) more
+
+-- The totals of a script with these answers.
+abbrev pub Counts : Settings → List Marked → RunTotals → Type 0
+Counts settings answers totals =
+    (totals.statements ≡ length answers) × (totals.refused ≡ refusals settings nothing_stands answers)

@@ -1,0 +1,131 @@
+//! A bench answers what a line asks for.
+ghost use Rattle.std.specs.Prelude.{◌≡◌, ◌≤◌, Ok, length};
+ghost use Rattle.macro_statements.specs.Requests.{act, peek, back, forward, act_in, asked_in, written_in, IsValidAct};
+ghost use Rattle.macro_statements.specs.Requests.{IsValidAsked};
+ghost use Rattle.macro_reader.specs.Scripts.{told_by, told_at_end, IsValidFed};
+ghost use Rattle.bench_core.specs.Stands.{bench_of, settings_in};
+ghost use Rattle.script_steps.specs.Answers.{Responds, Tells, told_count, told_refused, IsToldAlone};
+ghost use Rattle.bench_core.specs.Machine.{shown_at};
+ghost use Rattle.script_steps.specs.Responses.{reading_response};
+
+use crate::responses::Response;
+use arrayvec::ArrayVec;
+use bench_core::Bench;
+use macro_reader::{Fault, Fed, Request, Statement, Value};
+
+/// Bytes in room for as many as a PEEK may show, which is 256.
+fn with_room(bytes: &[u8]) -> ArrayVec<u8, 256>
+    requires { length bytes.now ≤ 256 }
+    ensures { result.items ≡ bytes.now }
+{
+    let mut room = ArrayVec::new();
+    room.try_extend_from_slice(bytes).unwrap();
+    room
+}
+
+/// Carries out a statement, or refuses it.
+fn carry_out(bench: &mut Bench, statement: &Statement) -> Response
+    requires { IsValidAct (act_in statement.now) }
+    ensures responds { Responds (settings_in bench.old) (bench_of bench.old) (Ok (act (act_in statement.now))) result
+        (bench_of bench.new) }
+    ensures settings { settings_in bench.new ≡ settings_in bench.old }
+{
+    match bench.apply(statement) {
+        Ok(reply) => Response::Replied(reply),
+        Err(refusal) => Response::Refused(refusal),
+    }
+}
+
+/// Shows the bytes at an address, as many as are asked for.
+fn show(bench: &Bench, address: Value, count: u16) -> Response
+    requires { IsValidAsked (peek (written_in address) count) }
+    ensures { result ≡ reading_response (shown_at (bench_of bench.now).present (written_in address) count) }
+{
+    let mut room = [0; 256];
+    let out = &mut room[..count as usize];
+    match bench.peek(address, out) {
+        Ok(()) => Response::Shown(with_room(out)),
+        Err(refusal) => Response::Refused(refusal),
+    }
+}
+
+/// Undoes the last `n` changes, or none where fewer are kept.
+fn step_back(bench: &mut Bench, n: u32) -> Response
+    ensures responds { Responds (settings_in bench.old) (bench_of bench.old) (Ok (back n)) result (bench_of bench.new) }
+    ensures settings { settings_in bench.new ≡ settings_in bench.old }
+{
+    match bench.back(n) {
+        Ok(()) => Response::Kept(bench.kept()),
+        Err(fault) => Response::TooFar(fault.kept),
+    }
+}
+
+/// Makes the first `n` undone changes again, or none where fewer are undone.
+fn step_forward(bench: &mut Bench, n: u32) -> Response
+    ensures responds { Responds (settings_in bench.old) (bench_of bench.old) (Ok (forward n)) result
+        (bench_of bench.new) }
+    ensures settings { settings_in bench.new ≡ settings_in bench.old }
+{
+    match bench.forward(n) {
+        Ok(()) => Response::Kept(bench.kept()),
+        Err(fault) => Response::TooFarAhead(fault.undone),
+    }
+}
+
+/// The response of a bench to a request.
+fn respond(bench: &mut Bench, request: &Request) -> Response
+    requires { IsValidAsked (asked_in request.now) }
+    ensures responds { Responds (settings_in bench.old) (bench_of bench.old) (Ok (asked_in request.now)) result
+        (bench_of bench.new) }
+    ensures settings { settings_in bench.new ≡ settings_in bench.old }
+{
+    match request {
+        Request::Act(statement) => carry_out(bench, statement),
+        Request::Peek { addr, len } => show(bench, *addr, *len),
+        Request::Map => Response::Map,
+        Request::Back(n) => step_back(bench, *n),
+        Request::Forward(n) => step_forward(bench, *n),
+    }
+}
+
+/// The response to what a line brought, with the number of the statement's first line.
+pub(crate) fn tell(bench: &mut Bench, fed: &Result<Fed, Fault>) -> Option<(u32, Response)>
+    requires { IsValidFed fed.now }
+    ensures tells { Tells (settings_in bench.old) (bench_of bench.old) (told_by fed.now) result (bench_of bench.new) }
+    ensures settings { settings_in bench.new ≡ settings_in bench.old }
+{
+    match fed {
+        Ok(Fed::More) => None,
+        Ok(Fed::Ready(request, line)) => Some((*line, respond(bench, request))),
+        Err(fault) => Some((fault.line, Response::Fault(fault.kind))),
+    }
+}
+
+/// The response to a statement that is open at the end of the script. It leaves a bench as it is.
+pub(crate) fn tell_end(ended: Result<(), Fault>) -> Option<(u32, Response)>
+    ensures { IsToldAlone (told_at_end ended) result }
+{
+    match ended {
+        Ok(()) => None,
+        Err(fault) => Some((fault.line, Response::Fault(fault.kind))),
+    }
+}
+
+/// How many lines of output are told: one or none.
+pub(crate) fn told_count(told: &Option<(u32, Response)>) -> u32
+    ensures count { result ≡ told_count told.now }
+    ensures most { result ≤ 1 }
+{
+    u32::from(told.is_some())
+}
+
+/// How many of them are refusals.
+pub(crate) fn told_refused(told: &Option<(u32, Response)>) -> u32
+    ensures count { result ≡ told_refused told.now }
+    ensures most { result ≤ told_count told.now }
+{
+    match told {
+        Some((_, response)) if response.is_refused() => 1,
+        _ => 0,
+    }
+}

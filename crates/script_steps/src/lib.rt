@@ -1,0 +1,19 @@
+//! Scripts on a bench, line by line: each line is carried out, answered, and told by its line of output.
+#![tactic(auto)]
+
+mod answers;
+mod lines;
+mod responses;
+mod session;
+mod steps;
+mod texts;
+mod totals;
+
+pub use bench_core::{Bench, NewFault, Refusal};
+pub use lines::Ending;
+pub use macro_reader::{FaultKind, Stand};
+pub use responses::Response;
+pub use session::{LINES, Session, TooLong};
+pub use steps::{Step, Watch, before_feed};
+pub use texts::{put_numbered, put_response, put_told};
+pub use totals::RunTotals;

@@ -1,0 +1,169 @@
+//! A session takes the bytes of its script, line by line.
+ghost use Rattle.std.specs.Prelude.{◌≡◌, ◌<◌, [], ◌∷◌, ◌++◌, List, ℕ, take, length, Ok};
+ghost use Rattle.std.specs.Str.Lines.{strip_carriage_return};
+ghost use Rattle.vsm_model.specs.declared.limits.Settings.{Settings};
+ghost use Rattle.macro_reader.specs.Columns.{Line};
+ghost use Rattle.macro_reader.specs.Scripts.{Answer, IsBehind};
+ghost use Rattle.script_steps.specs.Answers.{Tells, told_text};
+ghost use Rattle.script_steps.specs.Output.{Marked};
+ghost use Rattle.script_steps.specs.Script.{NoFeed, columns, last_line};
+ghost use Rattle.bench_core.specs.Stands.{IsNew, bench_of, settings_in};
+ghost use Rattle.script_steps.specs.Taken.{Took, TakesBytes, IsTold, Ended, Counts};
+
+use crate::answers::{tell, tell_end, told_count, told_refused};
+use crate::responses::Response;
+use crate::session::{LINE_BYTES, LINES, Session, TooLong};
+use crate::totals::RunTotals;
+use arrayvec::ArrayVec;
+use bench_core::Bench;
+use macro_reader::Reader;
+
+/// What the end of a script brings: the totals, the bench as it is then, and the responses to a last line without a
+/// line feed and to a statement that is still open.
+#[derive(Drop)]
+pub struct Ending {
+    /// What the whole script counted.
+    pub totals: RunTotals,
+    /// The bench as the script left it.
+    pub bench: Bench,
+    /// The answer that a last line without a line feed brought.
+    pub last: Option<(u32, Response)>,
+    /// The fault of a statement that is open at the end.
+    pub open_statement: Option<(u32, Response)>,
+}
+
+/// Keeps the bytes of a line of which the first 80 are kept.
+fn keep(kept: &mut ArrayVec<u8, 80>, bytes: &[u8])
+    ensures { (line : List ℕ) → kept.old.items ≡ take 80 line → kept.new.items ≡ take 80 (line ++ bytes.now) }
+{
+    let count = bytes.len().min(80 - kept.len());
+    kept.try_extend_from_slice(&bytes[..count]).unwrap();
+}
+
+/// A line without a carriage return at its end.
+fn strip(line: &[u8]) -> &[u8]
+    ensures { result.now ≡ strip_carriage_return line.now }
+{
+    let n = line.len();
+    if n > 0 && line[n - 1] == b'\r' {
+        &line[..n - 1]
+    } else {
+        line
+    }
+}
+
+/// Columns 1 to 80 of a line of so many bytes, of which the first 80 are kept.
+fn columns(kept: &[u8], size: u32) -> &[u8]
+    ensures { (line : List ℕ) → size ≡ length line → kept.now ≡ take 80 line → result.now ≡ columns line }
+{
+    if size <= 80 { strip(kept) } else { kept }
+}
+
+/// The response to a last line of so many bytes, of which the first 80 are kept: to none where there are no bytes.
+fn take_last(
+    reader: &mut Reader,
+    bench: &mut Bench,
+    kept: &[u8],
+    size: u32,
+) -> Option<(u32, Response)>
+    ensures tells { (lines : List Line) (answers : List Answer) (rest : List ℕ) → IsBehind lines answers reader.old
+        → size ≡ length rest → kept.now ≡ take 80 rest
+        → (more : List Answer) × IsBehind (lines ++ last_line rest) (answers ++ more) reader.new
+        × Tells (settings_in bench.old) (bench_of bench.old) more result (bench_of bench.new) }
+    ensures settings { settings_in bench.new ≡ settings_in bench.old }
+{
+    if size == 0 {
+        return None;
+    }
+    tell(bench, &reader.next(kept))
+}
+
+impl Session {
+    /// A session over no bytes yet, on a new bench.
+    pub fn new(bench: Bench) -> Session
+        ensures { (settings : Settings) → IsNew settings (Ok bench) → Took settings [] [] result }
+    {
+        Session {
+            reader: Reader::new(),
+            bench,
+            lines: 0,
+            length: 0,
+            kept: ArrayVec::new(),
+            statements: 0,
+            refused: 0,
+        }
+    }
+
+    /// Takes bytes of a line, none of them a line feed. `TooLong` where one of them passes a bound.
+    pub fn take_bytes(&mut self, bytes: &[u8]) -> Result<(), TooLong>
+        requires plain { NoFeed bytes.now }
+        ensures { (settings : Settings) (given : List ℕ) (answers : List Marked) → Took settings given answers self.old
+            → TakesBytes settings (given ++ bytes.now) answers self.new result }
+    {
+        if bytes.is_empty() {
+            return Ok(());
+        }
+        if self.lines >= LINES {
+            return Err(TooLong);
+        }
+        if bytes.len() > (LINE_BYTES - self.length) as usize {
+            return Err(TooLong);
+        }
+        keep(&mut self.kept, bytes);
+        self.length += bytes.len() as u32;
+        Ok(())
+    }
+
+    /// Takes the line feed that ends a line, and gives the response to the line, if it has one, with the number of the
+    /// statement's first line, from 1.
+    ///
+    /// Only while fewer than `LINES` lines have ended.
+    pub fn end_line(&mut self) -> Option<(u32, Response)>
+        requires { self.old.lines < 1048576 }
+        ensures { (settings : Settings) (given : List ℕ) (answers : List Marked) → Took settings given answers self.old
+            → (more : List Marked) × IsTold settings answers more
+            (told_text settings (bench_of self.new.bench) result)
+            × Took settings (given ++ 10 ∷ []) (answers ++ more) self.new }
+    {
+        let line = columns(self.kept.as_slice(), self.length);
+        let told = tell(&mut self.bench, &self.reader.next(line));
+        self.kept.clear();
+        self.length = 0;
+        self.lines += 1;
+        self.statements += told_count(&told);
+        self.refused += told_refused(&told);
+        told
+    }
+
+    /// Takes the end of the script: what stands behind the last line feed is a line where there is anything.
+    pub fn end(self) -> Ending
+        ensures told { (settings : Settings) (given : List ℕ) (answers : List Marked) → Took settings given answers self
+            → (more : List Marked) × IsTold settings answers more
+            (told_text settings (bench_of result.bench) result.last
+            ++ told_text settings (bench_of result.bench) result.open_statement)
+            × Ended settings given (answers ++ more) × Counts settings (answers ++ more) result.totals }
+        ensures settings { settings_in result.bench ≡ settings_in self.bench }
+    {
+        let Session {
+            mut reader,
+            mut bench,
+            length,
+            kept,
+            statements,
+            refused,
+            ..
+        } = self;
+        let last = take_last(&mut reader, &mut bench, kept.as_slice(), length);
+        let open_statement = tell_end(reader.finish());
+        let totals = RunTotals {
+            statements: statements + told_count(&last) + told_count(&open_statement),
+            refused: refused + told_refused(&last) + told_refused(&open_statement),
+        };
+        Ending {
+            totals,
+            bench,
+            last,
+            open_statement,
+        }
+    }
+}

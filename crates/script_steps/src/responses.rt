@@ -1,0 +1,44 @@
+//! Responses to the statements of a script.
+ghost use Rattle.std.specs.Prelude.{◌≡◌};
+ghost use Rattle.script_steps.specs.Responses.{is_refused};
+
+use arrayvec::ArrayVec;
+use bench_core::Refusal;
+use macro_reader::FaultKind;
+use vsm_model::Reply;
+
+/// What a bench responds to a statement of a script.
+#[derive(Clone, Debug, PartialEq, Eq, Drop)]
+pub enum Response {
+    /// The reply of an accepted service.
+    Replied(Reply),
+    /// Why a service or a reading is refused.
+    Refused(Refusal),
+    /// A step was made; so many changes are kept now.
+    Kept(u32),
+    /// BACK past what is kept, with that number.
+    TooFar(u32),
+    /// FORWARD past what is undone, with that number.
+    TooFarAhead(u32),
+    /// The bytes of a reading.
+    Shown(ArrayVec<u8, 256>),
+    /// The map, whose lines come behind.
+    Map,
+    /// The statement is wrong.
+    Fault(FaultKind),
+}
+
+impl Response {
+    /// Whether it counts as refused: a fault, a refusal or an abend.
+    pub fn is_refused(&self) -> bool
+        ensures { result ≡ is_refused self.now }
+    {
+        match self {
+            Response::Replied(_) | Response::Kept(_) | Response::Shown(_) | Response::Map => false,
+            Response::Refused(_)
+            | Response::TooFar(_)
+            | Response::TooFarAhead(_)
+            | Response::Fault(_) => true,
+        }
+    }
+}

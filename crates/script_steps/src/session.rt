@@ -1,0 +1,60 @@
+//! The state of a session.
+ghost use Rattle.std.specs.Prelude.{◌≡◌, ◌≤◌};
+ghost use Rattle.macro_reader.specs.Roles.{IsStand};
+
+use arrayvec::ArrayVec;
+use bench_core::Bench;
+use macro_reader::{Reader, Stand};
+
+/// The most lines of a script.
+pub const LINES: u32 = 1_048_576;
+
+/// The most bytes of a line, without its line feed.
+pub(crate) const LINE_BYTES: u32 = 65_536;
+
+/// A byte of a script passes one of its bounds.
+#[derive(Clone, Copy, Debug, PartialEq, Eq)]
+pub struct TooLong;
+
+/// What is kept of a script between two pieces of it: its bench, its reader, and what stands of the line that has not
+/// ended.
+#[derive(Drop)]
+pub struct Session {
+    pub(crate) reader: Reader,
+    pub(crate) bench: Bench,
+    /// The lines that have ended.
+    pub(crate) lines: u32,
+    /// The bytes of the line that has not.
+    pub(crate) length: u32,
+    /// The first 80 of them.
+    pub(crate) kept: ArrayVec<u8, 80>,
+    pub(crate) statements: u32,
+    pub(crate) refused: u32,
+    ghost short: { length ≤ 65536 },
+    ghost few: { statements ≤ lines },
+    ghost fewer: { refused ≤ statements },
+    ghost bounded: { lines ≤ 1048576 },
+}
+
+impl Session {
+    /// The bench, behind the lines that have ended.
+    pub fn bench(&self) -> &Bench
+        ensures { result.now ≡ self.now.bench }
+    {
+        &self.bench
+    }
+
+    /// How many lines have ended: 1,048,576 at most.
+    pub fn lines(&self) -> u32
+        ensures { result ≡ self.now.lines }
+    {
+        self.lines
+    }
+
+    /// Where the reader stands: what the next line is to it, by whether that is skipped, or breaks a rule.
+    pub fn stand(&self) -> Stand
+        ensures { IsStand self.now.reader.mode result }
+    {
+        self.reader.stand()
+    }
+}

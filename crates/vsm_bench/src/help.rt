@@ -1,0 +1,72 @@
+//! Help: what is told of the options, and of all else behind that.
+ghost use Rattle.std.specs.Prelude.{◌≡◌, ◌++◌};
+ghost use Rattle.text_output.specs.Writing.{Writes};
+ghost use Rattle.vsm_bench.specs.Command.{Helped};
+ghost use Rattle.vsm_bench.specs.Help.{help_end};
+
+use clap::Error;
+use script_run::{NewFault, RunFault};
+use std::alloc::Global;
+use std::io;
+use std::io::Write;
+use text_output::Gathered;
+
+const BEHIND_THE_OPTIONS: &str = "
+The low region lies below the 16 MB line, the high region above it. An area that is asked for with LOC=31 or ANY
+lies in the high region, whose size --high sets, or in the low one where that has no room. LOC=RES, which holds where
+LOC is left out, asks by --residence: with 24 for an area below the line, with 31 for one on either side.
+
+What can be written in a script is told in docs/STATEMENTS.md, what is printed in docs/MESSAGES.md.
+
+Exit status:
+   0  no statement was refused, or help was asked for
+   4  at least one line is FAULT, REFUSED or ABEND
+   8  the script can't be read, the output can't be written, or the script is too long
+  16  a wrong command line, settings out of their limits, or no memory
+
+Example: where the file example.vsm has these lines, each behind a blank,
+
+   STORAGE OBTAIN,LENGTH=100,SP=1
+   STORAGE RELEASE,LENGTH=40,ADDR=X'6000',SP=1
+   BACK 1
+
+'vsm --low 128 example.vsm' prints
+
+  0000001 RC=0 A=00006000 L=00000068
+  0000002 RC=0
+  0000003 KEPT=1
+";
+
+/// Help's end, which stands behind what it says of the options.
+fn help_end() -> &'static str
+    ensures { result.now ≡ help_end }
+{
+    BEHIND_THE_OPTIONS
+}
+
+/// Writes what is told of the options, and help's end; or a front of that, where a write fails.
+fn write_both<O: Write>(output: &mut O, options: &str) -> io::Result<()>
+    ensures { Writes (O.contents output.old) (O.contents output.new) (options.now ++ help_end) result }
+{
+    let mut gathered = Gathered::new();
+    gathered.put(output, options.as_bytes());
+    gathered.put(output, help_end().as_bytes());
+    gathered.finish(output)
+}
+
+/// Writes help. `Write` where a write fails, and a front of it went out; `New` where there is no memory to begin with.
+pub(crate) fn write_help<O: Write>(
+    alloc: Global,
+    options: &Error,
+    output: &mut O,
+) -> Result<(), RunFault>
+    ensures { Helped (O.contents output.old) (O.contents output.new) result }
+{
+    let Ok(text) = options.to_string(alloc) else {
+        return Err(RunFault::New(NewFault::NoMemory));
+    };
+    match write_both(output, text.as_str()) {
+        Ok(()) => Ok(()),
+        Err(_) => Err(RunFault::Write),
+    }
+}
