@@ -1,0 +1,181 @@
+//! What is wrong with a script, a line for each fault and each warning.
+ghost use Rattle.std.specs.Prelude.{◌≡◌, ◌≤◌, ◌⊎◌, [], Ok, length, take, drop};
+ghost use Rattle.bench_core.specs.Stands.{IsNew};
+ghost use Rattle.vsm_model.specs.declared.limits.Settings.{Settings};
+ghost use Rattle.script_steps.specs.Script.{NoFeed};
+ghost use Rattle.explain_list.specs.declared.faults.ListFault.TheVariants as fault;
+ghost use Rattle.explain_list.specs.Listing.{Listed, Checked, IsReached, ReachesLines, IsRest, Shows};
+
+use crate::faults::ListFault;
+use crate::listing::{Page, listing, rest_from, rest_line};
+use crate::pages::Form;
+use bench_core::Bench;
+use script_steps::{Session, TooLong, Watch};
+use std::alloc::Global;
+use std::io::Write;
+use text_output::Gathered;
+use vsm_model::Settings;
+
+/// What is shown of a script.
+#[derive(Clone, Copy)]
+pub enum Shown<'a> {
+    /// Its listing.
+    Listing,
+    /// A line for each fault and each warning, `FILE:LINE:COLUMN: text`, with this name of the file.
+    Check(&'a [u8]),
+}
+
+/// Checks all lines that have a line feed, and gives the place behind the last.
+fn check_lines<W: Write, P: Watch>(
+    session: &mut Session,
+    gathered: &mut Gathered,
+    writer: &mut W,
+    page: &mut Page,
+    script: &[u8],
+    name: &[u8],
+    watch: &mut P,
+) -> Result<usize, TooLong>
+    ensures takes { (settings : Settings) → IsReached settings [] session.old
+        → ReachesLines settings script.now session.new result }
+    ensures rest { IsRest script.now result }
+{
+    let mut at = 0;
+    while at < script.len() {
+        match page.take_line(session, Form::Check(name), script, at) {
+            Err(fault) => return Err(fault),
+            Ok(None) => return Ok(at),
+            Ok(Some(step)) => {
+                gathered.put(writer, page.words());
+                at = step.next;
+            }
+        }
+        watch.line(session.lines());
+    }
+    Ok(at)
+}
+
+/// Checks what stands behind the last line feed, and the end of the script.
+fn check_end<W: Write>(
+    session: Session,
+    gathered: &mut Gathered,
+    writer: &mut W,
+    page: &mut Page,
+    script: &[u8],
+    name: &[u8],
+    at: usize,
+) -> Result<bool, ListFault>
+    ensures { (settings : Settings) → IsReached settings script.now session → Checked settings script.now result }
+{
+    let before = session.stand();
+    let line = rest_line(session.lines(), script, at);
+    let ending = session.end();
+    page.compose_last(Form::Check(name), script, line, before, &ending);
+    gathered.put(writer, page.words());
+    page.compose_open(Form::Check(name), script, &ending);
+    gathered.put(writer, page.words());
+    match gathered.hand_out(writer) {
+        Ok(()) => Ok(ending.totals.refused > 0),
+        Err(_) => Err(ListFault::Write),
+    }
+}
+
+/// What a check is that ends at a byte that passes a bound.
+fn stop<W: Write>(gathered: &mut Gathered, writer: &mut W) -> ListFault
+    ensures { (result ≡ fault.TooLong) ⊎ (result ≡ fault.Write) }
+{
+    match gathered.hand_out(writer) {
+        Ok(()) => ListFault::TooLong,
+        Err(_) => ListFault::Write,
+    }
+}
+
+/// Takes what stands behind the last line feed, and checks it and the end of the script.
+fn check_rest<W: Write>(
+    session: Session,
+    gathered: &mut Gathered,
+    writer: &mut W,
+    page: &mut Page,
+    script: &[u8],
+    name: &[u8],
+    at: usize,
+) -> Result<bool, ListFault>
+    requires within { at ≤ length script.now }
+    requires plain { NoFeed (drop at script.now) }
+    ensures { (settings : Settings) → IsReached settings (take at script.now) session
+        → Checked settings script.now result }
+{
+    let mut session = session;
+    let rest = rest_from(script, at);
+    match session.take_bytes(rest) {
+        Ok(()) => check_end(session, gathered, writer, page, script, name, at),
+        Err(_) => Err(stop(gathered, writer)),
+    }
+}
+
+/// Checks a script on a new bench.
+fn check_on<W: Write, P: Watch>(
+    bench: Bench,
+    script: &[u8],
+    name: &[u8],
+    out: &mut W,
+    watch: &mut P,
+) -> Result<bool, ListFault>
+    ensures { (settings : Settings) → IsNew settings (Ok bench) → Checked settings script.now result }
+{
+    let mut session = Session::new(bench);
+    let mut gathered = Gathered::new();
+    let mut page = Page::new();
+    page.begin(Form::Check(name), script);
+    gathered.put(out, page.words());
+    match check_lines(
+        &mut session,
+        &mut gathered,
+        out,
+        &mut page,
+        script,
+        name,
+        watch,
+    ) {
+        Ok(at) => check_rest(session, &mut gathered, out, &mut page, script, name, at),
+        Err(_) => Err(stop(&mut gathered, out)),
+    }
+}
+
+/// Writes a line for each fault and each warning of a script.
+fn checking<W: Write, P: Watch>(
+    alloc: Global,
+    script: &[u8],
+    settings: Settings,
+    name: &[u8],
+    out: &mut W,
+    watch: &mut P,
+) -> Result<bool, ListFault>
+    ensures { Checked settings script.now result }
+{
+    match Bench::new(alloc, settings) {
+        Ok(bench) => check_on(bench, script, name, out, watch),
+        Err(fault) => Err(ListFault::New(fault)),
+    }
+}
+
+/// Shows a script: its listing, each line with its number, behind the last line of a statement its answer, and below
+/// the first operand that is wrong a caret with what is expected; lines that aren't carried out have an `x`. Or a line
+/// for each fault and each warning alone.
+///
+/// Gives whether a statement was refused or faulty. `TooLong` comes behind the lines before that one; `Write` after a
+/// front of what is shown; `New` with nothing written.
+pub fn list<W: Write, P: Watch>(
+    alloc: Global,
+    script: &[u8],
+    settings: Settings,
+    shown: Shown,
+    out: &mut W,
+    watch: &mut P,
+) -> Result<bool, ListFault>
+    ensures { Shows settings script.now shown.entry (W.contents out.old) (W.contents out.new) result }
+{
+    match shown {
+        Shown::Listing => listing(alloc, script, settings, out, watch),
+        Shown::Check(name) => checking(alloc, script, settings, name, out, watch),
+    }
+}

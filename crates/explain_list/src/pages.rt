@@ -1,0 +1,209 @@
+//! What a listing says around the answers: lines of the script, carets and warnings.
+
+use crate::carets::{Caret, caret_of};
+use crate::hints::add_hint;
+use crate::lines::SourceLine;
+use crate::roles::Role;
+use crate::warnings::{Warned, Warning, warning_on, warnings_in};
+use crate::words::Words;
+use macro_reader::FaultKind;
+use script_steps::Response;
+
+/// The column, from 0, in which a line of the script begins in the listing.
+const MARGIN: usize = 9;
+
+/// How many bytes of a line are shown.
+const SHOWN: usize = 80;
+
+/// The word of a fault, as its answer has it.
+fn word_of(kind: FaultKind) -> &'static [u8] {
+    match kind {
+        FaultKind::Column => b"COLUMN",
+        FaultKind::Continuation => b"CONTINUATION",
+        FaultKind::Operation => b"OPERATION",
+        FaultKind::Operand => b"OPERAND",
+        FaultKind::Repeated => b"REPEATED",
+        FaultKind::Missing => b"MISSING",
+        FaultKind::Value => b"VALUE",
+        FaultKind::LeftOut => b"LEFTOUT",
+    }
+}
+
+/// Where what is said goes: below the lines of a listing, or on lines of their own with the name of a file.
+#[derive(Clone, Copy)]
+pub(crate) enum Form<'a> {
+    Listing,
+    Check(&'a [u8]),
+}
+
+/// Appends what a line of a file that breaks off begins with.
+fn add_position(words: &mut Words, name: &[u8], number: u32, column: usize) {
+    words.add(&name[..name.len().min(1024)]);
+    words.add(b":");
+    words.add_number(number, 0);
+    words.add(b":");
+    words.add_number(column.min(100_000) as u32, 0);
+    words.add(b": ");
+}
+
+/// Appends the begin of a line that says something of a column: below that column, or with its place.
+fn add_front(words: &mut Words, form: Form, number: u32, column: usize) {
+    match form {
+        Form::Listing => {
+            words.add_blanks(MARGIN);
+            words.add_blanks(column.saturating_sub(1));
+            words.add(b"^ ");
+        }
+        Form::Check(name) => add_position(words, name, number, column),
+    }
+}
+
+fn add_warning(words: &mut Words, form: Form, number: u32, warned: Warned) {
+    if let Some((column, warning)) = warned {
+        add_front(words, form, number, column.min(SHOWN));
+        words.add(b"WARNING: ");
+        words.add(warning.text());
+        words.add(b"\n");
+    }
+}
+
+fn add_warnings(words: &mut Words, form: Form, number: u32, warnings: &[Warned]) {
+    for warned in warnings {
+        add_warning(words, form, number, *warned);
+    }
+}
+
+/// Appends what is wrong with the file as a whole.
+pub(crate) fn add_file_warning(words: &mut Words, form: Form, script: &[u8]) {
+    if let Some(warning) = warning_on(script) {
+        if let Form::Check(name) = form {
+            add_position(words, name, 1, 1);
+        }
+        words.add(b"WARNING: ");
+        words.add(warning.text());
+        words.add(b"\n");
+    }
+}
+
+/// The byte of column 72 of a line.
+fn column_72(line: &[u8]) -> u8 {
+    if line.len() > 71 { line[71] } else { b' ' }
+}
+
+/// Appends why a line isn't carried out, and which line says so.
+fn add_loss(words: &mut Words, before: &[u8], number: u32) {
+    words.add(b"NOT CARRIED OUT: line ");
+    words.add_number(number.saturating_sub(1), 0);
+    words.add(b" has '");
+    words.add(&[column_72(before)]);
+    words.add(b"' in column 72");
+}
+
+/// The line in front of one.
+fn line_before(script: &[u8], line: &SourceLine) -> SourceLine {
+    let end = line.start.saturating_sub(1).min(script.len());
+    let mut start = 0;
+    for place in 0..end.min(65_536) {
+        let at = end - 1 - place;
+        if script[at] == b'\n' {
+            start = at + 1;
+            break;
+        }
+    }
+    SourceLine {
+        number: line.number.saturating_sub(1),
+        start,
+        end,
+    }
+}
+
+/// Appends a line of the script as the listing has it.
+fn add_source(words: &mut Words, script: &[u8], line: &SourceLine, role: Role) {
+    let bytes = line.bytes(script);
+    words.add_number(line.number, 7);
+    words.add(if role.is_lost() { b" x" } else { b"  " });
+    words.add(&bytes[..bytes.len().min(SHOWN)]);
+    if bytes.len() > SHOWN {
+        words.add(b"..");
+    }
+    if role.is_lost() {
+        words.add(b"      <== ");
+        add_loss(words, line_before(script, line).bytes(script), line.number);
+    }
+    words.add(b"\n");
+}
+
+/// Appends a line, with its warnings.
+pub(crate) fn add_line(
+    words: &mut Words,
+    form: Form,
+    script: &[u8],
+    line: &SourceLine,
+    role: Role,
+) {
+    match form {
+        Form::Listing => add_source(words, script, line, role),
+        Form::Check(name) if role.is_lost() => {
+            add_position(words, name, line.number, 1);
+            add_loss(words, line_before(script, line).bytes(script), line.number);
+            words.add(b"\n");
+        }
+        Form::Check(_) => (),
+    }
+    if role != Role::Aside {
+        let warnings = warnings_in(line.bytes(script), role.is_read());
+        add_warnings(words, form, line.number, &warnings);
+    }
+}
+
+/// Appends what is wrong with a statement and what is expected, where the caret stands.
+fn add_caret(words: &mut Words, form: Form, number: u32, caret: &Caret, kind: FaultKind) {
+    add_front(words, form, number, caret.place.column);
+    words.add(word_of(kind));
+    words.add(b": ");
+    add_hint(words, caret, kind);
+    words.add(b"\n");
+}
+
+/// The fault that an answer tells.
+fn fault_in(told: &Option<(u32, Response)>) -> Option<FaultKind> {
+    match told {
+        Some((_, Response::Fault(kind))) => Some(*kind),
+        _ => None,
+    }
+}
+
+/// What a line of a statement is, by its place among the statement's lines.
+fn role_at(index: usize, count: usize, last: Role) -> Role {
+    if index.saturating_add(1) == count {
+        last
+    } else if index == 0 {
+        Role::First
+    } else {
+        Role::Further
+    }
+}
+
+/// Appends the lines of a statement that ends, the last of which has this role, with its caret where it has a fault.
+pub(crate) fn add_statement(
+    words: &mut Words,
+    form: Form,
+    script: &[u8],
+    lines: &[SourceLine],
+    last: Role,
+    told: &Option<(u32, Response)>,
+) {
+    let fault = match fault_in(told) {
+        Some(kind) => Some((caret_of(script, lines, kind), kind)),
+        None => None,
+    };
+    for index in 0..lines.len() {
+        let line = &lines[index];
+        add_line(words, form, script, line, role_at(index, lines.len(), last));
+        if let Some((caret, kind)) = &fault
+            && caret.place.line == index
+        {
+            add_caret(words, form, line.number, caret, *kind);
+        }
+    }
+}

@@ -1,0 +1,48 @@
+-- What is asked of a script, by what was read of the words.
+use Rattle.std.specs.Prelude.{◌≡◌, ◌≤◌, ◌&&◌, ℕ, List, codes, if◌then◌else◌, nat_le, ⊤, IfSome}
+use Rattle.std.specs.Prelude.{Option, Some, None, option_map}
+use Rattle.clap.specs.Words.{Row, Text, first_of}
+use Rattle.operand_texts.specs.Values.{number_of}
+use Rattle.bench_options.specs.Options.{settings_asked}
+use Rattle.explain_questions.specs.declared.questions.About.{About}
+use Rattle.explain_questions.specs.declared.questions.About.TheVariants as about
+use Rattle.explain_questions.specs.declared.questions.Question.{Question}
+use Rattle.explain_questions.specs.declared.questions.Question.TheVariants as question
+use Rattle.explain_questions.specs.declared.questions.Asking.{Asking}
+
+-- ---- numbers as in a script
+
+abbrev pub within : ℕ → ℕ → Option ℕ → Option ℕ
+within least most (Some n) = if nat_le least n && nat_le n most then Some n else None
+within least most None = None
+
+abbrev pub number_within : ℕ → ℕ → Text → Option ℕ
+number_within least most text = within least most (number_of text)
+
+-- ---- what can be asked for
+
+abbrev pub IsLine : ℕ → Type 0
+IsLine line = (1 ≤ line) × (line ≤ 1048576)
+
+-- 1 to 256 bytes, one of sixteen registers
+abbrev pub IsThere : About → Type 0
+IsThere (about.Bytes address count) = (1 ≤ count) × (count ≤ 256)
+IsThere (about.Register task register) = (1 ≤ task) × (register ≤ 15)
+IsThere _ = ⊤
+
+abbrev pub IsAskable : Question → Type 0
+IsAskable (question.Why line) = IsLine line
+IsAskable (question.Report line) = IfSome line IsLine
+IsAskable (question.Who it) = IsThere it
+IsAskable _ = ⊤
+
+-- The script is the one that is named, where one is read.
+abbrev pub IsOfFile : List Row → Question → Option Text → Type 0
+IsOfFile rows (question.Code first second) file = file ≡ None
+IsOfFile rows _ file = file ≡ first_of (codes "FILE") rows
+
+-- What is asked can be asked, of the script that the words name, under the settings that they name.
+pub record Asks (rows : List Row) (asking : Asking) : Type 0 where
+  pub askable : IsAskable asking.question
+  pub file : IsOfFile rows asking.question (option_map (λ s. s.now) asking.file)
+  pub settings : Some asking.settings ≡ settings_asked rows

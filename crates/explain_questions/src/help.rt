@@ -1,0 +1,63 @@
+//! What help says.
+
+/// The version that `--version` prints.
+pub(crate) const VERSION: &str = "0.1.0";
+
+pub(crate) const ABOUT: &str =
+    "Explains a script of vsm: where its mistakes are, why it's answered so, how much storage is left, and \
+        who changed what.";
+
+pub(crate) const AFTER: &str =
+    "'vsm-explain COMMAND --help' tells the words of a command, with an example. The options of vsm may stand with each
+command: the script runs under them. docs/EXPLAIN.md has a worked hunt for each command.
+
+Exit status:
+   0  the question was answered
+   4  list: at least one line is FAULT, REFUSED or ABEND, or was not carried out; why: the line's answer is one of these
+   8  the script can't be read, is too long or is empty, or the output can't be written
+  16  a wrong command line, a line or place that isn't there, settings out of their limits, or no memory
+";
+
+pub(crate) const LIST_ABOUT: &str =
+    "Lists a script with its answers, and tells where each mistake is.";
+
+pub(crate) const LIST_AFTER: &str =
+    "Each line stands with its number, behind a statement its answer with the number of changes that are kept
+in brackets, under its first wrong operand what is expected there. 'x' marks a line that was not carried out.
+
+Example: where the file example.vsm has ' STORAGE OBTAIN,LENGHT=8', 'vsm-explain list --check example.vsm' prints the
+place of the fault alone, as compilers do, for an editor to go there.
+";
+
+pub(crate) const WHY_ABOUT: &str =
+    "Says why a line was answered as it was, or what an answer means.";
+
+pub(crate) const WHY_AFTER: &str =
+    "LINE is the line on which a statement begins, or another of its lines. Without LINE the words are an answer:
+S878, U3008, RC=4, FAULT VALUE, REFUSED NAME.
+
+Examples: 'vsm-explain why example.vsm 85' tells for line 85 which places the rules looked at, in order;
+'vsm-explain why S878' prints what docs/MESSAGES.md says of S878.
+";
+
+pub(crate) const REPORT_ABOUT: &str = "Reports what is left of the storage, and in what pieces.";
+
+pub(crate) const REPORT_AFTER: &str =
+    "For each subpool: its owner, its pages, bytes taken and free, how many free areas, the largest and where,
+and how fragmented the free storage is. For each side of the 16 MB line: unassigned pages, their runs, the longest.
+
+Example: 'vsm-explain report example.vsm 40' shows what was left behind the statement of line 40;
+'vsm-explain report --over-time example.vsm > rows.csv' makes a row of CSV for each statement.
+";
+
+pub(crate) const WHO_ABOUT: &str =
+    "Names the lines that changed something, newest first, with what was there before \
+        and after.";
+
+pub(crate) const WHO_AFTER: &str =
+    "ADDRESS and N are written as in a script: 24582 or X'6006'. Asked for is one thing: N bytes at ADDRESS, or
+what one of the options names.
+
+Examples: \"vsm-explain who example.vsm X'6006' 2\" names the lines that changed the two bytes there;
+'vsm-explain who --register 1,3 example.vsm' those that changed register 3 of task 1.
+";

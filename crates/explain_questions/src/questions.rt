@@ -1,0 +1,304 @@
+//! Questions, as words ask them.
+ghost use Rattle.std.specs.Prelude.{◌≡◌, ◌≤◌, IfOk, IfSome, Some, option_map};
+ghost use Rattle.clap.specs.Words.{found_of, first_of, rows_of, subcommand_rows_of};
+ghost use Rattle.explain_questions.specs.Questions.{Asks, IsAskable, IsLine, IsOfFile, IsThere, number_within};
+
+use crate::refusals::Refusal;
+use bench_options::settings_asked;
+use clap::ArgMatches;
+use operand_texts::Name;
+use operand_texts::numbers::number_of;
+use operand_texts::words::{is_name, upper_name};
+use vsm_model::Settings;
+
+/// The greatest number of a line.
+const LAST_LINE: u32 = 1_048_576;
+
+/// The most bytes that are asked for at once.
+const MOST_BYTES: u32 = 256;
+
+/// The greatest number of a task.
+const LAST_TASK: u32 = 255;
+
+/// The greatest number of a register.
+const LAST_REGISTER: u32 = 15;
+
+/// What is asked for that lines change.
+#[derive(Clone, Copy, Debug, PartialEq, Eq)]
+pub enum About {
+    /// So many bytes from this address on.
+    Bytes { address: u32, count: u32 },
+    /// A register of a task.
+    Register { task: u8, register: u8 },
+    /// The word of a name.
+    Name(Name),
+}
+
+/// What is asked of a script.
+#[derive(Clone, Copy, Debug, PartialEq, Eq)]
+pub enum Question<'a> {
+    /// Its listing, or the places of its faults alone.
+    List {
+        is_check: bool,
+    },
+    /// Why the statement of this line was answered as it was.
+    Why {
+        line: u32,
+    },
+    /// What is left behind the statement of this line, or behind the last.
+    Report {
+        line: Option<u32>,
+    },
+    /// What is left behind each statement.
+    OverTime,
+    /// Which lines changed this.
+    Who(About),
+    /// Which lines made the changes that are kept and undone.
+    Log,
+    /// What an answer means, of one word or two; no script is read.
+    Code {
+        first: &'a str,
+        second: Option<&'a str>,
+    },
+}
+
+/// A question, with the script of which it's asked and the settings under which that runs.
+#[derive(Clone, Copy, Debug, PartialEq, Eq)]
+pub struct Asking<'a> {
+    pub question: Question<'a>,
+    /// `None` for standard input.
+    pub file: Option<&'a str>,
+    pub settings: Settings,
+}
+
+/// The number that a word spells as in a script, where that is one from `least` to `most`.
+fn number_within(word: &str, least: u32, most: u32) -> Option<u32>
+    ensures value { result ≡ number_within least most word.now }
+    ensures within { IfSome result (λ n. (least ≤ n) × (n ≤ most)) }
+{
+    let number = number_of(word.as_bytes())?;
+    if least <= number && number <= most {
+        Some(number)
+    } else {
+        None
+    }
+}
+
+/// The line of this number.
+fn line_of(word: &str) -> Result<u32, Refusal<'_>>
+    ensures { IfOk result IsLine }
+{
+    match number_within(word, 1, LAST_LINE) {
+        Some(line) => Ok(line),
+        None => Err(Refusal::Line(word)),
+    }
+}
+
+/// Whether a word is meant as the number of a line: it begins with a digit.
+fn is_line(word: &str) -> bool {
+    word.as_bytes()
+        .first()
+        .is_some_and(|byte| byte.is_ascii_digit())
+}
+
+/// The address that a word spells.
+fn address_of(word: &str) -> Result<u32, Refusal<'_>> {
+    match number_of(word.as_bytes()) {
+        Some(address) => Ok(address),
+        None => Err(Refusal::Address(word)),
+    }
+}
+
+/// The count of bytes that a word spells; one where none is written.
+fn count_of(word: Option<&str>) -> Result<u32, Refusal<'_>>
+    ensures { IfOk result (λ n. (1 ≤ n) × (n ≤ 256)) }
+{
+    let Some(word) = word else {
+        return Ok(1);
+    };
+    match number_within(word, 1, MOST_BYTES) {
+        Some(count) => Ok(count),
+        None => Err(Refusal::Count(word)),
+    }
+}
+
+/// So many bytes from an address on.
+fn bytes_of<'a>(address: &'a str, count: Option<&'a str>) -> Result<About, Refusal<'a>>
+    ensures { IfOk result IsThere }
+{
+    let address = address_of(address)?;
+    let count = count_of(count)?;
+    Ok(About::Bytes { address, count })
+}
+
+/// The register of a task: two numbers with a comma between them.
+fn register_of(word: &str) -> Result<About, Refusal<'_>>
+    ensures { IfOk result IsThere }
+{
+    let Some((task, register)) = word.split_once(',') else {
+        return Err(Refusal::Register(word));
+    };
+    match (
+        number_within(task, 1, LAST_TASK),
+        number_within(register, 0, LAST_REGISTER),
+    ) {
+        (Some(task), Some(register)) => Ok(About::Register {
+            task: task as u8,
+            register: register as u8,
+        }),
+        _ => Err(Refusal::Register(word)),
+    }
+}
+
+/// The word of a name.
+fn name_of(word: &str) -> Result<About, Refusal<'_>>
+    ensures { IfOk result IsThere }
+{
+    let text = word.as_bytes();
+    if is_name(text) {
+        Ok(About::Name(upper_name(text)))
+    } else {
+        Err(Refusal::Name(word))
+    }
+}
+
+/// A question with the script of which it's asked.
+type Asked<'a> = (Question<'a>, Option<&'a str>);
+
+/// The first value of an argument.
+fn text_of<'a>(matches: &ArgMatches<'a>, id: &str) -> Option<&'a str>
+    ensures { option_map (λ s. s.now) result ≡ first_of id.now (rows_of (found_of matches.now)) }
+{
+    matches.get_str(id)
+}
+
+/// What `list` asks.
+fn list_asked<'a>(matches: &ArgMatches<'a>) -> Asked<'a>
+    ensures askable { IsAskable result.0 }
+    ensures file { IsOfFile (rows_of (found_of matches.now)) result.0 (option_map (λ s. s.now) result.1) }
+{
+    let is_check = matches.get_flag("check");
+    (Question::List { is_check }, text_of(matches, "FILE"))
+}
+
+/// What `why` asks: of a line, or of an answer where what stands behind its first word is no line.
+fn why_asked<'a>(matches: &ArgMatches<'a>) -> Result<Asked<'a>, Refusal<'a>>
+    ensures askable { IfOk result (λ a. IsAskable a.0) }
+    ensures file { IfOk result (λ a. IsOfFile (rows_of (found_of matches.now)) a.0 (option_map (λ s. s.now) a.1)) }
+{
+    let file = text_of(matches, "FILE");
+    let second = text_of(matches, "LINE");
+    if let Some(word) = second {
+        if is_line(word) {
+            let line = line_of(word)?;
+            return Ok((Question::Why { line }, file));
+        }
+    }
+    let first = file.unwrap_or("");
+    Ok((Question::Code { first, second }, None))
+}
+
+/// The line that a word spells, where there is one.
+fn line_asked(word: Option<&str>) -> Result<Option<u32>, Refusal<'_>>
+    ensures { IfOk result (λ line. IfSome line IsLine) }
+{
+    match word {
+        Some(word) => Ok(Some(line_of(word)?)),
+        None => Ok(None),
+    }
+}
+
+/// What `report` asks.
+fn report_asked<'a>(matches: &ArgMatches<'a>) -> Result<Asked<'a>, Refusal<'a>>
+    ensures askable { IfOk result (λ a. IsAskable a.0) }
+    ensures file { IfOk result (λ a. IsOfFile (rows_of (found_of matches.now)) a.0 (option_map (λ s. s.now) a.1)) }
+{
+    let file = text_of(matches, "FILE");
+    let line = line_asked(text_of(matches, "LINE"))?;
+    if !matches.get_flag("over-time") {
+        return Ok((Question::Report { line }, file));
+    }
+    if line.is_some() {
+        return Err(Refusal::LineOverTime);
+    }
+    Ok((Question::OverTime, file))
+}
+
+/// How many things the words ask for that lines change.
+fn asked_at_once(matches: &ArgMatches<'_>) -> u32 {
+    u32::from(matches.get_flag("log"))
+        + u32::from(text_of(matches, "register").is_some())
+        + u32::from(text_of(matches, "name").is_some())
+        + u32::from(text_of(matches, "ADDRESS").is_some())
+}
+
+/// The thing that the words ask for, of which there is one at most.
+fn about_asked<'a>(matches: &ArgMatches<'a>) -> Result<About, Refusal<'a>>
+    ensures { IfOk result IsThere }
+{
+    if let Some(word) = text_of(matches, "register") {
+        register_of(word)
+    } else if let Some(word) = text_of(matches, "name") {
+        name_of(word)
+    } else if let Some(word) = text_of(matches, "ADDRESS") {
+        bytes_of(word, text_of(matches, "COUNT"))
+    } else {
+        Err(Refusal::NothingAsked)
+    }
+}
+
+/// What `who` asks.
+fn who_asked<'a>(matches: &ArgMatches<'a>) -> Result<Asked<'a>, Refusal<'a>>
+    ensures askable { IfOk result (λ a. IsAskable a.0) }
+    ensures file { IfOk result (λ a. IsOfFile (rows_of (found_of matches.now)) a.0 (option_map (λ s. s.now) a.1)) }
+{
+    let file = text_of(matches, "FILE");
+    if asked_at_once(matches) > 1 {
+        return Err(Refusal::MoreAsked);
+    }
+    if matches.get_flag("log") {
+        return Ok((Question::Log, file));
+    }
+    let about = about_asked(matches)?;
+    Ok((Question::Who(about), file))
+}
+
+/// What the words of this command ask, or what is wrong with them.
+fn question_of<'a>(command: &str, matches: &ArgMatches<'a>) -> Result<Asked<'a>, Refusal<'a>>
+    ensures askable { IfOk result (λ a. IsAskable a.0) }
+    ensures file { IfOk result (λ a. IsOfFile (rows_of (found_of matches.now)) a.0 (option_map (λ s. s.now) a.1)) }
+{
+    match command {
+        "why" => why_asked(matches),
+        "report" => report_asked(matches),
+        "who" => who_asked(matches),
+        _ => Ok(list_asked(matches)),
+    }
+}
+
+/// What the words of a command ask for, or what is wrong with them.
+fn asking_within<'a>(command: &str, matches: &ArgMatches<'a>) -> Result<Asking<'a>, Refusal<'a>>
+    ensures { IfOk result (Asks (rows_of (found_of matches.now))) }
+{
+    let Some(settings) = settings_asked(matches) else {
+        return Err(Refusal::Settings);
+    };
+    match question_of(command, matches) {
+        Ok((question, file)) => Ok(Asking {
+            question,
+            file,
+            settings,
+        }),
+        Err(refusal) => Err(refusal),
+    }
+}
+
+/// What the words ask for that were read, or what is wrong with them. Numbers are read as in a script.
+pub fn asking_of<'a>(matches: &ArgMatches<'a>) -> Result<Asking<'a>, Refusal<'a>>
+    ensures { IfOk result (λ a. IfSome (subcommand_rows_of matches.now) (λ p. Asks p.1 a)) }
+{
+    match matches.subcommand() {
+        Some((command, within)) => asking_within(command, within),
+        None => Err(Refusal::NothingAsked),
+    }
+}

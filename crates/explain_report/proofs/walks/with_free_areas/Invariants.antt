@@ -1,0 +1,20 @@
+use Rattle.std.proofs.Common.{◌≡◌, ◌+◌, ◌-◌, length, drop}
+use Rattle.run_set.specs.RunSet.{place_index}
+use Rattle.subpool_storage.specs.Extents.{free_areas}
+use Rattle.storage_core.specs.Meaning.{state_in_place}
+use Rattle.storage_core.specs.Walks.{subpool_before, IsFreeAreaPlace}
+use Rattle.explain_report.specs.Tallies.{with_runs}
+use Rattle.explain_report.proofs.Walked.{Added}
+use Rattle.explain_report.proofs.walks.with_free_areas.Given as goal
+
+abbrev pub invariant-loop-area : goal.invariant-loop-area
+invariant-loop-area l =
+    let p = subpool_before l.storage l.fn.subpool_place in
+    record {
+      place : IsFreeAreaPlace l.storage p l.place (place_index l.place.place);
+      added : Added (free_areas (state_in_place l.storage).subpools p) (place_index l.place.place) l.fn.before l.tally;
+    }
+
+abbrev pub decreases-loop-area : goal.decreases-loop-area
+decreases-loop-area l =
+    length (free_areas (state_in_place l.storage).subpools (subpool_before l.storage l.fn.subpool_place)) - place_index l.place.place

@@ -1,0 +1,18 @@
+//! What the storage of a bench comes to behind a statement, subpool by subpool and side by side, and over time.
+#![tactic(auto)]
+
+mod faults;
+pub mod laws;
+mod rows;
+mod runs;
+mod tables;
+mod tallies;
+mod times;
+mod walks;
+
+pub use faults::ReportFault;
+pub use rows::{Row, Share, row_of};
+pub use runs::{over_time, report};
+pub use tallies::{Sides, Tally};
+pub use times::{Moment, moment_of};
+pub use walks::{all_free_areas, unassigned};

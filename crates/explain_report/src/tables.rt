@@ -1,0 +1,265 @@
+//! The text of a report: its columns, its lines, and the rows over time.
+ghost use Rattle.storage_core.specs.Walks.{IsBehindSubpool, subpool_before};
+ghost use Rattle.std.specs.Prelude.{◌≡◌};
+
+use crate::rows::{Row, Share, row_of};
+use crate::tallies::Tally;
+use crate::times::Moment;
+use itoa::Buffer;
+use std::io::Write;
+use storage_core::{PoolPlace, Storage, Subpool};
+use text_output::{Gathered, put_decimal, put_hexadecimal};
+
+const BLANKS: &[u8; 16] = b"                ";
+
+/// Puts a number behind blanks, in a column of so many bytes.
+fn put_column<W: Write>(gathered: &mut Gathered, writer: &mut W, width: usize, n: u64) {
+    let mut buffer = Buffer::new();
+    let digits = buffer.format(n).as_bytes();
+    let blanks = width.saturating_sub(digits.len()).min(16);
+    gathered.put(writer, &BLANKS[..blanks]);
+    gathered.put(writer, digits);
+}
+
+/// Puts the address of what is longest, or a dash where there is none.
+fn put_where<W: Write>(gathered: &mut Gathered, writer: &mut W, some: bool, address: u64) {
+    gathered.put(writer, b" ");
+    if some && address < 0x1_0000_0000 {
+        put_hexadecimal(gathered, writer, 8, address as u32);
+    } else {
+        gathered.put(writer, b"-       ");
+    }
+}
+
+/// What the free storage lacks to be one area, in hundredths.
+fn fragmented(largest: u32, free: u32) -> u64 {
+    if free == 0 {
+        return 0;
+    }
+    100u64.saturating_sub(100 * u64::from(largest) / u64::from(free))
+}
+
+/// The most bytes that can be had at once, on a doubleword.
+fn could_get(share: &Share) -> u64 {
+    let fresh = 4096 * u64::from(share.unassigned);
+    fresh.max(8 * u64::from(share.largest))
+}
+
+/// Puts what a subpool has on one side of the line.
+fn put_share<W: Write>(gathered: &mut Gathered, writer: &mut W, share: &Share) {
+    let pages = 4096 * u64::from(share.pages);
+    let free = 8 * u64::from(share.free.total);
+    put_column(gathered, writer, 7, u64::from(share.pages));
+    put_column(gathered, writer, 11, pages.saturating_sub(free));
+    put_column(gathered, writer, 11, free);
+    put_column(gathered, writer, 7, u64::from(share.free.count));
+    put_column(gathered, writer, 11, 8 * u64::from(share.largest));
+    let at = 8 * u64::from(share.free.at);
+    put_where(gathered, writer, share.largest > 0, at);
+    put_column(
+        gathered,
+        writer,
+        9,
+        fragmented(share.largest, share.free.total),
+    );
+    gathered.put(writer, b" %");
+    put_column(gathered, writer, 11, could_get(share));
+}
+
+/// Puts the tasks that see the subpool before the place besides its owner.
+fn put_sharers<W: Write>(
+    gathered: &mut Gathered,
+    writer: &mut W,
+    storage: &Storage,
+    subpool: Subpool,
+    subpool_place: PoolPlace,
+)
+    requires { IsBehindSubpool storage.now subpool_place }
+{
+    let front = Storage::first_sharer_place(subpool_place);
+    let Some((first, second)) = storage.next_sharer(subpool, front) else {
+        gathered.put(writer, b" NONE");
+        return;
+    };
+    gathered.put(writer, b" ");
+    put_decimal(gathered, writer, u64::from(first));
+    let mut place = second;
+    'sharers: for _ in 0..64u32 {
+        let Some((task, behind)) = storage.next_sharer(subpool, place) else {
+            return;
+        };
+        gathered.put(writer, b",");
+        put_decimal(gathered, writer, u64::from(task));
+        place = behind;
+    }
+}
+
+/// Puts the line of a subpool on one side of the line.
+fn put_side<W: Write>(
+    gathered: &mut Gathered,
+    writer: &mut W,
+    row: &Row,
+    side: &[u8],
+    share: &Share,
+) {
+    put_column(gathered, writer, 7, u64::from(row.subpool.number));
+    put_column(gathered, writer, 6, u64::from(row.subpool.owner));
+    gathered.put(writer, side);
+    put_share(gathered, writer, share);
+}
+
+/// Puts the lines of a subpool: one for each side of the line on which it has pages, and one at least.
+fn put_row<W: Write>(
+    gathered: &mut Gathered,
+    writer: &mut W,
+    storage: &Storage,
+    subpool: Subpool,
+    place: PoolPlace,
+)
+    requires behind { IsBehindSubpool storage.now place }
+    requires before { subpool_before storage.now place ≡ subpool }
+{
+    let row = row_of(storage, subpool, place);
+    if row.low.pages > 0 || row.high.pages == 0 {
+        put_side(gathered, writer, &row, b" BELOW", &row.low);
+        put_sharers(gathered, writer, storage, subpool, place);
+        gathered.put(writer, b"\n");
+    }
+    if row.high.pages > 0 {
+        put_side(gathered, writer, &row, b" ABOVE", &row.high);
+        put_sharers(gathered, writer, storage, subpool, place);
+        gathered.put(writer, b"\n");
+    }
+}
+
+/// Puts the lines of all subpools, by number and then by owner.
+fn put_rows<W: Write>(gathered: &mut Gathered, writer: &mut W, storage: &Storage) {
+    let mut place = Storage::first_subpool_place();
+    while let Some((subpool, behind)) = storage.next_subpool(place) {
+        put_row(gathered, writer, storage, subpool, behind);
+        place = behind;
+    }
+}
+
+/// Puts the line of all subpools.
+fn put_total<W: Write>(gathered: &mut Gathered, writer: &mut W, moment: &Moment) {
+    let totals = &moment.totals;
+    gathered.put(writer, b"  TOTAL            ");
+    let pages = u64::from(totals.low_pages) + u64::from(totals.high_pages);
+    put_column(gathered, writer, 7, pages);
+    put_column(gathered, writer, 11, totals.taken);
+    put_column(gathered, writer, 11, totals.free);
+    put_column(gathered, writer, 7, u64::from(moment.free.count));
+    put_column(gathered, writer, 11, 8 * u64::from(moment.free.longest));
+    let at = 8 * u64::from(moment.free.at);
+    put_where(gathered, writer, moment.free.longest > 0, at);
+    put_column(
+        gathered,
+        writer,
+        9,
+        fragmented(moment.free.longest, moment.free.total),
+    );
+    gathered.put(writer, b" %\n");
+}
+
+/// Puts the line of the unassigned pages of one side.
+fn put_unassigned<W: Write>(gathered: &mut Gathered, writer: &mut W, side: &[u8], runs: &Tally) {
+    gathered.put(writer, side);
+    put_column(gathered, writer, 7, u64::from(runs.total));
+    gathered.put(writer, b" PAGES IN ");
+    put_decimal(gathered, writer, u64::from(runs.count));
+    gathered.put(writer, b" RUNS, LONGEST ");
+    put_decimal(gathered, writer, u64::from(runs.longest));
+    gathered.put(writer, b" PAGES (");
+    put_decimal(gathered, writer, 4096 * u64::from(runs.longest));
+    gathered.put(writer, b" BYTES) AT");
+    put_where(
+        gathered,
+        writer,
+        runs.longest > 0,
+        4096 * u64::from(runs.at),
+    );
+    gathered.put(writer, b"\n");
+}
+
+/// Puts the table of a storage: each subpool on each side of the line, their totals, and what is unassigned.
+pub(crate) fn put_table<W: Write>(
+    gathered: &mut Gathered,
+    writer: &mut W,
+    storage: &Storage,
+    moment: &Moment,
+) {
+    gathered.put(
+        writer,
+        b"SUBPOOL OWNER SIDE   PAGES      TAKEN       FREE  AREAS    LARGEST AT       FRAGMENTED",
+    );
+    gathered.put(writer, b"  COULD GET SHARERS\n");
+    put_rows(gathered, writer, storage);
+    put_total(gathered, writer, moment);
+    put_unassigned(
+        gathered,
+        writer,
+        b"UNASSIGNED BELOW   ",
+        &moment.unassigned.low,
+    );
+    put_unassigned(
+        gathered,
+        writer,
+        b"UNASSIGNED ABOVE   ",
+        &moment.unassigned.high,
+    );
+}
+
+/// Puts the first line of the rows over time.
+pub(crate) fn put_heading<W: Write>(gathered: &mut Gathered, writer: &mut W) {
+    gathered.put(
+        writer,
+        b"line,low_assigned,low_unassigned,low_runs,low_longest,",
+    );
+    gathered.put(
+        writer,
+        b"high_assigned,high_unassigned,high_runs,high_longest,",
+    );
+    gathered.put(writer, b"taken,free,areas,largest\n");
+}
+
+/// Puts a comma and a number.
+fn put_next<W: Write>(gathered: &mut Gathered, writer: &mut W, n: u64) {
+    gathered.put(writer, b",");
+    put_decimal(gathered, writer, n);
+}
+
+/// Puts what one side of the line has.
+fn put_pages<W: Write>(gathered: &mut Gathered, writer: &mut W, assigned: u32, runs: &Tally) {
+    put_next(gathered, writer, u64::from(assigned));
+    put_next(gathered, writer, u64::from(runs.total));
+    put_next(gathered, writer, u64::from(runs.count));
+    put_next(gathered, writer, u64::from(runs.longest));
+}
+
+/// Puts the row of the statement that begins on a line, with what the storage comes to behind it.
+pub(crate) fn put_moment<W: Write>(
+    gathered: &mut Gathered,
+    writer: &mut W,
+    line: u32,
+    moment: &Moment,
+) {
+    put_decimal(gathered, writer, u64::from(line));
+    put_pages(
+        gathered,
+        writer,
+        moment.totals.low_pages,
+        &moment.unassigned.low,
+    );
+    put_pages(
+        gathered,
+        writer,
+        moment.totals.high_pages,
+        &moment.unassigned.high,
+    );
+    put_next(gathered, writer, moment.totals.taken);
+    put_next(gathered, writer, moment.totals.free);
+    put_next(gathered, writer, u64::from(moment.free.count));
+    put_next(gathered, writer, 8 * u64::from(moment.free.longest));
+    gathered.put(writer, b"\n");
+}

@@ -1,0 +1,99 @@
+//! The runs of a storage, walked over once.
+ghost use Rattle.std.specs.Prelude.{◌≡◌, ◌+◌, ◌^◌, ◌<◌, length, flat_map};
+ghost use Rattle.subpool_storage.specs.Extents.{extents, free_areas};
+ghost use Rattle.subpool_storage.specs.Order.{subpools_in_order};
+ghost use Rattle.map_laws.specs.Lists.{unassigned_runs};
+ghost use Rattle.storage_core.specs.Meaning.{state_in_place};
+ghost use Rattle.storage_core.specs.Walks.{IsBehindSubpool, subpool_before};
+ghost use Rattle.explain_report.specs.Tallies.{tally_of, with_runs, low_runs, high_runs, numbers_in};
+
+use crate::tallies::{Sides, Tally};
+use map_laws::laws::totals_are_sums;
+use storage_core::{PoolPlace, Storage};
+
+/// The first page above the 16 MB line, and the first doubleword.
+const LINE_PAGE: u32 = 4096;
+
+const LINE_DOUBLEWORD: u32 = 2_097_152;
+
+/// The extents of the subpool before the place, in pages.
+pub(crate) fn extents_of(storage: &Storage, subpool_place: PoolPlace) -> Sides
+    requires { IsBehindSubpool storage.now subpool_place }
+    ensures low { result.low ≡ tally_of (low_runs 4096
+        (extents (state_in_place storage.now).subpools (subpool_before storage.now subpool_place))) }
+    ensures high { result.high ≡ tally_of (high_runs 4096
+        (extents (state_in_place storage.now).subpools (subpool_before storage.now subpool_place))) }
+{
+    let mut sides = Sides::NONE;
+    let mut place = storage.first_extent_at(subpool_place);
+    while let Some((run, behind)) = storage.next_extent(place) {
+        sides = sides.with_run(LINE_PAGE, run);
+        place = behind;
+    }
+    sides
+}
+
+/// The free areas of the subpool before the place, in doublewords.
+pub(crate) fn free_areas_of(storage: &Storage, subpool_place: PoolPlace) -> Sides
+    requires { IsBehindSubpool storage.now subpool_place }
+    ensures low { result.low ≡ tally_of (low_runs 2097152
+        (free_areas (state_in_place storage.now).subpools (subpool_before storage.now subpool_place))) }
+    ensures high { result.high ≡ tally_of (high_runs 2097152
+        (free_areas (state_in_place storage.now).subpools (subpool_before storage.now subpool_place))) }
+{
+    let mut sides = Sides::NONE;
+    let mut place = storage.first_free_area_at(subpool_place);
+    while let Some((area, behind)) = storage.next_free_area(place) {
+        sides = sides.with_run(LINE_DOUBLEWORD, area);
+        place = behind;
+    }
+    sides
+}
+
+/// The runs of unassigned pages.
+pub fn unassigned(storage: &Storage) -> Sides
+    ensures low { result.low ≡ tally_of (low_runs 4096 (unassigned_runs (state_in_place storage.now))) }
+    ensures high { result.high ≡ tally_of (high_runs 4096 (unassigned_runs (state_in_place storage.now))) }
+{
+    let mut sides = Sides::NONE;
+    let mut place = Storage::first_unassigned();
+    while let Some((run, behind)) = storage.next_unassigned(place) {
+        sides = sides.with_run(LINE_PAGE, run);
+        place = behind;
+    }
+    sides
+}
+
+/// The runs with the free areas of the subpool before the place behind them.
+fn with_free_areas(storage: &Storage, subpool_place: PoolPlace, before: Tally) -> Tally
+    requires behind { IsBehindSubpool storage.now subpool_place }
+    requires total { before.total + numbers_in
+        (free_areas (state_in_place storage.now).subpools (subpool_before storage.now subpool_place)) < 2 ^ 32 }
+    requires count { before.count + length
+        (free_areas (state_in_place storage.now).subpools (subpool_before storage.now subpool_place)) < 2 ^ 32 }
+    ensures { result ≡ with_runs before
+        (free_areas (state_in_place storage.now).subpools (subpool_before storage.now subpool_place)) }
+{
+    let mut tally = before;
+    let mut place = storage.first_free_area_at(subpool_place);
+    while let Some((area, behind)) = storage.next_free_area(place) {
+        tally = tally.with_run(area);
+        place = behind;
+    }
+    tally
+}
+
+/// The free areas of all subpools, in doublewords: by the subpool's number and owner, and then ascending.
+pub fn all_free_areas(storage: &Storage) -> Tally
+    ensures { result ≡ tally_of (flat_map (free_areas (state_in_place storage.now).subpools)
+        (subpools_in_order (state_in_place storage.now).subpools)) }
+{
+    totals_are_sums();
+    let mut tally = Tally::NONE;
+    let mut place = Storage::first_subpool_place();
+    while let Some((_, behind)) = storage.next_subpool(place) {
+        tally = with_free_areas(storage, behind, tally);
+        place = behind;
+    }
+    tally
+}

@@ -1,0 +1,4 @@
+pub mod Readings
+pub mod Who
+pub mod Code
+pub mod Notes

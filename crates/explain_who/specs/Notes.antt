@@ -1,0 +1,27 @@
+-- What is noted of an answer.
+use Rattle.std.specs.Prelude.{ℕ, ◌<◌, ◌≤◌, List, length, drop, Option, Some, None, Result, Ok, Err}
+use Rattle.line_history.specs.Trails.{Marks, with_mark, stepped}
+use Rattle.script_steps.specs.Script.{NoFeed}
+use Rattle.script_steps.specs.declared.responses.Response.{Response}
+use Rattle.script_steps.specs.declared.responses.Response.TheVariants as response
+use Rattle.explain_who.specs.declared.faults.WhoFault.{WhoFault}
+use Rattle.explain_who.specs.declared.readings.Seen.{Seen}
+
+-- An accepted statement is noted with what is read behind it, and a step by how many changes are kept before it and
+-- behind it; nothing else is noted.
+abbrev pub with_told : Seen → ℕ → Option (ℕ × Response) → Marks Seen → Marks Seen
+with_told seen before None t = t
+with_told seen before (Some (line, response.Replied reply)) t = with_mark t line seen
+with_told seen before (Some (line, response.Kept after)) t = stepped t before after
+with_told seen before (Some (line, response.Refused why)) t = t
+with_told seen before (Some (line, response.TooFar n)) t = t
+with_told seen before (Some (line, response.TooFarAhead n)) t = t
+with_told seen before (Some (line, response.Shown bytes)) t = t
+with_told seen before (Some (line, response.Map)) t = t
+with_told seen before (Some (line, response.Fault kind)) t = t
+
+-- The next line begins behind this one, in the script or at its end; or no line feed stands from there on.
+abbrev pub IsNextLine : List ℕ → ℕ → Result (Option ℕ) WhoFault → Type 0
+IsNextLine script at (Ok (Some next)) = (at < next) × (next ≤ length script)
+IsNextLine script at (Ok None) = NoFeed (drop at script)
+IsNextLine script at (Err fault) = Unit {0}

@@ -1,0 +1,21 @@
+-- At which statements a reading differs.
+use Rattle.std.specs.Prelude.{ℕ, Bool, true, false, List, [], ◌∷◌, ◌++◌}
+use Rattle.line_history.specs.declared.trail.Entry.{Entry}
+use Rattle.explain_who.specs.Readings.{same}
+use Rattle.explain_who.specs.declared.readings.Seen.{Seen}
+
+-- A line at whose statement the reading differs, with what is read before it and behind it.
+pub record Difference : Type 0 where
+  pub line : ℕ
+  pub before : Seen
+  pub after : Seen
+
+abbrev pub unless : Bool → ℕ → Seen → Seen → List Difference
+unless true line before after = []
+unless false line before after = record { line = line; before = before; after = after } ∷ []
+
+-- Those of these statements, the oldest first, behind which something else is read than before them; before all of them
+-- this is read.
+abbrev pub differences_of : Seen → List (Entry Seen) → List Difference
+differences_of before [] = []
+differences_of before (e ∷ es) = unless (same before e.seen) e.line before e.seen ++ differences_of e.seen es

@@ -1,0 +1,18 @@
+//! Who changed it: the lines of a script at whose statements a reading of the bench differs.
+#![tactic(auto)]
+
+mod faults;
+mod found;
+mod output;
+mod readings;
+mod texts;
+mod tracing;
+
+pub use faults::WhoFault;
+pub use found::{Change, changes};
+pub use output::{log, who};
+pub use readings::{Asked, Seen};
+pub use tracing::{Traced, follow};
+
+#[cfg(test)]
+mod tests;

@@ -1,0 +1,145 @@
+//! Who changed it, and every change with its line, as text.
+
+use crate::faults::WhoFault;
+use crate::found::{Change, changes};
+use crate::readings::{Asked, Seen};
+use crate::texts::{put_line, put_seen};
+use crate::tracing::{Traced, follow};
+use line_history::Entry;
+use script_steps::Watch;
+use std::alloc::Global;
+use std::io::Write;
+use text_output::{Gathered, put_decimal};
+use vsm_model::Settings;
+
+/// Puts one change.
+fn put_change<W: Write>(
+    gathered: &mut Gathered,
+    writer: &mut W,
+    script: &[u8],
+    starts: &[usize],
+    change: &Change<'_>,
+) {
+    put_line(gathered, writer, script, starts, change.line);
+    put_seen(gathered, writer, change.before);
+    gathered.put(writer, b" -> ");
+    put_seen(gathered, writer, change.after);
+    gathered.put(writer, b"\n");
+}
+
+/// Puts how many statements stand, all of which were looked at.
+fn put_looked<W: Write>(gathered: &mut Gathered, writer: &mut W, changes: usize, standing: usize) {
+    put_decimal(gathered, writer, changes as u64);
+    gathered.put(writer, b" of ");
+    put_decimal(gathered, writer, standing as u64);
+    gathered.put(
+        writer,
+        b" standing statements, all of which were looked at\n",
+    );
+}
+
+/// Whether so much can be asked for.
+fn is_valid(asked: &Asked) -> bool {
+    match asked {
+        Asked::Bytes { count, .. } => *count >= 1 && *count <= 256,
+        _ => true,
+    }
+}
+
+/// Writes the lines of a script whose statements changed what is asked for, the newest first, with what is read before
+/// and behind each; then how many statements stand, all of which are looked at, whatever the bench's history forgot.
+///
+/// The script runs under these settings. See [`changes`] for which lines these are.
+pub fn who<W: Write, P: Watch>(
+    alloc: Global,
+    script: &[u8],
+    settings: Settings,
+    asked: Asked,
+    out: &mut W,
+    watch: &mut P,
+) -> Result<(), WhoFault> {
+    if !is_valid(&asked) {
+        return Err(WhoFault::Count);
+    }
+    let traced = follow(alloc, script, settings, &Some(asked), watch)?;
+    let found = changes(alloc, &traced)?;
+    let mut gathered = Gathered::new();
+    let starts = traced.starts.as_slice();
+    for change in found.as_slice().iter().rev() {
+        put_change(&mut gathered, out, script, starts, change);
+    }
+    put_looked(
+        &mut gathered,
+        out,
+        found.len(),
+        traced.trail.standing().len(),
+    );
+    gathered.hand_out(out)?;
+    Ok(())
+}
+
+/// Puts one statement with what became of it.
+fn put_entry<W: Write>(
+    gathered: &mut Gathered,
+    writer: &mut W,
+    script: &[u8],
+    starts: &[usize],
+    entry: &Entry<Seen>,
+    state: &[u8],
+) {
+    put_line(gathered, writer, script, starts, entry.line);
+    gathered.put(writer, state);
+    gathered.put(writer, b"\n");
+}
+
+/// Puts the statements that are undone, the last one to be done again first.
+fn put_undone<W: Write>(gathered: &mut Gathered, writer: &mut W, script: &[u8], traced: &Traced) {
+    for entry in traced.trail.undone().iter().rev() {
+        put_entry(
+            gathered,
+            writer,
+            script,
+            traced.starts.as_slice(),
+            entry,
+            b"undone",
+        );
+    }
+}
+
+/// Puts the statements that stand, the newest first: those that can be undone, and those that no more can.
+fn put_standing<W: Write>(gathered: &mut Gathered, writer: &mut W, script: &[u8], traced: &Traced) {
+    let mut kept = traced.kept;
+    for entry in traced.trail.standing().iter().rev() {
+        let state: &[u8] = if kept > 0 { b"kept" } else { b"forgotten" };
+        kept = kept.saturating_sub(1);
+        put_entry(
+            gathered,
+            writer,
+            script,
+            traced.starts.as_slice(),
+            entry,
+            state,
+        );
+    }
+}
+
+/// Writes every statement of a script that changed the bench, the newest first, with its line: those that are undone,
+/// those that are kept and can be undone, and those that stand, but were forgotten by the history.
+pub fn log<W: Write, P: Watch>(
+    alloc: Global,
+    script: &[u8],
+    settings: Settings,
+    out: &mut W,
+    watch: &mut P,
+) -> Result<(), WhoFault> {
+    let traced = follow(alloc, script, settings, &None, watch)?;
+    let mut gathered = Gathered::new();
+    put_undone(&mut gathered, out, script, &traced);
+    put_standing(&mut gathered, out, script, &traced);
+    put_decimal(&mut gathered, out, traced.trail.standing().len() as u64);
+    gathered.put(out, b" statements stand, ");
+    put_decimal(&mut gathered, out, u64::from(traced.kept));
+    gathered.put(out, b" of them kept\n");
+    gathered.hand_out(out)?;
+    Ok(())
+}

@@ -1,0 +1,123 @@
+//! A script is followed on a bench: which of its statements stand, and what is read behind each.
+ghost use Rattle.std.specs.Prelude.{◌≡◌, ◌≤◌, drop, length, OnOk};
+ghost use Rattle.bench_core.specs.Stands.{bench_of};
+ghost use Rattle.line_history.specs.Trails.{marks_of};
+ghost use Rattle.script_steps.specs.Script.{NoFeed};
+ghost use Rattle.explain_who.specs.Readings.{reading};
+ghost use Rattle.explain_who.specs.Notes.{with_told, IsNextLine};
+
+use crate::faults::WhoFault;
+use crate::readings::{Asked, Seen, read};
+use line_history::Trail;
+use script_steps::{Bench, Response, Session, Watch};
+use std::alloc::{AllocError, Global};
+use vsm_model::Settings;
+
+/// A script that was followed to its end.
+#[derive(Drop)]
+pub struct Traced {
+    /// What is read before the first statement.
+    pub first: Seen,
+    /// The statements that stand, and those that are undone, each with its line and what is read behind it.
+    pub trail: Trail<Seen>,
+    /// How many of those that stand can be undone: the newest.
+    pub kept: u32,
+    /// Where each line begins in the script.
+    pub starts: Vec<usize>,
+}
+
+/// Notes what a line told: a statement that stands now, or a step over some, before which so many could be undone.
+fn note(
+    trail: &mut Trail<Seen>,
+    bench: &Bench,
+    asked: &Option<Asked>,
+    before: u32,
+    told: &Option<(u32, Response)>,
+) -> Result<(), AllocError>
+    ensures { OnOk result (marks_of trail.new
+        ≡ with_told (reading asked.now (bench_of bench.now).present) before told.now (marks_of trail.old)) }
+{
+    match told {
+        Some((line, Response::Replied(_))) => trail.applied(*line, read(bench, asked)),
+        Some((_, Response::Kept(after))) => {
+            trail.stepped(before, *after);
+            Ok(())
+        }
+        _ => Ok(()),
+    }
+}
+
+/// Notes where a line begins.
+fn note_start(starts: &mut Vec<usize>, at: usize) -> Result<(), AllocError> {
+    starts.push(at)?;
+    Ok(())
+}
+
+/// Follows the line that begins at a place of the script, and gives the place of the next. `None`, and nothing is
+/// taken, where no line feed stands from there on.
+fn follow_line(
+    session: &mut Session,
+    trail: &mut Trail<Seen>,
+    script: &[u8],
+    at: usize,
+    asked: &Option<Asked>,
+) -> Result<Option<usize>, WhoFault>
+    requires { at ≤ length script.now }
+    ensures { IsNextLine script.now at result }
+{
+    let before = session.bench().kept();
+    let Some(step) = session.take_line(script, at)? else {
+        return Ok(None);
+    };
+    note(trail, session.bench(), asked, before, &step.told)?;
+    Ok(Some(step.next))
+}
+
+/// Follows what stands behind the last line feed, and gives how many changes are kept then.
+fn follow_end(
+    session: Session,
+    trail: &mut Trail<Seen>,
+    rest: &[u8],
+    asked: &Option<Asked>,
+) -> Result<u32, WhoFault>
+    requires { NoFeed rest.now }
+{
+    let mut session = session;
+    let before = session.bench().kept();
+    session.take_bytes(rest)?;
+    let ending = session.end();
+    note(trail, &ending.bench, asked, before, &ending.last)?;
+    Ok(ending.bench.kept())
+}
+
+/// Follows a script on a new bench under these settings, to its end.
+pub fn follow<P: Watch>(
+    alloc: Global,
+    script: &[u8],
+    settings: Settings,
+    asked: &Option<Asked>,
+    watch: &mut P,
+) -> Result<Traced, WhoFault> {
+    let bench = match Bench::new(alloc, settings) {
+        Ok(bench) => bench,
+        Err(fault) => return Err(WhoFault::New(fault)),
+    };
+    let first = read(&bench, asked);
+    let mut trail = Trail::new(alloc);
+    let mut starts = Vec::new(alloc);
+    let mut session = Session::new(bench);
+    let mut at = 0;
+    while let Some(next) = follow_line(&mut session, &mut trail, script, at, asked)? {
+        note_start(&mut starts, at)?;
+        watch.line(session.lines());
+        at = next;
+    }
+    note_start(&mut starts, at)?;
+    let kept = follow_end(session, &mut trail, &script[at..], asked)?;
+    Ok(Traced {
+        first,
+        trail,
+        kept,
+        starts,
+    })
+}

@@ -1,0 +1,2 @@
+-- Lemmas on the place of an area.
+pub mod NoPlace

@@ -1,0 +1,163 @@
+//! Cell pools by their names, and why requests for their cells are answered as they are, told.
+ghost use Rattle.std.specs.Prelude.{IfSome, IsSome};
+ghost use Rattle.cell_readings.specs.Cells.{cell_pool};
+
+use crate::pieces::{Piece, put_line};
+use crate::releases::seen;
+use cell_readings::{
+    CellId, Extent, Settings, cell_extent_at, cell_pool_at, cell_pool_name, cell_pool_settings,
+    free_cell_at,
+};
+use std::io::Write;
+use storage_core::{Run, Storage};
+use text_output::Gathered;
+
+/// The cell pool of a name.
+pub(crate) fn find_pool(storage: &Storage, name: &str) -> Option<CellId>
+    ensures { IfSome result (λ id. IsSome (cell_pool storage.now id)) }
+{
+    for i in 0..256 {
+        let id = cell_pool_at(storage, i)?;
+        let its = cell_pool_name(storage, id);
+        if its.as_str() == name {
+            return Some(id);
+        }
+    }
+    None
+}
+
+/// How many cell pools there are.
+pub(crate) fn count_pools(storage: &Storage) -> u32 {
+    for i in 0..256 {
+        if cell_pool_at(storage, i).is_none() {
+            return i;
+        }
+    }
+    256
+}
+
+/// The doublewords of an extent.
+fn extent_area(settings: Settings, extent: Extent) -> Run {
+    let bytes = extent.count.saturating_mul(settings.size);
+    Run {
+        start: extent.start / 8,
+        len: bytes.div_ceil(8),
+    }
+}
+
+/// Whether two areas have a doubleword in common.
+fn meet(one: Run, other: Run) -> bool {
+    one.start < other.start.saturating_add(other.len)
+        && other.start < one.start.saturating_add(one.len)
+}
+
+/// The first extent of the cell pool that meets an area.
+fn extent_in(storage: &Storage, id: CellId, area: Run) -> Option<Run>
+    requires { IsSome (cell_pool storage.now id) }
+{
+    let settings = cell_pool_settings(storage, id);
+    for i in 0..u32::MAX {
+        let extent = extent_area(settings, cell_extent_at(storage, id, i)?);
+        if meet(extent, area) {
+            return Some(extent);
+        }
+    }
+    None
+}
+
+/// Puts the first cell pool with an extent that meets an area.
+pub(crate) fn put_overlap<W: Write>(
+    gathered: &mut Gathered,
+    writer: &mut W,
+    storage: &Storage,
+    area: Run,
+) {
+    for i in 0..256 {
+        let Some(id) = cell_pool_at(storage, i) else {
+            return;
+        };
+        if let Some(extent) = extent_in(storage, id, area) {
+            let name = cell_pool_name(storage, id);
+            return put_line(
+                gathered,
+                writer,
+                &[
+                    Piece::Text("cell pool "),
+                    Piece::Text(name.as_str()),
+                    Piece::Text(" has an extent of "),
+                    Piece::Number(extent.len.saturating_mul(8)),
+                    Piece::Text(" bytes at "),
+                    Piece::Address(extent.start.saturating_mul(8)),
+                ],
+            );
+        }
+    }
+}
+
+/// Puts that there is no cell pool of the name, or whose its subpool is that the current task doesn't see.
+pub(crate) fn put_no_pool<W: Write>(
+    gathered: &mut Gathered,
+    writer: &mut W,
+    storage: &Storage,
+    name: &str,
+) {
+    let Some(id) = find_pool(storage, name) else {
+        return put_line(
+            gathered,
+            writer,
+            &[Piece::Text("there is no cell pool "), Piece::Text(name)],
+        );
+    };
+    let subpool = cell_pool_settings(storage, id).subpool;
+    let number = u32::from(subpool.number);
+    put_line(
+        gathered,
+        writer,
+        &[
+            Piece::Text("cell pool "),
+            Piece::Text(name),
+            Piece::Text(" lies in subpool "),
+            Piece::Number(number),
+            Piece::Text(" of task "),
+            Piece::Number(u32::from(subpool.owner)),
+        ],
+    );
+    match seen(storage, number) {
+        Some(_) => crate::releases::put_seen(gathered, writer, storage, number),
+        None => crate::releases::put_unseen(gathered, writer, storage, number),
+    }
+}
+
+/// Whether a cell of the cell pool is free.
+fn is_free_cell(storage: &Storage, id: CellId, cell: u32) -> bool
+    requires { IsSome (cell_pool storage.now id) }
+{
+    for i in 0..u32::MAX {
+        match free_cell_at(storage, id, i) {
+            Some(free) if free == cell => return true,
+            Some(_) => (),
+            None => return false,
+        }
+    }
+    false
+}
+
+/// Puts why an address isn't that of a cell in use.
+pub(crate) fn put_not_in_use<W: Write>(
+    gathered: &mut Gathered,
+    writer: &mut W,
+    storage: &Storage,
+    name: &str,
+    cell: u32,
+) {
+    let free = match find_pool(storage, name) {
+        Some(id) => is_free_cell(storage, id, cell),
+        None => false,
+    };
+    let text = if free {
+        " is free already"
+    } else {
+        " isn't the address of one of its cells"
+    };
+    put_line(gathered, writer, &[Piece::Address(cell), Piece::Text(text)]);
+}

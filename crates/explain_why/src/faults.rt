@@ -1,0 +1,28 @@
+//! What keeps a line from being explained.
+use bench_core::NewFault;
+use script_steps::TooLong;
+
+/// What keeps a line, or an answer's text, from being explained.
+#[derive(Clone, Copy, Debug, PartialEq, Eq)]
+pub enum WhyFault {
+    /// There is no bench under these settings, or no memory for one.
+    New(NewFault),
+    /// The script passes a bound before the end of the statement.
+    TooLong,
+    /// The writer took no more.
+    Write,
+    /// The script has no such line: it has so many.
+    NoLine(u32),
+    /// The line is a comment or empty.
+    Aside,
+    /// The line is dropped: it stands behind a line that breaks a rule of continuation, whose column 72 isn't blank.
+    Dropped,
+    /// There is no answer of this text.
+    NoAnswer,
+}
+
+impl From<TooLong> for WhyFault {
+    fn from(_: TooLong) -> WhyFault {
+        WhyFault::TooLong
+    }
+}

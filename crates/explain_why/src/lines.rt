@@ -1,0 +1,200 @@
+//! Why a line of a script is answered as it is.
+ghost use Rattle.std.specs.Prelude.{◌≡◌, ◌≤◌, IfOk, IfSome, length};
+ghost use Rattle.script_steps.specs.Script.{NoFeed};
+
+use crate::ahead::{Ahead, Asked, read_ahead};
+use crate::causes::put_reasons;
+use crate::faults::WhyFault;
+use crate::headings::put_fault_heading;
+use crate::pieces::{Piece, put_pieces};
+use bench_core::{Bench, Refusal};
+use script_steps::{LINES, Response, Session, Stand, Watch, put_response};
+use std::alloc::Global;
+use std::io::Write;
+use text_output::Gathered;
+use vsm_model::Settings;
+
+/// The lines that a statement has at most.
+const STATEMENT_LINES: u32 = 10;
+
+/// The statement of a line: where it begins in the script, the number of its first line, and what it asks for.
+#[derive(Drop)]
+struct Place {
+    at: usize,
+    first: u32,
+    ahead: Ahead,
+}
+
+/// The statement of this line, where it begins at this place, before which the session stands.
+fn place_of(
+    session: &Session,
+    script: &[u8],
+    at: usize,
+    line: u32,
+) -> Result<Option<Place>, WhyFault>
+    ensures { IfOk result (λ found. IfSome found (λ place. place.at ≡ at)) }
+{
+    let first = session.lines() + 1;
+    match session.stand() {
+        Stand::Awaiting => (),
+        Stand::Dropping if first == line => return Err(WhyFault::Dropped),
+        _ => return Ok(None),
+    }
+    if line < first || line - first >= STATEMENT_LINES {
+        return Ok(None);
+    }
+    let ahead = read_ahead(script, at);
+    if line - first >= ahead.lines {
+        return Ok(None);
+    }
+    match ahead.asked {
+        Asked::Aside => Err(WhyFault::Aside),
+        _ => Ok(Some(Place { at, first, ahead })),
+    }
+}
+
+/// Takes the script up to in front of the statement of a line.
+fn seek<P: Watch>(
+    session: &mut Session,
+    script: &[u8],
+    line: u32,
+    watch: &mut P,
+) -> Result<Place, WhyFault>
+    ensures { IfOk result (λ place. place.at ≤ length script.now) }
+{
+    let mut at = 0;
+    for _ in 0..LINES {
+        if at >= script.len() {
+            return Err(WhyFault::NoLine(session.lines()));
+        }
+        if let Some(place) = place_of(session, script, at, line)? {
+            return Ok(place);
+        }
+        let Some(step) = session.take_line(script, at)? else {
+            return Err(WhyFault::NoLine(session.lines() + 1));
+        };
+        watch.line(session.lines());
+        at = step.next;
+    }
+    Err(WhyFault::TooLong)
+}
+
+/// What the end of the script is answered, where the statement isn't answered before.
+fn answer_at_end(session: Session, rest: &[u8]) -> Result<Option<Response>, WhyFault>
+    requires { NoFeed rest.now }
+{
+    let mut session = session;
+    session.take_bytes(rest)?;
+    let ending = session.end();
+    match (ending.last, ending.open_statement) {
+        (Some((_, response)), _) => Ok(Some(response)),
+        (None, Some((_, response))) => Ok(Some(response)),
+        (None, None) => Ok(None),
+    }
+}
+
+/// Carries out the statement that begins at a place, before which the session stands, and gives its answer.
+fn answer(session: Session, script: &[u8], at: usize) -> Result<Option<Response>, WhyFault>
+    requires { at ≤ length script.now }
+{
+    let mut session = session;
+    let mut at = at;
+    for _ in 0..STATEMENT_LINES {
+        let Some(step) = session.take_line(script, at)? else {
+            return answer_at_end(session, &script[at..]);
+        };
+        if let Some((_, response)) = step.told {
+            return Ok(Some(response));
+        }
+        at = step.next;
+    }
+    Ok(None)
+}
+
+/// Puts what a statement asks for, and why it's answered as it is.
+fn put_why<W: Write>(
+    gathered: &mut Gathered,
+    writer: &mut W,
+    bench: &Bench,
+    line: u32,
+    place: &Place,
+) {
+    put_pieces(
+        gathered,
+        writer,
+        &[Piece::Text("line "), Piece::Number(place.first)],
+    );
+    if line != place.first {
+        put_pieces(
+            gathered,
+            writer,
+            &[
+                Piece::Text(" (line "),
+                Piece::Number(line),
+                Piece::Text(" goes on with it)"),
+            ],
+        );
+    }
+    gathered.put(writer, b": ");
+    match &place.ahead.asked {
+        Asked::Request(request) => put_reasons(gathered, writer, bench, request),
+        Asked::Fault(kind) => put_fault_heading(gathered, writer, *kind),
+        Asked::Open | Asked::Aside => gathered.put(
+            writer,
+            b"the script ends within the statement\n",
+        ),
+    }
+}
+
+/// Writes why the statement of a line, its first or a later one, is answered as it is: what it asks for in the state
+/// before it, what decides, and the answer. `true` where that is a refusal.
+///
+/// The lines before it are carried out on a new bench under the settings; `watch` is told each.
+///
+/// `New` where there is no such bench; `TooLong` where a byte up to the statement's end passes a bound; `NoLine`,
+/// `Aside` and `Dropped` where the line belongs to no statement; `Write` where the writer takes no more.
+pub fn why<W: Write, P: Watch>(
+    alloc: Global,
+    script: &[u8],
+    settings: Settings,
+    line: u32,
+    out: &mut W,
+    watch: &mut P,
+) -> Result<bool, WhyFault> {
+    let bench = match Bench::new(alloc, settings) {
+        Ok(bench) => bench,
+        Err(fault) => return Err(WhyFault::New(fault)),
+    };
+    let mut session = Session::new(bench);
+    let place = seek(&mut session, script, line, watch)?;
+    let mut gathered = Gathered::new();
+    put_why(&mut gathered, out, session.bench(), line, &place);
+    let response = answer(session, script, place.at)?;
+    let refused = put_answer(&mut gathered, out, &response);
+    match gathered.finish(out) {
+        Ok(()) => Ok(refused),
+        Err(_) => Err(WhyFault::Write),
+    }
+}
+
+/// Puts an answer, and says whether it's a refusal.
+fn put_answer<W: Write>(
+    gathered: &mut Gathered,
+    writer: &mut W,
+    response: &Option<Response>,
+) -> bool {
+    let Some(response) = response else {
+        gathered.put(writer, b"  answered: nothing\n");
+        return false;
+    };
+    if let Response::Refused(Refusal::NoMemory) = response {
+        gathered.put(
+            writer,
+            b"  no rule refuses it: the program got no memory for it, and that alone is why\n",
+        );
+    }
+    gathered.put(writer, b"  answered: ");
+    put_response(gathered, writer, response);
+    gathered.put(writer, b"\n");
+    response.is_refused()
+}

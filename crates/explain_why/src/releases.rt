@@ -1,0 +1,203 @@
+//! Why an area can't be released, told.
+use crate::areas::{first_free, first_page_beside, first_page_of_another};
+use crate::cells::put_overlap;
+use crate::pieces::{Piece, put_line};
+use std::io::Write;
+use storage_core::{Release, Run, Settings, Storage, Subpool};
+use text_output::Gathered;
+
+/// The subpool that the current task sees at a number below 128.
+pub(crate) fn seen(storage: &Storage, number: u32) -> Option<Subpool> {
+    if number > 127 {
+        return None;
+    }
+    let number = number as u8;
+    let owner = storage.owner_seen(storage.current(), number)?;
+    Some(Subpool { number, owner })
+}
+
+/// The subpool that the current task sees at a number below 128, or the one of its own that it is to have.
+pub(crate) fn seen_or_own(storage: &Storage, number: u32) -> Subpool {
+    match seen(storage, number) {
+        Some(subpool) => subpool,
+        None => Subpool {
+            number: number.min(127) as u8,
+            owner: storage.current(),
+        },
+    }
+}
+
+/// The doublewords of a release.
+fn area_of(r: Release) -> Run {
+    Run {
+        start: r.address / 8,
+        len: r.length.div_ceil(8),
+    }
+}
+
+/// The pages that an area in doublewords touches.
+fn pages_of(area: Run) -> Run {
+    let start = area.start / 512;
+    let end = area.start.saturating_add(area.len).div_ceil(512);
+    Run {
+        start,
+        len: end.saturating_sub(start),
+    }
+}
+
+/// The page behind the last of the region that a page lies in; `None` where it lies in none.
+fn region_end(settings: Settings, page: u32) -> Option<u32> {
+    let low = 6 + settings.low_k / 4;
+    if 6 <= page && page < low {
+        return Some(low);
+    }
+    let high = 32_768u32.saturating_add(settings.high_k / 4);
+    if 32_768 <= page && page < high {
+        return Some(high);
+    }
+    None
+}
+
+/// Puts which byte of the area lies in a page of another subpool, or in no region.
+fn put_foreign<W: Write>(
+    gathered: &mut Gathered,
+    writer: &mut W,
+    storage: &Storage,
+    subpool: Subpool,
+    r: Release,
+) {
+    let pages = pages_of(area_of(r));
+    if let Some((page, other)) = first_page_of_another(storage, subpool, pages) {
+        let address = page.saturating_mul(4096).max(r.address);
+        return put_line(
+            gathered,
+            writer,
+            &[
+                Piece::Text("the byte at "),
+                Piece::Address(address),
+                Piece::Text(" lies in a page of subpool "),
+                Piece::Number(u32::from(other.number)),
+                Piece::Text(" of task "),
+                Piece::Number(u32::from(other.owner)),
+            ],
+        );
+    }
+    let outside = match region_end(storage.settings(), pages.start) {
+        Some(end) => end.saturating_mul(4096),
+        None => r.address,
+    };
+    put_line(
+        gathered,
+        writer,
+        &[
+            Piece::Text("the byte at "),
+            Piece::Address(outside),
+            Piece::Text(" lies outside both regions"),
+        ],
+    );
+}
+
+/// Puts why a release isn't of the subpool that is named.
+pub(crate) fn put_not_in_subpool<W: Write>(
+    gathered: &mut Gathered,
+    writer: &mut W,
+    storage: &Storage,
+    r: Release,
+) {
+    match seen(storage, r.number) {
+        Some(subpool) => put_foreign(gathered, writer, storage, subpool, r),
+        None => put_unseen(gathered, writer, storage, r.number),
+    }
+}
+
+/// Puts that the current task sees no subpool at the number.
+pub(crate) fn put_unseen<W: Write>(
+    gathered: &mut Gathered,
+    writer: &mut W,
+    storage: &Storage,
+    number: u32,
+) {
+    put_line(
+        gathered,
+        writer,
+        &[
+            Piece::Text("task "),
+            Piece::Number(u32::from(storage.current())),
+            Piece::Text(" sees no subpool "),
+            Piece::Number(number),
+        ],
+    );
+}
+
+/// Puts which subpool the current task sees at a number.
+pub(crate) fn put_seen<W: Write>(
+    gathered: &mut Gathered,
+    writer: &mut W,
+    storage: &Storage,
+    number: u32,
+) {
+    let Some(subpool) = seen(storage, number) else {
+        return put_unseen(gathered, writer, storage, number);
+    };
+    put_line(
+        gathered,
+        writer,
+        &[
+            Piece::Text("task "),
+            Piece::Number(u32::from(storage.current())),
+            Piece::Text(" sees subpool "),
+            Piece::Number(number),
+            Piece::Text(" of task "),
+            Piece::Number(u32::from(subpool.owner)),
+        ],
+    );
+}
+
+/// Puts which doubleword of the area isn't taken: the first that is free in the subpool, or whose page isn't assigned.
+pub(crate) fn put_free<W: Write>(
+    gathered: &mut Gathered,
+    writer: &mut W,
+    storage: &Storage,
+    r: Release,
+) {
+    let Some(subpool) = seen(storage, r.number) else {
+        return put_unseen(gathered, writer, storage, r.number);
+    };
+    let area = area_of(r);
+    let beside = first_page_beside(storage, subpool, pages_of(area));
+    let unassigned = beside.saturating_mul(512).max(area.start);
+    match first_free(storage, subpool, area) {
+        Some(free) if free < unassigned => put_line(
+            gathered,
+            writer,
+            &[
+                Piece::Text("the doubleword at "),
+                Piece::Address(free.saturating_mul(8)),
+                Piece::Text(" is free already, in a page of subpool "),
+                Piece::Number(u32::from(subpool.number)),
+                Piece::Text(" of task "),
+                Piece::Number(u32::from(subpool.owner)),
+            ],
+        ),
+        _ => put_line(
+            gathered,
+            writer,
+            &[
+                Piece::Text("the doubleword at "),
+                Piece::Address(unassigned.saturating_mul(8)),
+                Piece::Text(" lies in a page that isn't assigned"),
+            ],
+        ),
+    }
+}
+
+/// Puts which extent of a cell pool the area meets.
+pub(crate) fn put_cells<W: Write>(
+    gathered: &mut Gathered,
+    writer: &mut W,
+    storage: &Storage,
+    r: Release,
+) {
+    let area = area_of(r);
+    put_overlap(gathered, writer, storage, area);
+}

@@ -1,9 +1,0 @@
-use Rattle.std.proofs.Common.{◌++◌, subst, sym, ap}
-use Rattle.script_run.specs.Responses.{response_text}
-use Rattle.text_output.specs.Writing.{Holds}
-use Rattle.script_run.proofs.texts.put_response.Goals as goal
-
-pub returns-in-TooFar : goal.returns-in-TooFar
-returns-in-TooFar g c = λ first text h.
-    subst (Holds first (g.W.Write.contents c.put_count-in-TooFar.new.writer) c.put_count-in-TooFar.new.gathered) (ap (λ r. text ++ response_text r) (sym c.in-TooFar.is))
-    (c.put_count-in-TooFar.ensures first text h)

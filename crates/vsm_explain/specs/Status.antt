@@ -1,0 +1,35 @@
+-- The exit status.
+use Rattle.std.specs.Prelude.{◌≡◌, ◌⊎◌, ℕ, Bool, if◌then◌else◌, Result, Ok, Err, ⊤}
+use Rattle.explain_list.specs.declared.faults.ListFault.{ListFault}
+use Rattle.vsm_explain.specs.declared.faults.Fault.{Fault}
+use Rattle.vsm_explain.specs.declared.faults.Fault.TheVariants as fault
+
+-- 8 where the script can't be read or is too long, or the output can't be written; else 16
+abbrev pub fault_status : Fault → ℕ
+fault_status (fault.Script name why) = 8
+fault_status fault.TooLong = 8
+fault_status fault.Write = 8
+fault_status _ = 16
+
+-- 4 where an answer tells of a refusal
+abbrev pub status : Result Bool Fault → ℕ
+status (Ok refused) = if refused then 4 else 0
+status (Err e) = fault_status e
+
+-- A listing's outcome, as the program has it: whether a statement was refused, or that it failed.
+abbrev pub IsOutcome : Result Bool ListFault → Result Bool Fault → Type 0
+IsOutcome (Ok wrong) (Ok refused) = refused ≡ wrong
+IsOutcome (Err e) (Err f) = ⊤
+IsOutcome _ _ = ⊥
+
+-- no answer
+abbrev pub IsFailure : ℕ → Type 0
+IsFailure code = (code ≡ 8) ⊎ (code ≡ 16)
+
+-- an answer to words that ask no question: help and the version, or a failure
+abbrev pub IsWordless : ℕ → Type 0
+IsWordless code = (code ≡ 0) ⊎ IsFailure code
+
+-- what the status is at all
+abbrev pub IsStatus : ℕ → Type 0
+IsStatus code = (code ≡ 0) ⊎ ((code ≡ 4) ⊎ IsFailure code)

@@ -1,0 +1,200 @@
+//! Which answer a question has.
+ghost use Rattle.std.specs.Prelude.{Bool, Result};
+ghost use Rattle.explain_list.specs.Listing.{Shows};
+ghost use Rattle.explain_list.specs.declared.faults.ListFault.{ListFault};
+ghost use Rattle.vsm_explain.specs.Status.{IsOutcome};
+
+use crate::faults::Fault;
+use explain_list::{ListFault, Shown, list};
+use explain_questions::{About, Asking, Question, Refusal};
+use explain_report::{ReportFault, over_time, report};
+use explain_who::{Asked, WhoFault, log, who};
+use explain_why::{WhyFault, code, why};
+use script_steps::{NewFault, Watch};
+use std::alloc::Global;
+use std::io::Write;
+use vsm_model::Settings;
+
+/// What is said where there is no bench.
+fn new_fault<'a>(fault: NewFault) -> Fault<'a> {
+    match fault {
+        NewFault::Setting => Fault::Words(Refusal::Settings),
+        NewFault::NoMemory => Fault::Memory,
+    }
+}
+
+/// What is said where a script can't be listed.
+fn list_fault<'a>(fault: ListFault) -> Fault<'a> {
+    match fault {
+        ListFault::New(fault) => new_fault(fault),
+        ListFault::TooLong => Fault::TooLong,
+        ListFault::Write => Fault::Write,
+    }
+}
+
+/// What is said where the statement of a line can't be explained, or these words aren't an answer.
+fn why_fault<'a>(line: u32, words: &'a str, fault: WhyFault) -> Fault<'a> {
+    match fault {
+        WhyFault::New(fault) => new_fault(fault),
+        WhyFault::TooLong => Fault::TooLong,
+        WhyFault::Write => Fault::Write,
+        WhyFault::NoLine(lines) => Fault::NoLine { line, lines },
+        WhyFault::Aside => Fault::Aside(line),
+        WhyFault::Dropped => Fault::Dropped(line),
+        WhyFault::NoAnswer => Fault::Words(Refusal::NoLine(words)),
+    }
+}
+
+/// What is said where there is no report behind a line.
+fn report_fault<'a>(line: Option<u32>, fault: ReportFault) -> Fault<'a> {
+    let line = line.unwrap_or(0);
+    match fault {
+        ReportFault::New(fault) => new_fault(fault),
+        ReportFault::TooLong => Fault::TooLong,
+        ReportFault::Write => Fault::Write,
+        ReportFault::NoLine(lines) => Fault::NoLine { line, lines },
+        ReportFault::Aside => Fault::Aside(line),
+        ReportFault::Dropped => Fault::Dropped(line),
+    }
+}
+
+/// What is said where no lines can be named.
+fn who_fault<'a>(fault: WhoFault) -> Fault<'a> {
+    match fault {
+        WhoFault::New(fault) => new_fault(fault),
+        WhoFault::TooLong => Fault::TooLong,
+        WhoFault::Write => Fault::Write,
+        WhoFault::Memory => Fault::Memory,
+        WhoFault::Count => Fault::Words(Refusal::Count("")),
+    }
+}
+
+/// Lists a script, or the places of its faults alone. `true` where a statement was refused.
+fn list_shown<'a, W: Write, P: Watch>(
+    alloc: Global,
+    script: &[u8],
+    settings: Settings,
+    shown: Shown<'_>,
+    out: &mut W,
+    watch: &mut P,
+) -> Result<bool, Fault<'a>>
+    ensures { (outcome : Result Bool ListFault)
+        × Shows settings script.now shown.entry (W.contents out.old) (W.contents out.new) outcome
+        × IsOutcome outcome result }
+{
+    match list(alloc, script, settings, shown, out, watch) {
+        Ok(refused) => Ok(refused),
+        Err(fault) => Err(list_fault(fault)),
+    }
+}
+
+/// What a listing shows: the script with its answers, or the places of its faults alone.
+fn shown(is_check: bool, name: &str) -> Shown<'_> {
+    if is_check {
+        Shown::Check(name.as_bytes())
+    } else {
+        Shown::Listing
+    }
+}
+
+/// Prints what the answer of these words means.
+fn explain_words<'a, W: Write>(
+    words: &str,
+    first: &'a str,
+    out: &mut W,
+) -> Result<bool, Fault<'a>> {
+    match code(words.as_bytes(), out) {
+        Ok(()) => Ok(false),
+        Err(fault) => Err(why_fault(0, first, fault)),
+    }
+}
+
+/// Prints what an answer means, that is written as one word or two.
+pub(crate) fn explain_code<'a, W: Write>(
+    alloc: Global,
+    first: &'a str,
+    second: Option<&'a str>,
+    out: &mut W,
+) -> Result<bool, Fault<'a>> {
+    let Some(second) = second else {
+        return explain_words(first, first, out);
+    };
+    match format!(in alloc; "{first} {second}") {
+        Ok(both) => explain_words(both.as_str(), first, out),
+        Err(_) => Err(Fault::Memory),
+    }
+}
+
+/// What is asked for, as it's asked of a bench.
+fn asked(about: About) -> Asked {
+    match about {
+        About::Bytes { address, count } => Asked::Bytes {
+            address,
+            count: count.min(256) as u16,
+        },
+        About::Register { task, register } => Asked::Register { task, register },
+        About::Name(name) => Asked::Name(name),
+    }
+}
+
+/// What `why` came to. `true` where the statement of the line was refused.
+fn explained<'a>(line: u32, outcome: Result<bool, WhyFault>) -> Result<bool, Fault<'a>> {
+    match outcome {
+        Ok(refused) => Ok(refused),
+        Err(fault) => Err(why_fault(line, "", fault)),
+    }
+}
+
+/// What a report behind this line came to, which tells of no refusal.
+fn reported<'a>(line: Option<u32>, outcome: Result<(), ReportFault>) -> Result<bool, Fault<'a>> {
+    match outcome {
+        Ok(()) => Ok(false),
+        Err(fault) => Err(report_fault(line, fault)),
+    }
+}
+
+/// What `who` came to, which tells of no refusal.
+fn followed<'a>(outcome: Result<(), WhoFault>) -> Result<bool, Fault<'a>> {
+    match outcome {
+        Ok(()) => Ok(false),
+        Err(fault) => Err(who_fault(fault)),
+    }
+}
+
+/// Answers a question that is asked of a script. `true` where status 4 tells of a refusal.
+pub(crate) fn answer<'a, W: Write, P: Watch>(
+    alloc: Global,
+    asking: &Asking<'a>,
+    name: &str,
+    script: &[u8],
+    out: &mut W,
+    watch: &mut P,
+) -> Result<bool, Fault<'a>> {
+    let settings = asking.settings;
+    match asking.question {
+        Question::List { is_check } => {
+            list_shown(alloc, script, settings, shown(is_check, name), out, watch)
+        }
+        Question::Why { line } => {
+            let outcome = why(alloc, script, settings, line, out, watch);
+            explained(line, outcome)
+        }
+        Question::Report { line } => {
+            let outcome = report(alloc, script, settings, line, out, watch);
+            reported(line, outcome)
+        }
+        Question::OverTime => {
+            let outcome = over_time(alloc, script, settings, out, watch);
+            reported(None, outcome)
+        }
+        Question::Who(about) => {
+            let outcome = who(alloc, script, settings, asked(about), out, watch);
+            followed(outcome)
+        }
+        Question::Log => {
+            let outcome = log(alloc, script, settings, out, watch);
+            followed(outcome)
+        }
+        Question::Code { first, second } => explain_code(alloc, first, second, out),
+    }
+}

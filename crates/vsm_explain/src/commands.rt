@@ -1,0 +1,165 @@
+//! The command line: answers what the words ask, and gives the exit status.
+ghost use Rattle.std.specs.Prelude.{◌≡◌};
+ghost use Rattle.vsm_explain.specs.Status.{IsStatus, IsWordless, status};
+
+use crate::answers::{answer, explain_code};
+use crate::faults::{Fault, report};
+use crate::progress::{Progress, Stopwatch};
+use crate::scripts::{Unread, read_whole};
+use bench_options::ScriptFiles;
+use clap::Error;
+use clap::error::ErrorKind;
+use explain_questions::{Asking, Question, asking_of, read_words};
+use memchr::memchr;
+use std::alloc::Global;
+use std::io::{Read, Write};
+
+/// Which of the standard streams are terminals.
+#[derive(Clone, Copy, Debug)]
+pub struct Terminals {
+    pub input: bool,
+    pub errors: bool,
+}
+
+/// What a script is called where it comes from standard input.
+const NO_NAME: &str = "standard input";
+
+/// The first paragraph of a text in one line, without the word `error:` at its head.
+fn put_first_paragraph<E: Write>(errors: &mut E, text: &str) {
+    let text = text.strip_prefix("error: ").unwrap_or(text);
+    let _ = errors.write_all(b"vsm-explain:");
+    for line in text.split('\n') {
+        let line = line.trim();
+        if line.is_empty() {
+            break;
+        }
+        let _ = write!(errors, " {line}");
+    }
+    let _ = errors.write_all(b"\n");
+}
+
+/// Answers words that ask no question: help and the version on `output`, what is wrong on `errors`.
+fn answer_words<O: Write, E: Write>(
+    alloc: Global,
+    error: &Error,
+    output: &mut O,
+    errors: &mut E,
+) -> u8
+    ensures { IsWordless result }
+{
+    match error.kind() {
+        ErrorKind::DisplayHelp | ErrorKind::DisplayVersion => match write!(output, "{error}") {
+            Ok(()) => 0,
+            Err(_) => report(errors, Fault::Write),
+        },
+        ErrorKind::OutOfMemory => report(errors, Fault::Memory),
+        _ => {
+            match format!(in alloc; "{error}") {
+                Ok(text) => put_first_paragraph(errors, text.as_str()),
+                Err(_) => return report(errors, Fault::Memory),
+            }
+            16
+        }
+    }
+}
+
+/// The script that is asked of, whole.
+fn script_of<'a, R: ScriptFiles, I: Read>(
+    rt: &R,
+    alloc: Global,
+    asking: &Asking<'a>,
+    terminals: Terminals,
+    input: &mut I,
+) -> Result<Vec<u8>, Fault<'a>> {
+    let Some(path) = asking.file else {
+        if terminals.input {
+            return Err(Fault::Terminal);
+        }
+        return match read_whole(alloc, input) {
+            Ok(bytes) => Ok(bytes),
+            Err(unread) => Err(Fault::Script(NO_NAME, unread)),
+        };
+    };
+    let read = match rt.open_script(path) {
+        Ok(mut script) => read_whole(alloc, &mut script),
+        Err(error) => Err(Unread::Read(error)),
+    };
+    match read {
+        Ok(bytes) => Ok(bytes),
+        Err(unread) => Err(Fault::Script(path, unread)),
+    }
+}
+
+/// Whether a listing is asked for, which tells itself what is no text.
+fn is_listing(question: &Question<'_>) -> bool {
+    matches!(question, Question::List { .. })
+}
+
+/// Answers what is asked; `true` where status 4 tells of a refusal.
+fn answer_asking<'a, R: ScriptFiles + Stopwatch + AllocGlobal, I: Read, O: Write, E: Write>(
+    rt: &R,
+    asking: &Asking<'a>,
+    terminals: Terminals,
+    input: &mut I,
+    output: &mut O,
+    errors: &mut E,
+) -> Result<bool, Fault<'a>> {
+    if let Question::Code { first, second } = asking.question {
+        return explain_code(rt.alloc(), first, second, output);
+    }
+    let script = script_of(rt, rt.alloc(), asking, terminals, input)?;
+    let name = asking.file.unwrap_or(NO_NAME);
+    if !is_listing(&asking.question) && memchr(0, script.as_slice()).is_some() {
+        return Err(Fault::Script(name, Unread::Binary));
+    }
+    let mut progress = Progress::new(rt, errors, terminals.errors);
+    answer(
+        rt.alloc(),
+        asking,
+        name,
+        script.as_slice(),
+        output,
+        &mut progress,
+    )
+}
+
+/// The exit status of an answer; a fault is said on `errors`.
+fn end<E: Write>(errors: &mut E, outcome: Result<bool, Fault<'_>>) -> u8
+    ensures status { result ≡ status outcome.entry }
+    ensures all { IsStatus result }
+{
+    match outcome {
+        Ok(false) => 0,
+        Ok(true) => 4,
+        Err(fault) => report(errors, fault),
+    }
+}
+
+/// Answers what these words ask (the program's name, and what follows): writes the answer to `output`, and what is
+/// wrong with the words, the script or the question to `errors`, in one line. Gives the exit status.
+///
+/// The script is what `rt` opens for the file that the words name, or `input` where `list` names none. The status is 0
+/// where the question was answered, 4 where a listed statement or the one that was asked for was refused, 8 where the
+/// script can't be read or the output can't be written, and 16 where the words are wrong, what they ask for isn't
+/// there, the settings are out of their limits or there is no memory.
+pub fn command<R: ScriptFiles + Stopwatch + AllocGlobal, I: Read, O: Write, E: Write>(
+    rt: &R,
+    words: &[String],
+    terminals: Terminals,
+    input: &mut I,
+    output: &mut O,
+    errors: &mut E,
+) -> u8
+    ensures { IsStatus result }
+{
+    let matches = match read_words(rt.alloc(), words) {
+        Ok(matches) => matches,
+        Err(error) => return answer_words(rt.alloc(), &error, output, errors),
+    };
+    let asking = match asking_of(&matches) {
+        Ok(asking) => asking,
+        Err(refusal) => return report(errors, Fault::Words(refusal)),
+    };
+    let outcome = answer_asking(rt, &asking, terminals, input, output, errors);
+    end(errors, outcome)
+}

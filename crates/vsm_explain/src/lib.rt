@@ -1,0 +1,11 @@
+//! The program `vsm-explain`: reads a script, answers what the words ask of it, and gives the exit status.
+#![tactic(auto)]
+
+mod answers;
+mod commands;
+mod faults;
+mod progress;
+mod scripts;
+
+pub use commands::{Terminals, command};
+pub use progress::Stopwatch;

@@ -1,0 +1,76 @@
+//! How far a long run is, told on standard error.
+
+use script_steps::Watch;
+use std::io::Write;
+use std::time::Clock;
+
+/// How long a run may take before it's told how far it is, and how often that is then told; in milliseconds.
+const PATIENCE: u64 = 2000;
+
+/// So many lines are taken between two looks at the clock.
+const LINES_BETWEEN: u32 = 64;
+
+/// What tells the time: the clock of a runtime, or what stands in for it.
+pub trait Stopwatch {
+    /// Milliseconds since some moment, the same each time; `None` where there is no clock.
+    fn milliseconds(&self) -> Option<u64>;
+}
+
+impl<R: Clock> Stopwatch for R {
+    fn milliseconds(&self) -> Option<u64> {
+        let time = self.monotonic().ok()?;
+        u64::try_from(time.as_millis()).ok()
+    }
+}
+
+/// Tells every two seconds how many lines have been taken.
+#[derive(Drop)]
+pub(crate) struct Progress<'a, R, E> {
+    clock: &'a R,
+    errors: &'a mut E,
+    // When the run began; `None` where nothing is to be told.
+    began: Option<u64>,
+    // When it's told next.
+    next: u64,
+}
+
+impl<'a, R: Stopwatch, E: Write> Progress<'a, R, E> {
+    /// Nothing is told where `is_shown` is false or there is no clock.
+    pub(crate) fn new(clock: &'a R, errors: &'a mut E, is_shown: bool) -> Progress<'a, R, E> {
+        let began = if is_shown { clock.milliseconds() } else { None };
+        let next = began.unwrap_or(0).saturating_add(PATIENCE);
+        Progress {
+            clock,
+            errors,
+            began,
+            next,
+        }
+    }
+
+    /// Tells how far the run is, where it's time.
+    fn look(&mut self, began: u64, lines: u32) {
+        let Some(now) = self.clock.milliseconds() else {
+            return;
+        };
+        if now < self.next {
+            return;
+        }
+        let seconds = now.saturating_sub(began) / 1000;
+        let _ = writeln!(
+            self.errors,
+            "vsm-explain: {seconds} seconds so far, {lines} lines"
+        );
+        self.next = now.saturating_add(PATIENCE);
+    }
+}
+
+impl<R: Stopwatch, E: Write> Watch for Progress<'_, R, E> {
+    fn line(&mut self, lines: u32) {
+        if lines % LINES_BETWEEN != 0 {
+            return;
+        }
+        if let Some(began) = self.began {
+            self.look(began, lines);
+        }
+    }
+}

@@ -1,0 +1,133 @@
+# Sourced by ./vsm and ./vsm-explain, which set `top`, the program's `name` and `crate`, and `help`, the file with what it
+# says to --help. Runs the program with the words and the standard streams that are given.
+# Where it isn't proved and built (./prove does that), or a source is newer than it, a program that isn't proved is run in
+# its place, and standard error says so. That one is compiled once, in a minute or two, and kept in the crate's out/ as
+# NAME-unproved until a source is newer than it or ./prove has run.
+# RT names the command rt where it isn't on the PATH.
+out=$top/crates/$crate/out
+program=$out/$crate
+unproved=$program-unproved
+rt=${RT:-rt}
+
+say() {
+  echo "$name: $1" >&2
+}
+
+refuse() {
+  say "$1"
+  exit 16
+}
+
+print_help() {
+  cat "$help" 2>/dev/null || { say write; exit 8; }
+  exit 0
+}
+
+# A link in the second folder to each file of the first that the second hasn't.
+link_rest() {
+  local file
+  for file in "$1"/*; do
+    [ -e "$2/${file##*/}" ] || ln -s "$file" "$2/" || return 1
+  done
+}
+
+# A script in the place of a tool of the kit; standard input is what it does.
+put_tool() {
+  { echo '#!/bin/sh'; cat; } >"$1" && chmod +x "$1"
+}
+
+# Lays out a folder that stands for the kit's. rt try throws the program away that it has compiled, so the linker leaves it
+# as `made` too; and the compiler optimizes where it puts checks in, since the program is then some 25 times as fast.
+lay_out_kit() {
+  local kit tools
+  kit=$(dirname "$("$rt" doc)") && [ -f "$kit/bin/rtlib.py" ] || return 1
+  tools=$room/kit/toolchain/bin
+  mkdir -p "$room/kit/bin" "$tools" && cp "$kit/bin/rt" "$kit/bin/rtlib.py" "$room/kit/bin/" || return 1
+  put_tool "$tools/clang" <<END
+case " \$* " in *' -fsanitize=address '*) set -- "\$@" -O1;; esac
+exec $(printf %q "$kit/toolchain/bin/clang") "\$@"
+END
+  put_tool "$tools/ld.lld" <<END
+$(printf %q "$kit/toolchain/bin/ld.lld") "\$@" || exit
+while [ "\$#" -gt 2 ] && [ "\$1" != -o ]; do shift; done
+exec cp "\$2" $(printf %q "$room/made")
+END
+  link_rest "$kit/toolchain/bin" "$tools" && link_rest "$kit/toolchain" "$room/kit/toolchain" &&
+    link_rest "$kit/bin" "$room/kit/bin" && link_rest "$kit" "$room/kit"
+}
+
+# Reads what rt says up to its end, and says every half minute how long it has been.
+hear_out() {
+  local line start=$SECONDS next=30 heard
+  while :; do
+    IFS= read -r -t 5 line <&3
+    heard=$?
+    said+=$line
+    if [ "$heard" -eq 0 ]; then
+      said+=$'\n'
+    elif [ "$heard" -le 128 ]; then
+      return
+    fi
+    if [ $((SECONDS - start)) -ge "$next" ]; then
+      say "$next seconds so far"
+      next=$((next + 30))
+    fi
+  done
+}
+
+stop() {
+  trap - INT TERM HUP
+  [ -z "$trying" ] || { kill "$trying"; wait "$trying"; } 2>/dev/null
+  rm -rf "$room"
+  refuse "stopped"
+}
+
+# Compiles the program without a proof. The time at which that begins is the program's, so that a source which is changed
+# meanwhile is newer.
+compile() {
+  local start said=
+  start=$(date +%s.%N)
+  room=$(mktemp -d) || refuse "no temporary folder can be made"
+  trying=
+  trap stop INT TERM HUP
+  lay_out_kit || { rm -rf "$room"; refuse "the folder of the kit can't be found: '$rt doc' has to print the path of a page in it"; }
+  say "the program isn't proved and built from these sources yet: one is compiled without a proof, in a minute or two"
+  exec 3< <(exec </dev/null 2>&1 8>&-; cd "$top/crates/$crate" && exec "$room/kit/bin/rt" try --steps 1 --seconds 10 -- --help)
+  trying=$!
+  hear_out
+  exec 3<&-
+  wait "$trying" 2>/dev/null
+  if ! [ -x "$room/made" ]; then
+    rm -rf "$room"
+    printf '%s' "$said" >&2
+    refuse "no program was compiled; above is what the kit said"
+  fi
+  touch -d "@$start" "$room/made" && cp -p "$room/made" "$unproved.new" && mv "$unproved.new" "$unproved" ||
+    refuse "the compiled program can't be kept in $out"
+  rm -rf "$room"
+  trap - INT TERM HUP
+}
+
+# One process compiles, and others wait for it.
+compile_once() {
+  command -v "$rt" >/dev/null || refuse "the program isn't built, and the command rt, which builds it, isn't on the PATH"
+  { mkdir -p "$out" && exec 8>"$unproved.lock"; } 2>/dev/null ||
+    refuse "the program isn't built, and can't be: $out can't be written"
+  if ! flock -n 8; then
+    say "another process compiles the program: this one waits for it"
+    flock 8
+  fi
+  "$top/prove" --program "$crate" --check "$unproved" || compile
+  exec 8>&-
+}
+
+if "$top/prove" --program "$crate" --check; then
+  exec "$program" "$@"
+fi
+case $#,${1-} in
+  1,--help | 1,-h) print_help ;;
+esac
+"$top/prove" --program "$crate" --check "$unproved" || compile_once
+say "THIS RUN IS NOT PROVED: ./prove proves and builds the program"
+# Its name is told in what it says of its words. The checks that are compiled in would also look for leaks at its end.
+ASAN_OPTIONS=${ASAN_OPTIONS-detect_leaks=0} exec -a "$name" "$unproved" "$@"
