@@ -23,7 +23,10 @@ from facts import Commit, Refusal
 NOT_INSTALLED = re.compile(r".*/(tests/|\.)|(page|tools)/check|page/(bench|module|host|chromium|\w*trials)")
 # How the tools begin, and how a package wants them to.
 FREE_PYTHON, SYSTEM_PYTHON = b"#!/usr/bin/env python3\n", b"#!/usr/bin/python3\n"
-DOCS = ("STATEMENTS.md", "MESSAGES.md", "PROTOCOL.md", "ZOS.md", "GLOSSARY.md")
+DOCS = ("STATEMENTS.md", "MESSAGES.md", "EXPLAIN.md", "PROTOCOL.md", "ZOS.md", "GLOSSARY.md")
+# The proved programs, by the crates that build them.
+PROGRAMS = {"vsm": "vsm", "vsm-explain": "vsm_explain_program"}
+COMMANDS = ("list", "why", "report", "who")
 DESCRIPTION = """\
 Description: bench for the virtual storage of z/OS
  It carries out scripts of storage macros (STORAGE, GETMAIN, FREEMAIN, CPOOL,
@@ -61,11 +64,16 @@ def copy(source: Path, file: Path) -> None:
     put(file, source.read_bytes(), 0o755 if os.access(source, os.X_OK) else 0o644)
 
 
-def help_of(program: Path) -> str:
-    """What a program says to --help; at one width, and in one language."""
+def built(top: Path, name: str) -> Path:
+    """The proved program of this name, as it was built."""
+    return top / "crates" / PROGRAMS[name] / "out" / PROGRAMS[name]
+
+
+def help_of(program: Path, *command: str) -> str:
+    """What a program, or a command of it, says to --help; at one width, and in one language."""
     environment = {"PATH": os.environ.get("PATH", ""), "COLUMNS": "80", "LC_ALL": "C.UTF-8",
                    "PYTHONDONTWRITEBYTECODE": "1"}
-    words = [str(program), "--help"]
+    words = [str(program), *command, "--help"]
     if program.parent.name == "tools":
         words.insert(0, sys.executable)
     try:
@@ -79,9 +87,9 @@ def help_of(program: Path) -> str:
 
 
 def put_programs(release: Release, root: Path) -> None:
-    program = root / "bin" / "vsm"
-    copy(release.top / "crates" / "vsm" / "out" / "vsm", program)
-    facts.output_of("strip", str(program))
+    for name in PROGRAMS:
+        copy(built(release.top, name), root / "bin" / name)
+        facts.output_of("strip", str(root / "bin" / name))
     share = root / "share" / "nilbozad"
     for file in release.files:
         if re.match(r"(tools|page)/", file) and not NOT_INSTALLED.match(file):
@@ -96,7 +104,7 @@ def put_programs(release: Release, root: Path) -> None:
     put(share / "VERSION", f"nilbozad {release.version} ({release.kit})\n")
 
 
-def put_manual(release: Release, root: Path, helps: dict[str, str]) -> None:
+def put_manual(release: Release, root: Path, helps: dict[str, str], commands: list[str]) -> None:
     date = time.strftime("%B %-d, %Y", time.gmtime(release.commit.seconds))
     docs = {name: (release.top / "docs" / name).read_text(encoding="utf-8") for name in DOCS}
     pages = {name: manual.Page(name, 1, date) for name in helps}
@@ -108,14 +116,17 @@ def put_manual(release: Release, root: Path, helps: dict[str, str]) -> None:
         messages: manual.page_of_docs(messages, "what vsm prints, and why", docs["MESSAGES.md"], others),
     }
     for name, page in pages.items():
-        texts[page] = (manual.page_of_vsm(page, helps[name], docs["MESSAGES.md"], others) if name == "vsm"
-                       else manual.page_of_tool(page, helps[name], others))
+        if name == "vsm":
+            texts[page] = manual.page_of_vsm(page, helps[name], docs["MESSAGES.md"], others)
+        elif name in PROGRAMS:
+            texts[page] = manual.page_of_commands(page, helps[name], commands, others)
+        else:
+            texts[page] = manual.page_of_tool(page, helps[name], others)
     for page, text in texts.items():
         put(root / "share" / "man" / f"{page.file}.gz", gzip.compress(text.encode(), 9, mtime=0))
 
 
-def put_completions(root: Path, helps: dict[str, str], zsh_folder: str) -> None:
-    options = {name: completions.options_of(text) for name, text in helps.items()}
+def put_completions(root: Path, options: dict[str, list[completions.Option]], zsh_folder: str) -> None:
     for name, found in options.items():
         put(root / "share/bash-completion/completions" / name, completions.bash({name: found}))
         put(root / zsh_folder / f"_{name}", completions.zsh(name, found))
@@ -135,7 +146,7 @@ def copyright_of(release: Release, licences: dict[str, bytes]) -> str:
     lines = ["Nilbozad", f"Copyright {year} The Nilbozad authors", "",
              "Licensed under either of the Apache License, Version 2.0 (LICENSE-APACHE; on Debian",
              "/usr/share/common-licenses/Apache-2.0), or the MIT licence (LICENSE-MIT), at your option.", "",
-             "The program vsm has code of these crates of the kit that it is built with. Their licences:", ""]
+             "The programs vsm and vsm-explain have code of these crates of the kit that it is built with. Their licences:", ""]
     text = (release.top / "LICENSE-MIT").read_text(encoding="utf-8")
     for name in sorted({it.partition("-LICENSE")[0] for it in licences}):
         own = [f"licenses/{it}" for it in sorted(licences) if it.startswith(f"{name}-LICENSE")]
@@ -194,18 +205,19 @@ def read_me(release: Release) -> str:
     return f"""Nilbozad {release.version}, a bench for the virtual storage of z/OS
 
     bin/vsm share/doc/nilbozad/examples/first-steps.vsm     runs a script
+    bin/vsm-explain --help                                  explains one
     man -l share/man/man1/vsm.1.gz                          tells of the program
     man -l share/man/man5/vsm-statements.5.gz               what can stand in a script
     man -l share/man/man7/vsm-messages.7.gz                 what is printed
 
-Copied to /usr/local, bin/ and share/ are found by the shell, by man and by completions. vsm needs x86-64
-Linux and glibc; the other programs of bin/ need Python 3.11. PROVED says what was proved, CHANGELOG.md what
+Copied to /usr/local, bin/ and share/ are found by the shell, by man and by completions. vsm and vsm-explain need
+x86-64 Linux and glibc; the other programs of bin/ need Python 3.11. PROVED says what was proved, CHANGELOG.md what
 has changed.
 """
 
 
 def control(release: Release, root: Path) -> str:
-    data = (root / "usr" / "bin" / "vsm").read_bytes()
+    data = b"".join((root / "usr" / "bin" / name).read_bytes() for name in PROGRAMS)
     libc = max(tuple(map(int, it.split(b"."))) for it in re.findall(rb"GLIBC_(\d+\.\d+)", data))
     size = sum(it.lstat().st_size for it in root.rglob("*") if it.is_file()) // 1024 + 1
     needs = f"libc6 (>= {libc[0]}.{libc[1]})" + (", python3 (>= 3.11)" if release.tools else "")
@@ -251,19 +263,23 @@ def statement_head(release: Release) -> list[str]:
 
 def made(release: Release, room: Path) -> list[Path]:
     """Makes all files in a folder, and gives those that dist/ is to have."""
-    built = release.top / "crates" / "vsm" / "out" / "vsm"
-    helps = {"vsm": help_of(built), **{name: help_of(release.top / "tools" / name) for name in release.tools}}
+    helps = {**{name: help_of(built(release.top, name)) for name in PROGRAMS},
+             **{name: help_of(release.top / "tools" / name) for name in release.tools}}
+    commands = [help_of(built(release.top, "vsm-explain"), command) for command in COMMANDS]
+    options = {name: completions.options_of(text) for name, text in helps.items()}
+    options["vsm-explain"] = completions.options_of("\n".join([helps["vsm-explain"], *commands]))
     root, usr, out = room / "tree", room / "debian" / "usr", room / "out"
     out.mkdir()
     put_programs(release, root)
-    programs = [f"Program    vsm as it was built, SHA-256 {facts.sha256(built)}",
-                f"           bin/vsm, the same without its symbols, {facts.sha256(root / 'bin' / 'vsm')}"]
+    programs = [line for name in PROGRAMS for line in (
+        f"Program    {name} as it was built, SHA-256 {facts.sha256(built(release.top, name))}",
+        f"           bin/{name}, the same without its symbols, {facts.sha256(root / 'bin' / name)}")]
     statement = facts.proved(release.top, release.files, statement_head(release), programs)
-    put_manual(release, root, helps)
+    put_manual(release, root, helps, commands)
     put_docs(release, root, statement)
     shutil.copytree(root, usr, symlinks=True)
-    put_completions(root, helps, "share/zsh/site-functions")
-    put_completions(usr, helps, "share/zsh/vendor-completions")
+    put_completions(root, options, "share/zsh/site-functions")
+    put_completions(usr, options, "share/zsh/vendor-completions")
     names = [out / f"nilbozad-{release.version}-linux-x86_64.tar.gz",
              out / f"nilbozad_{release.version}_amd64.deb"]
     tarball(release, root, names[0])

@@ -23,7 +23,8 @@ def choices_of(value: str, text: str) -> tuple[str, ...]:
     if found:
         return tuple(found[1].split(", "))
     inner = value.strip("{}<>")
-    return tuple(re.split(r"[|,]", inner)) if re.fullmatch(r"[\w.]+([|,][\w.]+)+", inner) else ()
+    # Capitals stand for what is to be written, as T,R.
+    return tuple(re.split(r"[|,]", inner)) if re.fullmatch(r"[a-z\d_.]+([|,][a-z\d_.]+)+", inner) else ()
 
 
 def option_of(flags: str, text: str) -> Option:
@@ -34,7 +35,7 @@ def option_of(flags: str, text: str) -> Option:
 
 
 def options_of(help_text: str) -> list[Option]:
-    """The options that a help text has a line for."""
+    """The options that a help text has a line for, each once."""
     found: list[tuple[str, str]] = []
     for line in help_text.split("\n"):
         match = OPTION.match(line)
@@ -43,7 +44,7 @@ def options_of(help_text: str) -> list[Option]:
         elif found and re.match(r"\s{16,}\S", line):
             flags, text = found[-1]
             found[-1] = (flags, f"{text} {line.strip()}".strip())
-    return [option_of(flags, text) for flags, text in found]
+    return list({option.flags: option for option in (option_of(flags, text) for flags, text in found)}.values())
 
 
 def quoted(text: str) -> str:

@@ -80,13 +80,14 @@ def gate_line(file: str | None) -> str:
 
 
 def crates_of(top: Path) -> tuple[list[str], list[str]]:
-    """The crates below the program and itself, and the kit's that they use."""
+    """The crates below the programs and themselves, and the kit's that they use."""
     uses: dict[str, list[str]] = {}
     for line in (top / "crates.txt").read_text(encoding="utf-8").split("\n"):
         name, colon, rest = line.partition("#")[0].partition(":")
         if colon:
             uses[name.split()[0]] = rest.split()
-    found, left = ["vsm"], ["vsm"]
+    found = ["vsm", "vsm_explain_program"]
+    left = list(found)
     while left:
         for name in uses.get(left.pop(), []):
             if name not in found:
@@ -121,7 +122,7 @@ def proved(top: Path, files: list[str], head: list[str], programs: list[str]) ->
     lessons = sum(bool(re.fullmatch(r"examples/.*\.vsm", it)) for it in files)
     lines = [*head,
              f"Contracts  {sum(a for a, _ in counts)} functions with {sum(b for _, b in counts)} clauses, "
-             f"in {len(crates)} crates: all that the program vsm stands on",
+             f"in {len(crates)} crates: all that vsm and vsm-explain stand on",
              f"Edits      {edits} wrong bodies, each of which the prover has to refuse",
              f"Tests      {tests} test functions, {rows} worked scripts in tests/rows, {lessons} lessons",
              *programs, "",

@@ -209,3 +209,21 @@ def page_of_tool(page: Page, help_text: str, others: list[str]) -> str:
     what = re.split(r"(?<=[.:])(\s|$)", parts[1][0])[0]
     return joined(head(page, what.rstrip(":")), [".Sh SYNOPSIS"], literal(usage),
                   [".Sh DESCRIPTION"], literal(rest), see_also(page, others))
+
+
+def page_of_commands(page: Page, help_text: str, commands: list[str], others: list[str]) -> str:
+    """The page of a program with commands: from its help, and that of each command, as it's printed."""
+    parts = split_help(help_text)
+    status = part_at(parts, "Exit status:")
+    usages = [next(line for line in text.split("\n") if line.startswith("Usage: ")) for text in commands]
+    told: list[str] = []
+    for text in commands:
+        about, usage, *rest = split_help(text)
+        name = usage[0].removeprefix("Usage: ").split()[1]
+        told += [f".Ss {escape(name)}", *body([Paragraph(" ".join(about))]),
+                 *literal("\n\n".join("\n".join(part) for part in rest).split("\n"))]
+    return joined(head(page, " ".join(parts[0]).split(":")[0]),
+                  [".Sh SYNOPSIS"], literal([usage.removeprefix("Usage: ") for usage in usages]),
+                  [".Sh DESCRIPTION"], body([Paragraph(" ".join(parts[0])),
+                                             *(Paragraph(" ".join(it)) for it in parts[part_at(parts, "Options:") + 1:status])]),
+                  [".Sh COMMANDS"], told, files(), [".Sh EXIT STATUS"], literal(parts[status][1:]), see_also(page, others))

@@ -15,6 +15,7 @@ import pytest
 from conftest import TOOLS, TOP, one_line
 
 from vsmtools import bench
+from vsmtools.command import Fault
 from vsmtools.prompting import is_open, operand_text, with_blank
 from vsmtools.words import completions
 
@@ -267,10 +268,26 @@ def test_files_that_end_open_or_are_none(run: Callable, vsm: str, tmp_path: Path
         assert "can't be read" in one_line(run(TOOL, "--vsm", vsm, missing), TOOL)
 
 
-def test_commands_that_come_later_and_those_that_are_none(run: Callable, vsm: str) -> None:
+def test_commands_that_are_none(run: Callable, vsm: str) -> None:
     shown, told = talk(run, vsm, ".who X'6000'\n.why 3\n.list\n.nothing\n.\n.step x\n.log\n.until\n")
-    assert [line for line in told if "vsm-explain" in line] == told[:3] and len(told) == 6
+    assert len(told) == 6
     assert any(".back until P changes" in line for line in shown)
+
+
+def test_what_vsm_explain_says(run: Callable, vsm: str, tmp_path: Path) -> None:
+    """By vsm-explain where it's there; a word that it isn't where not."""
+    typed = "storage obtain,length=8,addr=p\npoke p,x'ff'\nstorage obtain,lenght=8\n"
+    shown, told = talk(run, vsm, typed + ".who p\n.why 1\n.why\n.list\n.why 77\n.why x\n.who\n")
+    try:
+        bench.find_explain(vsm)
+    except Fault:
+        assert len(told) == 7 and "vsm-explain isn't there" in told[0]
+        return
+    text = "\n".join(shown)
+    assert "D=00000000 -> D=FF000000" in text and "ABEND S0C4 -> D=00000000" in text
+    assert "line 1: 8 bytes (X'8'), subpool 0" in text and "answered: FAULT OPERAND" in text
+    assert "LENGTH?" in text and "[2]" in text
+    assert len(told) == 3 and "77" in told[0]
 
 
 def test_a_page(run: Callable, vsm: str, tmp_path: Path) -> None:

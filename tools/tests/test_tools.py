@@ -15,6 +15,7 @@ from vsmtools import bench, lines, maps
 from vsmtools.command import Fault
 
 ALL = ("vsm-load", "vsm-paste", "vsm-prompt")
+EVERY = (*ALL, "vsm-test", "vsm-view")
 RUNNING = ("vsm-load", "vsm-prompt")
 MAP = (TOP / "examples" / "cell-pools.out").read_bytes()
 GIVEN = {"vsm-load": MAP, "vsm-paste": b" GETMAIN R,LV=8\n", "vsm-prompt": b"map\n"}
@@ -28,6 +29,13 @@ def words(tool: str, vsm: str) -> list[str]:
 def test_help_has_an_example(run: Callable, tool: str) -> None:
     done = run(tool, "--help")
     assert done.returncode == 0 and b"example:" in done.stdout and done.stderr == b""
+
+
+@pytest.mark.parametrize("tool", EVERY)
+def test_version_says_which_release(run: Callable, tool: str) -> None:
+    done = run(tool, "--version")
+    assert (done.returncode, done.stderr) == (0, b"")
+    assert done.stdout.startswith(b"nilbozad") and done.stdout.count(b"\n") == 1
 
 
 @pytest.mark.parametrize("tool", ALL)

@@ -15,6 +15,7 @@ from .command import WORDS, Fault, reason
 
 TOOLS = os.path.dirname(os.path.dirname(os.path.realpath(__file__)))
 BUILT = os.path.join(os.path.dirname(TOOLS), "crates", "vsm", "out", "vsm")
+BUILT_EXPLAIN = os.path.join(os.path.dirname(TOOLS), "crates", "vsm_explain_program", "out", "vsm_explain_program")
 SECONDS = 120  # the longest that a run may take, and that an answer may be waited for
 BENCH_OPTIONS = ("--low", "--high", "--residence", "--history")
 
@@ -87,6 +88,15 @@ def find_program(named: Optional[str] = None) -> str:
     if named:
         raise Fault("no program %s, or none that can be started" % named, status=WORDS)
     raise Fault("vsm isn't built: ./prove builds it, or --vsm names a program", status=WORDS)
+
+
+def find_explain(vsm: str) -> str:
+    """The path of vsm-explain: the one beside vsm, else the built one, else one on the PATH."""
+    places = [os.path.join(os.path.dirname(vsm), "vsm-explain"), BUILT_EXPLAIN, shutil.which("vsm-explain") or ""]
+    for place in places:
+        if os.path.isfile(place) and os.access(place, os.X_OK):
+            return place
+    raise Fault("vsm-explain isn't there: ./prove builds it", status=WORDS)
 
 
 def answers(output: bytes) -> list[Answer]:

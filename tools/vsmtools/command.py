@@ -5,6 +5,7 @@ import argparse
 import errno
 import os
 import sys
+from pathlib import Path
 from typing import Callable, NoReturn, Optional
 
 READ_OR_WRITE = 8  # the exit status where something couldn't be read, written or understood
@@ -31,14 +32,24 @@ def one_line(text: str) -> str:
                    for c in text)
 
 
+def version() -> str:
+    """The release that the tools are of, with the kit that its programs were proved by; a repository is none."""
+    try:
+        return (Path(__file__).resolve().parents[2] / "VERSION").read_text(encoding="utf-8").strip()
+    except (OSError, UnicodeDecodeError):
+        return "nilbozad, no release: the tools of a repository"
+
+
 class Words(argparse.ArgumentParser):
-    """A parser of words whose errors are faults of one line. Give it prog, description, and an example as
-    epilog."""
+    """A parser of words whose errors are faults of one line, with --help and --version. Give it prog,
+    description, and an example as epilog."""
 
     def __init__(self, **given: object) -> None:
         given.setdefault("formatter_class", argparse.RawDescriptionHelpFormatter)
         given.setdefault("allow_abbrev", False)
         super().__init__(**given)  # type: ignore[arg-type]
+        self.add_argument("--version", action="version", version=version(),
+                          help="say which release this is, and exit")
 
     def error(self, message: str) -> NoReturn:
         raise Fault("%s; %s --help tells the words" % (message, self.prog), status=WORDS)

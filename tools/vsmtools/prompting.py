@@ -10,7 +10,7 @@ import tempfile
 from types import FrameType
 from typing import Callable, Optional, Sequence
 
-from .bench import TOOLS, Answer, Session
+from .bench import TOOLS, Answer, Session, find_explain
 from .command import Fault, one_line, reason
 from .lines import LAST_COLUMN, fold, is_continued, is_passed_over, statements
 from .maps import Map, parse_map
@@ -24,9 +24,10 @@ HELP = """  STATEMENT                  no blank is needed in column 1; behind a 
   .save FILE                 writes all lines as a script (.save --over FILE replaces one)
   .view [PAGE]               a page that shows the session, by vsm-view
   .restart                   runs all lines again, in a new vsm
-  .who, .why, .list          come with their program vsm-explain, which isn't there yet
+  .who P                     who changed the 4 bytes at P, newest first, by vsm-explain; P,N: N bytes
+  .why [LINE]                why the statement of that line (else the last one) was answered so
+  .list                      the session as a listing, with a caret at each fault
   .quit                      ends, as Ctrl+D does; Ctrl+C drops the line that is open"""
-EXPLAINED = ("who", "why", "list")
 SECONDS = 30.0
 
 
@@ -266,9 +267,7 @@ class Prompt:
         known = {"help": self.help, "quit": self.quit, "back": self.back, "until": self.until,
                  "step": self.steps,
                  "run": self.run, "log": self.list_kept, "save": self.save, "view": self.view,
-                 "restart": self.restart}
-        if name in EXPLAINED:
-            raise Fault(".%s comes with the program vsm-explain, which isn't there yet" % name)
+                 "who": self.who, "why": self.why, "list": self.listing, "restart": self.restart}
         if name not in known:
             raise Fault("no command .%s; .help tells them" % name)
         known[name](words[1:])
@@ -366,10 +365,8 @@ class Prompt:
                         names[0]) from None
         self.show("  %d lines in %s" % (len(self.bench.log), names[0]))
 
-    def view(self, words: list[str]) -> None:
-        program = os.path.join(TOOLS, "vsm-view")
-        if not os.access(program, os.X_OK):
-            raise Fault("vsm-view isn't there, beside vsm-prompt")
+    def over_session(self, program: str, words: Callable[[str], list[str]]) -> bytes:
+        """What a program prints over the session as a file; its words go around the path."""
         if not self.bench.log:
             raise Fault("there is nothing to show yet")
         with tempfile.TemporaryDirectory(prefix="vsm-prompt-") as folder:
@@ -377,19 +374,49 @@ class Prompt:
             with open(path, "wb") as file:
                 file.write(self.script())
             try:
-                done = subprocess.run([program, "--vsm", self.bench.program, *self.bench.options, path],
-                                      stdin=subprocess.DEVNULL, capture_output=True, timeout=120)
+                done = subprocess.run([program, *words(path)], stdin=subprocess.DEVNULL, capture_output=True,
+                                      timeout=120)
             except (OSError, subprocess.TimeoutExpired) as fault:
-                raise Fault("vsm-view came to no end: %s" % fault) from None
-        if done.returncode:
-            raise Fault("vsm-view: %s" % one_line(done.stderr.decode("utf-8", "replace").strip()))
+                raise Fault("%s came to no end: %s" % (os.path.basename(program), fault)) from None
+        if done.returncode not in (0, 4):
+            raise Fault(one_line(done.stderr.decode("utf-8", "replace").strip()))
+        return done.stdout
+
+    def view(self, words: list[str]) -> None:
+        program = os.path.join(TOOLS, "vsm-view")
+        if not os.access(program, os.X_OK):
+            raise Fault("vsm-view isn't there, beside vsm-prompt")
+        text = self.over_session(program, lambda path: ["--vsm", self.bench.program, *self.bench.options, path])
         page = words[0] if words else os.path.join(tempfile.mkdtemp(prefix="vsm-view-"), "session.html")
         try:
             with open(page, "wb") as file:
-                file.write(done.stdout)
+                file.write(text)
         except OSError as fault:
             raise Fault("can't be written: %s" % reason(fault), page) from None
         self.show("  %s" % os.path.abspath(page))
+
+    def explain(self, subcommand: str, words: list[str]) -> None:
+        """Shows what vsm-explain says of the session."""
+        text = self.over_session(find_explain(self.bench.program),
+                                 lambda path: [subcommand, *self.bench.options, path, *words])
+        for line in text.decode("utf-8", "replace").splitlines():
+            self.show(line)
+
+    def who(self, words: list[str]) -> None:
+        if len(words) != 1:
+            raise Fault("it's .who P, or .who P,N of N bytes")
+        self.explain("who", self.place(words[0]).split(","))
+
+    def why(self, words: list[str]) -> None:
+        if len(words) > 1 or words and not (words[0].isdecimal() and len(words[0]) < 8):
+            raise Fault("it's .why, or .why LINE")
+        found = statements(self.script().splitlines())
+        if not words and not found:
+            raise Fault("there is no statement yet")
+        self.explain("why", words or [str(found[-1].first)])
+
+    def listing(self, _words: list[str]) -> None:
+        self.explain("list", [])
 
     def restart(self, _words: list[str]) -> None:
         lines, self.bench.log = self.bench.log, []
