@@ -15,12 +15,15 @@ from vsmtools.pasting import MACROS, Paste
 
 TOOL = "vsm-paste"
 SOURCES = Path(__file__).parent / "sources"
-# How many macros each source has, how many are taken, and of these how many vsm answers without a refusal.
+# How many macros each source has, how many vsm accepts, and of these how many are no abend. Accepted is what is
+# answered as z/OS would: carried out, or an abend that the source has there; no FAULT, no REFUSED, no comment.
 COUNTS = {"reentrant": (15, 15, 15), "cellserver": (23, 22, 22), "subtasks": (21, 20, 20),
           "tblbld": (11, 11, 11),
-          # A fragment: five of its macros name lists and fields that it doesn't have, and it releases an area
-          # three times.
-          "bufmgr": (19, 14, 12)}
+          # A fragment. Its copybook and what four registers and fields hold have to be given; GETMAIN VRU has no
+          # LA=; and it releases one area three times, so that two of them are SA78.
+          "bufmgr": (19, 18, 16)}
+GIVEN = {"bufmgr": ["--copy", SOURCES / "bufmgr.copy", "--at", "26:R0=WORKL", "--at", "26:R1=@8",
+                    "--at", "29:BUF=@16", "--at", "32:TCBADDR=@30"]}
 
 
 def told(done) -> list[str]:
@@ -48,18 +51,18 @@ def macros_in(path: Path) -> list[int]:
 @pytest.mark.parametrize("name", COUNTS)
 def test_a_source(run: Callable, vsm: str, name: str) -> None:
     path = SOURCES / (name + ".asm")
-    done = run(TOOL, path)
+    done = run(TOOL, *GIVEN.get(name, []), path)
     script = done.stdout.decode().splitlines()
     source = path.read_text().splitlines()
     assert len(script) == len(source) + 1 and script[-1].startswith("* vsm-paste: ")
-    macros, taken, accepted = COUNTS[name]
+    macros, taken, carried_out = COUNTS[name]
     begins = macros_in(path)
     assert len(begins) == macros
     answers = bench.run(vsm, [], done.stdout).answers
     # Each answer bears its line's number in the source, and nothing is faulty.
     assert len(answers) == taken and {answer.line for answer in answers} <= set(begins)
     assert not any(answer.text.startswith(("FAULT", "REFUSED")) for answer in answers)
-    assert sum(not answer.is_refused for answer in answers) == accepted
+    assert sum(not answer.is_refused for answer in answers) == carried_out
     left = [line for line in begins if line not in {answer.line for answer in answers}]
     notes = [line for line in told(done) if "isn't taken" in line]
     assert sorted(left) == sorted(int(re.match(r".*\.asm:(\d+):\d+: ", note)[1]) for note in notes)
@@ -67,11 +70,27 @@ def test_a_source(run: Callable, vsm: str, name: str) -> None:
     assert done.returncode == (4 if left else 0)
 
 
-@pytest.mark.parametrize("name", ["reentrant", "cellserver", "subtasks", "tblbld"])
+@pytest.mark.parametrize("name", COUNTS)
 def test_nine_macros_in_ten_are_accepted(name: str) -> None:
-    macros, _, accepted = COUNTS[name]
+    macros, accepted, _ = COUNTS[name]
     assert 10 * accepted >= 9 * macros
-    assert name == "tblbld" or 60 <= len((SOURCES / (name + ".asm")).read_text().splitlines()) <= 150
+    assert name in ("tblbld", "bufmgr") or 60 <= len((SOURCES / (name + ".asm")).read_text().splitlines()) <= 150
+
+
+def test_a_fragment_without_what_it_lacks(run: Callable, vsm: str) -> None:
+    """Each macro that isn't taken is told with its line, column and reason."""
+    done = run(TOOL, SOURCES / "bufmgr.asm")
+    notes = [note.split("bufmgr.asm:")[1] for note in told(done) if "isn't taken" in note]
+    assert [note.partition(" isn't taken: ")[::2] for note in notes] == [
+        ("19:22: GETMAIN", "form VRU has no LA=, which names a list: VC, VU, LC and LU have it"),
+        ("21:44: GETMAIN", "MF=(E,GETL) names a list, and neither the source nor --copy has its list form of "
+                           "GETMAIN"),
+        ("26:21: FREEMAIN", "what register 0 holds here isn't known: line 25 changes it"),
+        ("29:26: STORAGE", "BUF isn't defined"),
+        ("32:17: DETACH", "TCBADDR isn't known to hold a task that an ATTACH before gave")]
+    answers = bench.run(vsm, [], done.stdout).answers
+    assert done.returncode == 4 and len(answers) == 14
+    assert not any(answer.text.startswith(("FAULT", "REFUSED")) for answer in answers)
 
 
 @pytest.mark.parametrize("source, expected", [
@@ -91,6 +110,18 @@ def test_nine_macros_in_ten_are_accepted(name: str) -> None:
     (" CPOOL BUILD,PCELLCT=1,CSIZE=8,CPID=(8)\n LR 3,8\n CPOOL DELETE,CPID=(3)", "CPOOL DELETE,CPID=CPID8"),
     (" ATTACH EP=A\n ST 1,T\n DETACH T", "DETACH 2"),
     ("L DC AL1(1,7)\n ATTACH EP=A,GSPL=L", "ATTACH EP=A,GSPV=7"),
+    ("L DC A(X'80000000'+24)\n GETMAIN LU,LA=L,A=P", "GETMAIN EU,LV=24,A=P"),
+    ("L DC A(X'80000000'+24)\n GETMAIN LC,LA=L,A=P\n FREEMAIN LU,LA=L,A=P", "FREEMAIN EU,LV=24,A=P"),
+    ("L DC F'8,64'\n GETMAIN VC,LA=L,A=P,SP=2",
+     "STORAGE OBTAIN,LENGTH=(64,8),SP=2,LOC=BELOW,COND=YES,ADDR=P"),
+    ("L DC F'8,64'\n GETMAIN VU,LA=L,A=P\n L 0,P+4\n L 3,P\n FREEMAIN RU,LV=(0),A=(3)",
+     "FREEMAIN RU,LV=(0),A=(1)"),
+    ("L GETMAIN RU,LV=16,SP=3,MF=L\n GETMAIN RU,MF=(E,L)", "GETMAIN RU,LV=16,SP=3"),
+    ("L GETMAIN RU,LV=16,MF=L\n GETMAIN RU,LV=8,MF=(E,L)\n GETMAIN RU,MF=(E,L)", "GETMAIN RU,LV=8"),
+    (" STORAGE OBTAIN,LENGTH=8,MF=(L,L)\n MVC W(20),L\n STORAGE OBTAIN,SP=1,MF=(E,W)",
+     "STORAGE OBTAIN,SP=1,LENGTH=8"),
+    ("L ATTACH EP=A,SF=L\n ATTACHX SHSPV=2,SF=(E,L)", "ATTACH SHSPV=2,EP=A"),
+    (" GETMAIN RU,LV=8,MF=S", "GETMAIN RU,LV=8"),
 ])
 def test_what_is_worked_out(run: Callable, vsm: str, source: str, expected: str) -> None:
     script, _, status = paste(run, source + "\n")
@@ -111,11 +142,21 @@ def test_what_is_worked_out(run: Callable, vsm: str, source: str, expected: str)
     (" LA 0,8\n WTO 'X'\n GETMAIN R,LV=(0)\n", 3, "line 2 changes it"),
     ("C CSECT\nA DS F\n LR 1,2\nB DS F\n GETMAIN R,LV=B-A\n", 5, "instructions lie between"),
     ("B DS F\n GETMAIN R,LV=B\n", 2, "an address of the program"),
-    (" GETMAIN LC,LA=L,A=A\n", 1, "form LC has its operands in a list"),
+    (" GETMAIN LC,LA=L,A=A\n", 1, "L is no list whose words are known"),
+    (" GETMAIN LC,A=A\n", 1, "form LC has its operands in a list"),
+    ("L DC F'8,16'\n GETMAIN LC,LA=L,A=A\n", 2, "a line has one statement"),
+    ("L DC F'8'\n GETMAIN VC,LA=L,A=A\n", 2, "no list of the least and the greatest length"),
+    ("L DC F'8,16'\n XC L,L\n GETMAIN VC,LA=L,A=A\n", 3, "line 2 stores in L"),
+    ("L DC F'8,16'\n GETMAIN VC,LA=L,A=(5)\n", 2, "A= names no place"),
+    (" GETMAIN RU,LV=8,MF=(E,(1))\n", 1, "MF=(E,(1)) names a list"),
+    ("L STORAGE OBTAIN,MF=L\n GETMAIN RU,LV=8,MF=(E,L)\n", 2, "MF=(E,L) names a list"),
+    ("L GETMAIN RU,LV=8,MF=L\n MVI L,0\n GETMAIN RU,MF=(E,L)\n", 3, "line 2 stores in list L"),
+    ("L GETMAIN RU,LV=8,BNDRY=&B,MF=L\n GETMAIN RU,MF=(E,L)\n", 2, "its list has a variable symbol"),
+    ("L GETMAIN RU,LV=8,MF=L\n", 1, "it's a list form, which does nothing by itself"),
     (" GETMAIN VRU,LA=L,SP=1\n", 1, "names a list"),
     (" ATTACH EP=A,MF=(E,L)\n", 1, "names a list"),
     (" DETACH (5)\n", 1, "what register 5 holds"),
-    (" ATTACH EP=A,SF=L\n", 1, "names a list"),
+    (" ATTACH EP=A,SF=L\n", 1, "it's a list form"), (" ATTACH EP=A,SF=(E,L)\n", 1, "names a list"),
     (" FREEMAIN RU,LV=8,A=BUF\n", 1, "isn't known to hold an address"),
     (" CPOOL GET,CPID=P\n", 1, "isn't known to name a cell pool"),
     (" STORAGE OBTAIN,LENGTH=8,LOC=EXPLICIT,INADDR=X\n", 1, "LOC=EXPLICIT isn't read"),
@@ -155,9 +196,49 @@ def test_behind_a_step_or_another_task_nothing_is_known(run: Callable) -> None:
 def test_options(run: Callable) -> None:
     script, _, _ = paste(run, " GETMAIN RU,LV=LEN+8,SP=230\n", "--equ", "LEN=X'10'*2", "--sp", "230=100")
     assert script[0].split("  ")[0] == " GETMAIN RU,LV=40,SP=100"
-    for words in (["--sp", "230"], ["--sp", "230=128"], ["--equ", "LEN"], ["--equ", "1=2"], ["--equ", "A=A"]):
+    for words in (["--sp", "230"], ["--sp", "230=128"], ["--equ", "LEN"], ["--equ", "1=2"], ["--equ", "A=A"],
+                  ["--at", "1:R5"], ["--at", "R5=8"], ["--at", "1:R5=@"], ["--at", "1:R5="]):
         done = run(TOOL, *words, given=b" MAP\n")
         assert done.returncode == 16 and words[1] in one_line(done, TOOL)
+
+
+def test_what_an_execute_form_stored_from_a_register(run: Callable) -> None:
+    script, notes, status = paste(run, "L GETMAIN RU,LV=16,MF=L\n LA 5,8\n GETMAIN RU,LV=(5),MF=(E,L)\n"
+                                       " GETMAIN RU,MF=(E,L)\n")
+    assert script[2].split("  ")[0] == " GETMAIN RU,LV=8" and script[3].startswith("*") and status == 4
+    assert any("4:13: GETMAIN isn't taken: LV of list L is what line 3 stored there" in note for note in notes)
+
+
+def test_what_is_said_to_be_held(run: Callable, vsm: str) -> None:
+    source = " GETMAIN RU,LV=24,SP=1\n CPOOL BUILD,PCELLCT=1,CSIZE=8,CPID=P\n FREEMAIN RU,LV=(7),A=F,SP=1\n" \
+             " CPOOL DELETE,CPID=(9)\n"
+    script, notes, status = paste(run, source, "--at", "3:R7=3*8", "--at", "3:f=@1", "--at", "4:R9=@2")
+    assert status == 0 and script[2:] == [" FREEMAIN RU,LV=24,A=(1),SP=1", " CPOOL DELETE,CPID=P"]
+    assert {"standard input:3:1: R7 holds 24 here, as --at says",
+            "standard input:3:1: F holds what line 1 gave here, as --at says"} <= set(notes)
+    answers = bench.run(vsm, [], "\n".join(script + [""]).encode()).answers
+    assert not any(answer.is_refused for answer in answers)
+
+
+@pytest.mark.parametrize("word, why", [
+    ("2:R5=NOWHERE", "isn't used: NOWHERE isn't defined"), ("9:R5=8", "isn't used: that line has no statement"),
+    ("2:R5=@7", "isn't used: line 7 is no macro before"), ("4:R5=@1", "isn't used: line 1 is no macro before"),
+])
+def test_what_is_said_in_vain(run: Callable, word: str, why: str) -> None:
+    _, notes, _ = paste(run, " GETMAIN RU,LV=8\n LR 2,3\n BACK 1\n LR 2,3\n", "--at", word)
+    assert any(note.startswith("standard input:%s:1: --at %s " % (word[0], word)) and why in note for note in notes)
+
+
+def test_copies(run: Callable, tmp_path: Path) -> None:
+    """Definitions are taken from there; macros and what can't be known are told."""
+    copy = tmp_path / "copy"
+    copy.write_text("LEN EQU 8*4\nX EQU X\n GETMAIN RU,LV=8\n MACRO\n M\nLEN EQU 8\n MEND\nB DS CL5\n")
+    script, notes, status = paste(run, " GETMAIN RU,LV=LEN+L'B\nD DS F\n GETMAIN RU,LV=D-B\n", "--copy", copy)
+    assert status == 4 and script[0] == " GETMAIN RU,LV=37" and script[2].startswith("*")
+    for text in ("line 2: X stands on itself", "line 3: GETMAIN isn't taken from there", "line 4: MACRO isn't"):
+        assert any("--copy %s, %s" % (copy, text) in note for note in notes), notes
+    done = run(TOOL, "--copy", tmp_path / "nowhere", given=b" MAP\n")
+    assert done.returncode == 8 and "nowhere" in done.stderr.decode()
 
 
 # Texts that aren't as they should be.

@@ -203,6 +203,11 @@ class Symbols:
     def here_section(self) -> Section:
         return self.sections.setdefault(self.section, Section())
 
+    def leave_section(self) -> None:
+        """What follows is another source: how far it is from what was read isn't known."""
+        self.section = ""
+        self.here_section().begin_part(8)
+
     def here(self) -> Value:
         it = self.here_section()
         return Value(it.offset, Counter({(self.section, it.part): 1}))

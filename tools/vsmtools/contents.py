@@ -13,6 +13,7 @@ NO_CHANGE = re.compile(r"B|BC|BCR|BR|BRC|J|JC|NOP|NOPR|[BJ](E|NE|H|NH|L|NL|Z|NZ|
                        r"|C|CR|CH|CHI|CL|CLR|CG|CGR|CGHI|CFI|CLFI|CLI|CLC|CLM|CP|TM|TMLL|MVI|OI|NI|XI|EX"
                        r"|STC|STCM|STH|LTORG|CNOP|DS|DC|ORG|SPKA|SPM")
 IN_PART = {"STC", "STCM", "STH", "MVI", "OI", "NI", "XI"}    # these change a part of a field
+STORES = IN_PART | {"ST", "STG", "STY", "STM", "STMG", "MVC", "MVCIN", "XC", "OC", "NC", "ZAP", "TR", "CVD"}
 CALLS = {"BAL", "BALR", "BAS", "BASR", "BASSM", "BRAS", "BRASL", "JAS", "JASL", "SVC", "PC"}
 COPIES = {"LR", "LGR", "LTR", "LTGR", "LGFR", "LLGFR"}
 LOADS = {"L", "LG", "LY", "LT", "LLGT", "LGF", "LLGF", "LH", "LHY", "ICM"}
@@ -39,6 +40,7 @@ class Contents:
         self.symbols = symbols
         self.registers: dict[int, Content] = {}
         self.fields: dict[str, Content] = {}
+        self.stored: dict[str, int] = {}       # the line that stored in a field
         self.changed: dict[int, int] = {}      # the line where a register got something unknown
         self.label: tuple[int, str] = (0, "")  # the last line with a name, which a branch may lead to
 
@@ -73,6 +75,12 @@ class Contents:
         if it.name and is_code and not it.name.startswith("."):
             self.label = (line, it.name)
         operands = [text for _, text in split_operands(it.operands)]
+        if it.operation in STORES:
+            target = (operands or [""])[-1 if it.operation.startswith("ST") else 0]
+            base = re.sub(r"[(+-].*", "", target).upper()
+            self.stored[base] = line
+            for other in [name for name in self.fields if name.startswith(base + "+")]:
+                del self.fields[other]
         if it.operation in IN_PART:
             for field in operands:
                 self.fields.pop(re.sub(r"[(+].*", "", field).upper(), None)

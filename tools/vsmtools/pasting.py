@@ -7,11 +7,12 @@ from __future__ import annotations
 
 import re
 from dataclasses import dataclass, field
-from typing import Optional
+from typing import Optional, Sequence
 
 from .assembler import SYMBOL, Statement, Symbols, Unknown, read_statement, split_operands
 from .contents import LINKAGE, Content, Contents
 from .lines import fold
+from .lists import SINGLE, Lists, keyed, list_name, single
 
 MACROS = {"STORAGE", "GETMAIN", "FREEMAIN", "CPOOL", "ATTACH", "ATTACHX", "DETACH"}
 OWN = {"RUN", "ENDTASK", "POKE", "PEEK", "MAP", "BACK", "FORWARD"}
@@ -20,8 +21,7 @@ NO_MEANING = {"KEY", "CALLRKY", "TCBADDR", "OWNER", "EXECUTABLE", "CHECKZERO", "
               "RTCD", "BRANCH", "TCB", "ECB", "ETXR", "EPLOC", "DE", "DCB", "PARAM", "VL", "LPMOD", "DPMOD",
               "ESTAI", "STAI", "TASKLIB", "STAE"}
 AS_THEY_STAND = {"COND", "BNDRY", "SZERO", "RELATED", "LINKAGE", "REGS"}
-LIST_FORMS = {"GETMAIN": {"LC", "LU", "VC", "VU"}, "FREEMAIN": {"L", "LC", "LU", "V", "VC", "VU"},
-              "CPOOL": {"LIST"}}
+LIST_FORMS = {"FREEMAIN": {"V", "VC", "VU"}, "CPOOL": {"LIST"}}
 LOCATIONS = re.compile(r"(BELOW|24|ANY|31|RES)|\((BELOW|24|ANY|31|RES)(,(BELOW|ANY|24|31|64))?\)")
 NAME = re.compile(r"[A-Z$#@_][A-Z0-9$#@_]{0,62}")
 CONDITIONAL = {"EXITM", "AIF", "AGO", "COPY", "SETA", "SETB", "SETC"}
@@ -37,6 +37,9 @@ class Macro:
     keyword: str = ""             # ADDR, A or CELL, where the address can go somewhere
     wish: str = ""                # the field that the source stores it in
     remarks: list[str] = field(default_factory=list)
+    gave: Optional[Content] = None    # the area, cell pool or task that others can stand for
+    is_list: bool = False         # that the source has its lengths in a list
+    notes: list[str] = field(default_factory=list)    # to be told where it's taken
 
     @property
     def line(self) -> int:
@@ -64,17 +67,33 @@ def as_storage(operands: list[str]) -> list[str]:
     return found + (["LOC=BELOW"] if form == "R" else ["COND=YES"] if form.endswith("C") else [])
 
 
+@dataclass(frozen=True)
+class Given:
+    """A word of --at: what a register or field holds before a line."""
+    word: str
+    line: int
+    what: str
+    value: str
+
+
 class Paste:
     """One source on its way to a script."""
 
-    def __init__(self, lines: list[str], equates: dict[str, int], subpools: dict[int, int]) -> None:
+    def __init__(self, lines: list[str], equates: dict[str, int], subpools: dict[int, int],
+                 copies: Sequence[tuple[str, list[str]]] = (), given: Sequence[Given] = ()) -> None:
         self.lines, self.subpools, self.chosen = lines, dict(subpools), set(subpools.values())
+        self.given, self.lists = list(given), Lists()
         self.notes: list[tuple[int, int, str]] = []
         self.left = 0                           # macros that aren't taken
         self.statements = self.read()
         self.symbols = Symbols(equates)
+        for name, copy in copies:
+            self.copy(name, copy)
         for it, why in self.symbols.read([it for it in self.statements if not self.in_macro(it)]):
             self.note(it.first + 1, 1, why)
+        for it in self.statements:
+            if it.operation in MACROS:
+                self.lists.define(it)
         self.contents = Contents(self.symbols)
         self.macros: list[Macro] = []
         self.held: dict[int, int] = {}          # which macro's address vsm's registers have
@@ -112,6 +131,23 @@ class Paste:
             at = it.last + 1
         return found
 
+    def copy(self, name: str, lines: list[str]) -> None:
+        """Takes the definitions and list forms of another source; its macros aren't taken."""
+        found: list[Statement] = []
+        at, depth = 0, 0
+        while at < len(lines):
+            it = read_statement(lines, at)
+            depth += (it.operation == "MACRO") - (it.operation == "MEND" and depth > 0)
+            if it.operation == "MACRO" or not depth and it.operation in MACROS and not self.lists.define(it):
+                self.note(1, 1, "--copy %s, line %d: %s isn't taken from there"
+                          % (name, at + 1, it.operation))
+            elif not depth and it.operation != "MEND":
+                found.append(it)
+            at = it.last + 1
+        for it, why in self.symbols.read(found):
+            self.note(1, 1, "--copy %s, line %d: %s" % (name, it.first + 1, why))
+        self.symbols.leave_section()
+
     def in_macro(self, it: Statement) -> bool:
         return it.operation == ".MACRO"
 
@@ -120,7 +156,10 @@ class Paste:
         for it in self.statements:
             if it.is_comment or self.in_macro(it):
                 continue
-            if it.operation in MACROS:
+            self.take_given(it)
+            if it.operation in MACROS and list_name(it) is not None:
+                self.note(it.first + 1, 1, "it's a list form, which does nothing by itself")
+            elif it.operation in MACROS:
                 self.macro(it)
             elif it.operation in OWN:
                 self.own(it)
@@ -129,17 +168,53 @@ class Paste:
                     self.note(it.first + 1, 1, "%s isn't carried out" % it.operation)
                 self.store(it)
                 self.contents.take(it)
+                copy = self.lists.copy(it)
+                if copy:
+                    self.note(it.first + 1, 1, "%s is taken as a copy of list %s" % copy)
+        for word in self.given:
+            self.note(word.line, 1, "--at %s isn't used: that line has no statement" % word.word)
         for macro in self.macros:
             self.write(macro)
         if self.symbols.registers_taken:
             self.note(1, 1, "R0 to R15 that the source doesn't define are taken as registers 0 to 15")
         return self.whole()
 
+    def take_given(self, it: Statement) -> None:
+        """What the words of --at say of registers and fields before a statement."""
+        for word in [word for word in self.given if it.first < word.line <= it.last + 1]:
+            self.given.remove(word)
+            try:
+                content = self.content_given(word)
+            except Unknown as why:
+                self.note(word.line, 1, "--at %s isn't used: %s" % (word.word, why))
+                continue
+            register = re.fullmatch(r"R(\d{1,2})", word.what)
+            if register:
+                self.contents.set(int(register[1]), content, word.line)
+            else:
+                self.contents.fields[word.what] = content
+            self.note(word.line, 1, "%s holds %s here, as --at says" % (
+                word.what, content.what if word.value[0] != "@" else "what line %s gave" % word.value[1:]))
+
+    def content_given(self, word: Given) -> Content:
+        if word.value[0] != "@":
+            return Content("number", self.symbols.number(word.value) & 0xFFFFFFFF, word.line)
+        line = word.value[1:]
+        gave = next((macro.gave for macro in self.macros if str(macro.line) == line), None)
+        if gave is None:
+            raise Unknown("line %s is no macro before, nor behind a RUN, ENDTASK, BACK or FORWARD, that gives an "
+                          "area, a cell pool or a task" % line)
+        return gave
+
     def own(self, it: Statement) -> None:
         """A statement of the bench's own. Behind one that leads to another task or time nothing is known."""
         self.written[it.first] = self.lines[it.first:it.last + 1]
         if it.operation in ("RUN", "ENDTASK", "BACK", "FORWARD"):
+            for macro in self.macros:
+                macro.gave = None
+            stored = self.contents.stored
             self.contents, self.held, self.names = Contents(self.symbols), {}, {}
+            self.contents.stored = stored
             self.are_tasks_known = False
 
     def whole(self) -> list[str]:
@@ -181,6 +256,8 @@ class Paste:
             self.forget(it.first + 1)
             return
         self.macros.append(found)
+        for text in found.notes:
+            self.note(found.line, 1, text)
         self.behind(found, number)
 
     def forget(self, line: int) -> None:
@@ -191,7 +268,8 @@ class Paste:
         """What registers and names hold behind a macro that is taken."""
         self.forget(it.line)
         if it.keyword:
-            self.contents.set(1, Content("area", number, it.line), it.line)
+            it.gave = Content("area", number, it.line)
+            self.contents.set(1, None if it.is_list else it.gave, it.line)
             self.held[1] = number
             if it.place.startswith("("):
                 register = int(it.place[1:-1])
@@ -201,30 +279,43 @@ class Paste:
                 self.names[it.place] = number
                 self.contents.fields[it.place] = Content("area", number, it.line)
             if any(text.startswith(("LENGTH=(", "LV=(")) and "," in text for text in it.operands):
-                self.contents.set(0, Content("length", number, it.line), it.line)
+                length = Content("length", number, it.line)
+                self.contents.set(0, None if it.is_list else length, it.line)
+                if it.is_list:
+                    self.contents.fields[it.place + "+4"] = length
                 self.held[0] = number
         elif it.operation == "ATTACH":
             task = min(set(range(1, 65)) - self.tasks, default=65)
             self.tasks.add(task)
-            self.contents.set(1, Content("task", task, it.line) if self.are_tasks_known else None, it.line)
+            it.gave = Content("task", task, it.line) if self.are_tasks_known else None
+            self.contents.set(1, it.gave, it.line)
             self.held[1] = number
         elif it.operation == "DETACH":
             self.tasks.discard(int(it.operands[0]))
 
     def taken(self, it: Statement) -> Macro:
         """A macro with its operands as a script has them; a fault says why it isn't taken."""
-        found = Macro(it, "ATTACH" if it.operation == "ATTACHX" else it.operation)
-        operands = split_operands(it.operands)
+        found = Macro(it, single(it.operation))
         if "&" in re.sub(r"'[^']*'", "", it.operands):
             raise Unknown("it has a variable symbol", it.operands.index("&") + 1)
+        operands = self.lists.merged(it, self.contents.stored)
         form = operands[0][1].upper() if operands and "=" not in operands[0][1] else ""
+        if form in SINGLE.get(it.operation, ()):
+            form, operands = self.of_one(found, form, operands)
         if form in LIST_FORMS.get(it.operation, ()):
             raise Unknown("form %s has its operands in a list" % form)
         for at, text in operands:
+            if "&" in re.sub(r"'[^']*'", "", text):
+                raise Unknown("its list has a variable symbol", at + 1)
             try:
                 self.operand(found, form, text)
             except Unknown as why:
                 raise Unknown(str(why), at + 1) from None
+        self.finish(found, form)
+        return found
+
+    def finish(self, found: Macro, form: str) -> None:
+        """What a macro whose operands are taken gets besides."""
         if found.operation == "DETACH" and not any(text.isdigit() for text in found.operands[:1]):
             raise Unknown("it names no task")
         if found.operation == "GETMAIN" and form in ("R", "RC", "RU", "VRC", "VRU"):
@@ -235,7 +326,57 @@ class Paste:
             found.keyword = "CELL"
         if found.operation == "GETMAIN" and form == "R" and "LV=(0)" in found.operands:
             raise Unknown("form R takes no length from register 0")
-        return found
+
+    def of_one(self, it: Macro, form: str,
+               operands: list[tuple[int, str]]) -> tuple[str, list[tuple[int, str]]]:
+        """A form with a list of lengths as the one with that length, where the list has one."""
+        to = SINGLE[it.operation][form]
+        at, text = next(((at, keyed(text)[1]) for at, text in operands if keyed(text)[0] == "LA"), (0, ""))
+        if not text:
+            raise Unknown("form %s has its operands in a list, and there's no LA=" % form)
+        words = self.words(text, at + 1)
+        if to.startswith("V"):
+            if len(words) < 2:
+                raise Unknown("%s is no list of the least and the greatest length" % text, at + 1)
+            length = "(%d,%d)" % (words[1], words[0])
+        else:
+            if not words[0] >> 31:
+                raise Unknown("form %s has its operands in a list, and a line has one statement: the list has "
+                              "more than one length, or its last lacks the mark X'80'" % form, at + 1)
+            length = "%d" % (words[0] & 0x7FFFFFFF)
+        it.notes.append("%s has its lengths in list %s, and is taken as %s,LV=%s" % (form, text, to, length))
+        found = [(0, to)] + [(k, "LV=" + length if keyed(other)[0] == "LA" else other)
+                             for k, other in operands[1:]]
+        it.is_list = it.operation == "GETMAIN"
+        if to.startswith("V"):
+            found = self.with_answer(it, found) + [(at, "LOC=BELOW")]
+        return to, found
+
+    def with_answer(self, it: Macro, operands: list[tuple[int, str]]) -> list[tuple[int, str]]:
+        """The operands of VC and VU without A, whose two words get the address and the length."""
+        answer = next((text[2:].upper() for _, text in operands if keyed(text)[0] == "A"), "")
+        if not NAME.fullmatch(answer):
+            raise Unknown("A= names no place for the address and the length")
+        it.place = answer
+        it.notes.append("it's written as STORAGE OBTAIN, which has ADDR=%s; its abend codes end in 78 then, "
+                        "not 04" % answer)
+        return [(at, text) for at, text in operands if keyed(text)[0] != "A"]
+
+    def words(self, name: str, column: int) -> list[int]:
+        """The words of a list that the source defines."""
+        data = self.data_of(name, column)
+        if len(data) < 4:
+            raise Unknown("%s is no list whose words are known: a DC of the source or --copy has them" % name,
+                          column)
+        return [int.from_bytes(data[at:at + 4], "big") for at in range(0, len(data) - 3, 4)]
+
+    def data_of(self, name: str, column: Optional[int] = None) -> bytes:
+        """The bytes that DC gives a field, where no line before stores in it."""
+        line = self.contents.stored.get(name.upper())
+        if line:
+            raise Unknown("line %d stores in %s" % (line, name), column)
+        symbol = self.symbols.known.get(name.upper())
+        return symbol.data if symbol else b""
 
     def operand(self, it: Macro, form: str, text: str) -> None:
         """Adds one operand, or drops it with a word."""
@@ -244,6 +385,8 @@ class Paste:
             it.operands.append(self.positional(it, text))
             return
         key, value = head[1].upper(), head[2]
+        if key == "LA" and it.operation == "GETMAIN":
+            raise Unknown("form %s has no LA=, which names a list: VC, VU, LC and LU have it" % form)
         if key in ("MF", "LA", "SF", "INADDR"):
             raise Unknown("%s= names a list or place in the program's storage" % key)
         if key in NO_MEANING:
@@ -351,8 +494,7 @@ class Paste:
 
     def subpool_list(self, it: Macro, text: str) -> str:
         """The one number of a list that the source defines."""
-        symbol = self.symbols.known.get(text.upper())
-        data = symbol.data if symbol else b""
+        data = self.data_of(text)
         if len(data) < 2 or data[0] + 1 > len(data):
             raise Unknown("%s is no list whose bytes are known" % text)
         if data[0] != 1:
@@ -396,6 +538,7 @@ class Paste:
             self.contents.set(register, Content("pool", name, it.line), it.line)
         else:
             self.contents.fields[name] = Content("pool", name, it.line)
+        it.gave = Content("pool", name, it.line)
         self.pools.add(name)
         return name
 
