@@ -13,6 +13,3 @@ pub use found::{Change, changes};
 pub use output::{log, who};
 pub use readings::{Asked, Seen};
 pub use tracing::{Traced, follow};
-
-#[cfg(test)]
-mod tests;
