@@ -19,11 +19,13 @@ import facts
 import manual
 from facts import Commit, Refusal
 
-# What of tools/ and page/ is for the repository alone: tests, and what bench.html is made from.
-NOT_INSTALLED = re.compile(r".*/(tests/|\.)|(page|tools)/check|page/(bench|module|host|chromium|\w*trials)")
+# What of tools/ and page/ is for the repository alone: tests, what bench.html is made from, and the library for C.
+NOT_INSTALLED = re.compile(r".*/(tests/|\.)|(page|tools)/check|tools/(c/|vsm_bench)|"
+                           r"page/(bench|module|host|chromium|colours|expected|on_page|\w*trials)")
 # How the tools begin, and how a package wants them to.
 FREE_PYTHON, SYSTEM_PYTHON = b"#!/usr/bin/env python3\n", b"#!/usr/bin/python3\n"
-DOCS = ("STATEMENTS.md", "MESSAGES.md", "EXPLAIN.md", "PROTOCOL.md", "ZOS.md", "GLOSSARY.md")
+DOCS = ("STATEMENTS.md", "MESSAGES.md", "EXPLAIN.md", "PROTOCOL.md", "ZOS.md", "GLOSSARY.md", "TOOLS.md", "VIEW.md",
+        "BENCH-IN-A-BROWSER.md")
 # The proved programs, by the crates that build them.
 PROGRAMS = {"vsm": "vsm", "vsm-explain": "vsm_explain_program"}
 COMMANDS = ("list", "why", "report", "who")
@@ -70,19 +72,25 @@ def built(top: Path, name: str) -> Path:
 
 
 def help_of(program: Path, *command: str) -> str:
-    """What a program, or a command of it, says to --help; at one width, and in one language."""
+    """What a program, or a command of it, says to --help."""
+    return said(program, *command, "--help")
+
+
+def said(program: Path, *words_behind: str) -> str:
+    """What a program says to these words; at one width, and in one language."""
     environment = {"PATH": os.environ.get("PATH", ""), "COLUMNS": "80", "LC_ALL": "C.UTF-8",
                    "PYTHONDONTWRITEBYTECODE": "1"}
-    words = [str(program), *command, "--help"]
+    words = [str(program), *words_behind]
     if program.parent.name == "tools":
         words.insert(0, sys.executable)
     try:
         done = subprocess.run(words, env=environment, capture_output=True, text=True, timeout=60,
                               stdin=subprocess.DEVNULL)
     except (OSError, subprocess.TimeoutExpired) as error:
-        raise Refusal(f"{program} --help: {error}") from None
+        raise Refusal(f"{program} {' '.join(words_behind)}: {error}") from None
     if done.returncode or not done.stdout:
-        raise Refusal(f"{program} --help ended with status {done.returncode}: {done.stderr.strip()[-200:]}")
+        raise Refusal(f"{program} {' '.join(words_behind)} ended with status {done.returncode}: "
+                      f"{done.stderr.strip()[-200:]}")
     return done.stdout
 
 
@@ -156,14 +164,20 @@ def copyright_of(release: Release, licences: dict[str, bytes]) -> str:
     return "\n".join(lines)
 
 
+def moved(file: str, data: bytes) -> bytes:
+    """A file with its links, where the pages of docs/ stand one folder higher."""
+    if not file.endswith(".md"):
+        return data
+    return data.replace(b"](../", b"](") if file.startswith("docs/") else data.replace(b"](../docs/", b"](../")
+
+
 def put_docs(release: Release, root: Path, statement: str) -> None:
     licences = facts.licences(release.kit_folder, release.top)
     doc = root / "share" / "doc" / "nilbozad"
-    for name in DOCS:
-        copy(release.top / "docs" / name, doc / name)
     for file in release.files:
-        if re.fullmatch(r"(examples|conformance)/.*(\.(vsm|out|options)|README\.md)", file):
-            put(doc / file, (release.top / file).read_bytes())
+        if file.removeprefix("docs/") in DOCS or re.fullmatch(
+                r"docs/pictures/.*|conformance/rules|(examples|conformance)/.*(\.(vsm|out|options)|README\.md)", file):
+            put(doc / file.removeprefix("docs/"), moved(file, (release.top / file).read_bytes()))
     for name, data in licences.items():
         put(doc / "licenses" / name, data)
     put(doc / "copyright", copyright_of(release, licences))
@@ -186,7 +200,7 @@ def tarball(release: Release, root: Path, file: Path) -> None:
         copy(release.top / name, root / name)
     for name in ("PROVED", "CHANGELOG.md"):
         (root / "share/doc/nilbozad" / name).replace(root / name)
-    put(root / "README", read_me(release))
+    put(root / "README", read_me(release, least_libc(root / "bin")))
     settle(root, release.commit.seconds)
 
     def plain(info: tarfile.TarInfo) -> tarfile.TarInfo:
@@ -201,7 +215,14 @@ def tarball(release: Release, root: Path, file: Path) -> None:
                 archive.add(path, name, recursive=False, filter=plain)
 
 
-def read_me(release: Release) -> str:
+def least_libc(folder: Path) -> str:
+    """The oldest version of glibc that has all that the programs call."""
+    data = b"".join((folder / name).read_bytes() for name in PROGRAMS)
+    major, minor = max(tuple(map(int, it.split(b"."))) for it in re.findall(rb"GLIBC_(\d+\.\d+)", data))
+    return f"{major}.{minor}"
+
+
+def read_me(release: Release, libc: str) -> str:
     return f"""Nilbozad {release.version}, a bench for the virtual storage of z/OS
 
     bin/vsm share/doc/nilbozad/examples/first-steps.vsm     runs a script
@@ -211,16 +232,14 @@ def read_me(release: Release) -> str:
     man -l share/man/man7/vsm-messages.7.gz                 what is printed
 
 Copied to /usr/local, bin/ and share/ are found by the shell, by man and by completions. vsm and vsm-explain need
-x86-64 Linux and glibc; the other programs of bin/ need Python 3.11. PROVED says what was proved, CHANGELOG.md what
-has changed.
+x86-64 Linux and glibc {libc} or newer; the other programs of bin/ need Python 3.11. PROVED says what was proved,
+CHANGELOG.md what has changed.
 """
 
 
 def control(release: Release, root: Path) -> str:
-    data = b"".join((root / "usr" / "bin" / name).read_bytes() for name in PROGRAMS)
-    libc = max(tuple(map(int, it.split(b"."))) for it in re.findall(rb"GLIBC_(\d+\.\d+)", data))
     size = sum(it.lstat().st_size for it in root.rglob("*") if it.is_file()) // 1024 + 1
-    needs = f"libc6 (>= {libc[0]}.{libc[1]})" + (", python3 (>= 3.11)" if release.tools else "")
+    needs = f"libc6 (>= {least_libc(root / 'usr' / 'bin')})" + (", python3 (>= 3.11)" if release.tools else "")
     return (f"Package: nilbozad\nVersion: {release.version}\nArchitecture: amd64\n"
             f"Maintainer: {release.commit.author}\nInstalled-Size: {size}\nDepends: {needs}\n"
             f"Section: devel\nPriority: optional\n{DESCRIPTION}")

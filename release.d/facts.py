@@ -64,6 +64,11 @@ def changes_of(top: Path, version: str) -> list[str]:
     return lines
 
 
+def say_version(text: str, version: str, kit: str) -> bool:
+    """Whether a program's last line is this version with the kit's line."""
+    return text.rstrip("\n").split("\n")[-1].endswith(f" {version} ({kit})")
+
+
 def gate_line(file: str | None) -> str:
     """The last line of the gate's output."""
     if file is None:

@@ -188,7 +188,8 @@ def page_of_vsm(page: Page, help_text: str, messages: str, others: list[str]) ->
         raise LookupError("the section 'Options' doesn't begin with the usage")
     # The last paragraph tells of the script in a clone.
     usage, options = options[0], options[1:-1]
-    parts = split_help(help_text)
+    # The last paragraph has the version.
+    parts = split_help(help_text)[:-1]
     at, ends, example = (part_at(parts, it) for it in ("Options:", "Exit status:", "Example:"))
     description = [Paragraph(" ".join(it)) for it in [parts[0], *parts[at + 1:ends]]]
     examples: list[Block] = []

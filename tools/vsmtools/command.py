@@ -33,11 +33,15 @@ def one_line(text: str) -> str:
 
 
 def version() -> str:
-    """The release that the tools are of, with the kit that its programs were proved by; a repository is none."""
-    try:
-        return (Path(__file__).resolve().parents[2] / "VERSION").read_text(encoding="utf-8").strip()
-    except (OSError, UnicodeDecodeError):
-        return "nilbozad, no release: the tools of a repository"
+    """The release that the tools are of, with the kit that its programs were proved by; in a repository what
+    the programs there say of themselves."""
+    top = Path(__file__).resolve().parents[2]
+    for file, behind in ((top / "VERSION", ""), (top / "docs" / "help.txt", ", of a repository")):
+        try:
+            return file.read_text(encoding="utf-8").strip().split("\n")[-1] + behind
+        except (OSError, UnicodeDecodeError):
+            continue
+    return "nilbozad, of no known version"
 
 
 class Words(argparse.ArgumentParser):

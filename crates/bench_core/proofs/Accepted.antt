@@ -12,18 +12,18 @@ use Rattle.storage_changes.specs.Changes.{Change as StorageChange}
 use Rattle.storage_changes.specs.Changes as storage
 use Rattle.storage_changes.specs.Meaning.{model_of}
 use Rattle.storage_changes.specs.Props.{Fit-prop, NamedState-set, Reply-set, Outcome-set}
-use Rattle.storage_exchange.specs.declared.storage.Storage.{Storage as Parts}
+use Rattle.storage_exchange.specs.declared.storage.Parts.{Parts}
 use Rattle.storage_swap.specs.declared.change.Change.{Change as RawChange}
-use Rattle.storage_history.specs.Apart.{AreWhole}
-use Rattle.storage_history.specs.Kept.{apart-put, hold-append, frames-append}
-use Rattle.storage_history.specs.Reserved.{reserve-others, reserve-apart, reserve-whole}
+use Rattle.storage_swap.specs.Apart.{AreWhole}
+use Rattle.storage_swap.specs.HistoryKept.{apart-put, hold-append, frames-append}
+use Rattle.storage_swap.specs.ReservedFit.{reserve-others, reserve-apart, reserve-whole}
 use Rattle.vsm_machine.specs.Meaning.{state_in_place, settings_of}
 use Rattle.vsm_machine.specs.Planned.{IsIdFor, change_for, reply_of}
 use Rattle.vsm_machine.specs.Stays.{Stays}
 use Rattle.name_table.specs.Steps.{NameStep}
 use Rattle.name_table.specs.Table.{rows_of, knows}
 use Rattle.vsm_machine.specs.declared.machine.Machine.{Machine}
-use Rattle.vsm_machine.specs.declared.machine.Change.{Change}
+use Rattle.vsm_machine.specs.declared.machine.MachineChange.{MachineChange}
 use Rattle.vsm_machine.specs.declared.plans.Planned.{Planned}
 use Rattle.vsm_machine.specs.declared.refusals.Refusal.{Refusal}
 use Rattle.vsm_machine.specs.NameSteps.{CanStepBy, can_take_by, is_taken, takes, can_fit, stepped_by, undefines_none}
@@ -77,11 +77,11 @@ module _ (s r : Machine) (settings : settings_of r.storage ≡ settings_of s.sto
   }
 
   -- a machine beside which a change was made
-  module _ (p : Planned) (change : Change) (is : IsChangeOf s p r change) where
-    made_apart : (xs : List Change) → Apart s xs → Apart r (change ∷ xs)
+  module _ (p : Planned) (change : MachineChange) (is : IsChangeOf s p r change) where
+    made_apart : (xs : List MachineChange) → Apart s xs → Apart r (change ∷ xs)
     made_apart xs = reserve-apart s.storage.parts r.storage.parts (change_for (state_in_place s.storage) is.id p.plan) change.storage is.storage (storages xs)
 
-    made_whole : (ks us : List Change) → Whole s (ks ++ us) → Whole r (ks ++ change ∷ us)
+    made_whole : (ks us : List MachineChange) → Whole s (ks ++ us) → Whole r (ks ++ change ∷ us)
     made_whole ks us h =
         subst (AreWhole r.storage.parts) (sym (storages_at ks us change))
         (whole_put (storages ks) (storages us) change.storage r.storage.parts
@@ -104,7 +104,7 @@ module _ (s r : Machine) (settings : settings_of r.storage ≡ settings_of s.sto
       can_fit r.names (step_of change) can,
     )
 
-    pub reserved_of : (x : Act) (ks us ls vs : List Change) → ls ≡ ks → vs ≡ us → machine_fits ks s us → Whole s (ks ++ us) → DefineNone ks →
+    pub reserved_of : (x : Act) (ks us ls vs : List MachineChange) → ls ≡ ks → vs ≡ us → machine_fits ks s us → Whole s (ks ++ us) → DefineNone ks →
         CanCarryOut (shown s) x p →
         (CanStepBy (rows_of s.names) (λ name. true) (step_planned p) → CanStepBy (rows_of r.names) (knows r.names) (step_of change)) →
         Reserved ls vs s r change
@@ -121,7 +121,7 @@ module _ (s r : Machine) (settings : settings_of r.storage ≡ settings_of s.sto
         }
 
 -- the statement is accepted with the state that its change leads to
-pub accepted_as : (s r : Machine) (x : Act) (p : Planned) (c : Change) → CanCarryOut (shown s) x p → IsChangeOf s p r c →
+pub accepted_as : (s r : Machine) (x : Act) (p : Planned) (c : MachineChange) → CanCarryOut (shown s) x p → IsChangeOf s p r c →
     statement_step (settings_of s.storage) (plain_of s) x ≡ Accepted (named_of (overlay (shown s) (means r c))) (reply_of p.plan)
 accepted_as s r x p c a is =
     subst (λ (m : NamedState). statement_step (settings_of s.storage) (plain_of s) x ≡ Accepted m (reply_of p.plan))

@@ -13,7 +13,7 @@ use Rattle.vsm_machine.specs.NameSteps.{is_ready, defines_none, undefines_none, 
 use Rattle.vsm_machine.specs.Changes.{MachineState, Difference, named_of, shown, plain_of, means, step_of, fit, overlay, Apart, Whole, CanSwap, Swaps, machine_fits, machine_states, machine_steps, machine_laws, same_meaning, DefineNone, UndefineNone}
 use Rattle.bench_core.specs.Stands.{bench_at, bench_as, bench_in}
 use Rattle.vsm_machine.specs.declared.machine.Machine.{Machine}
-use Rattle.vsm_machine.specs.declared.machine.Change.{Change}
+use Rattle.vsm_machine.specs.declared.machine.MachineChange.{MachineChange}
 use Rattle.bench_core.proofs.Trails.{newest_as}
 use Rattle.bench_core.proofs.Moves.{Directed, all_push, all_dropped, swap_defines_none}
 
@@ -21,11 +21,11 @@ use Rattle.bench_core.proofs.Moves.{Directed, all_push, all_dropped, swap_define
 -- undone statements may be out of the table, or a new one may be there.
 pub record Readied (s r : Machine) : Type 0 where
   pub shows : shown r ≡ shown s
-  pub others : (x : Change) → Apart s (x ∷ []) → swap.means r.storage.parts.elements x.storage ≡ swap.means s.storage.parts.elements x.storage
-  pub apart : (xs : List Change) → Apart s xs → Apart r xs
+  pub others : (x : MachineChange) → Apart s (x ∷ []) → swap.means r.storage.parts.elements x.storage ≡ swap.means s.storage.parts.elements x.storage
+  pub apart : (xs : List MachineChange) → Apart s xs → Apart r xs
 
 -- changes that are apart are so without those before them
-apart_behind : (ks us : List Change) (s : Machine) → Apart s (ks ++ us) → Apart s us
+apart_behind : (ks us : List MachineChange) (s : Machine) → Apart s (ks ++ us) → Apart s us
 apart_behind [] us s h = h
 apart_behind (k ∷ ks) us s h = apart_behind ks us s (machine_steps.rest (ks ++ us) k s h)
 
@@ -36,11 +36,11 @@ module _ (s r : Machine) (same : Readied s r) where
   kept_ready (Some (undefine name)) h = refl
   kept_ready (Some (reword name word)) h = refl
 
-  first_means : (c : Change) (cs : List Change) → Apart s (c ∷ cs) → is_ready r.names (step_of c) ≡ is_ready s.names (step_of c) → means r c ≡ means s c
+  first_means : (c : MachineChange) (cs : List MachineChange) → Apart s (c ∷ cs) → is_ready r.names (step_of c) ≡ is_ready s.names (step_of c) → means r c ≡ means s c
   first_means c cs a = same_meaning s r c (same.others c (machine_laws.fewer (c ∷ []) cs s a))
 
   -- what is kept means the same
-  pub kept_means : (ks : List Change) → DefineNone ks → Apart s ks → map (means r) ks ≡ map (means s) ks
+  pub kept_means : (ks : List MachineChange) → DefineNone ks → Apart s ks → map (means r) ks ≡ map (means s) ks
   kept_means [] h a = refl
   kept_means (k ∷ ks) h a =
       let one = first_means k ks a (kept_ready (step_of k) h.0) in
@@ -48,14 +48,14 @@ module _ (s r : Machine) (same : Readied s r) where
       λ i. one i ∷ rest i
 
   -- and everything where the table holds the same names
-  all_means : ((name : List ℕ) → knows r.names name ≡ knows s.names name) → (cs : List Change) → Apart s cs → map (means r) cs ≡ map (means s) cs
+  all_means : ((name : List ℕ) → knows r.names name ≡ knows s.names name) → (cs : List MachineChange) → Apart s cs → map (means r) cs ≡ map (means s) cs
   all_means known [] a = refl
   all_means known (c ∷ cs) a =
       let one = first_means c cs a (same_ready s.names r.names known (step_of c)) in
       let rest = all_means known cs (machine_steps.rest cs c s a) in
       λ i. one i ∷ rest i
 
-  module _ (known : (name : List ℕ) → knows r.names name ≡ knows s.names name) (ks us : List Change) (f : machine_fits ks s us) where
+  module _ (known : (name : List ℕ) → knows r.names name ≡ knows s.names name) (ks us : List MachineChange) (f : machine_fits ks s us) where
     all_kept : map (means r) ks ≡ map (means s) ks
     all_kept = all_means known ks (machine_laws.fewer ks us s f.1)
 
@@ -78,7 +78,7 @@ module _ (s r : Machine) (same : Readied s r) where
     )
 
 -- A change beside the history's: it fits the state, and all are apart and whole with it.
-pub record Reserved (ks us : List Change) (s r : Machine) (change : Change) : Type 0 where
+pub record Reserved (ks us : List MachineChange) (s r : Machine) (change : MachineChange) : Type 0 where
   pub fits : machine_fits ks s us
   pub none : DefineNone ks
   pub readied : Readied s r
@@ -86,10 +86,10 @@ pub record Reserved (ks us : List Change) (s r : Machine) (change : Change) : Ty
   pub apart : Apart r (change ∷ (ks ++ us))
   pub whole : Whole r (ks ++ change ∷ us)
 
-pub can_swap : (ks us : List Change) (s r : Machine) (change : Change) → Reserved ks us s r change → CanSwap r change
+pub can_swap : (ks us : List MachineChange) (s r : Machine) (change : MachineChange) → Reserved ks us s r change → CanSwap r change
 can_swap ks us s r change h = machine_steps.can r change h.can (machine_laws.fewer (change ∷ []) (ks ++ us) r h.apart)
 
-module _ (ks us : List Change) (s r t : Machine) (change inverse : Change) (h : Reserved ks us s r change) (w : Swaps r change t inverse) where
+module _ (ks us : List MachineChange) (s r t : Machine) (change inverse : MachineChange) (h : Reserved ks us s r change) (w : Swaps r change t inverse) where
   pub applied_apart : Apart t ((ks ++ inverse ∷ []) ++ us)
   applied_apart = steps_aside fit overlay shown means Apart machine_steps ks us change inverse r t h.apart w
 
@@ -134,7 +134,7 @@ module _ (ks us : List Change) (s r t : Machine) (change inverse : Change) (h : 
       ∙ steps_next fit overlay shown means Apart ks us change s r h.fits h.readied.shows kept_same
 
   -- the states along the history once the change is kept
-  pub kept_bench : (limit : ℕ) (new : Log Change) (u : Machine) → new.undone ≡ [] → machine_fits new.kept u [] →
+  pub kept_bench : (limit : ℕ) (new : Log MachineChange) (u : Machine) → new.undone ≡ [] → machine_fits new.kept u [] →
       machine_states new.kept u [] ≡ drop (length (ks ++ inverse ∷ []) - limit) (machine_states (ks ++ inverse ∷ []) t []) →
       bench_at new.kept u new.undone ≡ record { past = take limit (plain_of s ∷ (bench_at ks s us).past); present = named_of next; later = [] }
   kept_bench limit new u undone g states =
@@ -147,7 +147,7 @@ module _ (ks us : List Change) (s r t : Machine) (change inverse : Change) (h : 
       ∙ newest_as named_of limit past (shown s) next
 
   -- what is kept now takes statements back
-  pub kept_directed : (limit : ℕ) (new : Log Change) → undefines_none (step_of change) ≡ true → new.kept ≡ latest limit (ks ++ inverse ∷ []) → new.undone ≡ [] →
+  pub kept_directed : (limit : ℕ) (new : Log MachineChange) → undefines_none (step_of change) ≡ true → new.kept ≡ latest limit (ks ++ inverse ∷ []) → new.undone ≡ [] →
       Directed new.kept new.undone
   kept_directed limit new gives kept undone = record {
     kept_define_none =

@@ -18,7 +18,7 @@ use Rattle.vsm_machine.specs.NameSteps.{turned_by, defines_none, undefines_none}
 use Rattle.vsm_machine.specs.Changes.{named_of, shown, step_of, HasSameMemory, Swaps, Discards, machine_fits, machine_states, machine_laws, DefineNone, UndefineNone}
 use Rattle.bench_core.specs.Stands.{bench_at, answer_to_back, answer_to_forward}
 use Rattle.vsm_machine.specs.declared.machine.Machine.{Machine}
-use Rattle.vsm_machine.specs.declared.machine.Change.{Change}
+use Rattle.vsm_machine.specs.declared.machine.MachineChange.{MachineChange}
 use Rattle.bench_core.specs.declared.bench.Bench.{Bench}
 use Rattle.bench_core.proofs.Trails.{moves_back_as, moves_forward_as}
 
@@ -52,22 +52,22 @@ back_defines_none names (Some (define name word)) h = refl
 back_defines_none names (Some (undefine name)) h = absurd (true≢false (sym h))
 back_defines_none names (Some (reword name word)) h = refl
 
-pub swap_undefines_none : (m n : Machine) (c d : Change) → Swaps m c n d → defines_none (step_of c) ≡ true → undefines_none (step_of d) ≡ true
+pub swap_undefines_none : (m n : Machine) (c d : MachineChange) → Swaps m c n d → defines_none (step_of c) ≡ true → undefines_none (step_of d) ≡ true
 swap_undefines_none m n c d w h = ap undefines_none w.inverse_step ∙ back_undefines_none (rows_of m.names) (step_of c) h
 
-pub swap_defines_none : (m n : Machine) (c d : Change) → Swaps m c n d → undefines_none (step_of c) ≡ true → defines_none (step_of d) ≡ true
+pub swap_defines_none : (m n : Machine) (c d : MachineChange) → Swaps m c n d → undefines_none (step_of c) ≡ true → defines_none (step_of d) ≡ true
 swap_defines_none m n c d w h = ap defines_none w.inverse_step ∙ back_defines_none (rows_of m.names) (step_of c) h
 
 -- the kept changes take statements back, and the undone ones make them again
-pub record Directed (kept undone : List Change) : Type 0 where
+pub record Directed (kept undone : List MachineChange) : Type 0 where
   pub kept_define_none : DefineNone kept
   pub undone_undefine_none : UndefineNone undone
 
-abbrev pub Goes : Moment Machine Change → Moment Machine Change → Type 0
+abbrev pub Goes : Moment Machine MachineChange → Moment Machine MachineChange → Type 0
 Goes p q = (settings_of q.state.storage ≡ settings_of p.state.storage) × Directed q.kept q.undone
 
 -- a step leaves the settings as they were, and the changes that are kept and undone as such
-step_back : (p q : Moment Machine Change) → StepsBack Swaps p q → Directed p.kept p.undone → Goes p q
+step_back : (p q : Moment Machine MachineChange) → StepsBack Swaps p q → Directed p.kept p.undone → Goes p q
 step_back p q step h =
     let c = step.change in
     let d = step.inverse in
@@ -80,7 +80,7 @@ step_back p q step h =
       },
     )
 
-step_forward : (p q : Moment Machine Change) → StepsForward Swaps p q → Directed p.kept p.undone → Goes p q
+step_forward : (p q : Moment Machine MachineChange) → StepsForward Swaps p q → Directed p.kept p.undone → Goes p q
 step_forward p q step h =
     let c = step.change in
     let d = step.inverse in
@@ -93,14 +93,14 @@ step_forward p q step h =
       },
     )
 
-all_back : (n : ℕ) (p q : Moment Machine Change) → Times (StepsBack Swaps) n p q → Directed p.kept p.undone → Goes p q
+all_back : (n : ℕ) (p q : Moment Machine MachineChange) → Times (StepsBack Swaps) n p q → Directed p.kept p.undone → Goes p q
 all_back zero p q e h = subst (Goes p) e (refl, h)
 all_back (suc n) p q (m, steps, step) h =
     let before = all_back n p m steps h in
     let then = step_back m q step before.1 in
     (then.0 ∙ before.0, then.1)
 
-all_forward : (n : ℕ) (p q : Moment Machine Change) → Times (StepsForward Swaps) n p q → Directed p.kept p.undone → Goes p q
+all_forward : (n : ℕ) (p q : Moment Machine MachineChange) → Times (StepsForward Swaps) n p q → Directed p.kept p.undone → Goes p q
 all_forward zero p q e h = subst (Goes p) e (refl, h)
 all_forward (suc n) p q (m, steps, step) h =
     let before = all_forward n p m steps h in
@@ -108,12 +108,12 @@ all_forward (suc n) p q (m, steps, step) h =
     (then.0 ∙ before.0, then.1)
 
 -- after steps, or a refusal of them: the settings, and the direction of the changes
-abbrev pub Stays : Log Change → Machine → Machine → Type 0
+abbrev pub Stays : Log MachineChange → Machine → Machine → Type 0
 Stays new s t = (settings_of t.storage ≡ settings_of s.storage) × Directed new.kept new.undone
 
-module _ (n : ℕ) (old new : Log Change) (s t : Machine) (h : Directed old.kept old.undone) where
+module _ (n : ℕ) (old new : Log MachineChange) (s t : Machine) (h : Directed old.kept old.undone) where
   unmoved : (new ≡ old) × (t ≡ s) → Stays new s t
-  unmoved same = (ap (λ (m : Machine). settings_of m.storage) same.1, subst (λ (l : Log Change). Directed l.kept l.undone) (sym same.0) h)
+  unmoved same = (ap (λ (m : Machine). settings_of m.storage) same.1, subst (λ (l : Log MachineChange). Directed l.kept l.undone) (sym same.0) h)
 
   pub back_stays : (r : Result (Unit {0}) TooFar) →
       OnOk r (Times (StepsBack Swaps) n (moment old.kept s old.undone) (moment new.kept t new.undone)) → OnErr r ((new ≡ old) × (t ≡ s)) → Stays new s t
@@ -130,22 +130,22 @@ module _ (n : ℕ) (old new : Log Change) (s t : Machine) (h : Directed old.kept
 memory_same : (s : Machine) → HasSameMemory s s
 memory_same s = record { as_many = refl; spare = refl; frames = record { spare = refl; made = refl } }
 
-memory_then : (s t u : Machine) (c d : Change) → HasSameMemory s t → Swaps t c u d → HasSameMemory s u
+memory_then : (s t u : Machine) (c d : MachineChange) → HasSameMemory s t → Swaps t c u d → HasSameMemory s u
 memory_then s t u c d k w = record {
   as_many = w.storage.as_many ∙ k.as_many;
   spare = w.storage.spare ∙ k.spare;
   frames = record { spare = w.storage.frames.spare ∙ k.frames.spare; made = w.storage.frames.made ∙ k.frames.made };
 }
 
-memory_back : (n : ℕ) (p q : Moment Machine Change) → Times (StepsBack Swaps) n p q → HasSameMemory p.state q.state
-memory_back zero p q e = subst (λ (z : Moment Machine Change). HasSameMemory p.state z.state) e (memory_same p.state)
+memory_back : (n : ℕ) (p q : Moment Machine MachineChange) → Times (StepsBack Swaps) n p q → HasSameMemory p.state q.state
+memory_back zero p q e = subst (λ (z : Moment Machine MachineChange). HasSameMemory p.state z.state) e (memory_same p.state)
 memory_back (suc n) p q (m, steps, step) = memory_then p.state m.state q.state step.change step.inverse (memory_back n p m steps) step.swapped
 
-memory_forward : (n : ℕ) (p q : Moment Machine Change) → Times (StepsForward Swaps) n p q → HasSameMemory p.state q.state
-memory_forward zero p q e = subst (λ (z : Moment Machine Change). HasSameMemory p.state z.state) e (memory_same p.state)
+memory_forward : (n : ℕ) (p q : Moment Machine MachineChange) → Times (StepsForward Swaps) n p q → HasSameMemory p.state q.state
+memory_forward zero p q e = subst (λ (z : Moment Machine MachineChange). HasSameMemory p.state z.state) e (memory_same p.state)
 memory_forward (suc n) p q (m, steps, step) = memory_then p.state m.state q.state step.change step.inverse (memory_forward n p m steps) step.swapped
 
-module _ (n : ℕ) (old new : Log Change) (s t : Machine) where
+module _ (n : ℕ) (old new : Log MachineChange) (s t : Machine) where
   stays_same : t ≡ s → HasSameMemory s t
   stays_same same = subst (HasSameMemory s) (sym same) (memory_same s)
 
@@ -160,19 +160,19 @@ module _ (n : ℕ) (old new : Log Change) (s t : Machine) where
   forward_memory (Err e) steps same = stays_same same.1
 
 -- discarded changes leave the settings as they were
-pub discards_settings : (cs : List Change) (s t : Machine) → DiscardsAll Discards cs s t → settings_of t.storage ≡ settings_of s.storage
+pub discards_settings : (cs : List MachineChange) (s t : Machine) → DiscardsAll Discards cs s t → settings_of t.storage ≡ settings_of s.storage
 discards_settings [] s t e = ap (λ (m : Machine). settings_of m.storage) e
 discards_settings (c ∷ cs) s t (m, all, one) = one.settings ∙ discards_settings cs s m all
 
-pub past_is : (ks us : List Change) (s : Machine) → machine_fits ks s us → length (bench_at ks s us).past ≡ length ks
+pub past_is : (ks us : List MachineChange) (s : Machine) → machine_fits ks s us → length (bench_at ks s us).past ≡ length ks
 past_is ks us s f =
     length-map (reverse (trail_of shown machine_states ks s us).past) named_of
     ∙ length-reverse (trail_of shown machine_states ks s us).past ∙ past_count machine_laws ks us s f
 
-pub later_is : (ks us : List Change) (s : Machine) → machine_fits ks s us → length (bench_at ks s us).later ≡ length us
+pub later_is : (ks us : List MachineChange) (s : Machine) → machine_fits ks s us → length (bench_at ks s us).later ≡ length us
 later_is ks us s f = length-map (trail_of shown machine_states ks s us).later named_of ∙ later_count machine_laws ks us s f
 
-module _ (settings : Settings) (n : ℕ) (old new : Log Change) (s t : Machine) where
+module _ (settings : Settings) (n : ℕ) (old new : Log MachineChange) (s t : Machine) where
   pub back_keeps : (r : Result (Unit {0}) TooFar) → machine_fits old.kept s old.undone → machine_fits new.kept t new.undone →
       machine_states new.kept t new.undone ≡ machine_states old.kept s old.undone → (IsOk r ↔ (n ≤ length old.kept)) →
       OnOk r (length new.kept + n ≡ length old.kept) → IfErr r (λ e. e.kept ≡ length old.kept) → OnErr r ((new ≡ old) × (t ≡ s)) →

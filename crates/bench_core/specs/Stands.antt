@@ -11,7 +11,7 @@ use Rattle.step_history.specs.declared.too_far.TooFar.{TooFar}
 use Rattle.step_history.specs.declared.too_far.TooFarAhead.{TooFarAhead}
 use Rattle.vsm_machine.specs.Changes.{named_of, shown, machine_states}
 use Rattle.vsm_machine.specs.declared.machine.Machine.{Machine}
-use Rattle.vsm_machine.specs.declared.machine.Change.{Change}
+use Rattle.vsm_machine.specs.declared.machine.MachineChange.{MachineChange}
 use Rattle.vsm_machine.specs.Machine.{Why, unknown_name, abended}
 use Rattle.bench_core.specs.declared.bench.Bench.{Bench}
 use Rattle.vsm_machine.specs.declared.refusals.Refusal.{Refusal}
@@ -28,7 +28,7 @@ bench_in t = record { past = reverse t.past; present = t.present; later = t.late
 abbrev pub bench_as : {M N : Type 0} → (M → N) → plain.Bench M → plain.Bench N
 bench_as f b = record { past = map f b.past; present = f b.present; later = map f b.later }
 
-abbrev pub bench_at : List Change → Machine → List Change → plain.Bench NamedState
+abbrev pub bench_at : List MachineChange → Machine → List MachineChange → plain.Bench NamedState
 bench_at kept machine undone = bench_as named_of (bench_in (trail_of shown machine_states kept machine undone))
 
 abbrev pub bench_of : Bench → plain.Bench NamedState

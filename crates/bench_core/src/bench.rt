@@ -1,5 +1,5 @@
 //! A bench: a machine, and the history that it moves along.
-ghost use Rattle.std.specs.Prelude.{◌≡◌, Ok, length, IfErr, OnErr, OnOk};
+ghost use Rattle.std.specs.Prelude.{◌≡◌, Ok, length, IfOk, IfErr, OnErr, OnOk};
 ghost use Rattle.vsm_machine.specs.Meaning.{settings_of};
 ghost use Rattle.macro_statements.specs.Requests.{Act, written_in, act_in, IsValue, IsValidAct};
 ghost use Rattle.std.proofs.Props.{props};
@@ -8,9 +8,9 @@ ghost use Rattle.vsm_machine.specs.Changes.{UndefineNone, IsWhole, IsWhole-prop 
 ghost use Rattle.vsm_machine.specs.Planned.{CanCarryOut};
 ghost use Rattle.vsm_machine.specs.Machine.{shown_at};
 ghost use Rattle.vsm_machine.specs.Refusals.{IsRefusedFor};
-ghost use Rattle.vsm_machine.specs.Supplies.{FindsMemory, IsSupplied};
+ghost use Rattle.vsm_machine.specs.Supplies.{FindsMemory, IsSupplied, MakesFor};
 ghost use Rattle.vsm_machine.specs.declared.refusals.Refusal.TheVariants.{NoMemory};
-ghost use Rattle.bench_core.specs.Sparing.{TakesNoMemory};
+ghost use Rattle.bench_core.specs.Sparing.{MakesForStatement, TakesNoMemory};
 
 use macro_statements::{Family, Statement};
 use name_table::NameTable;
@@ -71,11 +71,13 @@ impl Bench {
     /// any more. It is refused with `Name` where a value is a name that isn't defined, else with `Abend` and the
     /// completion code of the first cause that holds, and last with `NoMemory`.
     ///
-    /// A statement that defines no name is refused with `NoMemory` only where fewer than 32 elements are spare, and 8
-    /// for each of what it weighs (subpools that it gives or shares, cells that it makes, and what leaves by it), or
-    /// fewer frames, or tables, than it newly assigns pages.
+    /// A statement is refused with `NoMemory` only where fewer than 32 elements are spare, and 8 for each of what it
+    /// weighs (subpools that it gives or shares, cells that it makes, and what leaves by it), or fewer frames, or
+    /// tables, than it newly assigns pages, or where there is no room for a name that it defines.
     ///
-    /// A statement that is refused for anything else takes no memory.
+    /// A statement that is refused for anything else takes no memory. For one that is accepted, at most a block of
+    /// elements is made beyond the live ones and those of its weight, and no frame beyond those of the pages that it
+    /// newly assigns.
     ///
     /// It's a call of its own, so that no other line of a script pays for the room of a plan.
     #[inline(never)]
@@ -86,6 +88,7 @@ impl Bench {
         ensures settings { settings_in self.new ≡ settings_in self.old }
         ensures needless { IsSupplied self.old.machine (act_in statement.now) → FindsMemory result }
         ensures sparing { IfErr result (TakesNoMemory self.old.machine self.new.machine) }
+        ensures made { IfOk result (λ _. MakesForStatement self.old.machine (act_in statement.now) self.new.machine) }
     {
         match plan_of(&self.machine, statement) {
             Ok(planned) => self.carry_out(planned),
@@ -103,6 +106,8 @@ impl Bench {
         ensures needless { (x : Act) → CanCarryOut (shown self.old.machine) x planned
             → IsSupplied self.old.machine x → FindsMemory result }
         ensures wants { IfErr result (λ refusal. refusal ≡ NoMemory) }
+        ensures made { IfOk result (λ _. (x : Act) → CanCarryOut (shown self.old.machine) x planned
+            → MakesFor self.old.machine x planned self.new.machine) }
     {
         let reply = planned.plan.reply();
         self.history.reserve_place()?;

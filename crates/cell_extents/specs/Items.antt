@@ -8,7 +8,7 @@ use Rattle.std.specs.Prelude.{map, slice_index_or}
 use Rattle.list_table.specs.Entries.{Entry, word}
 use Rattle.vsm_model.specs.declared.Subpool.{Subpool}
 use Rattle.cell_extents.specs.declared.label.Label.{Label}
-use Rattle.cell_extents.specs.declared.settings.Settings.{Settings}
+use Rattle.cell_extents.specs.declared.settings.CellSettings.{CellSettings}
 use Rattle.cell_extents.specs.declared.settings.Extent.{Extent}
 use Rattle.cell_extents.specs.Names.{packed, spelled, location_in, header_in, AreTexts}
 use Rattle.cell_extents.specs.Pool.{Pool, cells_from}
@@ -31,7 +31,7 @@ abbrev pub subpool_in : List ℕ → Subpool
 subpool_in ws = record { number = word ws 0 % 256; owner = word ws 2 % 256 }
 
 -- what a row's words and the form say
-abbrev pub settings_in : List ℕ → List ℕ → Settings
+abbrev pub settings_in : List ℕ → List ℕ → CellSettings
 settings_in ws form = record {
   subpool = subpool_in ws;
   size = word ws 1;

@@ -3,7 +3,7 @@ use Rattle.std.specs.Prelude.{◌≡◌, ℕ, ◌+◌, ◌-◌, ◌*◌, ◌/◌
 use Rattle.std.specs.Prelude.{List, [], ◌∷◌, ◌++◌, length, take, drop, map, flat_map, Option}
 use Rattle.std.specs.List.{range_with_len, list_any}
 use Rattle.vsm_elements.specs.Store.{among, Distinct}
-use Rattle.cell_extents.specs.declared.settings.Settings.{Settings}
+use Rattle.cell_extents.specs.declared.settings.CellSettings.{CellSettings}
 use Rattle.cell_extents.specs.declared.settings.Extent.{Extent}
 
 -- A cell pool: the id that names it, its name, what it was built with, its extents in the order in which they were
@@ -11,7 +11,7 @@ use Rattle.cell_extents.specs.declared.settings.Extent.{Extent}
 pub record Pool : Type 0 where
   pub id : ℕ
   pub name : List ℕ
-  pub settings : Settings
+  pub settings : CellSettings
   pub header : Option (List ℕ)
   pub extents : List Extent
   pub cells : List ℕ

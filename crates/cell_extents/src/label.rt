@@ -21,7 +21,7 @@ pub struct Label {
 
 /// The words of a header, the last of them in the form, of a side, and both counts.
 #[derive(Clone, Copy, Debug)]
-pub struct Form {
+pub struct LabelForm {
     /// The words of the header's bytes 0 to 20, zeros where there is none.
     pub header: [u32; 7],
     /// The side (0 is below the 16 MB line), 1 where there is a header, the word of its bytes 21 to 23, the secondary
@@ -101,7 +101,12 @@ pub fn label_of_name(name: &Name) -> Label
 }
 
 /// The words of a side, of the counts, and of a header; without one they say so.
-pub fn form_of(location: Residence, primary: u32, secondary: u32, header: &Option<Header>) -> Form
+pub fn form_of(
+    location: Residence,
+    primary: u32,
+    secondary: u32,
+    header: &Option<Header>,
+) -> LabelForm
     ensures location { location_in result.form ≡ location }
     ensures primary { word result.form 4 ≡ primary }
     ensures secondary { word result.form 3 ≡ secondary }
@@ -115,12 +120,12 @@ pub fn form_of(location: Residence, primary: u32, secondary: u32, header: &Optio
     match header {
         Some(text) => {
             let (front, last) = header_words(text.as_slice());
-            Form {
+            LabelForm {
                 header: front,
                 form: [side, 1, last, secondary, primary, 0, 0],
             }
         }
-        None => Form {
+        None => LabelForm {
             header: [0; 7],
             form: [side, 0, 0, secondary, primary, 0, 0],
         },

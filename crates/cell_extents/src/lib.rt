@@ -9,4 +9,4 @@ mod settings;
 pub mod texts;
 pub mod walks;
 
-pub use settings::{CellId, Extent, Header, Name, Settings};
+pub use settings::{CellId, CellSettings, Extent, Header, Name};

@@ -6,7 +6,7 @@ ghost use Rattle.vsm_elements.specs.Ownership.{Leaves};
 ghost use Rattle.list_table.specs.Kept.{items_of};
 ghost use Rattle.cell_extents.specs.Items.{cell_items, label_of};
 
-use crate::label::{Form, Label};
+use crate::label::{Label, LabelForm};
 use vsm_elements::{Chain, Elements, Id};
 
 /// How many items of text stand at the head of each list: three of the name, one of the header, one of its form.
@@ -67,7 +67,7 @@ pub fn insert(list: &mut Chain, elements: &mut Elements, k: u32, words: [u32; 7]
 }
 
 /// Puts a pool's name, its header and their form in front of all items. It takes five elements.
-pub fn put_texts(list: &mut Chain, elements: &mut Elements, name: Label, form: Form)
+pub fn put_texts(list: &mut Chain, elements: &mut Elements, name: Label, form: LabelForm)
     requires chain { IsChain elements.old list.old }
     requires room { 5 ≤ elements.old.spare }
     ensures chain { IsChain elements.new list.new }

@@ -13,7 +13,7 @@ pub type CellId = Id;
 
 /// What a cell pool is built with beside its name and its header.
 #[derive(Clone, Copy, Debug, PartialEq, Eq)]
-pub struct Settings {
+pub struct CellSettings {
     /// The subpool that it lies in.
     pub subpool: Subpool,
     /// The size of a cell in bytes.

@@ -5,17 +5,17 @@ use Rattle.std.proofs.Math.Seq.{drop-cons}
 use Rattle.run_set.specs.Runs.{Run, inside, contains}
 use Rattle.vsm_model.specs.declared.Subpool.{Subpool}
 use Rattle.cell_extents.specs.declared.settings.Extent.{Extent}
-use Rattle.cell_extents.specs.declared.settings.Settings.{Settings as PoolSettings}
+use Rattle.cell_extents.specs.declared.settings.CellSettings.{CellSettings as PoolSettings}
 use Rattle.cell_pool.specs.Pools.{Pool}
 use Rattle.subpool_storage.specs.Subpools.{Subpools, with_free}
 use Rattle.storage_changes.specs.declared.record.Record.{Record}
 use Rattle.storage_changes.specs.State.{StorageState}
-use Rattle.storage_exchange.specs.declared.storage.Storage.{Storage}
+use Rattle.storage_exchange.specs.declared.storage.Parts.{Parts}
 use Rattle.storage_exchange.specs.Storage.{state_of}
 use Rattle.storage_swap.specs.declared.builder.ChangeBuilder.{ChangeBuilder}
 use Rattle.storage_swap.specs.Builder.{IsBuilding, Builds, Pushes}
 use Rattle.storage_swap.proofs.BuilderLemmas.{Leads, leads-none, leads-more, leads-all, leads-room}
-use Rattle.cell_actions.specs.Actions.{extents_given_back}
+use Rattle.change_laws.specs.CellActions.{extents_given_back}
 use Rattle.cell_plans.specs.Areas.{areas_of, first_areas}
 use Rattle.cell_plans.specs.CellPlans.{pool_given_back, extents_of_pool, CanBeDeleted}
 use Rattle.cell_plans.specs.Emptied.{area_of, area_given_back, freed}
@@ -120,26 +120,26 @@ areas_count None = refl
 areas_count (Some q) = mapped_length q.settings.size q.extents
 
 -- the cell pool can still go, while records of the change come
-pub still_can : (s t : Storage) (pool : ℕ) → state_of t ≡ state_of s → CanBeDeleted (state_of s) (record { pool = pool }) → CanBeDeleted (state_of t) (record { pool = pool })
+pub still_can : (s t : Parts) (pool : ℕ) → state_of t ≡ state_of s → CanBeDeleted (state_of s) (record { pool = pool }) → CanBeDeleted (state_of t) (record { pool = pool })
 still_can s t pool same can = let P : StorageState → Type 0 = λ m. CanBeDeleted m (record { pool = pool }) in subst P (sym same) can
 
 -- all areas of a cell pool, their records, and those of the areas behind the first ones
-abbrev pub all_areas : ℕ → Storage → List Run
+abbrev pub all_areas : ℕ → Parts → List Run
 all_areas pool s = areas_of ((state_of s).subpools.cells pool)
 
-abbrev pub whole_records : Subpool → ℕ → Storage → List Record
+abbrev pub whole_records : Subpool → ℕ → Parts → List Record
 whole_records p pool s = areas_given_back (state_of s).subpools p (all_areas pool s)
 
-abbrev pub records_from : Subpool → ℕ → Storage → ℕ → List Record
+abbrev pub records_from : Subpool → ℕ → Parts → ℕ → List Record
 records_from p pool s count = areas_given_back (freed (state_of s).subpools p (take count (all_areas pool s))) p (drop count (all_areas pool s))
 
 -- Of the areas, so many were given back.
-pub record AreasLead (p : Subpool) (pool : ℕ) (s : Storage) (a : ChangeBuilder) (t : Storage) (b : ChangeBuilder) (count : ℕ) : Type 0 where
+pub record AreasLead (p : Subpool) (pool : ℕ) (s : Parts) (a : ChangeBuilder) (t : Parts) (b : ChangeBuilder) (count : ℕ) : Type 0 where
   pub leads : Leads s a (whole_records p pool s) t b (records_from p pool s count)
   pub within : count ≤ length (all_areas pool s)
   pub few : count < 2 ^ 30
 
-module _ (p : Subpool) (pool : ℕ) (s : Storage) (a : ChangeBuilder) where
+module _ (p : Subpool) (pool : ℕ) (s : Parts) (a : ChangeBuilder) where
   abbrev m : StorageState
   m = state_of s
 
@@ -155,7 +155,7 @@ module _ (p : Subpool) (pool : ℕ) (s : Storage) (a : ChangeBuilder) where
   pub areas_none : IsBuilding s a → AreasLead p pool s a s a 0
   areas_none building = record { leads = leads-none s a whole building; within = omega arith; few = omega arith }
 
-  module _ (t : Storage) (b : ChangeBuilder) (count : ℕ) (w : AreasLead p pool s a t b count) where
+  module _ (t : Parts) (b : ChangeBuilder) (count : ℕ) (w : AreasLead p pool s a t b count) where
     abbrev now : List Run
     now = areas_of ((state_of t).subpools.cells pool)
 
@@ -196,7 +196,7 @@ module _ (p : Subpool) (pool : ℕ) (s : Storage) (a : ChangeBuilder) where
           let r = leads-room s t a b whole (rest_from count) w.leads room in
           omega (arith, r, ap length front, length-append (added_by (state_of t)) (rest_from (count + 1)))
 
-      pub area_more : (u : Storage) (c : ChangeBuilder) → count + 1 < 2 ^ 30 → Builds t b u c → Pushes t b (added_by (state_of t)) u c → AreasLead p pool s a u c (count + 1)
+      pub area_more : (u : Parts) (c : ChangeBuilder) → count + 1 < 2 ^ 30 → Builds t b u c → Pushes t b (added_by (state_of t)) u c → AreasLead p pool s a u c (count + 1)
       area_more u c small builds pushes = record {
         leads = leads-more s t a b whole (rest_from count) w.leads u c (added_by (state_of t)) (rest_from (count + 1)) front builds pushes;
         within = omega (arith, is_one_more);

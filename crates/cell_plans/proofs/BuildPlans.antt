@@ -27,21 +27,21 @@ use Rattle.vsm_model.specs.Standing.{Accepted}
 use Rattle.vsm_model.specs.Standing as outcome
 use Rattle.vsm_model.specs.Step.{answered, replied, step}
 use Rattle.vsm_model.proofs.Chosen.{Stepped}
-use Rattle.cell_laws.specs.Kept.{BuildLeavesWellFormed}
-use Rattle.cell_laws.proofs.CellLists.{cell_bounds}
-use Rattle.storage_laws.proofs.Cases.{none_from, some_from}
-use Rattle.cell_extents.specs.declared.settings.Settings.{Settings as CellSettings}
+use Rattle.service_laws.specs.CellKept.{BuildLeavesWellFormed}
+use Rattle.service_laws.proofs.CellLists.{cell_bounds}
+use Rattle.service_laws.proofs.Cases.{none_from, some_from}
+use Rattle.cell_extents.specs.declared.settings.CellSettings.{CellSettings}
 use Rattle.cell_pool.specs.Pools.{Pool}
-use Rattle.cell_tables.specs.Named.{AreNamed}
-use Rattle.cell_tables.specs.Table.{cell_pool_of}
+use Rattle.storage_changes.specs.NamedPools.{AreNamed}
+use Rattle.storage_changes.specs.PoolTable.{cell_pool_of}
 use Rattle.subpool_storage.specs.Subpools.{is_there, built_pool, IsUnnamed}
 use Rattle.storage_changes.specs.State.{StorageState}
 use Rattle.storage_changes.specs.Changes.{Change, change_of, change_building}
 use Rattle.storage_changes.specs.Meaning.{model_of, IsSound}
-use Rattle.storage_actions.specs.Actions.{own_records, register_records}
-use Rattle.storage_actions.specs.Leads.{CanOwn, Leads, with_new}
-use Rattle.cell_actions.specs.Actions.{area_records, area_blanks, area_pages}
-use Rattle.cell_actions.specs.Laws.{BuildingLeads}
+use Rattle.change_laws.specs.StorageActions.{own_records, register_records}
+use Rattle.change_laws.specs.Leads.{CanOwn, Leads, with_new}
+use Rattle.change_laws.specs.CellActions.{area_records, area_blanks, area_pages}
+use Rattle.change_laws.specs.CellLaws.{BuildingLeads}
 use Rattle.storage_plans.specs.declared.places.AreaPlace.{AreaPlace}
 use Rattle.storage_plans.specs.declared.places.AreaPlace.TheVariants as areas
 use Rattle.storage_plans.specs.ObtainPlans.{place_address, place_blanks, place_pages, place_records}

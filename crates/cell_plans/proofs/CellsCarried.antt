@@ -13,12 +13,12 @@ use Rattle.storage_changes.specs.declared.record.Record.{Record}
 use Rattle.storage_changes.specs.State.{StorageState}
 use Rattle.storage_changes.specs.Changes.{Change, change_from, change_of}
 use Rattle.storage_changes.specs.Meaning.{model_of}
-use Rattle.storage_actions.specs.Leads.{Leads}
-use Rattle.storage_plans.specs.declared.plan.Plan.{Plan}
+use Rattle.change_laws.specs.Leads.{Leads}
+use Rattle.storage_plans.specs.declared.plan.StoragePlan.{StoragePlan}
 use Rattle.storage_plans.specs.Plans.{Assigns, CarriesOut, IsAccepted, change_in}
 use Rattle.cell_plans.specs.CellPlans.{HasRecords}
 
-module _ (settings : Settings) (names_full : Bool) (m : StorageState) (x : Service) (plan : Plan) where
+module _ (settings : Settings) (names_full : Bool) (m : StorageState) (x : Service) (plan : StoragePlan) where
   module _ (records : List Record) (blanks : ℕ) (fresh : Run)
       (is_emptied : plan.emptied ≡ None) (is_records : plan.records.items ≡ records) (is_blanks : plan.blanks ≡ blanks) (is_fresh : plan.fresh ≡ fresh) where
     pub accepts : (t : State) → step settings names_full (model_of m) x ≡ Accepted t plan.reply → Leads settings m (change_of records blanks fresh) t

@@ -19,15 +19,15 @@ use Rattle.vsm_model.specs.State.{State}
 use Rattle.vsm_model.specs.Step.{step, answered}
 use Rattle.vsm_model.specs.WellFormed.{IsWellFormed, IsInSubpool, PoolIsSound}
 use Rattle.vsm_model.proofs.Chosen.{Stepped}
-use Rattle.cell_laws.specs.Kept.{DeleteLeavesWellFormed}
-use Rattle.cell_laws.proofs.CellLists.{cell_bounds}
-use Rattle.cell_laws.proofs.Pools.{sound_of}
-use Rattle.cell_laws.proofs.Spans.{all_unmapped, in-among}
-use Rattle.cell_laws.proofs.Words.{low_page}
+use Rattle.service_laws.specs.CellKept.{DeleteLeavesWellFormed}
+use Rattle.service_laws.proofs.CellLists.{cell_bounds}
+use Rattle.service_laws.proofs.Pools.{sound_of}
+use Rattle.service_laws.proofs.Spans.{all_unmapped, in-among}
+use Rattle.service_laws.proofs.Words.{low_page}
 use Rattle.cell_extents.specs.declared.settings.Extent.{Extent}
 use Rattle.cell_pool.specs.Pools.{Pool}
-use Rattle.cell_tables.specs.Named.{AreNamed}
-use Rattle.cell_tables.specs.Table.{cell_pool_of, extent_of}
+use Rattle.storage_changes.specs.NamedPools.{AreNamed}
+use Rattle.storage_changes.specs.PoolTable.{cell_pool_of, extent_of}
 use Rattle.storage_changes.specs.declared.record.Record.{Record}
 use Rattle.storage_changes.specs.declared.record.Record.TheVariants.{CellPool as CellPoolRow, Register}
 use Rattle.storage_changes.specs.Changes.{change_of, no_pages}
@@ -35,7 +35,7 @@ use Rattle.storage_changes.specs.Meaning.{model_of, IsSound}
 use Rattle.storage_changes.specs.State.{StorageState}
 use Rattle.storage_plans.specs.Plans.{IsAccepted}
 use Rattle.storage_plans.proofs.Carried.{no_registers, register_and}
-use Rattle.cell_actions.specs.Laws.{DeletingLeads}
+use Rattle.change_laws.specs.CellLaws.{DeletingLeads}
 use Rattle.cell_plans.specs.CellPlans.{cells_weight, pool_and_extents, deleting_change, delete_change, pool_given_back, extents_of_pool, CanBeDeleted, IsDeletePlanned}
 use Rattle.cell_plans.specs.Seen.{IsSeen}
 use Rattle.cell_plans.proofs.GivenAreas.{EndsLow}

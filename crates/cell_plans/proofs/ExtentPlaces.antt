@@ -12,18 +12,18 @@ use Rattle.vsm_model.specs.Regions.{among, pages_for, regions_for, settings_vali
 use Rattle.vsm_model.specs.Search.{all_pass}
 use Rattle.vsm_model.specs.State.{State}
 use Rattle.vsm_model.proofs.Least.{all_pass_at}
-use Rattle.storage_laws.proofs.Cases.{among_in}
-use Rattle.storage_laws.proofs.Places.{Goes, IsOf, place_goes, place_in_words, regions_are}
+use Rattle.service_laws.proofs.Cases.{among_in}
+use Rattle.service_laws.proofs.Places.{Goes, IsOf, place_goes, place_in_words, regions_are}
 use Rattle.storage_changes.specs.Meaning.{model_of, IsSound}
 use Rattle.storage_changes.specs.State.{StorageState}
 use Rattle.storage_changes.proofs.MeaningLemmas.{free_storage_is_free, unassigned_pages_are_nobodys}
-use Rattle.storage_actions.proofs.Rows.{none_fresh}
+use Rattle.change_laws.proofs.Rows.{none_fresh}
 use Rattle.storage_plans.specs.ObtainPlans.{place_address, place_blanks, place_pages, place_records}
 use Rattle.storage_plans.specs.Places.{place_of}
 use Rattle.storage_plans.specs.declared.places.AreaPlace.{AreaPlace}
 use Rattle.storage_plans.specs.declared.places.AreaPlace.TheVariants as areas
 use Rattle.storage_plans.proofs.AskedLengths.{is_somewhere}
-use Rattle.cell_actions.specs.Actions.{HasRoom, area_blanks, area_pages, area_records}
+use Rattle.change_laws.specs.CellActions.{HasRoom, area_blanks, area_pages, area_records}
 
 -- a place that is one has the same records,
 pub same_records : (p : Subpool) (count : ℕ) (x : AreaPlace) → place_records p count x ≡ area_records p count (place_of (Some x))

@@ -15,19 +15,19 @@ use Rattle.vsm_model.specs.Standing.{Accepted, Refused}
 use Rattle.vsm_model.specs.State.{State}
 use Rattle.vsm_model.specs.Step.{answered, step}
 use Rattle.vsm_model.proofs.Chosen.{Stepped}
-use Rattle.cell_laws.specs.Kept.{FreeLeavesWellFormed}
+use Rattle.service_laws.specs.CellKept.{FreeLeavesWellFormed}
 use Rattle.cell_pool.specs.Pools.{Pool, uses}
-use Rattle.cell_tables.specs.Named.{AreNamed}
+use Rattle.storage_changes.specs.NamedPools.{AreNamed}
 use Rattle.storage_changes.specs.Meaning.{model_of, IsSound}
 use Rattle.storage_changes.specs.State.{StorageState}
-use Rattle.storage_actions.specs.Actions.{register_records, run_of}
-use Rattle.storage_actions.proofs.Rows.{none_fresh}
-use Rattle.storage_plans.specs.declared.plan.Plan.{Plan}
+use Rattle.change_laws.specs.StorageActions.{register_records, run_of}
+use Rattle.change_laws.proofs.Rows.{none_fresh}
+use Rattle.storage_plans.specs.declared.plan.StoragePlan.{StoragePlan}
 use Rattle.storage_plans.proofs.AskedLengths.{skip, stop}
 use Rattle.storage_plans.proofs.Assigning.{none_assigned}
 use Rattle.storage_plans.proofs.Carried.{no_registers, register_and}
-use Rattle.cell_actions.specs.Actions.{given_back_records, with_given_back}
-use Rattle.cell_actions.specs.Laws.{GivingBackCellsLeads}
+use Rattle.change_laws.specs.CellActions.{given_back_records, with_given_back}
+use Rattle.change_laws.specs.CellLaws.{GivingBackCellsLeads}
 use Rattle.cell_plans.specs.CellPlans.{IsCellPlanned}
 use Rattle.cell_plans.specs.Seen.{IsSeen}
 use Rattle.cell_plans.proofs.CellsCarried.{accepts, assigns, has_records}
@@ -63,7 +63,7 @@ module _ (settings : Settings) (names_full : Bool) (m : StorageState) (name : Li
         ap (answered settings s (free name cell)) (past_sight ∙ skip (not (is_in_use (pool_of s name) cell)) NotInUse [] (ap not (use_is ∙ used)))
         ∙ (λ i. outcome (sym seen.named i) (pool_is m name id p seen i))
 
-    module _ (plan : Plan) (is_emptied : plan.emptied ≡ None) (is_records : plan.records.items ≡ given_back_records id cell ++ register_records m ((15, 0) ∷ []))
+    module _ (plan : StoragePlan) (is_emptied : plan.emptied ≡ None) (is_records : plan.records.items ≡ given_back_records id cell ++ register_records m ((15, 0) ∷ []))
         (is_blanks : plan.blanks ≡ 1) (is_fresh : plan.fresh ≡ run_of 0 0) (is_reply : plan.reply ≡ Returned 0) where
       pub given_back : GivingBackCellsLeads → FreeLeavesWellFormed → AreNamed m.subpools.cells → ∥ IsSound settings m ∥₁ → uses p cell ≡ true
           → IsCellPlanned settings names_full m (free name cell) (Ok plan)

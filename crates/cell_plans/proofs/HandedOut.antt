@@ -22,31 +22,31 @@ use Rattle.vsm_model.specs.Standing.{Accepted, Refused}
 use Rattle.vsm_model.specs.State.{State}
 use Rattle.vsm_model.specs.Step.{answered, replied, step}
 use Rattle.vsm_model.proofs.Chosen.{Stepped}
-use Rattle.cell_laws.specs.Kept.{GetLeavesWellFormed}
-use Rattle.cell_laws.proofs.CellLists.{some_doublewords}
-use Rattle.cell_extents.specs.declared.settings.Settings.{Settings as CellSettings}
+use Rattle.service_laws.specs.CellKept.{GetLeavesWellFormed}
+use Rattle.service_laws.proofs.CellLists.{some_doublewords}
+use Rattle.cell_extents.specs.declared.settings.CellSettings.{CellSettings}
 use Rattle.cell_pool.specs.Pools.{Pool, extended}
-use Rattle.cell_tables.specs.Named.{AreNamed}
-use Rattle.cell_tables.specs.Table.{cell_pool_of}
+use Rattle.storage_changes.specs.NamedPools.{AreNamed}
+use Rattle.storage_changes.specs.PoolTable.{cell_pool_of}
 use Rattle.storage_changes.specs.Changes.{change_of, outset}
 use Rattle.storage_changes.specs.Steps.{walk}
 use Rattle.storage_changes.specs.Walk.{Walk}
 use Rattle.storage_changes.specs.Meaning.{model_of, IsSound}
 use Rattle.storage_changes.specs.State.{StorageState}
 use Rattle.storage_changes.specs.declared.record.Record.{Record}
-use Rattle.storage_actions.specs.Actions.{register_records, run_of}
-use Rattle.storage_actions.specs.Leads.{AreRegisters}
-use Rattle.storage_actions.proofs.Rows.{none_fresh}
+use Rattle.change_laws.specs.StorageActions.{register_records, run_of}
+use Rattle.change_laws.specs.Leads.{AreRegisters}
+use Rattle.change_laws.proofs.Rows.{none_fresh}
 use Rattle.storage_plans.specs.ObtainPlans.{place_address, place_blanks, place_pages, place_records}
 use Rattle.storage_plans.specs.Places.{place_of}
 use Rattle.storage_plans.specs.declared.places.AreaPlace.{AreaPlace}
-use Rattle.storage_plans.specs.declared.plan.Plan.{Plan}
+use Rattle.storage_plans.specs.declared.plan.StoragePlan.{StoragePlan}
 use Rattle.storage_plans.proofs.AskedLengths.{is_somewhere, skip, stop}
 use Rattle.storage_plans.proofs.Assigning.{none_assigned, place_assigns, registers_keep}
 use Rattle.storage_plans.proofs.Carried.{four_carried_out, no_registers, register_and}
-use Rattle.cell_actions.specs.Actions.{area_blanks, area_pages, area_records, doublewords_for, extent_blanks, extent_records, handed_out_records, with_extended, with_handed_out}
-use Rattle.cell_actions.specs.Laws.{ExtendingLeads, HandingOutLeads}
-use Rattle.cell_actions.proofs.Extents.{first_free}
+use Rattle.change_laws.specs.CellActions.{area_blanks, area_pages, area_records, doublewords_for, extent_blanks, extent_records, handed_out_records, with_extended, with_handed_out}
+use Rattle.change_laws.specs.CellLaws.{ExtendingLeads, HandingOutLeads}
+use Rattle.change_laws.proofs.CellExtents.{first_free}
 use Rattle.cell_plans.specs.CellPlans.{cells_weight, further_cells, IsCellPlanned}
 use Rattle.cell_plans.specs.Handing.{cell_records, cell_registers, further_records}
 use Rattle.cell_plans.specs.Seen.{IsSeen}
@@ -204,7 +204,7 @@ module _ (settings : Settings) (names_full : Bool) (m : StorageState) (name : Li
           ∙ ap (replied x) first_out
 
       pub first_planned : HandingOutLeads → GetLeavesWellFormed → AreNamed m.subpools.cells → settings_valid settings ≡ true → IfSome g.register (λ r. r < 16)
-          → ∥ IsSound settings m ∥₁ → names_full ≡ false → (plan : Plan) → plan.emptied ≡ None → plan.records.items ≡ cell_records m id cell g.register → plan.blanks ≡ 0
+          → ∥ IsSound settings m ∥₁ → names_full ≡ false → (plan : StoragePlan) → plan.emptied ≡ None → plan.records.items ≡ cell_records m id cell g.register → plan.blanks ≡ 0
           → plan.fresh ≡ run_of 0 0 → plan.reply ≡ Cell cell → IsCellPlanned settings names_full m x (Ok plan)
       first_planned leads formed named valid register sound fits plan is_emptied is_records is_blanks is_fresh is_reply =
           let rows = cell_registers g.register cell in
@@ -221,7 +221,7 @@ module _ (settings : Settings) (names_full : Bool) (m : StorageState) (name : Li
           )
 
     -- None is free, and the conditional form is answered 4.
-    pub four_planned : ∥ IsSound settings m ∥₁ → names_full ≡ false → p.cells ≡ [] → g.conditional ≡ true → (plan : Plan) → plan.emptied ≡ None
+    pub four_planned : ∥ IsSound settings m ∥₁ → names_full ≡ false → p.cells ≡ [] → g.conditional ≡ true → (plan : StoragePlan) → plan.emptied ≡ None
         → plan.records.items ≡ register_records m ((15, 4) ∷ []) → plan.blanks ≡ 0 → plan.fresh ≡ run_of 0 0 → plan.reply ≡ Returned 4 → IsCellPlanned settings names_full m x (Ok plan)
     four_planned sound fits empty conditional plan is_emptied is_records is_blanks is_fresh is_reply = (
       ∥∥₁_map sound (λ h. as_accepted settings names_full m x plan
@@ -291,7 +291,7 @@ module _ (settings : Settings) (names_full : Bool) (m : StorageState) (name : Li
       light blanks is = let area = few_blanks to in omega (arith, is, area, weight_is)
 
       pub further_planned : ExtendingLeads → GetLeavesWellFormed → AreNamed m.subpools.cells → settings_valid settings ≡ true → IfSome g.register (λ r. r < 16) → names_full ≡ false
-          → (cells : CellSettings) → cells ≡ p.settings → (plan : Plan) → plan.emptied ≡ None → plan.records.items ≡ further_records m id cells to g.register
+          → (cells : CellSettings) → cells ≡ p.settings → (plan : StoragePlan) → plan.emptied ≡ None → plan.records.items ≡ further_records m id cells to g.register
           → plan.blanks ≡ place_blanks to + extent_blanks cells.secondary → plan.fresh ≡ place_pages (doublewords (cells.secondary * cells.size)) to
           → plan.reply ≡ Cell (place_address to) → IsCellPlanned settings names_full m x (Ok plan)
       further_planned leads formed named valid register fits cells cells_are plan is_emptied is_records is_blanks is_fresh is_reply =

@@ -8,9 +8,9 @@ use Rattle.cell_pool.specs.declared.pools.CellPools.{CellPools}
 use Rattle.cell_pool.specs.CellPools.{pools, by_id}
 use Rattle.cell_pool.specs.Laws.{AreListed}
 use Rattle.cell_pool.specs.Pools.{Pool}
-use Rattle.cell_tables.specs.Laws.{RowsAreCounted}
-use Rattle.cell_tables.specs.Named.{AreNamed}
-use Rattle.cell_tables.specs.Table.{cell_pools_in}
+use Rattle.storage_changes.specs.TableLaws.{RowsAreCounted}
+use Rattle.storage_changes.specs.NamedPools.{AreNamed}
+use Rattle.storage_changes.specs.PoolTable.{cell_pools_in}
 
 -- Cell pools with distinct ids are apart.
 others : (id : ℕ) (list : List Pool) → among id (map (λ p. p.id) list) ≡ false → All (λ p. id ≢ p.id) list

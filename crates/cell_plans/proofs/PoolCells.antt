@@ -12,7 +12,7 @@ use Rattle.vsm_model.specs.CellPools as model
 use Rattle.vsm_model.specs.Search.{is_in}
 use Rattle.cell_extents.specs.declared.settings.Extent.{Extent}
 use Rattle.cell_pool.specs.Pools.{Pool, cells_from, cells_of, extended, uses}
-use Rattle.cell_tables.specs.Table.{cell_pool_of, extent_of}
+use Rattle.storage_changes.specs.PoolTable.{cell_pool_of, extent_of}
 
 one_more : (n size : ℕ) → (n + 1) * size ≡ n * size + size
 one_more n size = let e = add-mul n 1 size in omega (arith, e)

@@ -7,10 +7,10 @@ use Rattle.vsm_model.specs.declared.limits.Settings.{Settings}
 use Rattle.vsm_model.specs.Cells.{no_pool, pool_of}
 use Rattle.vsm_model.specs.CellPools.{CellPool}
 use Rattle.vsm_model.specs.WellFormed.{PoolIsSound}
-use Rattle.cell_laws.proofs.CellLists.{cell_bounds}
-use Rattle.cell_laws.proofs.Pools.{sound_of}
+use Rattle.service_laws.proofs.CellLists.{cell_bounds}
+use Rattle.service_laws.proofs.Pools.{sound_of}
 use Rattle.cell_pool.specs.Pools.{Pool}
-use Rattle.cell_tables.specs.Table.{cell_pool_of}
+use Rattle.storage_changes.specs.PoolTable.{cell_pool_of}
 use Rattle.storage_changes.specs.Meaning.{model_of, IsSound}
 use Rattle.storage_changes.specs.State.{StorageState}
 use Rattle.cell_plans.specs.Seen.{IsSeen}

@@ -19,16 +19,16 @@ use Rattle.storage_changes.specs.declared.record.Record.{Record}
 use Rattle.storage_changes.specs.State.{StorageState}
 use Rattle.storage_changes.specs.Changes.{Change, change_of, change_building, no_pages}
 use Rattle.storage_changes.specs.Meaning.{model_of}
-use Rattle.storage_actions.specs.Actions.{register_records}
-use Rattle.storage_plans.specs.declared.plan.Plan.{Plan}
+use Rattle.change_laws.specs.StorageActions.{register_records}
+use Rattle.storage_plans.specs.declared.plan.StoragePlan.{StoragePlan}
 use Rattle.storage_plans.specs.Plans.{Assigns, IsAccepted, change_in}
-use Rattle.cell_actions.specs.Actions.{deleting_records, deleting_blanks, extents_given_back}
+use Rattle.change_laws.specs.CellActions.{deleting_records, deleting_blanks, extents_given_back}
 use Rattle.cell_plans.specs.declared.build.BuildPlan.{BuildPlan}
 use Rattle.cell_plans.specs.declared.delete.DeletePlan.{DeletePlan}
 
 -- The pages that come to be assigned are unassigned, its blank elements are few (a further extent of 4,096 cells takes
 -- 4,121), and a subpool that is emptied is there.
-pub record HasRecords (m : StorageState) (plan : Plan) : Type 0 where
+pub record HasRecords (m : StorageState) (plan : StoragePlan) : Type 0 where
   pub few : plan.blanks ≤ 2 ^ 13
   pub range : plan.fresh.start + plan.fresh.len ≤ 2 ^ 20
   pub there : IfSome plan.emptied (λ p. is_there m.subpools p ≡ true)
@@ -53,13 +53,13 @@ cells_weight m (delete name) = pool_and_extents (cell_pool_in (model_of m).cell_
 cells_weight m _ = 0
 
 -- No subpool is emptied, and the blank elements are few for how heavy the service is.
-pub record IsLight (m : StorageState) (x : Service) (plan : Plan) : Type 0 where
+pub record IsLight (m : StorageState) (x : Service) (plan : StoragePlan) : Type 0 where
   pub none : plan.emptied ≡ None
   pub few : plan.blanks ≤ 7 + 8 * cells_weight m x
 
 -- A cell that is handed out or given back was planned, with frames for pages that come to be assigned; or it's
 -- refused for this cause.
-abbrev pub IsCellPlanned : Settings → Bool → StorageState → Service → Result Plan Cause → Type 0
+abbrev pub IsCellPlanned : Settings → Bool → StorageState → Service → Result StoragePlan Cause → Type 0
 IsCellPlanned settings names_full m x (Ok plan) =
     (∥ IsAccepted settings names_full m x (change_in m plan) plan.reply ∥₁) × HasRecords m plan × IsLight m x plan
     × Assigns m (change_in m plan) plan.fresh

@@ -2,9 +2,9 @@
 use Rattle.std.specs.Prelude.{ℕ, ◌*◌, List, ◌∷◌, ◌++◌, Option}
 use Rattle.vsm_model.specs.Regions.{doublewords}
 use Rattle.vsm_model.specs.Registers.{named_register}
-use Rattle.cell_extents.specs.declared.settings.Settings.{Settings as CellSettings}
-use Rattle.cell_actions.specs.Actions.{extent_records, handed_out_records}
-use Rattle.storage_actions.specs.Actions.{register_records}
+use Rattle.cell_extents.specs.declared.settings.CellSettings.{CellSettings}
+use Rattle.change_laws.specs.CellActions.{extent_records, handed_out_records}
+use Rattle.change_laws.specs.StorageActions.{register_records}
 use Rattle.storage_changes.specs.State.{StorageState}
 use Rattle.storage_changes.specs.declared.record.Record.{Record}
 use Rattle.storage_plans.specs.ObtainPlans.{place_address, place_records}

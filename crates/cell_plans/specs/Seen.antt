@@ -3,7 +3,7 @@ use Rattle.std.specs.Prelude.{◌≡◌, ℕ, List, Some, true}
 use Rattle.vsm_model.specs.Cells.{sees_pool}
 use Rattle.vsm_model.specs.CellPools.{cell_pool_in}
 use Rattle.cell_pool.specs.Pools.{Pool}
-use Rattle.cell_tables.specs.Table.{cell_pool_of}
+use Rattle.storage_changes.specs.PoolTable.{cell_pool_of}
 use Rattle.storage_changes.specs.State.{StorageState}
 use Rattle.storage_changes.specs.Meaning.{model_of}
 

@@ -5,14 +5,14 @@ ghost use Rattle.cell_plans.specs.Areas.{areas_left, areas_of, IsAreaPlace};
 ghost use Rattle.cell_plans.specs.CellPlans.{CanBeDeleted};
 
 use crate::sizes::extent_doublewords;
-use cell_pool::{CellId, CellPools, ExtentPlace};
+use cell_pool::{CellExtentPlace, CellId, CellPools};
 use run_set::Run;
-use storage_exchange::Storage;
+use storage_exchange::Parts;
 
 /// A place before, between or behind the areas of a cell pool's extents, and the size of its cells in bytes.
 #[derive(Clone, Copy)]
 pub(crate) struct AreaPlace {
-    extents: ExtentPlace,
+    extents: CellExtentPlace,
     size: u32,
 }
 
@@ -24,7 +24,7 @@ pub(crate) struct FirstExtents {
 }
 
 /// The place before the first of them.
-pub(crate) fn first_place(storage: &Storage, pool: CellId) -> AreaPlace
+pub(crate) fn first_place(storage: &Parts, pool: CellId) -> AreaPlace
     requires stands { Stand storage.now }
     requires can { CanBeDeleted (state_of storage.now) (record { pool = pool }) }
     ensures place { IsAreaPlace storage.now.elements result }
@@ -39,7 +39,7 @@ pub(crate) fn first_place(storage: &Storage, pool: CellId) -> AreaPlace
 }
 
 /// The area behind the place, and the place behind it; `None` behind the last one.
-pub(crate) fn next_area(storage: &Storage, place: AreaPlace) -> Option<(Run, AreaPlace)>
+pub(crate) fn next_area(storage: &Parts, place: AreaPlace) -> Option<(Run, AreaPlace)>
     requires { IsAreaPlace storage.now.elements place }
     ensures none { IfNone result (areas_left storage.now.elements place ≡ []) }
     ensures next { IfSome result (λ r. areas_left storage.now.elements place
@@ -60,7 +60,7 @@ pub(crate) fn next_area(storage: &Storage, place: AreaPlace) -> Option<(Run, Are
 }
 
 /// The area of this index; `None` where the cell pool has no more extents than that. It's found from the first one on.
-pub(crate) fn area_at(storage: &Storage, pool: CellId, index: u32) -> Option<Run>
+pub(crate) fn area_at(storage: &Parts, pool: CellId, index: u32) -> Option<Run>
     requires stands { Stand storage.now }
     requires can { CanBeDeleted (state_of storage.now) (record { pool = pool }) }
     ensures area { result ≡ slice_get (areas_of ((state_of storage.now).subpools.cells pool)) index }

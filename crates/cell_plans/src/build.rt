@@ -10,7 +10,7 @@ ghost use Rattle.vsm_model.specs.Regions.{doublewords, settings_valid};
 ghost use Rattle.vsm_model.specs.Services.{build};
 ghost use Rattle.subpool_storage.specs.Subpools.{IsUnnamed};
 ghost use Rattle.storage_changes.specs.Meaning.{model_of};
-ghost use Rattle.storage_actions.specs.Actions.{own_records, register_records};
+ghost use Rattle.change_laws.specs.StorageActions.{own_records, register_records};
 ghost use Rattle.storage_exchange.specs.Storage.{state_of, Stand};
 ghost use Rattle.storage_plans.specs.ObtainPlans.{place_address, place_blanks, place_pages, place_records};
 ghost use Rattle.storage_plans.specs.Places.{StandsSound};
@@ -19,14 +19,14 @@ ghost use Rattle.cell_plans.specs.CellPlans.{IsBuildPlanned};
 use crate::seen::name_of;
 use crate::sizes::extent_doublewords;
 use arrayvec::ArrayVec;
-use cell_actions::laws::building_leads;
-use cell_laws::laws::cell_pools_stay_well_formed;
 use cell_pool::laws::{pools_are_listed, pools_are_one};
-use cell_pool::{Header, Name, Settings as CellSettings};
-use cell_tables::laws::{others_are_not_found, pools_are_found, rows_are_counted};
+use cell_pool::{CellSettings, Header, Name};
+use change_laws::cells::building_leads;
 use run_set::Run;
+use service_laws::cells::cell_pools_stay_well_formed;
 use storage_changes::Record;
-use storage_exchange::Storage;
+use storage_changes::tables::{others_are_not_found, pools_are_found, rows_are_counted};
+use storage_exchange::Parts;
 use storage_plans::areas::{check_number, side_of, subpool_for};
 use storage_plans::obtain::{address_of, needs_of, push_own, push_place};
 use storage_plans::places::{AreaPlace, area_place};
@@ -87,7 +87,7 @@ fn has_cells(b: Build) -> bool
 }
 
 // Whether there is a cell pool of the name.
-fn is_built(storage: &Storage, name: &Name) -> bool
+fn is_built(storage: &Parts, name: &Name) -> bool
     requires { Stand storage.now }
     ensures there { result ≡ is_some (cell_pool_in (model_of (state_of storage.now)).cell_pools name.now.bytes) }
     ensures unnamed { result ≡ false → IsUnnamed (state_of storage.now).subpools name.now.bytes }
@@ -101,7 +101,7 @@ fn is_built(storage: &Storage, name: &Name) -> bool
 }
 
 // How many cell pools there are.
-fn pool_count(storage: &Storage) -> u32
+fn pool_count(storage: &Parts) -> u32
     requires { Stand storage.now }
     ensures { result ≡ length (model_of (state_of storage.now)).cell_pools }
 {
@@ -114,7 +114,7 @@ fn pool_count(storage: &Storage) -> u32
 
 // The number of the subpool of a cell pool that can come under the name, or the first cause that refuses it but for
 // want of storage.
-fn check_build(storage: &Storage, name: &Name, b: Build) -> Result<u8, Cause>
+fn check_build(storage: &Parts, name: &Name, b: Build) -> Result<u8, Cause>
     requires { Stand storage.now }
     ensures number { IfOk result (λ number. number ≡ b.number) }
     ensures allowed { OnOk result (b.number ≤ 127) }
@@ -141,7 +141,7 @@ fn check_build(storage: &Storage, name: &Name, b: Build) -> Result<u8, Cause>
 
 // The plan by which the cell pool comes, with its first extent at its place.
 fn plan_pool(
-    storage: &Storage,
+    storage: &Parts,
     name: Name,
     header: Option<Header>,
     settings: CellSettings,
@@ -196,7 +196,7 @@ fn plan_pool(
 /// first extent has no place.
 #[inline(never)]
 pub fn plan_build(
-    storage: &Storage,
+    storage: &Parts,
     settings: Settings,
     name: &str,
     header: Option<&str>,

@@ -7,17 +7,18 @@ ghost use Rattle.vsm_model.specs.Services.{delete};
 ghost use Rattle.storage_exchange.specs.Storage.{hold, state_of, Stand, IsFrameless};
 ghost use Rattle.storage_plans.specs.Places.{StandsSound};
 ghost use Rattle.storage_swap.specs.Builder.{IsBuilding, Builds, Pushes};
+ghost use Rattle.storage_swap.specs.Growth.{MakesElements};
 ghost use Rattle.storage_swap.specs.Reserve.{Grown, Reserves};
 ghost use Rattle.cell_plans.specs.CellPlans.{delete_change, CanBeDeleted, IsDeletePlanned};
 
 use crate::giving_back::push_extents;
 use crate::seen::find_seen;
-use cell_actions::laws::deleting_leads;
-use cell_laws::laws::cell_pools_stay_well_formed;
 use cell_pool::CellId;
+use change_laws::cells::deleting_leads;
+use service_laws::cells::cell_pools_stay_well_formed;
 use std::alloc::AllocError;
 use storage_changes::{CellPoolRecord, Record, RegisterRecord};
-use storage_exchange::Storage;
+use storage_exchange::Parts;
 use storage_swap::{Change, ChangeBuilder};
 use subpool_storage::laws::cell_pools_are_named;
 use vsm_model::Cause;
@@ -35,7 +36,7 @@ pub struct DeletePlan {
 /// The cause that refuses it: `NoCellPool` where there is no cell pool of the name or the current task doesn't see its
 /// subpool.
 #[inline(never)]
-pub fn plan_delete(storage: &Storage, name: &str) -> Result<DeletePlan, Cause>
+pub fn plan_delete(storage: &Parts, name: &str) -> Result<DeletePlan, Cause>
     requires stands { Stand storage.now }
     requires name { length name.now ≤ 63 }
     ensures { (settings : Settings) (names_full : Bool) → settings_valid settings ≡ true
@@ -57,7 +58,7 @@ impl DeletePlan {
     ///
     /// `AllocError` where memory is refused: what was made before that stays, as spare elements. No more spare elements
     /// are used than it has records and blank elements; where so many are spare, it takes no memory.
-    pub fn reserve(self, storage: &mut Storage) -> Result<Change, AllocError>
+    pub fn reserve(self, storage: &mut Parts) -> Result<Change, AllocError>
         requires stands { Stand storage.old }
         requires once { (i : ℕ) → hold storage.old i ≤ 1 }
         requires frameless { IsFrameless storage.old }
@@ -70,6 +71,9 @@ impl DeletePlan {
             storage.old.elements.spare ≤ storage.new.elements.spare + (length d.records + d.blanks)) }
         ensures live { IfOk result (λ _. let d = delete_change (state_of storage.old) self in
             live_count storage.new.elements ≤ live_count storage.old.elements + (length d.records + d.blanks)) }
+        ensures made { IfOk result (λ _. let d = delete_change (state_of storage.old) self in
+            MakesElements storage.old.elements storage.new.elements (length d.records + d.blanks)) }
+        ensures same_frames { IfOk result (λ _. storage.new.region ≡ storage.old.region) }
         ensures needless { let d = delete_change (state_of storage.old) self in
             length d.records + d.blanks ≤ storage.old.elements.spare → IsOk result }
     {
@@ -86,7 +90,7 @@ impl DeletePlan {
     // The records of the change, in their order. Answers how many blank elements it has.
     fn push_records(
         self,
-        storage: &mut Storage,
+        storage: &mut Parts,
         builder: &mut ChangeBuilder,
     ) -> Result<u32, AllocError>
         requires building { IsBuilding storage.old builder.old }

@@ -3,7 +3,7 @@ ghost use Rattle.std.specs.Prelude.{◌≡◌, ℕ, ◌+◌, ◌/◌, ◌^◌, �
 ghost use Rattle.run_set.specs.Runs.{contains, inside};
 ghost use Rattle.vsm_model.specs.Regions.{pages_for};
 ghost use Rattle.vsm_model.specs.Search.{all_pass};
-ghost use Rattle.storage_actions.specs.Actions.{emptied_pages};
+ghost use Rattle.change_laws.specs.StorageActions.{emptied_pages};
 ghost use Rattle.storage_exchange.specs.Storage.{state_of, Stand};
 ghost use Rattle.cell_plans.specs.Areas.{first_areas};
 ghost use Rattle.cell_plans.specs.CellPlans.{CanBeDeleted};
@@ -13,7 +13,7 @@ use crate::areas::{FirstExtents, first_place, next_area};
 use free_queue::FreeQueue;
 use free_queue::laws::queues_stand;
 use run_set::Run;
-use storage_exchange::Storage;
+use storage_exchange::Parts;
 use vsm_model::Subpool;
 
 /// The doublewords of a page.
@@ -28,7 +28,7 @@ fn has(area: Run, doubleword: u32) -> bool
 }
 
 // The end of the free area of the subpool that has the doubleword, or the doubleword itself where it isn't free.
-fn free_end(storage: &Storage, subpool: Subpool, doubleword: u32) -> u32
+fn free_end(storage: &Parts, subpool: Subpool, doubleword: u32) -> u32
     requires { Stand storage.now }
     ensures { IsFreeUpTo ((state_of storage.now).subpools.free subpool) doubleword result }
 {
@@ -59,7 +59,7 @@ fn end_behind(area: Run, doubleword: u32) -> u32
 
 // The end of the doublewords of these extents that begin with this one, as far as one walk over them finds it; the
 // doubleword itself where none has it.
-fn given_end(storage: &Storage, given: FirstExtents, doubleword: u32) -> u32
+fn given_end(storage: &Parts, given: FirstExtents, doubleword: u32) -> u32
     requires stands { Stand storage.now }
     requires can { CanBeDeleted (state_of storage.now) (record { pool = given.pool }) }
     ensures { IsFreeUpTo (λ d. contains d (first_areas (state_of storage.now) given)) doubleword result }
@@ -80,7 +80,7 @@ fn given_end(storage: &Storage, given: FirstExtents, doubleword: u32) -> u32
 
 // The end of free doublewords of the subpool, with the extents that were given back, that begin with this one; the
 // doubleword itself where it isn't free.
-fn end_of_free(storage: &Storage, subpool: Subpool, given: FirstExtents, doubleword: u32) -> u32
+fn end_of_free(storage: &Parts, subpool: Subpool, given: FirstExtents, doubleword: u32) -> u32
     requires stands { Stand storage.now }
     requires can { CanBeDeleted (state_of storage.now) (record { pool = given.pool }) }
     ensures { IsFreeUpTo ((freed (state_of storage.now).subpools subpool
@@ -96,7 +96,7 @@ fn end_of_free(storage: &Storage, subpool: Subpool, given: FirstExtents, doublew
 
 // Whether each doubleword of the area, if it has any, is free storage of the subpool, with the extents that were given
 // back.
-fn is_free(storage: &Storage, subpool: Subpool, given: FirstExtents, area: Run) -> bool
+fn is_free(storage: &Parts, subpool: Subpool, given: FirstExtents, area: Run) -> bool
     requires stands { Stand storage.now }
     requires can { CanBeDeleted (state_of storage.now) (record { pool = given.pool }) }
     requires range { area.start + area.len ≤ 2 ^ 29 }
@@ -134,7 +134,7 @@ fn pages_of(area: Run) -> Run
 
 /// The pages that the area, in doublewords, empties when it's given back to the subpool, once these extents are.
 /// Reads alone.
-pub(crate) fn emptied(storage: &Storage, subpool: Subpool, given: FirstExtents, area: Run) -> Run
+pub(crate) fn emptied(storage: &Parts, subpool: Subpool, given: FirstExtents, area: Run) -> Run
     requires stands { Stand storage.now }
     requires can { CanBeDeleted (state_of storage.now) (record { pool = given.pool }) }
     requires some { 0 < area.len }

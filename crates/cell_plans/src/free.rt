@@ -3,26 +3,26 @@ ghost use Rattle.std.specs.Prelude.{◌≡◌, ◌≤◌, [], ◌∷◌, ◌++�
 ghost use Rattle.vsm_model.specs.declared.limits.Settings.{Settings};
 ghost use Rattle.vsm_model.specs.declared.replies.Reply.TheVariants.{Returned};
 ghost use Rattle.vsm_model.specs.Services.{free};
-ghost use Rattle.storage_actions.specs.Actions.{register_records, run_of};
+ghost use Rattle.change_laws.specs.StorageActions.{register_records, run_of};
 ghost use Rattle.storage_exchange.specs.Storage.{state_of, Stand};
 ghost use Rattle.storage_plans.specs.Places.{StandsSound};
-ghost use Rattle.cell_actions.specs.Actions.{given_back_records};
+ghost use Rattle.change_laws.specs.CellActions.{given_back_records};
 ghost use Rattle.cell_plans.specs.CellPlans.{IsCellPlanned};
 
 use crate::seen::find_seen;
 use arrayvec::ArrayVec;
-use cell_actions::laws::giving_back_cells_leads;
-use cell_laws::laws::cell_pools_stay_well_formed;
 use cell_pool::CellId;
+use change_laws::cells::giving_back_cells_leads;
+use service_laws::cells::cell_pools_stay_well_formed;
 use storage_changes::{CellRecord, Record};
-use storage_exchange::Storage;
-use storage_plans::Plan;
+use storage_exchange::Parts;
+use storage_plans::StoragePlan;
 use storage_plans::plan::{NO_PAGES, push_register};
 use subpool_storage::laws::cell_pools_are_named;
 use vsm_model::{Cause, Reply};
 
 // The plan by which a cell in use is the first free one.
-fn plan_given_back(storage: &Storage, pool: CellId, cell: u32) -> Plan
+fn plan_given_back(storage: &Parts, pool: CellId, cell: u32) -> StoragePlan
     ensures emptied { result.emptied ≡ None }
     ensures records { result.records.items
         ≡ given_back_records pool cell ++ register_records (state_of storage.now) ((15, 0) ∷ []) }
@@ -37,7 +37,7 @@ fn plan_given_back(storage: &Storage, pool: CellId, cell: u32) -> Plan
         free: true,
     }));
     push_register(&mut records, storage.tasks.current(), 15, 0);
-    Plan {
+    StoragePlan {
         emptied: None,
         records,
         blanks: 1,
@@ -52,7 +52,7 @@ fn plan_given_back(storage: &Storage, pool: CellId, cell: u32) -> Plan
 /// The causes that refuse it, in order: `NoCellPool` where there is no cell pool of the name or the current task
 /// doesn't see its subpool, and `NotInUse` where the address isn't that of a cell that was handed out.
 #[inline(never)]
-pub fn plan_free(storage: &Storage, name: &str, cell: u32) -> Result<Plan, Cause>
+pub fn plan_free(storage: &Parts, name: &str, cell: u32) -> Result<StoragePlan, Cause>
     requires stands { Stand storage.now }
     requires name { length name.now ≤ 63 }
     ensures { (settings : Settings) (names_full : Bool) → StandsSound settings storage.now

@@ -4,23 +4,23 @@ ghost use Rattle.arrayvec.specs.ArrayVec.{array_vec_len};
 ghost use Rattle.vsm_model.specs.declared.replies.Reply.TheVariants.{Cell};
 ghost use Rattle.vsm_model.specs.Regions.{doublewords, settings_valid};
 ghost use Rattle.vsm_model.specs.Services.{get};
-ghost use Rattle.storage_actions.specs.Actions.{run_of};
+ghost use Rattle.change_laws.specs.StorageActions.{run_of};
 ghost use Rattle.storage_exchange.specs.Storage.{state_of};
 ghost use Rattle.storage_plans.specs.ObtainPlans.{place_address, place_blanks, place_pages};
 ghost use Rattle.storage_plans.specs.Places.{StandsSound};
-ghost use Rattle.cell_actions.specs.Actions.{extent_blanks as blanks_for};
+ghost use Rattle.change_laws.specs.CellActions.{extent_blanks as blanks_for};
 ghost use Rattle.cell_plans.specs.CellPlans.{IsCellPlanned};
 ghost use Rattle.cell_plans.specs.Handing.{cell_records, further_records};
 
 use crate::seen::find_seen;
 use crate::sizes::extent_doublewords;
 use arrayvec::ArrayVec;
-use cell_actions::laws::{extending_leads, handing_out_leads};
-use cell_laws::laws::cell_pools_stay_well_formed;
-use cell_pool::{CellId, Settings as CellSettings};
+use cell_pool::{CellId, CellSettings};
+use change_laws::cells::{extending_leads, handing_out_leads};
+use service_laws::cells::cell_pools_stay_well_formed;
 use storage_changes::{CellExtentRecord, CellRecord, Record};
-use storage_exchange::Storage;
-use storage_plans::Plan;
+use storage_exchange::Parts;
+use storage_plans::StoragePlan;
 use storage_plans::obtain::{address_of, needs_of, push_place};
 use storage_plans::places::{AreaPlace, area_place};
 use storage_plans::plan::{NO_PAGES, PLAN_RECORDS, answer_four, push_register};
@@ -30,7 +30,7 @@ use vsm_model::{Cause, Get, Reply, Settings};
 // The cell is handed out: the return code 0, its address in register 1 and in the one that is named.
 fn push_handed_out(
     records: &mut ArrayVec<Record, PLAN_RECORDS>,
-    storage: &Storage,
+    storage: &Parts,
     pool: CellId,
     cell: u32,
     register: Option<u8>,
@@ -52,7 +52,7 @@ fn push_handed_out(
 }
 
 // The plan by which the first free cell is handed out.
-fn plan_cell(storage: &Storage, pool: CellId, cell: u32, register: Option<u8>) -> Plan
+fn plan_cell(storage: &Parts, pool: CellId, cell: u32, register: Option<u8>) -> StoragePlan
     ensures emptied { result.emptied ≡ None }
     ensures records { result.records.items ≡ cell_records (state_of storage.now) pool cell register }
     ensures blanks { result.blanks ≡ 0 }
@@ -61,7 +61,7 @@ fn plan_cell(storage: &Storage, pool: CellId, cell: u32, register: Option<u8>) -
 {
     let mut records = ArrayVec::new();
     push_handed_out(&mut records, storage, pool, cell, register);
-    Plan {
+    StoragePlan {
         emptied: None,
         records,
         blanks: 0,
@@ -80,12 +80,12 @@ fn extent_blanks(count: u32) -> u32
 
 // The plan by which the cell pool has a further extent at its place, whose first cell is handed out.
 fn plan_further(
-    storage: &Storage,
+    storage: &Parts,
     pool: CellId,
     cells: CellSettings,
     place: AreaPlace,
     register: Option<u8>,
-) -> Plan
+) -> StoragePlan
     requires count { cells.secondary ≤ 2 ^ 12 }
     requires size { (0 < cells.secondary * cells.size) × (cells.secondary * cells.size ≤ 2 ^ 24) }
     requires place { place_address place < 2 ^ 32 }
@@ -107,7 +107,7 @@ fn plan_further(
     }));
     push_handed_out(&mut records, storage, pool, start, register);
     let (blanks, fresh) = needs_of(place, count);
-    Plan {
+    StoragePlan {
         emptied: None,
         records,
         blanks: blanks + extent_blanks(cells.secondary),
@@ -126,12 +126,12 @@ fn plan_further(
 /// doesn't see its subpool, `TooManyNames`, and `NoStorage` where a further extent has no place.
 #[inline(never)]
 pub fn plan_get(
-    storage: &Storage,
+    storage: &Parts,
     settings: Settings,
     name: &str,
     g: Get,
     names_full: bool,
-) -> Result<Plan, Cause>
+) -> Result<StoragePlan, Cause>
     requires sound { StandsSound settings storage.now }
     requires valid { settings_valid settings ≡ true }
     requires name { length name.now ≤ 63 }

@@ -1,7 +1,7 @@
 //! The records by which the extents of a cell pool are given back.
 ghost use Rattle.std.specs.Prelude.{◌≡◌, ◌+◌, ◌*◌, ◌-◌, ◌^◌, ◌<◌, ◌≤◌, ◌++◌, [], length, IsOk, IfOk, OnOk};
 ghost use Rattle.arrayvec.specs.ArrayVec.{array_vec_len};
-ghost use Rattle.storage_actions.specs.Actions.{area_records, give_back_records, returned_records};
+ghost use Rattle.change_laws.specs.StorageActions.{area_records, give_back_records, returned_records};
 ghost use Rattle.storage_exchange.specs.Storage.{state_of};
 ghost use Rattle.storage_swap.specs.Builder.{IsBuilding, Builds, Pushes};
 ghost use Rattle.cell_plans.specs.Areas.{first_areas};
@@ -15,7 +15,7 @@ use cell_pool::CellId;
 use run_set::Run;
 use std::alloc::AllocError;
 use storage_changes::{AreaRecord, ExtentRecord, PagesRecord, Record};
-use storage_exchange::Storage;
+use storage_exchange::Parts;
 use storage_plans::PLAN_RECORDS;
 use storage_swap::ChangeBuilder;
 use vsm_model::Subpool;
@@ -95,7 +95,7 @@ fn push_given_back(
 
 // One more record of the change for each of these, in their order.
 fn push_all(
-    storage: &mut Storage,
+    storage: &mut Parts,
     builder: &mut ChangeBuilder,
     records: &[Record],
 ) -> Result<(), AllocError>
@@ -112,7 +112,7 @@ fn push_all(
 
 // The area is given back with the pages that it empties, once these extents are given back.
 fn push_area(
-    storage: &mut Storage,
+    storage: &mut Parts,
     builder: &mut ChangeBuilder,
     subpool: Subpool,
     given: FirstExtents,
@@ -136,7 +136,7 @@ fn push_area(
 }
 
 // As many elements are spare as a word can say, at most.
-fn spares_are_few(storage: &Storage)
+fn spares_are_few(storage: &Parts)
     ensures { storage.now.elements.spare < 2 ^ 32 }
 {
     let _spare = storage.elements.spare();
@@ -147,7 +147,7 @@ fn spares_are_few(storage: &Storage)
 ///
 /// `AllocError` where memory is refused, or the cell pool has more than 2^30 - 1 extents.
 pub(crate) fn push_extents(
-    storage: &mut Storage,
+    storage: &mut Parts,
     builder: &mut ChangeBuilder,
     pool: CellId,
 ) -> Result<u32, AllocError>

@@ -10,8 +10,8 @@ ghost use Rattle.cell_plans.specs.Seen.{IsSeen};
 
 use cell_pool::laws::pools_are_one;
 use cell_pool::{CellId, Name};
-use cell_tables::laws::{others_are_not_found, pools_are_found};
-use storage_exchange::Storage;
+use storage_changes::tables::{others_are_not_found, pools_are_found};
+use storage_exchange::Parts;
 use subpool_storage::laws::cell_pools_are_named;
 use vsm_model::{Cause, Subpool};
 
@@ -26,7 +26,7 @@ pub(crate) fn name_of(text: &str) -> Name
 }
 
 // Whether the current task sees this very subpool.
-fn sees_subpool(storage: &Storage, subpool: Subpool) -> bool
+fn sees_subpool(storage: &Parts, subpool: Subpool) -> bool
     requires { Stand storage.now }
     ensures { result ≡ sees (model_of (state_of storage.now)) subpool }
 {
@@ -41,7 +41,7 @@ fn sees_subpool(storage: &Storage, subpool: Subpool) -> bool
 }
 
 /// The cell pool of the name, if there is one and the current task sees its subpool; else the cause `NoCellPool`.
-pub(crate) fn find_seen(storage: &Storage, name: &str) -> Result<CellId, Cause>
+pub(crate) fn find_seen(storage: &Parts, name: &str) -> Result<CellId, Cause>
     requires stands { Stand storage.now }
     requires name { length name.now ≤ 63 }
     ensures there { IfOk result (λ id. IsSome ((state_of storage.now).subpools.cells id)) }

@@ -7,7 +7,7 @@ use Rattle.vsm_elements.specs.Chain.{links}
 use Rattle.list_table.specs.Entries.{Entry, word}
 use Rattle.list_table.specs.Kept.{items_of}
 use Rattle.list_table.specs.ListTable.{entries, entry_of, IsTable, IsOpen}
-use Rattle.list_table.specs.declared.row.Row.{Row}
+use Rattle.list_table.specs.declared.row.ListRow.{ListRow}
 use Rattle.cell_extents.specs.declared.label.Label.{Label}
 use Rattle.cell_extents.specs.Names.{packed, spelled, same_label, AreBytes}
 use Rattle.cell_extents.specs.Items.{label_of, pool_of, IsSound}
@@ -25,7 +25,7 @@ pub stands : (s : Store) (q : CellPools) → IsCellPools s q → IsTable s q.tab
 unfolding IsCellPools
 stands s q kept = kept.table
 
-module _ (s : Store) (q : CellPools) (kept : IsCellPools s q) (r : Row) (xs ys : List Entry) (parts : entries s q.table ≡ xs ++ entry_of s r ∷ ys) (hand : IsOpen s q.table r) where
+module _ (s : Store) (q : CellPools) (kept : IsCellPools s q) (r : ListRow) (xs ys : List Entry) (parts : entries s q.table ≡ xs ++ entry_of s r ∷ ys) (hand : IsOpen s q.table r) where
   pub is_sound : IsSound (entry_of s r)
   unfolding IsCellPools
   is_sound = let P : List Entry → Type 0 = AllSound in sound_at xs ys (entry_of s r) (subst P parts kept.sound)

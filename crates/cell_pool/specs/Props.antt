@@ -13,7 +13,7 @@ use Rattle.list_table.specs.Kept as rows
 use Rattle.list_table.specs.ListTable.{IsTable}
 use Rattle.list_table.specs.declared.table.ListTable.{ListTable}
 use Rattle.cell_extents.specs.declared.label.Label.{Label}
-use Rattle.cell_extents.specs.declared.settings.Settings.{Settings}
+use Rattle.cell_extents.specs.declared.settings.CellSettings.{CellSettings}
 use Rattle.cell_extents.specs.declared.settings.Extent.{Extent}
 use Rattle.cell_extents.specs.Names.{AreBytes, AreTexts}
 use Rattle.cell_extents.specs.Marks.{IsMarked}
@@ -26,7 +26,7 @@ use Rattle.cell_pool.specs.CellPools.{IsCellPools}
 pub Subpool-set : IsSet Subpool
 Subpool-set = hlevel props
 
-pub Settings-set : IsSet Settings
+pub Settings-set : IsSet CellSettings
 Settings-set = hlevel (Subpool-set, props)
 
 pub Extent-set : IsSet Extent

@@ -6,7 +6,7 @@ use Rattle.list_table.specs.Kept.{items_of}
 use Rattle.cell_extents.specs.Items.{cell_of, extent_of}
 use Rattle.cell_extents.specs.declared.settings.Extent.{Extent}
 use Rattle.cell_pool.specs.declared.walks.ItemPlace.{ItemPlace}
-use Rattle.cell_pool.specs.declared.walks.ExtentPlace.{ExtentPlace}
+use Rattle.cell_pool.specs.declared.walks.CellExtentPlace.{CellExtentPlace}
 use Rattle.cell_pool.specs.declared.walks.CellPlace.{CellPlace}
 
 -- the words of the items behind the place, up to its end. No public clause cites it.
@@ -21,10 +21,10 @@ pub record StandsAt (s : Store) (w : ItemPlace) : Type 0 where
   pub behind : w.before ≡ last_or 0 (take w.index (links s w.list))
 
 -- the place is before, between or behind the extents of a pool, and these are behind it
-unfoldable pub IsExtentPlace : Store → ExtentPlace → Type 0
+unfoldable pub IsExtentPlace : Store → CellExtentPlace → Type 0
 IsExtentPlace s place = StandsAt s place.items
 
-unfoldable pub extents_left : Store → ExtentPlace → List Extent
+unfoldable pub extents_left : Store → CellExtentPlace → List Extent
 extents_left s place = map extent_of (items_left s place.items)
 
 -- the place is before, between or behind the free cells of a pool, and these are behind it

@@ -16,8 +16,8 @@ use crate::parked::ParkedCells;
 use cell_extents::label::{form_of, label_of_name};
 use cell_extents::lists::{label, put_texts};
 use cell_extents::texts::says_subpool;
-use cell_extents::{CellId, Header, Name, Settings};
-use list_table::{ListTable, Row};
+use cell_extents::{CellId, CellSettings, Header, Name};
+use list_table::{ListRow, ListTable};
 use vsm_elements::{Elements, Id};
 use vsm_model::Subpool;
 
@@ -98,7 +98,7 @@ impl CellPools {
         &mut self,
         elements: &mut Elements,
         name: &Name,
-        settings: Settings,
+        settings: CellSettings,
         header: Option<Header>,
     ) -> CellId
         requires pools { IsCellPools elements.old self.old }
@@ -132,7 +132,7 @@ impl CellPools {
             (owned elements.old self.old) (owned elements.new self.new) }
         ensures spares { elements.new.spare + 6 ≡ elements.old.spare }
     {
-        let Settings {
+        let CellSettings {
             subpool,
             size,
             primary,
@@ -271,7 +271,7 @@ impl CellPools {
     }
 
     // The row of this id, in hand.
-    pub(crate) fn row(&self, elements: &Elements, id: CellId) -> Row
+    pub(crate) fn row(&self, elements: &Elements, id: CellId) -> ListRow
         requires pools { IsCellPools elements.now self.now }
         requires there { IsSome (by_id elements.now self.now id) }
         ensures named { result.id ≡ id }

@@ -8,7 +8,7 @@ use cell_extents::lists::{TEXTS, item, label};
 use cell_extents::marks::{is_marked, mark_of};
 use cell_extents::texts::{header_of, location_of, name_of, subpool_of};
 use cell_extents::walks::meets;
-use cell_extents::{CellId, Header, Name, Settings};
+use cell_extents::{CellId, CellSettings, Header, Name};
 use vsm_elements::Elements;
 
 impl CellPools {
@@ -73,7 +73,7 @@ impl CellPools {
     }
 
     /// What the pool was built with.
-    pub fn settings(&self, elements: &Elements, id: CellId) -> Settings
+    pub fn settings(&self, elements: &Elements, id: CellId) -> CellSettings
         requires pools { IsCellPools elements.now self.now }
         requires there { IsSome (by_id elements.now self.now id) }
         ensures { IfSome (by_id elements.now self.now id) (λ p. result ≡ p.settings) }
@@ -82,7 +82,7 @@ impl CellPools {
         let form = item(row.list, elements, 4);
         let subpool = subpool_of(row.words);
         let location = location_of(form[0]);
-        Settings {
+        CellSettings {
             subpool,
             size: row.words[1],
             primary: form[4],

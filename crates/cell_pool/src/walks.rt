@@ -23,7 +23,7 @@ struct ItemPlace {
 /// A place before, between or behind the extents of a pool, from which [`CellPools::next_extent`] goes on without a
 /// walk. It is one as long as the pools stay as they are.
 #[derive(Clone, Copy, Debug, PartialEq, Eq)]
-pub struct ExtentPlace {
+pub struct CellExtentPlace {
     items: ItemPlace,
 }
 
@@ -82,7 +82,7 @@ impl CellPools {
     ghost use Rattle.cell_pool.specs.CellPools.{by_id, IsCellPools};
 
     /// The place before the first extent of the pool.
-    pub fn first_extent(&self, elements: &Elements, id: CellId) -> ExtentPlace
+    pub fn first_extent(&self, elements: &Elements, id: CellId) -> CellExtentPlace
         requires pools { IsCellPools elements.now self.now }
         requires there { IsSome (by_id elements.now self.now id) }
         ensures place { IsExtentPlace elements.now result }
@@ -90,14 +90,17 @@ impl CellPools {
     {
         let row = self.row(elements, id);
         let end = TEXTS + row.words[4];
-        ExtentPlace {
+        CellExtentPlace {
             items: ItemPlace::new(row.list, elements, TEXTS, end),
         }
     }
 
     /// The extent behind the place, and the place behind that extent; `None` behind the last. From the first place on,
     /// the extents come in the order in which they were made.
-    pub fn next_extent(elements: &Elements, place: ExtentPlace) -> Option<(Extent, ExtentPlace)>
+    pub fn next_extent(
+        elements: &Elements,
+        place: CellExtentPlace,
+    ) -> Option<(Extent, CellExtentPlace)>
         requires { IsExtentPlace elements.now place }
         ensures none { IfNone result (extents_left elements.now place ≡ []) }
         ensures next { IfSome result (λ r. extents_left elements.now place ≡ r.0 ∷ extents_left elements.now r.1) }
@@ -108,7 +111,7 @@ impl CellPools {
             start: words[0],
             count: words[1],
         };
-        Some((extent, ExtentPlace { items }))
+        Some((extent, CellExtentPlace { items }))
     }
 
     /// The place before the first free cell of the pool.

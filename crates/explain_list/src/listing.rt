@@ -4,24 +4,34 @@ ghost use Rattle.vsm_model.specs.declared.limits.Settings.{Settings};
 ghost use Rattle.bench_core.specs.Stands.{IsNew, bench_of, settings_in};
 ghost use Rattle.script_steps.specs.Answers.{told_text};
 ghost use Rattle.script_steps.specs.Output.{Marked};
-ghost use Rattle.script_steps.specs.Responses.{numbered, response_text, lines_behind};
+ghost use Rattle.script_steps.specs.Responses.{numbered, response_text};
 ghost use Rattle.script_steps.specs.Script.{NoFeed};
 ghost use Rattle.script_steps.specs.Steps.{StepsOver, TakesStep};
 ghost use Rattle.script_steps.specs.Taken.{Took};
 ghost use Rattle.explain_list.specs.Listing.{PutsItems, Lists, ListsLine, ListsLines, IsNext, IsRest, Stops, Listed};
 
 use crate::faults::ListFault;
-use crate::lines::{OpenLines, SourceLine};
 use crate::pages::{Form, add_file_warning, add_line, add_statement};
-use crate::roles::{Role, role_of};
-use crate::words::Words;
 use bench_core::Bench;
-use macro_reader::Stand;
-use script_steps::{Ending, Response, Session, Step, TooLong, Watch, put_response};
+use script_steps::{
+    Ending, Response, Session, Stand, Step, TooLong, Watch, put_behind, put_response,
+};
+use statement_faults::lines::{OpenLines, SourceLine};
+use statement_faults::roles::{Brought, Role, role_of};
+use statement_faults::words::Words;
 use std::alloc::Global;
 use std::io::Write;
 use text_output::Gathered;
 use vsm_model::Settings;
+
+/// What a line brings, by the answer to it.
+fn brought_by(told: &Option<(u32, Response)>) -> Brought {
+    match told {
+        None => Brought::Nothing,
+        Some((_, Response::Fault(kind))) => Brought::Fault(*kind),
+        Some(_) => Brought::Answer,
+    }
+}
 
 /// What a listing carries from line to line: the lines of the statement that is open, and the words of a line.
 #[derive(Drop)]
@@ -54,7 +64,7 @@ impl Page {
         script: &[u8],
         line: SourceLine,
         role: Role,
-        told: &Option<(u32, Response)>,
+        brought: Brought,
     ) {
         self.words.clear();
         match role {
@@ -65,20 +75,20 @@ impl Page {
             }
             Role::Further | Role::Breaking => self.open.push(line),
         }
-        if told.is_some() {
-            self.settle(form, script, role, told);
+        if brought != Brought::Nothing {
+            self.settle(form, script, role, brought);
         }
     }
 
     /// Makes the words of the statement that is answered, whose last line has this role.
-    fn settle(&mut self, form: Form, script: &[u8], last: Role, told: &Option<(u32, Response)>) {
+    fn settle(&mut self, form: Form, script: &[u8], last: Role, brought: Brought) {
         add_statement(
             &mut self.words,
             form,
             script,
             self.open.as_slice(),
             last,
-            told,
+            brought,
         );
         self.open.clear();
     }
@@ -101,8 +111,9 @@ impl Page {
         } else {
             Stand::Awaiting
         };
-        let role = role_of(before, after, &ending.last);
-        self.compose(form, script, line, role, &ending.last);
+        let brought = brought_by(&ending.last);
+        let role = role_of(before, after, brought);
+        self.compose(form, script, line, role, brought);
     }
 
     /// Makes the words of the statement that is open at the end.
@@ -114,7 +125,7 @@ impl Page {
             } else {
                 Role::First
             };
-            self.settle(form, script, last, &ending.open_statement);
+            self.settle(form, script, last, brought_by(&ending.open_statement));
         }
     }
 
@@ -140,8 +151,9 @@ impl Page {
                 start: step.start,
                 end: step.next.saturating_sub(1),
             };
-            let role = role_of(before, session.stand(), &step.told);
-            self.compose(form, script, line, role, &step.told);
+            let brought = brought_by(&step.told);
+            let role = role_of(before, session.stand(), brought);
+            self.compose(form, script, line, role, brought);
         }
         taken
     }
@@ -177,17 +189,6 @@ fn put_text<W: Write>(gathered: &mut Gathered, writer: &mut W, line: u32, respon
         (numbered line (response_text response.now)) }
 {
     put_response(gathered, writer, response);
-}
-
-/// Puts the lines behind that of a response: the map behind that of a map.
-fn put_behind<W: Write>(gathered: &mut Gathered, writer: &mut W, bench: &Bench, response: &Response)
-    ensures { PutsItems (W.contents writer.old) (W.contents writer.new) gathered.old gathered.new
-        (lines_behind (settings_in bench.now) (bench_of bench.now).present (length (bench_of bench.now).past)
-        response.now) }
-{
-    if let Response::Map = response {
-        bench.put_map(gathered, writer);
-    }
 }
 
 /// What stands in front of the text of a response.

@@ -1,33 +1,18 @@
 //! What a listing says around the answers: lines of the script, carets and warnings.
 
-use crate::carets::{Caret, caret_of};
-use crate::hints::add_hint;
-use crate::lines::SourceLine;
-use crate::roles::Role;
-use crate::warnings::{Warned, Warning, warning_on, warnings_in};
-use crate::words::Words;
-use macro_reader::FaultKind;
-use script_steps::Response;
+use script_steps::{FaultKind, fault_word};
+use statement_faults::carets::{Caret, caret_of};
+use statement_faults::hints::add_hint;
+use statement_faults::lines::SourceLine;
+use statement_faults::roles::{Brought, Role};
+use statement_faults::warnings::{Warned, warning_on, warnings_in};
+use statement_faults::words::Words;
 
 /// The column, from 0, in which a line of the script begins in the listing.
 const MARGIN: usize = 9;
 
 /// How many bytes of a line are shown.
 const SHOWN: usize = 80;
-
-/// The word of a fault, as its answer has it.
-fn word_of(kind: FaultKind) -> &'static [u8] {
-    match kind {
-        FaultKind::Column => b"COLUMN",
-        FaultKind::Continuation => b"CONTINUATION",
-        FaultKind::Operation => b"OPERATION",
-        FaultKind::Operand => b"OPERAND",
-        FaultKind::Repeated => b"REPEATED",
-        FaultKind::Missing => b"MISSING",
-        FaultKind::Value => b"VALUE",
-        FaultKind::LeftOut => b"LEFTOUT",
-    }
-}
 
 /// Where what is said goes: below the lines of a listing, or on lines of their own with the name of a file.
 #[derive(Clone, Copy)]
@@ -159,18 +144,10 @@ pub(crate) fn add_line(
 /// Appends what is wrong with a statement and what is expected, where the caret stands.
 fn add_caret(words: &mut Words, form: Form, number: u32, caret: &Caret, kind: FaultKind) {
     add_front(words, form, number, caret.place.column);
-    words.add(word_of(kind));
+    words.add(fault_word(kind).as_bytes());
     words.add(b": ");
     add_hint(words, caret, kind);
     words.add(b"\n");
-}
-
-/// The fault that an answer tells.
-fn fault_in(told: &Option<(u32, Response)>) -> Option<FaultKind> {
-    match told {
-        Some((_, Response::Fault(kind))) => Some(*kind),
-        _ => None,
-    }
 }
 
 /// What a line of a statement is, by its place among the statement's lines.
@@ -184,18 +161,18 @@ fn role_at(index: usize, count: usize, last: Role) -> Role {
     }
 }
 
-/// Appends the lines of a statement that ends, the last of which has this role, with its caret where it has a fault.
+/// Appends the lines of a statement that ends, the last of which has this role, with its caret where it brings a fault.
 pub(crate) fn add_statement(
     words: &mut Words,
     form: Form,
     script: &[u8],
     lines: &[SourceLine],
     last: Role,
-    told: &Option<(u32, Response)>,
+    brought: Brought,
 ) {
-    let fault = match fault_in(told) {
-        Some(kind) => Some((caret_of(script, lines, kind), kind)),
-        None => None,
+    let fault = match brought {
+        Brought::Fault(kind) => Some((caret_of(script, lines, kind), kind)),
+        _ => None,
     };
     for index in 0..lines.len() {
         let line = &lines[index];

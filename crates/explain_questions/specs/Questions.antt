@@ -24,10 +24,11 @@ number_within least most text = within least most (number_of text)
 abbrev pub IsLine : ℕ → Type 0
 IsLine line = (1 ≤ line) × (line ≤ 1048576)
 
--- 1 to 256 bytes, one of sixteen registers
+-- 1 to 256 bytes, one of sixteen registers, one of 128 subpools of a task
 abbrev pub IsThere : About → Type 0
 IsThere (about.Bytes address count) = (1 ≤ count) × (count ≤ 256)
 IsThere (about.Register task register) = (1 ≤ task) × (register ≤ 15)
+IsThere (about.Subpool p) = (1 ≤ p.owner) × (p.number ≤ 127)
 IsThere _ = ⊤
 
 abbrev pub IsAskable : Question → Type 0

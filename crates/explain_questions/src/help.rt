@@ -1,7 +1,7 @@
 //! What help says.
 
-/// The version that `--version` prints.
-pub(crate) const VERSION: &str = "0.1.0";
+/// What `--version` prints behind the program's name: the version, and the kit.
+pub(crate) const VERSION: &str = "0.1.0 (rattle-kit-13f logic dac8208d650f15bf)";
 
 pub(crate) const ABOUT: &str =
     "Explains a script of vsm: where its mistakes are, why it's answered so, how much storage is left, and \
@@ -9,7 +9,8 @@ pub(crate) const ABOUT: &str =
 
 pub(crate) const AFTER: &str =
     "'vsm-explain COMMAND --help' tells the words of a command, with an example. The options of vsm may stand with each
-command: the script runs under them. docs/EXPLAIN.md has a worked hunt for each command.
+command: the script runs under them. EXPLAIN.md has a worked hunt for each command; vsm(1) tells of the options,
+vsm-statements(5) what can stand in a script, vsm-messages(7) what is answered.
 
 Exit status:
    0  the question was answered
@@ -37,7 +38,7 @@ pub(crate) const WHY_AFTER: &str =
 S878, U3008, RC=4, FAULT VALUE, REFUSED NAME.
 
 Examples: 'vsm-explain why example.vsm 85' tells for line 85 which places the rules looked at, in order;
-'vsm-explain why S878' prints what docs/MESSAGES.md says of S878.
+'vsm-explain why S878' prints what vsm-messages(7) says of S878.
 ";
 
 pub(crate) const REPORT_ABOUT: &str = "Reports what is left of the storage, and in what pieces.";
@@ -58,6 +59,8 @@ pub(crate) const WHO_AFTER: &str =
     "ADDRESS and N are written as in a script: 24582 or X'6006'. Asked for is one thing: N bytes at ADDRESS, or
 what one of the options names.
 
-Examples: \"vsm-explain who example.vsm X'6006' 2\" names the lines that changed the two bytes there;
-'vsm-explain who --register 1,3 example.vsm' those that changed register 3 of task 1.
+Examples, as a shell takes them:
+  vsm-explain who example.vsm \"X'6006'\" 2      names the lines that changed the two bytes there,
+  vsm-explain who --register 1,3 example.vsm   those that changed register 3 of task 1,
+  vsm-explain who --holds 24576 example.vsm    those by which the page at 24576 came to a subpool, or left it.
 ";

@@ -8,4 +8,4 @@ mod refusals;
 
 pub use options::read_words;
 pub use questions::{About, Asking, Question, asking_of};
-pub use refusals::Refusal;
+pub use refusals::WordRefusal;

@@ -7,30 +7,58 @@ use bench_options::with_settings;
 use clap::{Arg, ArgAction, ArgMatches, Command, Error};
 use std::alloc::{AllocError, Global};
 
-/// An option that is there or isn't.
-fn flag<'a>(alloc: Global, name: &'a str, help: &'a str) -> Arg<'a> {
-    Arg::new(alloc, name)
+/// A command with an argument more. Nothing is said of either, so that no caller carries all that is known of them.
+fn with<'a>(command: Command<'a>, argument: Arg<'a>) -> Result<Command<'a>, AllocError> {
+    command.arg(argument)
+}
+
+/// A command with an option that is there or isn't.
+fn with_flag<'a>(
+    alloc: Global,
+    command: Command<'a>,
+    name: &'a str,
+    help: &'a str,
+) -> Result<Command<'a>, AllocError> {
+    let flag = Arg::new(alloc, name)
         .long(name)
         .action(ArgAction::SetTrue)
-        .help(help)
+        .help(help);
+    with(command, flag)
 }
 
-/// An option that takes a value.
-fn option<'a>(alloc: Global, name: &'a str, value: &'a str, help: &'a str) -> Arg<'a> {
-    Arg::new(alloc, name)
+/// A command with an option that takes a value.
+fn with_option<'a>(
+    alloc: Global,
+    command: Command<'a>,
+    name: &'a str,
+    value: &'a str,
+    help: &'a str,
+) -> Result<Command<'a>, AllocError> {
+    let option = Arg::new(alloc, name)
         .long(name)
         .value_name(value)
-        .help(help)
+        .help(help);
+    with(command, option)
 }
 
-/// A word that stands for itself, by its place.
-fn operand<'a>(alloc: Global, name: &'a str, help: &'a str) -> Arg<'a> {
-    Arg::new(alloc, name).help(help)
+/// A command with a word that stands for itself, by its place.
+fn with_operand<'a>(
+    alloc: Global,
+    command: Command<'a>,
+    name: &'a str,
+    value: &'a str,
+    help: &'a str,
+) -> Result<Command<'a>, AllocError> {
+    with(command, Arg::new(alloc, name).value_name(value).help(help))
 }
 
-/// The operand of the script, where it has to be there.
-fn script<'a>(alloc: Global) -> Arg<'a> {
-    operand(alloc, "FILE", "The script").required(true)
+/// A command with the name of a file, which has to be there.
+fn with_file<'a>(
+    alloc: Global,
+    command: Command<'a>,
+    help: &'a str,
+) -> Result<Command<'a>, AllocError> {
+    with(command, Arg::new(alloc, "FILE").help(help).required(true))
 }
 
 /// A command of this name, with vsm's options.
@@ -45,69 +73,78 @@ fn command<'a>(
 }
 
 fn list_command<'a>(alloc: Global) -> Result<Command<'a>, AllocError> {
-    command(alloc, "list", LIST_ABOUT, LIST_AFTER)?
-        .arg(flag(
-            alloc,
-            "check",
-            "Print the places of faults alone, as FILE:LINE:COLUMN: text",
-        ))?
-        .arg(operand(alloc, "FILE", "The script [default: standard input]"))
+    let list = command(alloc, "list", LIST_ABOUT, LIST_AFTER)?;
+    let check = "Print the places of faults alone, as FILE:LINE:COLUMN: text";
+    let list = with_flag(alloc, list, "check", check)?;
+    let file = "The script [default: standard input]";
+    with_operand(alloc, list, "FILE", "FILE", file)
 }
 
 fn why_command<'a>(alloc: Global) -> Result<Command<'a>, AllocError> {
-    let file = operand(alloc, "FILE", "The script; or an answer, as S878").required(true);
-    command(alloc, "why", WHY_ABOUT, WHY_AFTER)?.arg(file)?.arg(operand(
-        alloc,
-        "LINE",
-        "The number of a line of the statement",
-    ))
+    let why = command(alloc, "why", WHY_ABOUT, WHY_AFTER)?;
+    let why = with_file(alloc, why, "The script; or an answer, as S878")?;
+    let line = "The number of a line of the statement";
+    with_operand(alloc, why, "LINE", "LINE", line)
 }
 
 fn report_command<'a>(alloc: Global) -> Result<Command<'a>, AllocError> {
-    let line = operand(
-        alloc,
-        "LINE",
-        "The line of the statement behind which it is reported [default: the last]",
-    );
-    command(alloc, "report", REPORT_ABOUT, REPORT_AFTER)?
-        .arg(flag(
-            alloc,
-            "over-time",
-            "Print a row of CSV behind each statement",
-        ))?
-        .arg(script(alloc))?
-        .arg(line)
+    let report = command(alloc, "report", REPORT_ABOUT, REPORT_AFTER)?;
+    let over_time = "Print a row of CSV behind each statement";
+    let report = with_flag(alloc, report, "over-time", over_time)?;
+    let report = with_file(alloc, report, "The script")?;
+    let line = "The line of the statement behind which it is reported [default: the last]";
+    with_operand(alloc, report, "LINE", "LINE", line)
+}
+
+/// The command `who` with what it may be asked for besides bytes.
+fn who_options<'a>(alloc: Global, who: Command<'a>) -> Result<Command<'a>, AllocError> {
+    let register = "Ask for register R of task T";
+    let who = with_option(alloc, who, "register", "T,R", register)?;
+    let who = with_option(alloc, who, "name", "P", "Ask for the word of name P")?;
+    let subpool =
+        "Ask for the pages and free storage of subpool N of task T, or, with N alone, of task 1";
+    let who = with_option(alloc, who, "subpool", "T,N", subpool)?;
+    let holds = "Ask for the subpool that holds the page of ADDRESS";
+    let who = with_option(alloc, who, "holds", "ADDRESS", holds)?;
+    let log = "List each change that is kept, and each that is undone, with its line";
+    with_flag(alloc, who, "log", log)
 }
 
 fn who_command<'a>(alloc: Global) -> Result<Command<'a>, AllocError> {
-    let address = operand(alloc, "ADDRESS", "The address of the first byte");
-    let count = operand(alloc, "COUNT", "How many bytes: 1 to 256 [default: 1]").value_name("N");
-    command(alloc, "who", WHO_ABOUT, WHO_AFTER)?
-        .arg(option(alloc, "register", "T,R", "Ask for register R of task T"))?
-        .arg(option(alloc, "name", "P", "Ask for the word of name P"))?
-        .arg(flag(
-            alloc,
-            "log",
-            "List each change that is kept, and each that is undone, with its line",
-        ))?
-        .arg(script(alloc))?
-        .arg(address)?
-        .arg(count)
+    let who = command(alloc, "who", WHO_ABOUT, WHO_AFTER)?;
+    let who = who_options(alloc, who)?;
+    let who = with_file(alloc, who, "The script")?;
+    let address = "The address of the first byte";
+    let who = with_operand(alloc, who, "ADDRESS", "ADDRESS", address)?;
+    let count = "How many bytes: 1 to 256 [default: 1]";
+    with_operand(alloc, who, "COUNT", "N", count)
+}
+
+/// A command with one more below it; nothing is said of either.
+fn with_command<'a>(command: Command<'a>, below: Command<'a>) -> Result<Command<'a>, AllocError> {
+    command.subcommand(below)
+}
+
+/// The program's name, and what it says of itself.
+fn program<'a>(alloc: Global) -> Result<Command<'a>, AllocError> {
+    let program = Command::new(alloc, "vsm-explain").bin_name("vsm-explain")?;
+    Ok(
+        program
+            .version(VERSION)
+            .about(ABOUT)
+            .after_help(AFTER)
+            .subcommand_required(true)
+            .disable_help_subcommand(true),
+    )
 }
 
 /// The commands, their options and operands.
 fn command_line<'a>(alloc: Global) -> Result<Command<'a>, AllocError> {
-    Command::new(alloc, "vsm-explain")
-        .bin_name("vsm-explain")?
-        .version(VERSION)
-        .about(ABOUT)
-        .after_help(AFTER)
-        .subcommand_required(true)
-        .disable_help_subcommand(true)
-        .subcommand(list_command(alloc)?)?
-        .subcommand(why_command(alloc)?)?
-        .subcommand(report_command(alloc)?)?
-        .subcommand(who_command(alloc)?)
+    let program = program(alloc)?;
+    let program = with_command(program, list_command(alloc)?)?;
+    let program = with_command(program, why_command(alloc)?)?;
+    let program = with_command(program, report_command(alloc)?)?;
+    with_command(program, who_command(alloc)?)
 }
 
 /// What the words say, the first of which is the program's name; or the text for whoever wrote them: help, the version,

@@ -3,13 +3,13 @@ ghost use Rattle.std.specs.Prelude.{◌≡◌, ◌≤◌, IfOk, IfSome, Some, op
 ghost use Rattle.clap.specs.Words.{found_of, first_of, rows_of, subcommand_rows_of};
 ghost use Rattle.explain_questions.specs.Questions.{Asks, IsAskable, IsLine, IsOfFile, IsThere, number_within};
 
-use crate::refusals::Refusal;
+use crate::refusals::WordRefusal;
 use bench_options::settings_asked;
 use clap::ArgMatches;
 use operand_texts::Name;
 use operand_texts::numbers::number_of;
 use operand_texts::words::{is_name, upper_name};
-use vsm_model::Settings;
+use vsm_model::{Settings, Subpool};
 
 /// The greatest number of a line.
 const LAST_LINE: u32 = 1_048_576;
@@ -23,6 +23,9 @@ const LAST_TASK: u32 = 255;
 /// The greatest number of a register.
 const LAST_REGISTER: u32 = 15;
 
+/// The greatest number of a subpool.
+const LAST_SUBPOOL: u32 = 127;
+
 /// What is asked for that lines change.
 #[derive(Clone, Copy, Debug, PartialEq, Eq)]
 pub enum About {
@@ -32,6 +35,10 @@ pub enum About {
     Register { task: u8, register: u8 },
     /// The word of a name.
     Name(Name),
+    /// What a subpool has.
+    Subpool(Subpool),
+    /// Whose the page of this address is.
+    Holder(u32),
 }
 
 /// What is asked of a script.
@@ -85,12 +92,12 @@ fn number_within(word: &str, least: u32, most: u32) -> Option<u32>
 }
 
 /// The line of this number.
-fn line_of(word: &str) -> Result<u32, Refusal<'_>>
+fn line_of(word: &str) -> Result<u32, WordRefusal<'_>>
     ensures { IfOk result IsLine }
 {
     match number_within(word, 1, LAST_LINE) {
         Some(line) => Ok(line),
-        None => Err(Refusal::Line(word)),
+        None => Err(WordRefusal::Line(word)),
     }
 }
 
@@ -102,15 +109,15 @@ fn is_line(word: &str) -> bool {
 }
 
 /// The address that a word spells.
-fn address_of(word: &str) -> Result<u32, Refusal<'_>> {
+fn address_of(word: &str) -> Result<u32, WordRefusal<'_>> {
     match number_of(word.as_bytes()) {
         Some(address) => Ok(address),
-        None => Err(Refusal::Address(word)),
+        None => Err(WordRefusal::Address(word)),
     }
 }
 
 /// The count of bytes that a word spells; one where none is written.
-fn count_of(word: Option<&str>) -> Result<u32, Refusal<'_>>
+fn count_of(word: Option<&str>) -> Result<u32, WordRefusal<'_>>
     ensures { IfOk result (λ n. (1 ≤ n) × (n ≤ 256)) }
 {
     let Some(word) = word else {
@@ -118,12 +125,12 @@ fn count_of(word: Option<&str>) -> Result<u32, Refusal<'_>>
     };
     match number_within(word, 1, MOST_BYTES) {
         Some(count) => Ok(count),
-        None => Err(Refusal::Count(word)),
+        None => Err(WordRefusal::Count(word)),
     }
 }
 
 /// So many bytes from an address on.
-fn bytes_of<'a>(address: &'a str, count: Option<&'a str>) -> Result<About, Refusal<'a>>
+fn bytes_of<'a>(address: &'a str, count: Option<&'a str>) -> Result<About, WordRefusal<'a>>
     ensures { IfOk result IsThere }
 {
     let address = address_of(address)?;
@@ -132,11 +139,11 @@ fn bytes_of<'a>(address: &'a str, count: Option<&'a str>) -> Result<About, Refus
 }
 
 /// The register of a task: two numbers with a comma between them.
-fn register_of(word: &str) -> Result<About, Refusal<'_>>
+fn register_of(word: &str) -> Result<About, WordRefusal<'_>>
     ensures { IfOk result IsThere }
 {
     let Some((task, register)) = word.split_once(',') else {
-        return Err(Refusal::Register(word));
+        return Err(WordRefusal::Register(word));
     };
     match (
         number_within(task, 1, LAST_TASK),
@@ -146,19 +153,43 @@ fn register_of(word: &str) -> Result<About, Refusal<'_>>
             task: task as u8,
             register: register as u8,
         }),
-        _ => Err(Refusal::Register(word)),
+        _ => Err(WordRefusal::Register(word)),
     }
 }
 
+/// The subpool of a task: two numbers with a comma between them, or the number of a subpool of task 1 alone.
+fn subpool_of(word: &str) -> Result<About, WordRefusal<'_>>
+    ensures { IfOk result IsThere }
+{
+    let (task, number) = word.split_once(',').unwrap_or(("1", word));
+    match (
+        number_within(task, 1, LAST_TASK),
+        number_within(number, 0, LAST_SUBPOOL),
+    ) {
+        (Some(task), Some(number)) => Ok(About::Subpool(Subpool {
+            number: number as u8,
+            owner: task as u8,
+        })),
+        _ => Err(WordRefusal::Subpool(word)),
+    }
+}
+
+/// Whose the page of an address is.
+fn holder_of(word: &str) -> Result<About, WordRefusal<'_>>
+    ensures { IfOk result IsThere }
+{
+    Ok(About::Holder(address_of(word)?))
+}
+
 /// The word of a name.
-fn name_of(word: &str) -> Result<About, Refusal<'_>>
+fn name_of(word: &str) -> Result<About, WordRefusal<'_>>
     ensures { IfOk result IsThere }
 {
     let text = word.as_bytes();
     if is_name(text) {
         Ok(About::Name(upper_name(text)))
     } else {
-        Err(Refusal::Name(word))
+        Err(WordRefusal::Name(word))
     }
 }
 
@@ -182,7 +213,7 @@ fn list_asked<'a>(matches: &ArgMatches<'a>) -> Asked<'a>
 }
 
 /// What `why` asks: of a line, or of an answer where what stands behind its first word is no line.
-fn why_asked<'a>(matches: &ArgMatches<'a>) -> Result<Asked<'a>, Refusal<'a>>
+fn why_asked<'a>(matches: &ArgMatches<'a>) -> Result<Asked<'a>, WordRefusal<'a>>
     ensures askable { IfOk result (λ a. IsAskable a.0) }
     ensures file { IfOk result (λ a. IsOfFile (rows_of (found_of matches.now)) a.0 (option_map (λ s. s.now) a.1)) }
 {
@@ -199,7 +230,7 @@ fn why_asked<'a>(matches: &ArgMatches<'a>) -> Result<Asked<'a>, Refusal<'a>>
 }
 
 /// The line that a word spells, where there is one.
-fn line_asked(word: Option<&str>) -> Result<Option<u32>, Refusal<'_>>
+fn line_asked(word: Option<&str>) -> Result<Option<u32>, WordRefusal<'_>>
     ensures { IfOk result (λ line. IfSome line IsLine) }
 {
     match word {
@@ -209,7 +240,7 @@ fn line_asked(word: Option<&str>) -> Result<Option<u32>, Refusal<'_>>
 }
 
 /// What `report` asks.
-fn report_asked<'a>(matches: &ArgMatches<'a>) -> Result<Asked<'a>, Refusal<'a>>
+fn report_asked<'a>(matches: &ArgMatches<'a>) -> Result<Asked<'a>, WordRefusal<'a>>
     ensures askable { IfOk result (λ a. IsAskable a.0) }
     ensures file { IfOk result (λ a. IsOfFile (rows_of (found_of matches.now)) a.0 (option_map (λ s. s.now) a.1)) }
 {
@@ -219,7 +250,7 @@ fn report_asked<'a>(matches: &ArgMatches<'a>) -> Result<Asked<'a>, Refusal<'a>>
         return Ok((Question::Report { line }, file));
     }
     if line.is_some() {
-        return Err(Refusal::LineOverTime);
+        return Err(WordRefusal::LineOverTime);
     }
     Ok((Question::OverTime, file))
 }
@@ -229,32 +260,38 @@ fn asked_at_once(matches: &ArgMatches<'_>) -> u32 {
     u32::from(matches.get_flag("log"))
         + u32::from(text_of(matches, "register").is_some())
         + u32::from(text_of(matches, "name").is_some())
+        + u32::from(text_of(matches, "subpool").is_some())
+        + u32::from(text_of(matches, "holds").is_some())
         + u32::from(text_of(matches, "ADDRESS").is_some())
 }
 
 /// The thing that the words ask for, of which there is one at most.
-fn about_asked<'a>(matches: &ArgMatches<'a>) -> Result<About, Refusal<'a>>
+fn about_asked<'a>(matches: &ArgMatches<'a>) -> Result<About, WordRefusal<'a>>
     ensures { IfOk result IsThere }
 {
     if let Some(word) = text_of(matches, "register") {
         register_of(word)
     } else if let Some(word) = text_of(matches, "name") {
         name_of(word)
+    } else if let Some(word) = text_of(matches, "subpool") {
+        subpool_of(word)
+    } else if let Some(word) = text_of(matches, "holds") {
+        holder_of(word)
     } else if let Some(word) = text_of(matches, "ADDRESS") {
         bytes_of(word, text_of(matches, "COUNT"))
     } else {
-        Err(Refusal::NothingAsked)
+        Err(WordRefusal::NothingAsked)
     }
 }
 
 /// What `who` asks.
-fn who_asked<'a>(matches: &ArgMatches<'a>) -> Result<Asked<'a>, Refusal<'a>>
+fn who_asked<'a>(matches: &ArgMatches<'a>) -> Result<Asked<'a>, WordRefusal<'a>>
     ensures askable { IfOk result (λ a. IsAskable a.0) }
     ensures file { IfOk result (λ a. IsOfFile (rows_of (found_of matches.now)) a.0 (option_map (λ s. s.now) a.1)) }
 {
     let file = text_of(matches, "FILE");
     if asked_at_once(matches) > 1 {
-        return Err(Refusal::MoreAsked);
+        return Err(WordRefusal::MoreAsked);
     }
     if matches.get_flag("log") {
         return Ok((Question::Log, file));
@@ -264,7 +301,7 @@ fn who_asked<'a>(matches: &ArgMatches<'a>) -> Result<Asked<'a>, Refusal<'a>>
 }
 
 /// What the words of this command ask, or what is wrong with them.
-fn question_of<'a>(command: &str, matches: &ArgMatches<'a>) -> Result<Asked<'a>, Refusal<'a>>
+fn question_of<'a>(command: &str, matches: &ArgMatches<'a>) -> Result<Asked<'a>, WordRefusal<'a>>
     ensures askable { IfOk result (λ a. IsAskable a.0) }
     ensures file { IfOk result (λ a. IsOfFile (rows_of (found_of matches.now)) a.0 (option_map (λ s. s.now) a.1)) }
 {
@@ -277,11 +314,11 @@ fn question_of<'a>(command: &str, matches: &ArgMatches<'a>) -> Result<Asked<'a>,
 }
 
 /// What the words of a command ask for, or what is wrong with them.
-fn asking_within<'a>(command: &str, matches: &ArgMatches<'a>) -> Result<Asking<'a>, Refusal<'a>>
+fn asking_within<'a>(command: &str, matches: &ArgMatches<'a>) -> Result<Asking<'a>, WordRefusal<'a>>
     ensures { IfOk result (Asks (rows_of (found_of matches.now))) }
 {
     let Some(settings) = settings_asked(matches) else {
-        return Err(Refusal::Settings);
+        return Err(WordRefusal::Settings);
     };
     match question_of(command, matches) {
         Ok((question, file)) => Ok(Asking {
@@ -294,11 +331,11 @@ fn asking_within<'a>(command: &str, matches: &ArgMatches<'a>) -> Result<Asking<'
 }
 
 /// What the words ask for that were read, or what is wrong with them. Numbers are read as in a script.
-pub fn asking_of<'a>(matches: &ArgMatches<'a>) -> Result<Asking<'a>, Refusal<'a>>
+pub fn asking_of<'a>(matches: &ArgMatches<'a>) -> Result<Asking<'a>, WordRefusal<'a>>
     ensures { IfOk result (λ a. IfSome (subcommand_rows_of matches.now) (λ p. Asks p.1 a)) }
 {
     match matches.subcommand() {
         Some((command, within)) => asking_within(command, within),
-        None => Err(Refusal::NothingAsked),
+        None => Err(WordRefusal::NothingAsked),
     }
 }

@@ -5,7 +5,7 @@ use std::fmt::{Display, Formatter};
 
 /// What is wrong with words that name a command.
 #[derive(Clone, Copy, Debug, PartialEq, Eq)]
-pub enum Refusal<'a> {
+pub enum WordRefusal<'a> {
     /// `why` has one word, which may be a script without its line.
     NoLine(&'a str),
     /// It's no number of a line.
@@ -20,6 +20,8 @@ pub enum Refusal<'a> {
     Register(&'a str),
     /// It's no name.
     Name(&'a str),
+    /// It's no subpool, nor a task and a subpool.
+    Subpool(&'a str),
     /// `who` names nothing that it's asked for.
     NothingAsked,
     /// `who` names more than one thing.
@@ -28,46 +30,61 @@ pub enum Refusal<'a> {
     Settings,
 }
 
-impl Display for Refusal<'_> {
-    fn fmt<W: fmt::Write>(&self, f: &mut Formatter<W>) -> fmt::Result {
-        match *self {
-            Refusal::NoLine(word) => write!(
-                f,
-                "'{word}' is no answer, and no LINE of a script FILE stands behind it"
+impl<'a> WordRefusal<'a> {
+    /// What is said of a word: the text before it, the word, and the text behind it.
+    fn told(self) -> (&'static str, &'a str, &'static str) {
+        match self {
+            WordRefusal::NoLine(word) => (
+                "'",
+                word,
+                "' is no answer, and no LINE of a script FILE stands behind it",
             ),
-            Refusal::Line(word) => write!(
-                f,
-                "LINE is a number from 1 to 1048576, and not '{word}'"
+            WordRefusal::Line(word) => ("LINE is a number from 1 to 1048576, and not '", word, "'"),
+            WordRefusal::Address(word) => (
+                "ADDRESS is a number as in a script, 24582 or X'6006', and not '",
+                word,
+                "'",
             ),
-            Refusal::LineOverTime => f.write_str(
-                "--over-time goes over all lines, and takes no LINE",
+            WordRefusal::Count(word) => (
+                "N is a number of bytes from 1 to 256, and not '",
+                word,
+                "'",
             ),
-            Refusal::Address(word) => write!(
-                f,
-                "ADDRESS is a number as in a script, 24582 or X'6006', and not '{word}'"
+            WordRefusal::Register(word) => (
+                "--register takes a task and a register from 0 to 15, as 1,3, and not '",
+                word,
+                "'",
             ),
-            Refusal::Count(word) => write!(
-                f,
-                "N is a number of bytes from 1 to 256, and not '{word}'"
+            WordRefusal::Name(word) => ("--name takes a name as in a script, and not '", word, "'"),
+            WordRefusal::Subpool(word) => (
+                "--subpool takes a subpool from 0 to 127, or a task and a subpool, as 2,5, and not '",
+                word,
+                "'",
             ),
-            Refusal::Register(word) => write!(
-                f,
-                "--register takes a task and a register from 0 to 15, as 1,3, and not '{word}'"
-            ),
-            Refusal::Name(word) => write!(
-                f,
-                "--name takes a name as in a script, and not '{word}'"
-            ),
-            Refusal::NothingAsked => f.write_str(
-                "who asks for an ADDRESS, or by --register, --name or --log",
-            ),
-            Refusal::MoreAsked => f.write_str(
-                "who asks for one thing at a time: an ADDRESS, or by one of --register, --name and --log",
-            ),
-            Refusal::Settings => f.write_str(
-                "settings out of their limits: --low is a multiple of 4 from 4 to 16360, \
-                --high one from 4 to 1572864, --history from 1 to 65536",
-            ),
+            _ => (self.text(), "", ""),
         }
+    }
+
+    /// What is said where it's about no word.
+    fn text(self) -> &'static str {
+        match self {
+            WordRefusal::LineOverTime => "--over-time goes over all lines, and takes no LINE",
+            WordRefusal::NothingAsked =>
+                "who asks for an ADDRESS, or by --holds, --subpool, --register, --name or --log",
+            WordRefusal::MoreAsked =>
+                "who asks for one thing at a time: an ADDRESS, or by --holds, --subpool, --register, --name or --log",
+            _ =>
+                "settings out of their limits: --low is a multiple of 4 from 4 to 16360, --high one from 4 to \
+                1572864, --history from 1 to 65536",
+        }
+    }
+}
+
+impl Display for WordRefusal<'_> {
+    fn fmt<W: fmt::Write>(&self, f: &mut Formatter<W>) -> fmt::Result {
+        let (before, word, behind) = self.told();
+        f.write_str(before)?;
+        f.write_str(word)?;
+        f.write_str(behind)
     }
 }

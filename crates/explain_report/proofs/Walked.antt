@@ -5,21 +5,21 @@ use Rattle.std.proofs.lemmas.List.{drop_all}
 use Rattle.std.proofs.lemmas.Option.{get_or_from_slice_get, slice_get_within}
 use Rattle.std.proofs.Math.Seq.{drop-cons}
 use Rattle.run_set.specs.Runs.{Run}
-use Rattle.explain_report.specs.declared.tallies.Sides.{Sides}
+use Rattle.explain_report.specs.declared.tallies.SideTallies.{SideTallies}
 use Rattle.explain_report.specs.declared.tallies.Tally.{Tally}
 use Rattle.explain_report.specs.Tallies.{no_runs, with_run, with_runs, tally_of, low_runs, high_runs, numbers_in}
 use Rattle.explain_report.proofs.TallyLemmas.{low_step, high_step}
 use Rattle.explain_report.proofs.Few.{AreFew}
 
 -- the runs up to an index were tallied
-pub record Walked (line : ℕ) (all : List Run) (i : ℕ) (sides : Sides) : Type 0 where
+pub record Walked (line : ℕ) (all : List Run) (i : ℕ) (sides : SideTallies) : Type 0 where
   pub low : with_runs sides.low (low_runs line (drop i all)) ≡ tally_of (low_runs line all)
   pub high : with_runs sides.high (high_runs line (drop i all)) ≡ tally_of (high_runs line all)
   pub total : sides.low.total + sides.high.total + numbers_in (drop i all) ≡ numbers_in all
   pub count : sides.low.count + sides.high.count + length (drop i all) ≡ length all
 
 -- what a run more makes of the tallies
-pub record Tallied (line : ℕ) (r : Run) (old new : Sides) : Type 0 where
+pub record Tallied (line : ℕ) (r : Run) (old new : SideTallies) : Type 0 where
   pub low : new.low ≡ with_runs old.low (low_runs line (r ∷ []))
   pub high : new.high ≡ with_runs old.high (high_runs line (r ∷ []))
   pub total : new.low.total + new.high.total ≡ old.low.total + old.high.total + r.len
@@ -47,7 +47,7 @@ none_walked line all i e =
     subst P (sym e) (record { low = refl; high = refl; total = omega arith; count = omega arith })
 
 -- then one run after the other,
-pub one_walked : (line : ℕ) (all : List Run) (i j : ℕ) (r : Run) (old new : Sides) → Walked line all i old → slice_get all i ≡ Some r → j ≡ i + 1
+pub one_walked : (line : ℕ) (all : List Run) (i j : ℕ) (r : Run) (old new : SideTallies) → Walked line all i old → slice_get all i ≡ Some r → j ≡ i + 1
     → Tallied line r old new → Walked line all j new
 one_walked line all i j r old new h at e t =
     let next : drop i all ≡ r ∷ drop j all = next_is all i j r at e in
@@ -63,7 +63,7 @@ one_walked line all i j r old new h at e t =
     }
 
 -- for each of which there is room,
-pub room : (line : ℕ) (all : List Run) (i : ℕ) (r : Run) (old : Sides) → AreFew all → Walked line all i old → slice_get all i ≡ Some r
+pub room : (line : ℕ) (all : List Run) (i : ℕ) (r : Run) (old : SideTallies) → AreFew all → Walked line all i old → slice_get all i ≡ Some r
     → (old.low.total + old.high.total + r.len < 2 ^ 32) × (old.low.count + old.high.count + 1 < 2 ^ 32)
 room line all i r old few h at =
     let next : drop i all ≡ r ∷ drop (i + 1) all = next_is all i (i + 1) r at refl in
@@ -72,7 +72,7 @@ room line all i r old few h at =
     (omega (arith, sum, h.total, few.0), omega (arith, size, h.count, few.1))
 
 -- and at the end all were.
-pub all_walked : (line : ℕ) (all : List Run) (i : ℕ) (sides : Sides) → Walked line all i sides → slice_get all i ≡ None
+pub all_walked : (line : ℕ) (all : List Run) (i : ℕ) (sides : SideTallies) → Walked line all i sides → slice_get all i ≡ None
     → (sides.low ≡ tally_of (low_runs line all)) × (sides.high ≡ tally_of (high_runs line all))
 all_walked line all i sides h end =
     let none : drop i all ≡ [] = drop_all i all (past_end all i end) in (

@@ -11,8 +11,8 @@ mod times;
 mod walks;
 
 pub use faults::ReportFault;
-pub use rows::{Row, Share, row_of};
+pub use rows::{Share, SubpoolRow, row_of};
 pub use runs::{over_time, report};
-pub use tallies::{Sides, Tally};
+pub use tallies::{SideTallies, Tally};
 pub use times::{Moment, moment_of};
 pub use walks::{all_free_areas, unassigned};

@@ -3,7 +3,7 @@ ghost use Rattle.std.specs.Prelude.{◌≡◌, is_some, true, false};
 ghost use Rattle.vsm_model.specs.declared.limits.Residence.TheVariants.{Below, Above};
 ghost use Rattle.vsm_model.specs.Areas.{least_fit};
 ghost use Rattle.subpool_storage.specs.Extents.{free_areas};
-ghost use Rattle.map_laws.specs.Totals.{subpool_pages};
+ghost use Rattle.change_laws.specs.MapTotals.{subpool_pages};
 ghost use Rattle.storage_plans.specs.Places.{IsUpTo, region_on};
 ghost use Rattle.storage_core.specs.Meaning.{state_in_place, state_of, settings_of};
 ghost use Rattle.storage_core.specs.Walks.{IsBehindSubpool, subpool_before};
@@ -28,14 +28,14 @@ pub struct Share {
 
 /// What a subpool has.
 #[derive(Clone, Copy, Debug, PartialEq, Eq)]
-pub struct Row {
+pub struct SubpoolRow {
     pub subpool: Subpool,
     pub low: Share,
     pub high: Share,
 }
 
 /// What the subpool before the place has.
-pub fn row_of(storage: &Storage, subpool: Subpool, place: PoolPlace) -> Row
+pub fn row_of(storage: &Storage, subpool: Subpool, place: PoolPlace) -> SubpoolRow
     requires behind { IsBehindSubpool storage.now place }
     requires before { subpool_before storage.now place ≡ subpool }
     ensures subpool { result.subpool ≡ subpool }
@@ -54,7 +54,7 @@ pub fn row_of(storage: &Storage, subpool: Subpool, place: PoolPlace) -> Row
     let free = free_areas_of(storage, place);
     let (low, _) = storage.area_reasons(Residence::Below, subpool, 1, 1);
     let (high, _) = storage.area_reasons(Residence::Above, subpool, 1, 1);
-    Row {
+    SubpoolRow {
         subpool,
         low: Share {
             pages: extents.low.total,

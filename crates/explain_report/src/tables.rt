@@ -2,7 +2,7 @@
 ghost use Rattle.storage_core.specs.Walks.{IsBehindSubpool, subpool_before};
 ghost use Rattle.std.specs.Prelude.{◌≡◌};
 
-use crate::rows::{Row, Share, row_of};
+use crate::rows::{Share, SubpoolRow, row_of};
 use crate::tallies::Tally;
 use crate::times::Moment;
 use itoa::Buffer;
@@ -98,7 +98,7 @@ fn put_sharers<W: Write>(
 fn put_side<W: Write>(
     gathered: &mut Gathered,
     writer: &mut W,
-    row: &Row,
+    row: &SubpoolRow,
     side: &[u8],
     share: &Share,
 ) {
@@ -162,15 +162,27 @@ fn put_total<W: Write>(gathered: &mut Gathered, writer: &mut W, moment: &Moment)
     gathered.put(writer, b" %\n");
 }
 
+/// Puts what a number that stands before counts: the word, and an `S` where there isn't one of it.
+fn put_counted<W: Write>(gathered: &mut Gathered, writer: &mut W, n: u32, word: &[u8]) {
+    gathered.put(writer, b" ");
+    gathered.put(writer, word);
+    if n != 1 {
+        gathered.put(writer, b"S");
+    }
+}
+
 /// Puts the line of the unassigned pages of one side.
 fn put_unassigned<W: Write>(gathered: &mut Gathered, writer: &mut W, side: &[u8], runs: &Tally) {
     gathered.put(writer, side);
     put_column(gathered, writer, 7, u64::from(runs.total));
-    gathered.put(writer, b" PAGES IN ");
+    put_counted(gathered, writer, runs.total, b"PAGE");
+    gathered.put(writer, b" IN ");
     put_decimal(gathered, writer, u64::from(runs.count));
-    gathered.put(writer, b" RUNS, LONGEST ");
+    put_counted(gathered, writer, runs.count, b"RUN");
+    gathered.put(writer, b", LONGEST ");
     put_decimal(gathered, writer, u64::from(runs.longest));
-    gathered.put(writer, b" PAGES (");
+    put_counted(gathered, writer, runs.longest, b"PAGE");
+    gathered.put(writer, b" (");
     put_decimal(gathered, writer, 4096 * u64::from(runs.longest));
     gathered.put(writer, b" BYTES) AT");
     put_where(

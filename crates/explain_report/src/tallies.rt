@@ -17,7 +17,7 @@ pub struct Tally {
 
 /// The runs below the 16 MB line, and those above it.
 #[derive(Clone, Copy, Debug, PartialEq, Eq)]
-pub struct Sides {
+pub struct SideTallies {
     pub low: Tally,
     pub high: Tally,
 }
@@ -50,15 +50,15 @@ impl Tally {
     }
 }
 
-impl Sides {
+impl SideTallies {
     /// No runs on either side.
-    pub(crate) const NONE: Sides = Sides {
+    pub(crate) const NONE: SideTallies = SideTallies {
         low: Tally::NONE,
         high: Tally::NONE,
     };
 
     /// The runs with one more behind them, on the side of the line that it begins on.
-    pub(crate) fn with_run(self, line: u32, run: Run) -> Sides
+    pub(crate) fn with_run(self, line: u32, run: Run) -> SideTallies
         requires total { self.low.total + self.high.total + run.len < 2 ^ 32 }
         requires count { self.low.count + self.high.count + 1 < 2 ^ 32 }
         ensures low { result.low ≡ with_runs self.low (low_runs line (run ∷ [])) }
@@ -67,12 +67,12 @@ impl Sides {
         ensures count { result.low.count + result.high.count ≡ self.low.count + self.high.count + 1 }
     {
         if run.start < line {
-            Sides {
+            SideTallies {
                 low: self.low.with_run(run),
                 high: self.high,
             }
         } else {
-            Sides {
+            SideTallies {
                 low: self.low,
                 high: self.high.with_run(run),
             }

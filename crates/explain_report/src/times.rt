@@ -2,12 +2,12 @@
 ghost use Rattle.std.specs.Prelude.{◌≡◌, flat_map};
 ghost use Rattle.subpool_storage.specs.Extents.{free_areas};
 ghost use Rattle.subpool_storage.specs.Order.{subpools_in_order};
-ghost use Rattle.map_laws.specs.Lists.{unassigned_runs};
+ghost use Rattle.change_laws.specs.MapLists.{unassigned_runs};
 ghost use Rattle.storage_core.specs.Meaning.{state_in_place, state_of, settings_of};
 ghost use Rattle.storage_map.specs.Totals.{totals_of};
 ghost use Rattle.explain_report.specs.Tallies.{tally_of, low_runs, high_runs};
 
-use crate::tallies::{Sides, Tally};
+use crate::tallies::{SideTallies, Tally};
 use crate::walks::{all_free_areas, unassigned};
 use storage_core::Storage;
 use storage_map::{Totals, totals};
@@ -18,7 +18,7 @@ pub struct Moment {
     /// The assigned pages of each region and all of its pages, and the bytes of assigned ones that are taken or free.
     pub totals: Totals,
     /// The runs of unassigned pages.
-    pub unassigned: Sides,
+    pub unassigned: SideTallies,
     /// The free areas of all subpools, in doublewords.
     pub free: Tally,
 }

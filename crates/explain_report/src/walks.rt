@@ -2,13 +2,13 @@
 ghost use Rattle.std.specs.Prelude.{◌≡◌, ◌+◌, ◌^◌, ◌<◌, length, flat_map};
 ghost use Rattle.subpool_storage.specs.Extents.{extents, free_areas};
 ghost use Rattle.subpool_storage.specs.Order.{subpools_in_order};
-ghost use Rattle.map_laws.specs.Lists.{unassigned_runs};
+ghost use Rattle.change_laws.specs.MapLists.{unassigned_runs};
 ghost use Rattle.storage_core.specs.Meaning.{state_in_place};
 ghost use Rattle.storage_core.specs.Walks.{IsBehindSubpool, subpool_before};
 ghost use Rattle.explain_report.specs.Tallies.{tally_of, with_runs, low_runs, high_runs, numbers_in};
 
-use crate::tallies::{Sides, Tally};
-use map_laws::laws::totals_are_sums;
+use crate::tallies::{SideTallies, Tally};
+use change_laws::maps::totals_are_sums;
 use storage_core::{PoolPlace, Storage};
 
 /// The first page above the 16 MB line, and the first doubleword.
@@ -17,14 +17,14 @@ const LINE_PAGE: u32 = 4096;
 const LINE_DOUBLEWORD: u32 = 2_097_152;
 
 /// The extents of the subpool before the place, in pages.
-pub(crate) fn extents_of(storage: &Storage, subpool_place: PoolPlace) -> Sides
+pub(crate) fn extents_of(storage: &Storage, subpool_place: PoolPlace) -> SideTallies
     requires { IsBehindSubpool storage.now subpool_place }
     ensures low { result.low ≡ tally_of (low_runs 4096
         (extents (state_in_place storage.now).subpools (subpool_before storage.now subpool_place))) }
     ensures high { result.high ≡ tally_of (high_runs 4096
         (extents (state_in_place storage.now).subpools (subpool_before storage.now subpool_place))) }
 {
-    let mut sides = Sides::NONE;
+    let mut sides = SideTallies::NONE;
     let mut place = storage.first_extent_at(subpool_place);
     while let Some((run, behind)) = storage.next_extent(place) {
         sides = sides.with_run(LINE_PAGE, run);
@@ -34,14 +34,14 @@ pub(crate) fn extents_of(storage: &Storage, subpool_place: PoolPlace) -> Sides
 }
 
 /// The free areas of the subpool before the place, in doublewords.
-pub(crate) fn free_areas_of(storage: &Storage, subpool_place: PoolPlace) -> Sides
+pub(crate) fn free_areas_of(storage: &Storage, subpool_place: PoolPlace) -> SideTallies
     requires { IsBehindSubpool storage.now subpool_place }
     ensures low { result.low ≡ tally_of (low_runs 2097152
         (free_areas (state_in_place storage.now).subpools (subpool_before storage.now subpool_place))) }
     ensures high { result.high ≡ tally_of (high_runs 2097152
         (free_areas (state_in_place storage.now).subpools (subpool_before storage.now subpool_place))) }
 {
-    let mut sides = Sides::NONE;
+    let mut sides = SideTallies::NONE;
     let mut place = storage.first_free_area_at(subpool_place);
     while let Some((area, behind)) = storage.next_free_area(place) {
         sides = sides.with_run(LINE_DOUBLEWORD, area);
@@ -51,11 +51,11 @@ pub(crate) fn free_areas_of(storage: &Storage, subpool_place: PoolPlace) -> Side
 }
 
 /// The runs of unassigned pages.
-pub fn unassigned(storage: &Storage) -> Sides
+pub fn unassigned(storage: &Storage) -> SideTallies
     ensures low { result.low ≡ tally_of (low_runs 4096 (unassigned_runs (state_in_place storage.now))) }
     ensures high { result.high ≡ tally_of (high_runs 4096 (unassigned_runs (state_in_place storage.now))) }
 {
-    let mut sides = Sides::NONE;
+    let mut sides = SideTallies::NONE;
     let mut place = Storage::first_unassigned();
     while let Some((run, behind)) = storage.next_unassigned(place) {
         sides = sides.with_run(LINE_PAGE, run);

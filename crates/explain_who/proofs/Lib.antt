@@ -1,0 +1,5 @@
+pub mod Lines
+pub mod Followed
+pub mod Tasks
+pub mod Walked
+pub mod Whole

@@ -1,4 +1,7 @@
+pub mod Holdings
 pub mod Readings
 pub mod Who
 pub mod Code
 pub mod Notes
+pub mod Lined
+pub mod Traced

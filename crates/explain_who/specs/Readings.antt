@@ -1,9 +1,14 @@
 -- What is read of the machine.
-use Rattle.std.specs.Prelude.{ℕ, min, Bool, true, false, ◌==◌, Option, Some, None, option_map}
+use Rattle.std.specs.Prelude.{ℕ, ◌/◌, min, Bool, true, false, ◌&&◌, ◌==◌, if◌then◌else◌, Option, Some, None, option_map}
 use Rattle.std.specs.Str.{bytes_eq}
 use Rattle.arrayvec.specs.ArrayVec.{ArrayVec}
+use Rattle.vsm_model.specs.declared.Subpool.{Subpool}
+use Rattle.vsm_model.specs.declared.limits.Settings.{Settings}
 use Rattle.vsm_model.specs.Names.{NamedState, word_of}
 use Rattle.vsm_model.specs.Bytes.{load}
+use Rattle.vsm_model.specs.State.{is_task}
+use Rattle.explain_who.specs.Holdings.{holding_of, same_holding}
+use Rattle.explain_who.specs.declared.holdings.Holding.{Holding}
 use Rattle.explain_who.specs.declared.readings.Asked.{Asked}
 use Rattle.explain_who.specs.declared.readings.Asked.TheVariants as asked
 use Rattle.explain_who.specs.declared.readings.Seen.{Seen}
@@ -13,18 +18,37 @@ use Rattle.explain_who.specs.declared.readings.Seen.TheVariants as seen
 abbrev pub bytes_read : ℕ → ℕ → NamedState → Option (ArrayVec ℕ)
 bytes_read address count m = option_map (λ bytes. record { items = bytes }) (load m.storage address (min count 256))
 
+-- the word of a register, where the task is there
+abbrev pub register_read : ℕ → ℕ → NamedState → Option ℕ
+register_read task register m = if is_task m.storage task then Some (m.storage.words task register) else None
+
+-- what a subpool has, where the task is there that it belongs to
+abbrev pub holding_read : Settings → Subpool → NamedState → Option Holding
+holding_read settings p m = if is_task m.storage p.owner then Some (holding_of settings m.storage p) else None
+
 -- what is asked for, as it is in a state
-abbrev pub reading : Option Asked → NamedState → Seen
-reading None m = seen.Nothing
-reading (Some (asked.Bytes address count)) m = seen.Bytes (bytes_read address count m)
-reading (Some (asked.Register task register)) m = seen.Word (Some (m.storage.words task register))
-reading (Some (asked.Name name)) m = seen.Word (word_of m.names name.bytes)
+abbrev pub reading : Settings → Option Asked → NamedState → Seen
+reading settings None m = seen.Nothing
+reading settings (Some (asked.Bytes address count)) m = seen.Bytes (bytes_read address count m)
+reading settings (Some (asked.Register task register)) m = seen.Register (register_read task register m)
+reading settings (Some (asked.Name name)) m = seen.Name (word_of m.names name.bytes)
+reading settings (Some (asked.Subpool p)) m = seen.Held (holding_read settings p m)
+reading settings (Some (asked.Holder address)) m = seen.Holder (m.storage.pages (address / 4096))
+
+abbrev pub same_word : Option ℕ → Option ℕ → Bool
+same_word None None = true
+same_word (Some a) (Some b) = a == b
+same_word _ _ = false
 
 -- two readings are the same
 abbrev pub same : Seen → Seen → Bool
 same seen.Nothing seen.Nothing = true
 same (seen.Bytes None) (seen.Bytes None) = true
 same (seen.Bytes (Some a)) (seen.Bytes (Some b)) = bytes_eq a.items b.items
-same (seen.Word None) (seen.Word None) = true
-same (seen.Word (Some a)) (seen.Word (Some b)) = a == b
+same (seen.Register a) (seen.Register b) = same_word a b
+same (seen.Name a) (seen.Name b) = same_word a b
+same (seen.Held None) (seen.Held None) = true
+same (seen.Held (Some a)) (seen.Held (Some b)) = same_holding a b
+same (seen.Holder None) (seen.Holder None) = true
+same (seen.Holder (Some a)) (seen.Holder (Some b)) = (a.number == b.number) && (a.owner == b.owner)
 same _ _ = false

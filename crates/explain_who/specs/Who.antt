@@ -1,6 +1,6 @@
 -- At which statements a reading differs.
 use Rattle.std.specs.Prelude.{ℕ, Bool, true, false, List, [], ◌∷◌, ◌++◌}
-use Rattle.line_history.specs.declared.trail.Entry.{Entry}
+use Rattle.line_history.specs.declared.trail.TrailEntry.{TrailEntry}
 use Rattle.explain_who.specs.Readings.{same}
 use Rattle.explain_who.specs.declared.readings.Seen.{Seen}
 
@@ -16,6 +16,6 @@ unless false line before after = record { line = line; before = before; after = 
 
 -- Those of these statements, the oldest first, behind which something else is read than before them; before all of them
 -- this is read.
-abbrev pub differences_of : Seen → List (Entry Seen) → List Difference
+abbrev pub differences_of : Seen → List (TrailEntry Seen) → List Difference
 differences_of before [] = []
 differences_of before (e ∷ es) = unless (same before e.seen) e.line before e.seen ++ differences_of e.seen es

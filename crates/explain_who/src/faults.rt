@@ -1,5 +1,6 @@
 //! Why who changed it can't be said.
 
+use operand_texts::Name;
 use script_steps::{NewFault, TooLong};
 use std::alloc::AllocError;
 use text_output::WriteFault;
@@ -15,6 +16,10 @@ pub enum WhoFault {
     Memory,
     /// None, or more than 256 bytes were asked for. Nothing was written.
     Count,
+    /// No statement that stands makes this task. Nothing was written.
+    NoTask(u8),
+    /// No statement that stands defines this name. Nothing was written.
+    NoName(Name),
     /// A write failed, or took no bytes.
     Write,
 }

@@ -1,17 +1,21 @@
 //! The lines at whose statements a reading differs.
-ghost use Rattle.std.specs.Prelude.{◌≡◌, ◌++◌, OnOk, IfOk, map, take};
+ghost use Rattle.std.specs.Prelude.{◌≡◌, ◌++◌, ℕ, List, Option, OnOk, IfOk, map, take};
+ghost use Rattle.vsm_model.specs.declared.limits.Settings.{Settings};
 ghost use Rattle.line_history.specs.Trails.{marks_of};
 ghost use Rattle.explain_who.specs.Readings.{same};
 ghost use Rattle.explain_who.specs.Who.{unless, differences_of};
 ghost use Rattle.explain_who.specs.Code.{difference_in};
+ghost use Rattle.explain_who.specs.Traced.{IsFound, IsTraced};
+ghost use Rattle.explain_who.specs.declared.readings.Asked.{Asked};
 
 use crate::readings::{Seen, same};
 use crate::tracing::Traced;
+use line_history::TrailEntry;
 use std::alloc::{AllocError, Global};
 
 /// A line at whose statement the reading differs, with what is read before it and behind it.
 #[derive(Drop)]
-pub struct Change<'a> {
+pub struct NamedChange<'a> {
     pub line: u32,
     pub before: &'a Seen,
     pub after: &'a Seen,
@@ -19,7 +23,7 @@ pub struct Change<'a> {
 
 /// Notes a change where the readings differ.
 fn note<'a>(
-    found: &mut Vec<Change<'a>>,
+    found: &mut Vec<NamedChange<'a>>,
     line: u32,
     before: &'a Seen,
     after: &'a Seen,
@@ -30,7 +34,7 @@ fn note<'a>(
     if same(before, after) {
         return Ok(());
     }
-    found.push(Change {
+    found.push(NamedChange {
         line,
         before,
         after,
@@ -38,19 +42,31 @@ fn note<'a>(
     Ok(())
 }
 
-/// The lines of the statements that stand at which the reading differs, the oldest first: all of them, whatever a
-/// bench's history forgot.
-pub fn changes(alloc: Global, traced: &Traced) -> Result<Vec<Change<'_>>, AllocError>
-    ensures { IfOk result (λ found. map difference_in found.items ≡ differences_of traced.now.first
-        (take (marks_of traced.now.trail).standing (marks_of traced.now.trail).entries)) }
+/// The statements, the oldest first, behind which something else is read than before them; this is read first.
+fn differences<'a>(
+    alloc: Global,
+    first: &'a Seen,
+    entries: &'a [TrailEntry<Seen>],
+) -> Result<Vec<NamedChange<'a>>, AllocError>
+    ensures { IfOk result (λ found. map difference_in found.items ≡ differences_of first.now entries.now) }
 {
-    let standing = traced.trail.standing();
     let mut found = Vec::new(alloc);
-    let mut before = &traced.first;
-    for i in 0..standing.len() {
-        let entry = &standing[i];
+    let mut before = first;
+    for i in 0..entries.len() {
+        let entry = &entries[i];
         note(&mut found, entry.line, before, &entry.seen)?;
         before = &entry.seen;
     }
     Ok(found)
+}
+
+/// The lines of the statements that stand at which the reading differs between the standing statements up to them and
+/// those before them, run alone; the oldest first. All of them are looked at, whatever a bench's history forgot.
+pub fn changes(alloc: Global, traced: &Traced) -> Result<Vec<NamedChange<'_>>, AllocError>
+    ensures trail { IfOk result (λ found. map difference_in found.items ≡ differences_of traced.now.first
+        (take (marks_of traced.now.trail).standing (marks_of traced.now.trail).entries)) }
+    ensures standing { IfOk result (λ found. (settings : Settings) (script : List ℕ) (asked : Option Asked)
+        → IsTraced settings script asked traced.now → IsFound settings script asked (map difference_in found.items)) }
+{
+    differences(alloc, &traced.first, traced.trail.standing())
 }

@@ -3,13 +3,16 @@
 
 mod faults;
 mod found;
+mod holdings;
+pub mod laws;
 mod output;
 mod readings;
 mod texts;
 mod tracing;
 
 pub use faults::WhoFault;
-pub use found::{Change, changes};
+pub use found::{NamedChange, changes};
+pub use holdings::{Holding, Runs};
 pub use output::{log, who};
 pub use readings::{Asked, Seen};
 pub use tracing::{Traced, follow};

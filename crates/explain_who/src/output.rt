@@ -1,11 +1,11 @@
 //! Who changed it, and every change with its line, as text.
 
 use crate::faults::WhoFault;
-use crate::found::{Change, changes};
+use crate::found::{NamedChange, changes};
 use crate::readings::{Asked, Seen};
-use crate::texts::{put_line, put_seen};
+use crate::texts::{put_count, put_line, put_seen};
 use crate::tracing::{Traced, follow};
-use line_history::Entry;
+use line_history::TrailEntry;
 use script_steps::Watch;
 use std::alloc::Global;
 use std::io::Write;
@@ -18,7 +18,7 @@ fn put_change<W: Write>(
     writer: &mut W,
     script: &[u8],
     starts: &[usize],
-    change: &Change<'_>,
+    change: &NamedChange<'_>,
 ) {
     put_line(gathered, writer, script, starts, change.line);
     put_seen(gathered, writer, change.before);
@@ -31,11 +31,13 @@ fn put_change<W: Write>(
 fn put_looked<W: Write>(gathered: &mut Gathered, writer: &mut W, changes: usize, standing: usize) {
     put_decimal(gathered, writer, changes as u64);
     gathered.put(writer, b" of ");
-    put_decimal(gathered, writer, standing as u64);
-    gathered.put(
-        writer,
-        b" standing statements, all of which were looked at\n",
-    );
+    put_count(gathered, writer, standing as u64, b"standing statement");
+    let looked: &[u8] = if standing == 1 {
+        b", which was looked at\n"
+    } else {
+        b", all of which were looked at\n"
+    };
+    gathered.put(writer, looked);
 }
 
 /// Whether so much can be asked for.
@@ -43,6 +45,24 @@ fn is_valid(asked: &Asked) -> bool {
     match asked {
         Asked::Bytes { count, .. } => *count >= 1 && *count <= 256,
         _ => true,
+    }
+}
+
+/// Whether a reading is that of something that isn't there: a register or a subpool of a task, or a name.
+fn is_absent(seen: &Seen) -> bool {
+    matches!(
+        seen,
+        Seen::Register(None) | Seen::Held(None) | Seen::Name(None)
+    )
+}
+
+/// What is said where what is asked for isn't there in any reading, and has to be: the task, or the name.
+fn missing(asked: Asked) -> Option<WhoFault> {
+    match asked {
+        Asked::Register { task, .. } => Some(WhoFault::NoTask(task)),
+        Asked::Subpool(subpool) => Some(WhoFault::NoTask(subpool.owner)),
+        Asked::Name(name) => Some(WhoFault::NoName(name)),
+        Asked::Bytes { .. } | Asked::Holder(_) => None,
     }
 }
 
@@ -63,6 +83,11 @@ pub fn who<W: Write, P: Watch>(
     }
     let traced = follow(alloc, script, settings, &Some(asked), watch)?;
     let found = changes(alloc, &traced)?;
+    if found.is_empty() && is_absent(&traced.first) {
+        if let Some(fault) = missing(asked) {
+            return Err(fault);
+        }
+    }
     let mut gathered = Gathered::new();
     let starts = traced.starts.as_slice();
     for change in found.as_slice().iter().rev() {
@@ -84,7 +109,7 @@ fn put_entry<W: Write>(
     writer: &mut W,
     script: &[u8],
     starts: &[usize],
-    entry: &Entry<Seen>,
+    entry: &TrailEntry<Seen>,
     state: &[u8],
 ) {
     put_line(gathered, writer, script, starts, entry.line);
@@ -123,6 +148,17 @@ fn put_standing<W: Write>(gathered: &mut Gathered, writer: &mut W, script: &[u8]
     }
 }
 
+/// Puts how many statements stand.
+fn put_standing_count<W: Write>(gathered: &mut Gathered, writer: &mut W, standing: usize) {
+    put_count(gathered, writer, standing as u64, b"statement");
+    let stand: &[u8] = if standing == 1 {
+        b" stands, "
+    } else {
+        b" stand, "
+    };
+    gathered.put(writer, stand);
+}
+
 /// Writes every statement of a script that changed the bench, the newest first, with its line: those that are undone,
 /// those that are kept and can be undone, and those that stand, but were forgotten by the history.
 pub fn log<W: Write, P: Watch>(
@@ -136,8 +172,7 @@ pub fn log<W: Write, P: Watch>(
     let mut gathered = Gathered::new();
     put_undone(&mut gathered, out, script, &traced);
     put_standing(&mut gathered, out, script, &traced);
-    put_decimal(&mut gathered, out, traced.trail.standing().len() as u64);
-    gathered.put(out, b" statements stand, ");
+    put_standing_count(&mut gathered, out, traced.trail.standing().len());
     put_decimal(&mut gathered, out, u64::from(traced.kept));
     gathered.put(out, b" of them kept\n");
     gathered.hand_out(out)?;

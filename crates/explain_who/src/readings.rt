@@ -1,13 +1,14 @@
 //! What is asked of a bench, and what is read of it.
-ghost use Rattle.std.specs.Prelude.{◌≡◌, ◌≤◌, OnOk, OnErr, Some, None, length};
+ghost use Rattle.std.specs.Prelude.{◌≡◌, ◌/◌, ◌≤◌, OnOk, OnErr, Some, None, length};
 ghost use Rattle.vsm_model.specs.Bytes.{load};
-ghost use Rattle.bench_core.specs.Stands.{bench_of};
-ghost use Rattle.explain_who.specs.Readings.{bytes_read, reading, same};
+ghost use Rattle.bench_core.specs.Stands.{bench_of, settings_in};
+ghost use Rattle.explain_who.specs.Readings.{bytes_read, holding_read, register_read, reading, same, same_word};
 
+use crate::holdings::{Holding, holding_of};
 use arrayvec::ArrayVec;
 use operand_texts::Name;
 use script_steps::Bench;
-use vsm_model::Cause;
+use vsm_model::{Cause, Subpool};
 
 /// What is asked for.
 #[derive(Clone, Copy, Debug, PartialEq, Eq)]
@@ -18,6 +19,10 @@ pub enum Asked {
     Register { task: u8, register: u8 },
     /// The word that a name stands for.
     Name(Name),
+    /// The pages and the free storage of a subpool.
+    Subpool(Subpool),
+    /// The subpool that the page of an address belongs to.
+    Holder(u32),
 }
 
 /// What is read.
@@ -27,8 +32,14 @@ pub enum Seen {
     Nothing,
     /// The bytes; `None` where one of them doesn't lie in an assigned page.
     Bytes(Option<ArrayVec<u8, 256>>),
+    /// The word; `None` where there is no such task.
+    Register(Option<u32>),
     /// The word; `None` where the name isn't defined.
-    Word(Option<u32>),
+    Name(Option<u32>),
+    /// What the subpool has; `None` where there is no task that it could belong to.
+    Held(Option<Holding>),
+    /// The subpool; `None` where the page isn't assigned.
+    Holder(Option<Subpool>),
 }
 
 /// Bytes in room for 256.
@@ -61,17 +72,58 @@ fn read_bytes(bench: &Bench, address: u32, count: u16) -> Option<ArrayVec<u8, 25
     }
 }
 
+/// The word of a register; `None` where there is no such task.
+fn read_register(bench: &Bench, task: u8, register: u8) -> Option<u32>
+    ensures { result ≡ register_read task register (bench_of bench.now).present }
+{
+    match bench.storage().parent(task) {
+        Some(_) => Some(bench.register(task, register)),
+        None => None,
+    }
+}
+
+/// What a subpool has; `None` where there is no task that it could belong to.
+fn read_holding(bench: &Bench, subpool: Subpool) -> Option<Holding>
+    ensures { result ≡ holding_read (settings_in bench.now) subpool (bench_of bench.now).present }
+{
+    let storage = bench.storage();
+    match storage.parent(subpool.owner) {
+        Some(_) => Some(holding_of(storage, subpool)),
+        None => None,
+    }
+}
+
+/// The subpool that the page of an address belongs to.
+fn read_holder(bench: &Bench, address: u32) -> Option<Subpool>
+    ensures { result ≡ (bench_of bench.now).present.storage.pages (address / 4096) }
+{
+    bench.storage().subpool_of_page(address / 4096)
+}
+
 /// What is read of a bench as it is.
 pub(crate) fn read(bench: &Bench, asked: &Option<Asked>) -> Seen
-    ensures { result ≡ reading asked.now (bench_of bench.now).present }
+    ensures { result ≡ reading (settings_in bench.now) asked.now (bench_of bench.now).present }
 {
     match asked {
         None => Seen::Nothing,
         Some(Asked::Bytes { address, count }) => Seen::Bytes(read_bytes(bench, *address, *count)),
-        Some(Asked::Register { task, register }) => Seen::Word(Some(bench.register(
-            *task, *register,
-        ))),
-        Some(Asked::Name(name)) => Seen::Word(bench.name(name)),
+        Some(Asked::Register { task, register }) => {
+            Seen::Register(read_register(bench, *task, *register))
+        }
+        Some(Asked::Name(name)) => Seen::Name(bench.name(name)),
+        Some(Asked::Subpool(subpool)) => Seen::Held(read_holding(bench, *subpool)),
+        Some(Asked::Holder(address)) => Seen::Holder(read_holder(bench, *address)),
+    }
+}
+
+/// Whether two words are the same, or neither is there.
+fn same_word(a: Option<u32>, b: Option<u32>) -> bool
+    ensures { result ≡ same_word a b }
+{
+    match (a, b) {
+        (None, None) => true,
+        (Some(a), Some(b)) => a == b,
+        _ => false,
     }
 }
 
@@ -83,8 +135,14 @@ pub(crate) fn same(a: &Seen, b: &Seen) -> bool
         (Seen::Nothing, Seen::Nothing) => true,
         (Seen::Bytes(None), Seen::Bytes(None)) => true,
         (Seen::Bytes(Some(a)), Seen::Bytes(Some(b))) => a.as_slice() == b.as_slice(),
-        (Seen::Word(None), Seen::Word(None)) => true,
-        (Seen::Word(Some(a)), Seen::Word(Some(b))) => a == b,
+        (Seen::Register(a), Seen::Register(b)) => same_word(*a, *b),
+        (Seen::Name(a), Seen::Name(b)) => same_word(*a, *b),
+        (Seen::Held(None), Seen::Held(None)) => true,
+        (Seen::Held(Some(a)), Seen::Held(Some(b))) => a.is_same(b),
+        (Seen::Holder(None), Seen::Holder(None)) => true,
+        (Seen::Holder(Some(a)), Seen::Holder(Some(b))) => {
+            a.number == b.number && a.owner == b.owner
+        }
         _ => false,
     }
 }

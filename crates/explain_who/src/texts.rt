@@ -1,9 +1,11 @@
 //! The lines of output.
 
+use crate::holdings::{Holding, Runs};
 use crate::readings::Seen;
 use arrayvec::ArrayVec;
 use std::io::Write;
 use text_output::{Gathered, put_byte, put_decimal, put_hexadecimal};
+use vsm_model::Subpool;
 
 /// The columns that a statement is given, at least.
 const COLUMNS: usize = 44;
@@ -62,13 +64,68 @@ fn put_bytes<W: Write>(gathered: &mut Gathered, writer: &mut W, bytes: &ArrayVec
     }
 }
 
+/// Puts a word, or these words where there is none.
+fn put_word<W: Write>(gathered: &mut Gathered, writer: &mut W, word: Option<u32>, none: &[u8]) {
+    match word {
+        Some(word) => put_hexadecimal(gathered, writer, 8, word),
+        None => gathered.put(writer, none),
+    }
+}
+
+/// Puts a number, and behind it what it counts: the word, and an `s` where there isn't one of it.
+pub(crate) fn put_count<W: Write>(gathered: &mut Gathered, writer: &mut W, n: u64, word: &[u8]) {
+    put_decimal(gathered, writer, n);
+    gathered.put(writer, b" ");
+    gathered.put(writer, word);
+    if n != 1 {
+        gathered.put(writer, b"s");
+    }
+}
+
+/// Puts how many runs there are, behind how much is in them.
+fn put_runs<W: Write>(gathered: &mut Gathered, writer: &mut W, runs: Runs, word: &[u8]) {
+    gathered.put(writer, b" in ");
+    put_count(gathered, writer, u64::from(runs.count), word);
+}
+
+/// Puts what a subpool has: its pages with their extents, the bytes that are taken, and those that are free.
+fn put_holding<W: Write>(gathered: &mut Gathered, writer: &mut W, holding: Holding) {
+    if holding.pages.count == 0 {
+        gathered.put(writer, b"no pages");
+        return;
+    }
+    let pages = u64::from(holding.pages.total);
+    let free = 8 * u64::from(holding.free.total);
+    let taken = (4096 * pages).saturating_sub(free);
+    put_count(gathered, writer, pages, b"page");
+    put_runs(gathered, writer, holding.pages, b"extent");
+    gathered.put(writer, b", ");
+    put_decimal(gathered, writer, taken);
+    gathered.put(writer, b" taken, ");
+    put_decimal(gathered, writer, free);
+    gathered.put(writer, b" free");
+    put_runs(gathered, writer, holding.free, b"area");
+}
+
+/// Puts a subpool with the task that it belongs to.
+fn put_holder<W: Write>(gathered: &mut Gathered, writer: &mut W, subpool: Subpool) {
+    gathered.put(writer, b"subpool ");
+    put_decimal(gathered, writer, u64::from(subpool.number));
+    gathered.put(writer, b" of task ");
+    put_decimal(gathered, writer, u64::from(subpool.owner));
+}
+
 /// Puts what is read.
 pub(crate) fn put_seen<W: Write>(gathered: &mut Gathered, writer: &mut W, seen: &Seen) {
     match seen {
         Seen::Nothing => (),
         Seen::Bytes(None) => gathered.put(writer, b"ABEND S0C4"),
         Seen::Bytes(Some(bytes)) => put_bytes(gathered, writer, bytes),
-        Seen::Word(None) => gathered.put(writer, b"not defined"),
-        Seen::Word(Some(word)) => put_hexadecimal(gathered, writer, 8, *word),
+        Seen::Register(word) => put_word(gathered, writer, *word, b"no task"),
+        Seen::Name(word) => put_word(gathered, writer, *word, b"not defined"),
+        Seen::Held(None) => gathered.put(writer, b"no task"),
+        Seen::Held(Some(holding)) => put_holding(gathered, writer, *holding),
+        Seen::Holder(None) => gathered.put(writer, b"unassigned"),
+        Seen::Holder(Some(subpool)) => put_holder(gathered, writer, *subpool),
     }
 }

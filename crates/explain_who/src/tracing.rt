@@ -1,10 +1,14 @@
 //! A script is followed on a bench: which of its statements stand, and what is read behind each.
-ghost use Rattle.std.specs.Prelude.{◌≡◌, ◌≤◌, drop, length, OnOk};
-ghost use Rattle.bench_core.specs.Stands.{bench_of};
+ghost use Rattle.std.specs.Prelude.{◌≡◌, ◌≤◌, ◌++◌, ℕ, List, drop, length, take, IfOk, OnOk};
+ghost use Rattle.vsm_model.specs.declared.limits.Settings.{Settings};
+ghost use Rattle.bench_core.specs.Stands.{bench_of, settings_in};
 ghost use Rattle.line_history.specs.Trails.{marks_of};
+ghost use Rattle.script_steps.specs.Output.{Marked};
 ghost use Rattle.script_steps.specs.Script.{NoFeed};
+ghost use Rattle.script_steps.specs.Taken.{Ended, Took};
 ghost use Rattle.explain_who.specs.Readings.{reading};
 ghost use Rattle.explain_who.specs.Notes.{with_told, IsNextLine};
+ghost use Rattle.explain_who.specs.Traced.{Follows, FollowsLine, IsTraced};
 
 use crate::faults::WhoFault;
 use crate::readings::{Asked, Seen, read};
@@ -35,7 +39,8 @@ fn note(
     told: &Option<(u32, Response)>,
 ) -> Result<(), AllocError>
     ensures { OnOk result (marks_of trail.new
-        ≡ with_told (reading asked.now (bench_of bench.now).present) before told.now (marks_of trail.old)) }
+        ≡ with_told (reading (settings_in bench.now) asked.now (bench_of bench.now).present) before told.now
+        (marks_of trail.old)) }
 {
     match told {
         Some((line, Response::Replied(_))) => trail.applied(*line, read(bench, asked)),
@@ -63,14 +68,21 @@ fn follow_line(
     asked: &Option<Asked>,
 ) -> Result<Option<usize>, WhoFault>
     requires { at ≤ length script.now }
-    ensures { IsNextLine script.now at result }
+    ensures place { IsNextLine script.now at result }
+    ensures follows { (settings : Settings) (answers : List Marked)
+        → Took settings (take at script.now) answers session.old → Follows settings asked.now answers trail.old
+        → FollowsLine settings asked.now script.now at answers session.new trail.new result }
 {
     let before = session.bench().kept();
-    let Some(step) = session.take_line(script, at)? else {
-        return Ok(None);
+    let step = match session.take_line(script, at) {
+        Ok(Some(step)) => step,
+        Ok(None) => return Ok(None),
+        Err(_) => return Err(WhoFault::TooLong),
     };
-    note(trail, session.bench(), asked, before, &step.told)?;
-    Ok(Some(step.next))
+    match note(trail, session.bench(), asked, before, &step.told) {
+        Ok(()) => Ok(Some(step.next)),
+        Err(_) => Err(WhoFault::Memory),
+    }
 }
 
 /// Follows what stands behind the last line feed, and gives how many changes are kept then.
@@ -81,13 +93,36 @@ fn follow_end(
     asked: &Option<Asked>,
 ) -> Result<u32, WhoFault>
     requires { NoFeed rest.now }
+    ensures { (settings : Settings) (given : List ℕ) (answers : List Marked) → Took settings given answers session
+        → Follows settings asked.now answers trail.old
+        → OnOk result ((all : List Marked) × Ended settings (given ++ rest.now) all
+        × Follows settings asked.now all trail.new) }
 {
     let mut session = session;
     let before = session.bench().kept();
-    session.take_bytes(rest)?;
+    match session.take_bytes(rest) {
+        Ok(()) => (),
+        Err(_) => return Err(WhoFault::TooLong),
+    }
     let ending = session.end();
-    note(trail, &ending.bench, asked, before, &ending.last)?;
-    Ok(ending.bench.kept())
+    let bench = &ending.bench;
+    match note(trail, bench, asked, before, &ending.last) {
+        Ok(()) => (),
+        Err(_) => return Err(WhoFault::Memory),
+    }
+    let kept = bench.kept();
+    match note(trail, bench, asked, kept, &ending.open_statement) {
+        Ok(()) => Ok(kept),
+        Err(_) => Err(WhoFault::Memory),
+    }
+}
+
+/// What stands in a script from a place on.
+fn rest_from(script: &[u8], at: usize) -> &[u8]
+    requires { at ≤ length script.now }
+    ensures { result.now ≡ drop at script.now }
+{
+    &script[at..]
 }
 
 /// Follows a script on a new bench under these settings, to its end.
@@ -97,7 +132,9 @@ pub fn follow<P: Watch>(
     settings: Settings,
     asked: &Option<Asked>,
     watch: &mut P,
-) -> Result<Traced, WhoFault> {
+) -> Result<Traced, WhoFault>
+    ensures { IfOk result (IsTraced settings script.now asked.now) }
+{
     let bench = match Bench::new(alloc, settings) {
         Ok(bench) => bench,
         Err(fault) => return Err(WhoFault::New(fault)),
@@ -113,7 +150,8 @@ pub fn follow<P: Watch>(
         at = next;
     }
     note_start(&mut starts, at)?;
-    let kept = follow_end(session, &mut trail, &script[at..], asked)?;
+    let rest = rest_from(script, at);
+    let kept = follow_end(session, &mut trail, rest, asked)?;
     Ok(Traced {
         first,
         trail,

@@ -1,20 +1,19 @@
 //! Why a statement is answered as it is: its first cause, or the place of its area, with the numbers that decide.
 ghost use Rattle.std.specs.Prelude.{◌≡◌};
+ghost use Rattle.explain_why.specs.Told.{TellsArea};
 
 use crate::cells::{count_pools, find_pool, put_no_pool, put_not_in_use};
 use crate::headings::{put_heading, put_number};
-use crate::pieces::{Piece, put_line, put_pieces};
-use crate::places::sides_for;
 use crate::releases::{put_cells, put_free, put_not_in_subpool, put_seen, seen_or_own};
-use crate::sides::put_sides;
 use crate::tasks::{put_attach, put_children, put_parent};
 use bench_core::Bench;
-use cell_readings::cell_pool_settings;
 use macro_reader::{Request, Statement, Value};
+use place_reasons::{Piece, put_line, put_pieces, put_sides, sides_for};
 use std::io::Write;
 use storage_core::{
     Boundary, Build, Cause, Lengths, Location, Obtain, Release, Residence, Service, Storage,
 };
+use storage_map::{cell_pool_settings, first_free_cell, next_free_cell};
 use text_output::Gathered;
 
 /// Puts what a request asks for, and why it's answered as it is.
@@ -30,11 +29,21 @@ pub(crate) fn put_reasons<W: Write>(
         Request::Map => gathered.put(writer, b"the map of the storage: it is always shown\n"),
         Request::Back(n) => {
             put_number(gathered, writer, "steps back: ", *n);
-            put_step(gathered, writer, " changes are kept", bench.kept());
+            put_step(
+                gathered,
+                writer,
+                bench.kept(),
+                [" change is kept", " changes are kept"],
+            );
         }
         Request::Forward(n) => {
             put_number(gathered, writer, "steps forward: ", *n);
-            put_step(gathered, writer, " changes are undone", bench.undone());
+            put_step(
+                gathered,
+                writer,
+                bench.undone(),
+                [" change is undone", " changes are undone"],
+            );
         }
     }
 }
@@ -59,9 +68,10 @@ fn put_peek<W: Write>(
     }
 }
 
-/// Puts how many changes a step can go over.
-fn put_step<W: Write>(gathered: &mut Gathered, writer: &mut W, words: &str, n: u32) {
-    put_line(gathered, writer, &[Piece::Number(n), Piece::Text(words)]);
+/// Puts how many changes a step can go over, with the words for one and for more.
+fn put_step<W: Write>(gathered: &mut Gathered, writer: &mut W, n: u32, words: [&str; 2]) {
+    let text = if n == 1 { words[0] } else { words[1] };
+    put_line(gathered, writer, &[Piece::Number(n), Piece::Text(text)]);
 }
 
 /// Puts whose the pages of bytes that are shown are.
@@ -77,7 +87,11 @@ fn put_bytes<W: Write>(
         writer,
         &[
             Piece::Number(count),
-            Piece::Text(" bytes at "),
+            Piece::Text(if count == 1 {
+                " byte at "
+            } else {
+                " bytes at "
+            }),
             Piece::Address(address),
             Piece::Text("\n"),
         ],
@@ -251,12 +265,17 @@ fn put_obtain<W: Write>(
     }
 }
 
-/// Puts what the sides of the line have for a request.
-fn put_area<W: Write>(gathered: &mut Gathered, writer: &mut W, storage: &Storage, o: Obtain) {
+/// Puts what the sides of the line have for a request: lines that end in its place, or in that there is none.
+fn put_area<W: Write>(gathered: &mut Gathered, writer: &mut W, storage: &Storage, o: Obtain)
+    ensures { TellsArea storage.now o (W.contents writer.old) (W.contents writer.new) gathered.old gathered.new }
+{
     put_seen(gathered, writer, storage, o.number);
-    if let Some(sides) = sides_for(storage, o) {
-        let subpool = seen_or_own(storage, o.number);
-        put_sides(gathered, writer, storage, subpool, &sides);
+    match sides_for(storage, o) {
+        Some(sides) => {
+            let subpool = seen_or_own(storage, o.number);
+            put_sides(gathered, writer, storage, subpool, &sides);
+        }
+        None => (),
     }
 }
 
@@ -348,12 +367,14 @@ fn put_build<W: Write>(
             ],
         ),
         Some(Cause::TooManyCellPools) => {
-            put_step(
+            put_line(
                 gathered,
                 writer,
-                " cell pools are there, which is the most",
-                count_pools(storage),
-            )
+                &[
+                    Piece::Number(count_pools(storage)),
+                    Piece::Text(" cell pools are there, which is the most"),
+                ],
+            );
         }
         _ => put_area(
             gathered,
@@ -409,7 +430,7 @@ fn put_get<W: Write>(
     let Some(id) = find_pool(storage, name) else {
         return put_no_pool(gathered, writer, storage, name);
     };
-    if let Some(cell) = cell_readings::free_cell_at(storage, id, 0) {
+    if let Some((cell, _)) = next_free_cell(storage, first_free_cell(storage, id)) {
         return put_line(
             gathered,
             writer,

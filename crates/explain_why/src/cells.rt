@@ -1,43 +1,47 @@
 //! Cell pools by their names, and why requests for their cells are answered as they are, told.
 ghost use Rattle.std.specs.Prelude.{IfSome, IsSome};
-ghost use Rattle.cell_readings.specs.Cells.{cell_pool};
+ghost use Rattle.storage_map.specs.Cells.{cell_pool};
 
-use crate::pieces::{Piece, put_line};
-use crate::releases::seen;
-use cell_readings::{
-    CellId, Extent, Settings, cell_extent_at, cell_pool_at, cell_pool_name, cell_pool_settings,
-    free_cell_at,
-};
+use crate::releases::{put_seen, put_unseen, seen};
+use place_reasons::{Piece, put_line};
 use std::io::Write;
 use storage_core::{Run, Storage};
+use storage_map::{
+    CellId, CellSettings, Extent, cell_pool_name, cell_pool_settings, first_cell_extent,
+    first_free_cell, next_cell_extent, next_cell_pool, next_free_cell,
+};
 use text_output::Gathered;
 
 /// The cell pool of a name.
 pub(crate) fn find_pool(storage: &Storage, name: &str) -> Option<CellId>
     ensures { IfSome result (λ id. IsSome (cell_pool storage.now id)) }
 {
-    for i in 0..256 {
-        let id = cell_pool_at(storage, i)?;
+    let mut id = next_cell_pool(storage, None)?;
+    for _ in 0..256 {
         let its = cell_pool_name(storage, id);
         if its.as_str() == name {
             return Some(id);
         }
+        id = next_cell_pool(storage, Some(&its))?;
     }
     None
 }
 
 /// How many cell pools there are.
 pub(crate) fn count_pools(storage: &Storage) -> u32 {
-    for i in 0..256 {
-        if cell_pool_at(storage, i).is_none() {
-            return i;
-        }
+    let mut next = next_cell_pool(storage, None);
+    for count in 0..256 {
+        let Some(id) = next else {
+            return count;
+        };
+        let name = cell_pool_name(storage, id);
+        next = next_cell_pool(storage, Some(&name));
     }
     256
 }
 
 /// The doublewords of an extent.
-fn extent_area(settings: Settings, extent: Extent) -> Run {
+fn extent_area(settings: CellSettings, extent: Extent) -> Run {
     let bytes = extent.count.saturating_mul(settings.size);
     Run {
         start: extent.start / 8,
@@ -56,11 +60,29 @@ fn extent_in(storage: &Storage, id: CellId, area: Run) -> Option<Run>
     requires { IsSome (cell_pool storage.now id) }
 {
     let settings = cell_pool_settings(storage, id);
-    for i in 0..u32::MAX {
-        let extent = extent_area(settings, cell_extent_at(storage, id, i)?);
+    let mut place = first_cell_extent(storage, id);
+    for _ in 0..u32::MAX {
+        let (extent, behind) = next_cell_extent(storage, place)?;
+        let extent = extent_area(settings, extent);
         if meet(extent, area) {
             return Some(extent);
         }
+        place = behind;
+    }
+    None
+}
+
+/// The first cell pool with an extent that meets an area, and that extent.
+fn first_overlap(storage: &Storage, area: Run) -> Option<(CellId, Run)>
+    ensures { IfSome result (λ r. IsSome (cell_pool storage.now r.0)) }
+{
+    let mut id = next_cell_pool(storage, None)?;
+    for _ in 0..256 {
+        if let Some(extent) = extent_in(storage, id, area) {
+            return Some((id, extent));
+        }
+        let name = cell_pool_name(storage, id);
+        id = next_cell_pool(storage, Some(&name))?;
     }
     None
 }
@@ -72,26 +94,22 @@ pub(crate) fn put_overlap<W: Write>(
     storage: &Storage,
     area: Run,
 ) {
-    for i in 0..256 {
-        let Some(id) = cell_pool_at(storage, i) else {
-            return;
-        };
-        if let Some(extent) = extent_in(storage, id, area) {
-            let name = cell_pool_name(storage, id);
-            return put_line(
-                gathered,
-                writer,
-                &[
-                    Piece::Text("cell pool "),
-                    Piece::Text(name.as_str()),
-                    Piece::Text(" has an extent of "),
-                    Piece::Number(extent.len.saturating_mul(8)),
-                    Piece::Text(" bytes at "),
-                    Piece::Address(extent.start.saturating_mul(8)),
-                ],
-            );
-        }
-    }
+    let Some((id, extent)) = first_overlap(storage, area) else {
+        return;
+    };
+    let name = cell_pool_name(storage, id);
+    put_line(
+        gathered,
+        writer,
+        &[
+            Piece::Text("cell pool "),
+            Piece::Text(name.as_str()),
+            Piece::Text(" has an extent of "),
+            Piece::Number(extent.len.saturating_mul(8)),
+            Piece::Text(" bytes at "),
+            Piece::Address(extent.start.saturating_mul(8)),
+        ],
+    );
 }
 
 /// Puts that there is no cell pool of the name, or whose its subpool is that the current task doesn't see.
@@ -123,8 +141,8 @@ pub(crate) fn put_no_pool<W: Write>(
         ],
     );
     match seen(storage, number) {
-        Some(_) => crate::releases::put_seen(gathered, writer, storage, number),
-        None => crate::releases::put_unseen(gathered, writer, storage, number),
+        Some(_) => put_seen(gathered, writer, storage, number),
+        None => put_unseen(gathered, writer, storage, number),
     }
 }
 
@@ -132,12 +150,15 @@ pub(crate) fn put_no_pool<W: Write>(
 fn is_free_cell(storage: &Storage, id: CellId, cell: u32) -> bool
     requires { IsSome (cell_pool storage.now id) }
 {
-    for i in 0..u32::MAX {
-        match free_cell_at(storage, id, i) {
-            Some(free) if free == cell => return true,
-            Some(_) => (),
-            None => return false,
+    let mut place = first_free_cell(storage, id);
+    for _ in 0..u32::MAX {
+        let Some((free, behind)) = next_free_cell(storage, place) else {
+            return false;
+        };
+        if free == cell {
+            return true;
         }
+        place = behind;
     }
     false
 }

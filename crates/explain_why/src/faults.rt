@@ -2,7 +2,7 @@
 use bench_core::NewFault;
 use script_steps::TooLong;
 
-/// What keeps a line, or an answer's text, from being explained.
+/// What keeps a line from being explained.
 #[derive(Clone, Copy, Debug, PartialEq, Eq)]
 pub enum WhyFault {
     /// There is no bench under these settings, or no memory for one.
@@ -17,8 +17,6 @@ pub enum WhyFault {
     Aside,
     /// The line is dropped: it stands behind a line that breaks a rule of continuation, whose column 72 isn't blank.
     Dropped,
-    /// There is no answer of this text.
-    NoAnswer,
 }
 
 impl From<TooLong> for WhyFault {

@@ -1,6 +1,6 @@
 //! What a statement asks for, told with the numbers of its values.
-use crate::pieces::{Piece, put_pieces};
 use macro_reader::FaultKind;
+use place_reasons::{Piece, put_pieces};
 use std::io::Write;
 use storage_core::{
     Boundary, Build, Lengths, Location, Obtain, Passed, Release, Residence, Service, Settings,

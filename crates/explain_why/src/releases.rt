@@ -1,7 +1,8 @@
 //! Why an area can't be released, told.
-use crate::areas::{first_free, first_page_beside, first_page_of_another};
+ghost use Rattle.place_reasons.specs.Told.{PutsSome};
+
 use crate::cells::put_overlap;
-use crate::pieces::{Piece, put_line};
+use place_reasons::{Piece, first_free, first_page_beside, first_page_of_another, put_line};
 use std::io::Write;
 use storage_core::{Release, Run, Settings, Storage, Subpool};
 use text_output::Gathered;
@@ -116,7 +117,9 @@ pub(crate) fn put_unseen<W: Write>(
     writer: &mut W,
     storage: &Storage,
     number: u32,
-) {
+)
+    ensures { PutsSome (W.contents writer.old) (W.contents writer.new) gathered.old gathered.new }
+{
     put_line(
         gathered,
         writer,
@@ -135,7 +138,9 @@ pub(crate) fn put_seen<W: Write>(
     writer: &mut W,
     storage: &Storage,
     number: u32,
-) {
+)
+    ensures { PutsSome (W.contents writer.old) (W.contents writer.new) gathered.old gathered.new }
+{
     let Some(subpool) = seen(storage, number) else {
         return put_unseen(gathered, writer, storage, number);
     };

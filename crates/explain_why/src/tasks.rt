@@ -1,6 +1,6 @@
 //! Why a request on tasks is answered as it is, told.
-use crate::pieces::{Piece, put_line};
 use crate::releases::put_seen;
+use place_reasons::{Piece, put_line};
 use std::io::Write;
 use storage_core::{Attach, Cause, Passed, Storage};
 use text_output::Gathered;
@@ -107,10 +107,24 @@ pub(crate) fn put_attach<W: Write>(
             )
         }
         _ => {
-            put_numbers(gathered, writer, storage, "given", a.given);
-            put_numbers(gathered, writer, storage, "shared", a.shared);
+            let mut named = [false; 128];
+            put_numbers(gathered, writer, storage, "given", a.given, &mut named);
+            put_numbers(gathered, writer, storage, "shared", a.shared, &mut named);
         }
     }
+}
+
+/// The numbers below 128 that lists have named so far.
+type Named = [bool; 128];
+
+/// Whether a number was named before; it's named now.
+fn is_again(named: &mut Named, number: u32) -> bool {
+    if number > 127 {
+        return false;
+    }
+    let again = named[number as usize];
+    named[number as usize] = true;
+    again
 }
 
 /// Puts the numbers that are given or shared, and whose subpools they are.
@@ -120,27 +134,35 @@ fn put_numbers<W: Write>(
     storage: &Storage,
     word: &str,
     passed: Passed,
+    named: &mut Named,
 ) {
     match passed {
         Passed::Nothing => (),
-        Passed::Number(number) => put_passed(gathered, writer, storage, word, number),
-        Passed::Listed { address } => put_listed(gathered, writer, storage, word, address),
+        Passed::Number(number) => put_passed(gathered, writer, storage, word, number, named),
+        Passed::Listed { address } => put_listed(gathered, writer, storage, word, address, named),
     }
 }
 
-/// Puts a number that is given or shared, and whose subpool it is.
+/// What is wrong with a number that is given or shared, be it by itself or since it was named before.
+fn wrong_text(number: u32, again: bool) -> &'static str {
+    match number {
+        0 => ": subpool 0 goes by SZERO",
+        1..=127 if again => ": it's named twice",
+        1..=127 => "",
+        _ => ": it's above 127",
+    }
+}
+
+/// Puts a number that is given or shared, and what is wrong with it, or whose subpool it is.
 fn put_passed<W: Write>(
     gathered: &mut Gathered,
     writer: &mut W,
     storage: &Storage,
     word: &str,
     number: u32,
+    named: &mut Named,
 ) {
-    let text = match number {
-        0 => ": subpool 0 goes by SZERO",
-        1..=127 => "",
-        _ => ": it's above 127",
-    };
+    let text = wrong_text(number, is_again(named, number));
     put_line(
         gathered,
         writer,
@@ -151,7 +173,7 @@ fn put_passed<W: Write>(
             Piece::Text(text),
         ],
     );
-    if 1 <= number && number <= 127 {
+    if text.is_empty() {
         put_seen(gathered, writer, storage, number);
     }
 }
@@ -163,6 +185,7 @@ fn put_listed<W: Write>(
     storage: &Storage,
     word: &str,
     address: u32,
+    named: &mut Named,
 ) {
     let mut count = [0];
     if storage.load(address, &mut count).is_err() {
@@ -174,7 +197,7 @@ fn put_listed<W: Write>(
             .load(address.saturating_add(1 + i), &mut number)
             .is_ok()
         {
-            put_passed(gathered, writer, storage, word, u32::from(number[0]));
+            put_passed(gathered, writer, storage, word, u32::from(number[0]), named);
         }
     }
 }

@@ -4,7 +4,7 @@ use Rattle.std.proofs.lemmas.Grind.{reverse_onto}
 use Rattle.std.proofs.lemmas.List.{length-reverse, length-append, length-map, map-append}
 use Rattle.std.proofs.Math.Seq.{take-append_seam}
 use Rattle.vsm_model.specs.Standing.{Outcome, Stood, Standing, undo, redo, alone}
-use Rattle.line_history.specs.declared.trail.Entry.{Entry}
+use Rattle.line_history.specs.declared.trail.TrailEntry.{TrailEntry}
 use Rattle.line_history.specs.Trails.{Marks, with_mark, stepped, seen_along, in_turn, Follows, nothing_marked}
 use Rattle.vsm_model.specs.Standing.{nothing_stands}
 
@@ -114,18 +114,25 @@ module _ {S X R C V : Type 0} (first : S) (step : S → X → Outcome S R C) (re
         kept = omega (arith, stood, kept, f.kept, few);
       }
 
+  -- the marks of the statements that stand
+  pub standing_marks : (l : Standing (ℕ × X) R) (t : Marks V) → Follows first step read l t →
+      take t.standing t.entries ≡ seen_along first step read [] (map (λ y. y.statement) (reverse l.stood))
+  standing_marks l t f =
+      let old : List (ℕ × X) = map (λ y. y.statement) (reverse l.stood) in
+      let before : List (TrailEntry V) = seen_along first step read [] old in
+      let count : length before ≡ t.standing = seen_count [] old ∙ length-map (reverse l.stood) (λ y. y.statement) ∙ length-reverse l.stood ∙ sym f.standing in
+      let split : t.entries ≡ before ++ seen_along first step read (onto [] old) (map (λ y. y.statement) l.undone) =
+      f.entries ∙ ap (seen_along first step read []) (map-append (λ y. y.statement) (reverse l.stood) l.undone) ∙ seen_both [] old (map (λ y. y.statement) l.undone) in
+      (λ i. take (sym count i) (split i)) ∙ take-append_seam before (seen_along first step read (onto [] old) (map (λ y. y.statement) l.undone))
+
   pub applied_follows : (limit : ℕ) (l : Standing (ℕ × X) R) (t : Marks V) (line : ℕ) (x : X) (r : R) (seen : V) → Follows first step read l t →
       seen ≡ read (alone first step (x ∷ map (λ y. y.statement.1) l.stood)) →
       Follows first step read (record { stood = record { statement = (line, x); reply = r } ∷ l.stood; kept = min limit (suc l.kept); undone = [] }) (with_mark t line seen)
   applied_follows limit l t line x r seen f is =
       let old : List (ℕ × X) = map (λ y. y.statement) (reverse l.stood) in
-      let before : List (Entry V) = seen_along first step read [] old in
-      let last : Entry V = record { line = line; seen = read (alone first step (x ∷ map (λ y. y.statement.1) l.stood)) } in
-      let count : length before ≡ t.standing = seen_count [] old ∙ length-map (reverse l.stood) (λ y. y.statement) ∙ length-reverse l.stood ∙ sym f.standing in
-      let split : t.entries ≡ before ++ seen_along first step read (onto [] old) (map (λ y. y.statement) l.undone) =
-      f.entries ∙ ap (seen_along first step read []) (map-append (λ y. y.statement) (reverse l.stood) l.undone) ∙ seen_both [] old (map (λ y. y.statement) l.undone) in
-      let kept : take t.standing t.entries ≡ before =
-      (λ i. take (sym count i) (split i)) ∙ take-append_seam before (seen_along first step read (onto [] old) (map (λ y. y.statement) l.undone)) in
+      let before : List (TrailEntry V) = seen_along first step read [] old in
+      let last : TrailEntry V = record { line = line; seen = read (alone first step (x ∷ map (λ y. y.statement.1) l.stood)) } in
+      let kept : take t.standing t.entries ≡ before = standing_marks l t f in
       let new : Stood (ℕ × X) R = record { statement = (line, x); reply = r } in
       let whole : seen_along first step read [] (map (λ y. y.statement) (reverse (new ∷ l.stood) ++ [])) ≡ before ++ last ∷ [] =
       ap (λ ys. seen_along first step read [] (map (λ y. y.statement) ys)) (turn_over new l.stood [])

@@ -1,12 +1,12 @@
 -- The lines of statements that stand or are undone, with what was read behind each.
 use Rattle.std.specs.Prelude.{◌≡◌, ℕ, suc, ◌+◌, ◌-◌, ◌≤◌, min, List, [], ◌∷◌, ◌++◌, length, map, reverse, take}
 use Rattle.vsm_model.specs.Standing.{Outcome, Standing, alone}
-use Rattle.line_history.specs.declared.trail.Entry.{Entry}
+use Rattle.line_history.specs.declared.trail.TrailEntry.{TrailEntry}
 use Rattle.line_history.specs.declared.trail.Trail.{Trail}
 
 -- The statements that stand, the oldest first, so many of these; the others are undone, the next one first.
 pub record Marks (V : Type 0) : Type 0 where
-  pub entries : List (Entry V)
+  pub entries : List (TrailEntry V)
   pub standing : ℕ
 
 abbrev pub marks_of : {V : Type 0} → Trail V → Marks V
@@ -35,7 +35,7 @@ module _ {X R : Type 0} where
 
 module _ {S X R C V : Type 0} (first : S) (step : S → X → Outcome S R C) (read : S → V) where
   -- What is read behind each of these statements, where those stand before them, the newest first.
-  abbrev pub seen_along : List X → List (ℕ × X) → List (Entry V)
+  abbrev pub seen_along : List X → List (ℕ × X) → List (TrailEntry V)
   seen_along older [] = []
   seen_along older (x ∷ xs) =
       record { line = x.0; seen = read (alone first step (x.1 ∷ older)) } ∷ seen_along (x.1 ∷ older) xs

@@ -3,4 +3,4 @@
 
 mod trail;
 
-pub use trail::{Entry, Trail};
+pub use trail::{Trail, TrailEntry};

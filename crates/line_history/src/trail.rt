@@ -5,7 +5,7 @@ use std::alloc::{AllocError, Global};
 
 /// A statement that stands or is undone: the number of its first line, and what was read behind it.
 #[derive(Drop)]
-pub struct Entry<V> {
+pub struct TrailEntry<V> {
     pub line: u32,
     pub seen: V,
 }
@@ -15,7 +15,7 @@ pub struct Entry<V> {
 /// It keeps all of them, whatever a bench's history forgets: a statement that can't be undone any more still stands.
 #[derive(Drop)]
 pub struct Trail<V> {
-    entries: Vec<Entry<V>>,
+    entries: Vec<TrailEntry<V>>,
     standing: usize,
     ghost within: { standing ≤ vec_len entries },
 }
@@ -39,7 +39,7 @@ impl<V: Drop> Trail<V> {
         ensures { OnOk result (marks_of self.new ≡ with_mark (marks_of self.old) line seen) }
     {
         self.entries.truncate(self.standing);
-        self.entries.push(Entry { line, seen })?;
+        self.entries.push(TrailEntry { line, seen })?;
         self.standing += 1;
         Ok(())
     }
@@ -59,14 +59,14 @@ impl<V: Drop> Trail<V> {
     }
 
     /// The statements that stand, the oldest first.
-    pub fn standing(&self) -> &[Entry<V>]
+    pub fn standing(&self) -> &[TrailEntry<V>]
         ensures { result.now ≡ take (marks_of self.now).standing (marks_of self.now).entries }
     {
         &self.entries.as_slice()[..self.standing]
     }
 
     /// The statements that are undone, the next one to be done again first.
-    pub fn undone(&self) -> &[Entry<V>]
+    pub fn undone(&self) -> &[TrailEntry<V>]
         ensures { result.now ≡ drop (marks_of self.now).standing (marks_of self.now).entries }
     {
         &self.entries.as_slice()[self.standing..]

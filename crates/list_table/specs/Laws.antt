@@ -5,7 +5,7 @@ use Rattle.vsm_elements.specs.Chain.{IsChain}
 use Rattle.vsm_elements.specs.Chain
 use Rattle.vsm_elements.specs.declared.chain.Chain.{Chain}
 use Rattle.vsm_elements.specs.Ownership.{Owns, Leaves, Apart}
-use Rattle.list_table.specs.declared.row.Row.{Row}
+use Rattle.list_table.specs.declared.row.ListRow.{ListRow}
 use Rattle.list_table.specs.declared.table.ListTable.{ListTable}
 use Rattle.list_table.specs.ListTable.{entries, earlier, later, owned, owned_but, IsTable, IsOpen}
 
@@ -26,7 +26,7 @@ TablesStay = (s t : Store) (had has : List ℕ) (q : ListTable) → Leaves s t h
 
 -- a call on the list of a row in hand leaves it in hand, and all else as it was
 abbrev pub OpenStays : Type 0
-OpenStays = (s t : Store) (q : ListTable) (r : Row) (list : Chain) (words : List ℕ) → IsOpen s q r
+OpenStays = (s t : Store) (q : ListTable) (r : ListRow) (list : Chain) (words : List ℕ) → IsOpen s q r
     → Leaves s t (Chain.owned s r.list) (Chain.owned t list) → IsChain t list
     → IsOpen t q (record { index = r.index; id = r.id; words = words; list = list })
     × (earlier t q r.index ≡ earlier s q r.index) × (later t q r.index ≡ later s q r.index)

@@ -1,10 +1,9 @@
 ghost use Rattle.std.specs.Prelude.{◌≡◌, ℕ, ◌+◌, ◌<◌, ◌++◌, ◌∷◌, [], length, Some, slice_get, List, IfSome, drop};
-ghost use Rattle.std.specs.Prelude.{slice_index_or};
 ghost use Rattle.vsm_elements.specs.Store.{Store};
 ghost use Rattle.vsm_elements.specs.Ownership.{Leaves, Apart};
 ghost use Rattle.list_table.specs.Kept.{head_in};
 
-use crate::row::Row;
+use crate::row::ListRow;
 use vsm_elements::{Chain, Elements, Id};
 
 /// The head of a table of rows, each with words of its own and a list.
@@ -65,25 +64,6 @@ impl ListTable {
         }
     }
 
-    /// The table as two words, to be kept in an element.
-    pub fn head(self) -> [u32; 2]
-        ensures { table_of (slice_index_or result 0 0) (slice_index_or result 1 0) ≡ self }
-    {
-        [self.chain.first, self.chain.count]
-    }
-
-    /// The table whose head was kept in these words.
-    pub fn from_head(head: [u32; 2]) -> ListTable
-        ensures { result ≡ table_of (slice_index_or head 0 0) (slice_index_or head 1 0) }
-    {
-        ListTable {
-            chain: Chain {
-                first: head[0],
-                count: head[1],
-            },
-        }
-    }
-
     /// How many rows there are.
     pub fn count(&self, elements: &Elements) -> u32
         requires { IsTable elements.now self.now }
@@ -96,7 +76,7 @@ impl ListTable {
     }
 
     /// The row at an index, behind the row of this id (0 at the front).
-    pub fn row(&self, elements: &Elements, index: u32, before: Id) -> Row
+    pub fn row(&self, elements: &Elements, index: u32, before: Id) -> ListRow
         requires table { IsTable elements.now self.now }
         requires place { IsPlace elements.now self.now index before }
         requires there { index < length (entries elements.now self.now) }
@@ -112,7 +92,7 @@ impl ListTable {
     {
         let id = self.chain.next(elements, index, before);
         let words = self.chain.words(elements, index, id);
-        Row {
+        ListRow {
             index,
             id,
             words: own_words(words),
@@ -121,7 +101,7 @@ impl ListTable {
     }
 
     /// Puts a row that was in hand back, with its words and its list.
-    pub fn write(&self, elements: &mut Elements, row: Row)
+    pub fn write(&self, elements: &mut Elements, row: ListRow)
         requires { IsOpen elements.old self.now row }
         ensures table { IsTable elements.new self.now }
         ensures entries { entries elements.new self.now

@@ -21,7 +21,7 @@ use Rattle.macro_operands.specs.declared.faults.FaultKind.TheVariants as fault
 use Rattle.macro_operands.specs.declared.rows.Key.{Key}
 use Rattle.macro_operands.specs.declared.rows.Key.TheVariants as code_key
 use Rattle.macro_operands.specs.declared.rows.Entry.{Entry}
-use Rattle.macro_operands.specs.declared.rows.Row.{Row}
+use Rattle.macro_operands.specs.declared.rows.OperandRow.{OperandRow}
 use Rattle.macro_operands.specs.declared.operands.Operand.{Operand}
 use Rattle.macro_operands.specs.declared.said.Said.{Said}
 use Rattle.macro_operands.specs.declared.said.Said.TheVariants as code_said
@@ -39,7 +39,7 @@ upper_key (code_key.Keyword name) = keyword (map to_ascii_uppercase name.now)
 abbrev pub entry_in : Entry → rows.Entry
 entry_in e = record { key = key_in e.key; kind = e.kind; excluded = option_map upper_key e.excluded }
 
-abbrev pub row_in : Row → rows.Row
+abbrev pub row_in : OperandRow → rows.Row
 row_in row = record { entries = map entry_in row.entries.now; left_out = map (λ w. w.now) row.left_out.now }
 
 abbrev pub operand_in : Operand → keywords.Operand

@@ -13,7 +13,7 @@ ghost use Rattle.macro_operands.specs.Slots.{are_apart, no_slots, readings};
 ghost use Rattle.macro_operands.specs.Said.{said_of, unsaid_fault};
 
 use crate::faults::FaultKind;
-use crate::rows::{Entry, Key, Kind, Row};
+use crate::rows::{Entry, Key, Kind, OperandRow};
 use crate::said::{Said, said_of, unsaid_fault};
 use operand_texts::nesting::split;
 use operand_texts::words::{is_name, is_word};
@@ -153,7 +153,7 @@ fn fill<'a>(
 
 /// Reads one operand into the place of its entry, or tells its fault and leaves all as it is.
 fn take<'a>(
-    row: &Row,
+    row: &OperandRow,
     operand: Option<Operand<'a>>,
     said: &mut [Option<Said<'a>>],
 ) -> Option<FaultKind>
@@ -177,7 +177,11 @@ fn take<'a>(
 }
 
 /// Reads the operands of a text into the places of their entries, or tells the first fault.
-fn take_all<'a>(row: &Row, text: &'a [u8], said: &mut [Option<Said<'a>>]) -> Option<FaultKind>
+fn take_all<'a>(
+    row: &OperandRow,
+    text: &'a [u8],
+    said: &mut [Option<Said<'a>>],
+) -> Option<FaultKind>
     requires { length said.old ≡ length row.now.entries.now }
     ensures { answered result (slots_in said.new)
         ≡ with_operands (row_in row.now) (slots_in said.old) 0 (operands_from outside text.now) }
@@ -200,7 +204,7 @@ fn take_all<'a>(row: &Row, text: &'a [u8], said: &mut [Option<Said<'a>>]) -> Opt
 /// Reads the operands of a statement, each once, into the places of their entries, of which nothing was read before,
 /// and lends these places; or tells the first fault.
 pub fn read<'s, 'a>(
-    row: &Row,
+    row: &OperandRow,
     text: Option<&'a [u8]>,
     said: &'s mut [Option<Said<'a>>],
 ) -> Result<&'s [Option<Said<'a>>], FaultKind>

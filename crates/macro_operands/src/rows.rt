@@ -68,7 +68,7 @@ pub enum Behind {
 
 /// The operands of a statement behind its form.
 #[derive(Clone, Copy)]
-pub struct Row {
+pub struct OperandRow {
     pub entries: &'static [Entry],
     /// The keywords that are left out. A keyword of an entry is none of them.
     pub left_out: &'static [&'static [u8]],

@@ -8,13 +8,13 @@ ghost use Rattle.macro_statements.specs.Slots.{attach_by};
 ghost use Rattle.macro_statements.specs.Attach.{subpools_by, attach_of};
 
 use macro_operands::operands::{read, some_field};
-use macro_operands::rows::Row;
+use macro_operands::rows::OperandRow;
 use macro_operands::said::{NOTHING, Said, condition_at, value_at};
 use macro_operands::{FaultKind, keyword};
 use macro_requests::{Request, Statement, Subpools};
 
 /// ATTACH.
-pub const ATTACH: Row = Row {
+pub const ATTACH: OperandRow = OperandRow {
     entries: &[
         keyword!(b"EP", Name),
         keyword!(b"GSPV", Value, b"GSPL"),

@@ -9,7 +9,7 @@ ghost use Rattle.macro_statements.specs.declared.cpool.PoolForm.TheVariants.{Bui
 
 use crate::forms::{LEFT_OUT_KEYWORDS, no_form_fault, subpool_at};
 use macro_operands::operands::read;
-use macro_operands::rows::Row;
+use macro_operands::rows::OperandRow;
 use macro_operands::said::{
     NOTHING, Said, condition_at, header_at, location_at, name_at, place_at, value_at,
 };
@@ -31,7 +31,7 @@ pub enum PoolForm {
 /// The operands of a form: CPID; numbers, LOC, HDR, the word in the position behind the form, and CELL, of these kinds.
 macro_rules! pool_row {
     ($number:ident, $location:ident, $header:ident, $word:ident, $cell:ident) => {
-        Row {
+        OperandRow {
             entries: &[
                 keyword!(b"CPID", Name),
                 keyword!(b"PCELLCT", $number),
@@ -52,16 +52,16 @@ macro_rules! pool_row {
 }
 
 /// CPOOL BUILD.
-const BUILD: Row = pool_row!(Value, Location, Header, OtherForm, OtherForm);
+const BUILD: OperandRow = pool_row!(Value, Location, Header, OtherForm, OtherForm);
 
 /// CPOOL GET.
-const GET: Row = pool_row!(OtherForm, OtherForm, OtherForm, ConditionWord, Place);
+const GET: OperandRow = pool_row!(OtherForm, OtherForm, OtherForm, ConditionWord, Place);
 
 /// CPOOL FREE.
-const FREE: Row = pool_row!(OtherForm, OtherForm, OtherForm, OtherForm, Value);
+const FREE: OperandRow = pool_row!(OtherForm, OtherForm, OtherForm, OtherForm, Value);
 
 /// CPOOL DELETE.
-const DELETE: Row = pool_row!(OtherForm, OtherForm, OtherForm, OtherForm, OtherForm);
+const DELETE: OperandRow = pool_row!(OtherForm, OtherForm, OtherForm, OtherForm, OtherForm);
 
 /// The form of a word, in either case.
 fn pool_form_of(word: &[u8]) -> Option<PoolForm>
@@ -81,7 +81,7 @@ fn pool_form_of(word: &[u8]) -> Option<PoolForm>
 }
 
 /// The operands that a form has.
-fn row_of(form: PoolForm) -> Row
+fn row_of(form: PoolForm) -> OperandRow
     ensures { row_in result ≡ pool_form_row form }
 {
     match form {

@@ -8,13 +8,13 @@ ghost use Rattle.macro_statements.specs.Slots.{detach_by};
 ghost use Rattle.macro_statements.specs.Detach.{detach_of};
 
 use macro_operands::operands::{read, some_field};
-use macro_operands::rows::Row;
+use macro_operands::rows::OperandRow;
 use macro_operands::said::{NOTHING, Said, value_at};
 use macro_operands::{FaultKind, keyword, position};
 use macro_requests::{Request, Statement};
 
 /// DETACH.
-pub const DETACH: Row = Row {
+pub const DETACH: OperandRow = OperandRow {
     entries: &[
         position!(0, Value),
         keyword!(b"RELATED", Any),

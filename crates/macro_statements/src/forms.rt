@@ -16,7 +16,7 @@ ghost use Rattle.macro_statements.specs.Slots.{form_in, macro_in};
 
 use macro_operands::FaultKind;
 use macro_operands::operands::{operand_at, read, unknown_fault};
-use macro_operands::rows::Row;
+use macro_operands::rows::OperandRow;
 use macro_operands::said::{
     NOTHING, Said, boundary_at, condition_at, location_at, pair_at, place_at, value_at,
 };
@@ -51,7 +51,7 @@ pub struct StorageForm {
     /// Whether it obtains storage, or else releases it.
     pub obtains: bool,
     /// Its operands, as `storage_row` has them.
-    pub row: &'static Row,
+    pub row: &'static OperandRow,
     /// Its family of completion codes, and whether it's conditional without COND.
     pub form: Form,
 }
@@ -69,7 +69,7 @@ pub struct StorageMacro {
 macro_rules! storage_row {
     ($length_word:literal, $length:ident, $address_word:literal, $address:ident, $boundary:ident, $location:ident,
      $condition:ident) => {
-        Row {
+        OperandRow {
             entries: &[
                 keyword!($length_word, $length),
                 keyword!(b"SP", Value),

@@ -2,7 +2,7 @@
 
 use crate::forms::{LEFT_OUT_KEYWORDS, StorageForm, StorageMacro, releasing, storage_row};
 use macro_operands::keyword;
-use macro_operands::rows::Row;
+use macro_operands::rows::OperandRow;
 use macro_requests::Form;
 use vsm_model::Family;
 
@@ -14,13 +14,13 @@ macro_rules! freemain_row {
 }
 
 /// FREEMAIN R.
-const REGISTER: Row = freemain_row!(RegisterLength, Value);
+const REGISTER: OperandRow = freemain_row!(RegisterLength, Value);
 
 /// FREEMAIN RC and RU.
-const FIXED: Row = freemain_row!(Value, Value);
+const FIXED: OperandRow = freemain_row!(Value, Value);
 
 /// FREEMAIN E, EC and EU.
-const NAMED: Row = freemain_row!(Value, NamedValue);
+const NAMED: OperandRow = freemain_row!(Value, NamedValue);
 
 /// FREEMAIN.
 pub const FREEMAIN: StorageMacro = StorageMacro {

@@ -2,7 +2,7 @@
 
 use crate::forms::{LEFT_OUT_KEYWORDS, StorageForm, StorageMacro, obtaining, storage_row};
 use macro_operands::keyword;
-use macro_operands::rows::Row;
+use macro_operands::rows::OperandRow;
 use macro_requests::Form;
 use vsm_model::Family;
 
@@ -14,16 +14,16 @@ macro_rules! getmain_row {
 }
 
 /// GETMAIN R.
-const REGISTER: Row = getmain_row!(RegisterLength, OtherForm, OtherForm, OtherForm);
+const REGISTER: OperandRow = getmain_row!(RegisterLength, OtherForm, OtherForm, OtherForm);
 
 /// GETMAIN RC and RU.
-const FIXED: Row = getmain_row!(Value, OtherForm, Boundary, Location);
+const FIXED: OperandRow = getmain_row!(Value, OtherForm, Boundary, Location);
 
 /// GETMAIN VRC and VRU.
-const VARIABLE: Row = getmain_row!(Pair, OtherForm, Boundary, Location);
+const VARIABLE: OperandRow = getmain_row!(Pair, OtherForm, Boundary, Location);
 
 /// GETMAIN EC and EU.
-const NAMED: Row = getmain_row!(Value, Name, Boundary, OtherForm);
+const NAMED: OperandRow = getmain_row!(Value, Name, Boundary, OtherForm);
 
 /// GETMAIN.
 pub const GETMAIN: StorageMacro = StorageMacro {

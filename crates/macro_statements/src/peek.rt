@@ -8,13 +8,13 @@ ghost use Rattle.macro_statements.specs.Slots.{peek_by};
 ghost use Rattle.macro_statements.specs.Peek.{peek_of};
 
 use macro_operands::operands::{read, some_field};
-use macro_operands::rows::Row;
+use macro_operands::rows::OperandRow;
 use macro_operands::said::{NOTHING, Said, size_at, value_at};
 use macro_operands::{FaultKind, position};
 use macro_requests::Request;
 
 /// PEEK.
-pub const PEEK: Row = Row {
+pub const PEEK: OperandRow = OperandRow {
     entries: &[position!(0, Value), position!(1, Size)],
     left_out: &[],
 };

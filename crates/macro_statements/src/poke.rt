@@ -8,13 +8,13 @@ ghost use Rattle.macro_statements.specs.Slots.{poke_by};
 ghost use Rattle.macro_statements.specs.Poke.{poke_of};
 
 use macro_operands::operands::{read, some_field};
-use macro_operands::rows::Row;
+use macro_operands::rows::OperandRow;
 use macro_operands::said::{NOTHING, Said, content_at, value_at};
 use macro_operands::{FaultKind, position};
 use macro_requests::{Request, Statement};
 
 /// POKE.
-pub const POKE: Row = Row {
+pub const POKE: OperandRow = OperandRow {
     entries: &[position!(0, Value), position!(1, Content)],
     left_out: &[],
 };

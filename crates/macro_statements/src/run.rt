@@ -8,13 +8,13 @@ ghost use Rattle.macro_statements.specs.Slots.{run_by};
 ghost use Rattle.macro_statements.specs.Run.{run_of};
 
 use macro_operands::operands::{read, some_field};
-use macro_operands::rows::Row;
+use macro_operands::rows::OperandRow;
 use macro_operands::said::{NOTHING, Said, value_at};
 use macro_operands::{FaultKind, position};
 use macro_requests::{Request, Statement};
 
 /// RUN.
-pub const RUN: Row = Row {
+pub const RUN: OperandRow = OperandRow {
     entries: &[position!(0, Value)],
     left_out: &[],
 };

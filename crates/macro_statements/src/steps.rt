@@ -7,12 +7,12 @@ ghost use Rattle.macro_statements.specs.Slots.{count_by};
 ghost use Rattle.macro_statements.specs.Steps.{count_in};
 
 use macro_operands::operands::{read, some_field};
-use macro_operands::rows::Row;
+use macro_operands::rows::OperandRow;
 use macro_operands::said::{NOTHING, Said, count_at};
 use macro_operands::{FaultKind, position};
 
 /// BACK and FORWARD.
-pub const STEPS: Row = Row {
+pub const STEPS: OperandRow = OperandRow {
     entries: &[position!(0, Count)],
     left_out: &[],
 };

@@ -4,17 +4,17 @@ use crate::forms::{
     LEFT_OUT_KEYWORDS, StorageForm, StorageMacro, obtaining, releasing, storage_row,
 };
 use macro_operands::keyword;
-use macro_operands::rows::Row;
+use macro_operands::rows::OperandRow;
 use macro_requests::Form;
 use vsm_model::Family;
 
 /// STORAGE OBTAIN.
-const OBTAIN: Row = storage_row!(
+const OBTAIN: OperandRow = storage_row!(
     b"LENGTH", Length, b"ADDR", Place, Boundary, Location, Condition
 );
 
 /// STORAGE RELEASE.
-const RELEASE: Row = storage_row!(
+const RELEASE: OperandRow = storage_row!(
     b"LENGTH", Value, b"ADDR", Value, OtherForm, OtherForm, Condition
 );
 

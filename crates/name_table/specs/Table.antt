@@ -1,5 +1,8 @@
 -- What a table of names holds.
-use Rattle.std.specs.Prelude.{◌≡◌, ℕ, ◌+◌, Bool, false, Option, Some, None, is_some, List, [], ◌∷◌, ◌++◌, map, take}
+use Rattle.std.specs.Prelude.{◌≡◌, ℕ, ◌+◌, ◌<◌, ◌⊎◌, Bool, true, false, Option, Some, None, is_some}
+use Rattle.std.specs.Prelude.{List, [], ◌∷◌, ◌++◌}
+use Rattle.std.specs.Prelude.{map, take}
+use Rattle.indexmap.specs.IndexMap.{spare}
 use Rattle.arrayvec.specs.ArrayString.{ArrayString}
 use Rattle.vsm_model.specs.Names.{same_name, word_of}
 use Rattle.name_table.specs.declared.tables.NameTable.{NameTable}
@@ -19,6 +22,10 @@ rows_of t = take t.defined (all_rows t)
 -- the table holds the name, defined or undone
 abbrev pub knows : NameTable → List ℕ → Bool
 knows t name = is_some (word_of (all_rows t) name)
+
+-- the table holds the name, or one more can come without memory
+abbrev pub HasRoom : NameTable → List ℕ → Type 0
+HasRoom t name = (knows t name ≡ true) ⊎ (0 < spare t.table)
 
 -- the first row behind the defined ones is that of the name
 abbrev pub IsNext : NameTable → List ℕ → Type 0

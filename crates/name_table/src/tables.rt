@@ -23,12 +23,12 @@ pub struct NameTable {
 
 impl NameTable {
     ghost use Rattle.std.specs.Prelude.{◌≡◌, ℕ, ◌<◌, ◌^◌, ◌&&◌, ◌||◌, not, false, true, is_some, [], List, length};
-    ghost use Rattle.std.specs.Prelude.{nat_le, None, OnOk, OnErr, IfSome, IsTrue};
+    ghost use Rattle.std.specs.Prelude.{nat_le, None, IsOk, OnOk, OnErr, IfSome, IsTrue};
     ghost use Rattle.std.specs.Prelude.{option_map, slice_get};
     ghost use Rattle.vsm_model.specs.Names.{same_name, word_of, with_name};
     ghost use Rattle.name_table.specs.Steps.{CanStep, IsLast, name_of, step_in, step_to, stepped, turned, without_name};
     ghost use Rattle.name_table.specs.Steps.{word_or_zero};
-    ghost use Rattle.name_table.specs.Table.{all_rows, is_own, knows, row_of, rows_of, IsNext};
+    ghost use Rattle.name_table.specs.Table.{all_rows, is_own, knows, row_of, rows_of, HasRoom, IsNext};
 
     /// A table with no name. This takes no memory.
     pub fn new(alloc: Global) -> NameTable
@@ -91,12 +91,13 @@ impl NameTable {
     }
 
     /// Sees that the table holds the name, not yet defined where it is new: behind all others. On `AllocError` the
-    /// table holds what it held.
+    /// table holds what it held. Where it holds the name already, or has room for one more, no memory is asked for.
     pub fn reserve(&mut self, name: Name) -> Result<(), AllocError>
         ensures rows { rows_of self.new ≡ rows_of self.old }
         ensures ok { OnOk result ((other : List ℕ)
             → knows self.new other ≡ (same_name name.bytes other || knows self.old other)) }
         ensures err { OnErr result ((other : List ℕ) → knows self.new other ≡ knows self.old other) }
+        ensures needless { HasRoom self.old name.bytes → IsOk result }
     {
         if self.table.contains_key(&name) {
             return Ok(());

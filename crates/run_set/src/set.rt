@@ -217,17 +217,6 @@ impl RunSet {
         Some(self.visit(elements, place))
     }
 
-    /// The `i`-th maximal run in ascending order, from 0 on; `None` past the last.
-    pub fn run_at(&self, elements: &Elements, i: u32) -> Option<Run>
-        requires { IsRunSet elements.now self.now }
-        ensures { result ≡ slice_get (runs elements.now self.now) i }
-    {
-        if i >= self.tree.count {
-            return None;
-        }
-        Some(self.tree.get(elements, i))
-    }
-
     /// The least number on the boundary from which `len` numbers are in the set and in the region.
     pub fn least_fit(
         &self,

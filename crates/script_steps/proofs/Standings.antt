@@ -14,7 +14,7 @@ use Rattle.bench_core.specs.Machine.{Why, statement_step, shown_at}
 use Rattle.script_steps.specs.Responses.{response_to, reading_response, response_text, lines_behind, is_refused, numbered}
 use Rattle.script_steps.specs.Output.{Marked, call_in, alone_now, answer_to, IsMet, stands_behind, stands_with, responded_to, responded, stands_after, stands_all, AllMet, lines_with, text_of, texts, refusals, heard_call, heard_with, heard_all}
 use Rattle.script_steps.specs.Answers.{RespondsTo, Responds, Tells, told_text, told_count, told_refused}
-use Rattle.script_steps.specs.Taken.{Led, IsTold, answers_of}
+use Rattle.script_steps.specs.Taken.{Led, Brings, IsTold, answers_of}
 use Rattle.script_steps.specs.declared.responses.Response.{Response}
 
 plus_zero : (n : ℕ) → n + 0 ≡ n
@@ -219,6 +219,7 @@ module _ (settings : Settings) where
     pub answers : answers_of more ≡ told
     pub led : Led settings (xs ++ more) c
     pub text : IsTold settings xs more (told_text settings c shown)
+    pub brings : Brings settings xs more shown
     pub count : length more ≡ told_count shown
     pub refused : refusals settings (stands_all settings nothing_stands xs) more ≡ told_refused shown
 
@@ -229,6 +230,7 @@ module _ (settings : Settings) where
     answers = refl;
     led = subst (λ ys. Led settings ys c) (sym (append-nil xs)) (subst (Led settings xs) (sym h) led);
     text = refl;
+    brings = tt;
     count = refl;
     refused = refl;
   }
@@ -243,6 +245,7 @@ module _ (settings : Settings) where
         text = (λ i. numbered (line i) (response_text shown.1) ++ behind_is xs c m shown.1 one.1 i)
             ∙ ap (λ r. numbered a.line (response_text r) ++ lines_with settings (stands_after settings l m) r) one.2
             ∙ sym (append-nil _);
+        brings = (line, one.2);
         count = refl;
         refused = plus_zero _ ∙ ap (λ r. if is_refused r then 1 else 0) (sym one.2);
       }

@@ -6,7 +6,7 @@ use Rattle.bench_core.specs.Stands.{bench_of}
 use Rattle.script_steps.specs.Answers.{told_text}
 use Rattle.script_steps.specs.Output.{Marked}
 use Rattle.script_steps.specs.Script.{NoFeed}
-use Rattle.script_steps.specs.Taken.{Took, PassesBound, IsTold}
+use Rattle.script_steps.specs.Taken.{Took, PassesBound, Brings, IsTold}
 use Rattle.script_steps.specs.declared.session.Session.{Session}
 use Rattle.script_steps.specs.declared.session.TooLong.{TooLong}
 use Rattle.script_steps.specs.declared.steps.Step.{Step}
@@ -26,6 +26,13 @@ TakesStep settings script at answers s (Ok (Some step)) =
     × Took settings (take step.next script) (answers ++ more) s
 TakesStep settings script at answers s (Ok None) = Took settings (take at script) answers s
 TakesStep settings script at answers s (Err e) = PassesBound settings script answers
+
+-- The further answers of the line are what is told: its response, beside the text of it.
+abbrev pub BringsStep : Settings → List ℕ → List Marked → Session → Result (Option Step) TooLong → Type 0
+BringsStep settings script answers s (Ok (Some step)) =
+    (more : List Marked) × Brings settings answers more step.told
+    × Took settings (take step.next script) (answers ++ more) s
+BringsStep settings script answers s _ = Unit {0}
 
 -- Where the line is that was taken.
 abbrev pub StepsOver : List ℕ → ℕ → Result (Option Step) TooLong → Type 0

@@ -1,13 +1,15 @@
 -- The bytes of a script that a run has taken, and the answers that it gave to them.
-use Rattle.std.specs.Prelude.{◌≡◌, ℕ, List, ◌∷◌, ◌++◌, length, take, map, Result, Ok, Err}
+use Rattle.std.specs.Prelude.{◌≡◌, ℕ, List, [], ◌∷◌, ◌++◌, length, take, map, Option, Some, None, Result, Ok, Err}
 use Rattle.macro_reader.specs.Scripts as grammar
 use Rattle.vsm_model.specs.declared.limits.Settings.{Settings}
 use Rattle.vsm_model.specs.Names.{NamedState, first_named_state}
 use Rattle.vsm_model.specs.Standing.{Bench, Leads, new_bench, nothing_stands}
 use Rattle.bench_core.specs.Machine.{statement_step}
-use Rattle.script_steps.specs.Output.{Marked, AllMet, heard_all, refusals, stands_all, texts}
+use Rattle.script_steps.specs.Output.{Marked, AllMet, heard_all, refusals, responded, stands_all, texts}
 use Rattle.script_steps.specs.Script.{columns, Within, IsPast, last_line}
 use Rattle.bench_core.specs.Stands.{bench_of, settings_in}
+use Rattle.script_steps.specs.declared.lines.Ending.{Ending}
+use Rattle.script_steps.specs.declared.responses.Response.{Response}
 use Rattle.script_steps.specs.declared.totals.RunTotals.{RunTotals}
 use Rattle.script_steps.specs.declared.session.Session.{Session}
 use Rattle.script_steps.specs.declared.session.TooLong.{TooLong}
@@ -77,6 +79,25 @@ TakesBytes settings given answers s (Err e) = (behind : List ℕ) → PassesBoun
 -- These further answers are told by this text.
 abbrev pub IsTold : Settings → List Marked → List Marked → List ℕ → Type 0
 IsTold settings answers more text = text ≡ texts settings (stands_all settings nothing_stands answers) more
+
+-- These further answers are what is told: none, or one, with its number and its response.
+abbrev pub Brings : Settings → List Marked → List Marked → Option (ℕ × Response) → Type 0
+Brings settings answers [] None = Unit {0}
+Brings settings answers (m ∷ []) (Some told) =
+    (told.0 ≡ m.answer.line)
+    × (told.1 ≡ responded settings (stands_all settings nothing_stands answers) m.unmet m.answer.what)
+Brings settings answers _ _ = ⊥
+
+-- What the end of a script brings: the answers to a last line without a line feed, and then to an open statement, which
+-- leaves the bench as it was.
+pub record EndBrings (settings : Settings) (given : List ℕ) (answers : List Marked) (e : Ending) : Type 0 where
+  pub more : List Marked
+  pub also : List Marked
+  pub last : Brings settings answers more e.last
+  pub unended : Brings settings (answers ++ more) also e.open_statement
+  pub led : Led settings (answers ++ more) (bench_of e.bench)
+  pub led_on : Led settings ((answers ++ more) ++ also) (bench_of e.bench)
+  pub ended : Ended settings given ((answers ++ more) ++ also)
 
 -- The totals of a script with these answers.
 abbrev pub Counts : Settings → List Marked → RunTotals → Type 0

@@ -15,5 +15,5 @@ pub use macro_reader::{FaultKind, Stand};
 pub use responses::Response;
 pub use session::{LINES, Session, TooLong};
 pub use steps::{Step, Watch, before_feed};
-pub use texts::{put_numbered, put_response, put_told};
+pub use texts::{fault_word, put_behind, put_numbered, put_response, put_told};
 pub use totals::RunTotals;

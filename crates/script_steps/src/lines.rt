@@ -8,7 +8,7 @@ ghost use Rattle.script_steps.specs.Answers.{Tells, told_text};
 ghost use Rattle.script_steps.specs.Output.{Marked};
 ghost use Rattle.script_steps.specs.Script.{NoFeed, columns, last_line};
 ghost use Rattle.bench_core.specs.Stands.{IsNew, bench_of, settings_in};
-ghost use Rattle.script_steps.specs.Taken.{Took, TakesBytes, IsTold, Ended, Counts};
+ghost use Rattle.script_steps.specs.Taken.{Took, TakesBytes, Brings, IsTold, Ended, EndBrings, Counts};
 
 use crate::answers::{tell, tell_end, told_count, told_refused};
 use crate::responses::Response;
@@ -123,7 +123,7 @@ impl Session {
         ensures { (settings : Settings) (given : List ℕ) (answers : List Marked) → Took settings given answers self.old
             → (more : List Marked) × IsTold settings answers more
             (told_text settings (bench_of self.new.bench) result)
-            × Took settings (given ++ 10 ∷ []) (answers ++ more) self.new }
+            × Brings settings answers more result × Took settings (given ++ 10 ∷ []) (answers ++ more) self.new }
     {
         let line = columns(self.kept.as_slice(), self.length);
         let told = tell(&mut self.bench, &self.reader.next(line));
@@ -142,6 +142,8 @@ impl Session {
             (told_text settings (bench_of result.bench) result.last
             ++ told_text settings (bench_of result.bench) result.open_statement)
             × Ended settings given (answers ++ more) × Counts settings (answers ++ more) result.totals }
+        ensures brings { (settings : Settings) (given : List ℕ) (answers : List Marked)
+            → Took settings given answers self → EndBrings settings given answers result }
         ensures settings { settings_in result.bench ≡ settings_in self.bench }
     {
         let Session {

@@ -14,7 +14,8 @@ use std::io::Write;
 use text_output::{Gathered, put_byte, put_decimal, put_hexadecimal, put_padded_decimal};
 use vsm_model::{Code, Reply};
 
-fn fault_word(kind: FaultKind) -> &'static str
+/// The word of a fault.
+pub fn fault_word(kind: FaultKind) -> &'static str
     ensures { result.now ≡ fault_word kind }
 {
     match kind {
@@ -146,7 +147,12 @@ pub fn put_numbered<W: Write>(
 }
 
 /// Puts the lines behind that of a response: the map of the bench behind that of a map, and none behind another.
-fn put_behind<W: Write>(gathered: &mut Gathered, writer: &mut W, bench: &Bench, response: &Response)
+pub fn put_behind<W: Write>(
+    gathered: &mut Gathered,
+    writer: &mut W,
+    bench: &Bench,
+    response: &Response,
+)
     ensures { Puts (W.contents writer.old) (W.contents writer.new) gathered.old gathered.new
         (lines_behind (settings_in bench.now) (bench_of bench.now).present (length (bench_of bench.now).past)
         response.now) }

@@ -1,3 +1,8 @@
+mod PoolRows
+mod TabledPools
+mod TableChanges
+mod FoundPools
+mod OrderedPools
 pub mod AssignedPages
 pub mod ByteWords
 pub mod Cases

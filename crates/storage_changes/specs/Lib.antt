@@ -1,3 +1,7 @@
+pub mod NamedPools
+pub mod PoolTable
+pub mod TableLaws
+pub mod TableOrder
 pub mod State
 pub mod Records
 pub mod InWords

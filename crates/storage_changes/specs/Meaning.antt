@@ -8,7 +8,7 @@ use Rattle.vsm_model.specs.Regions.{in_a_region}
 use Rattle.vsm_model.specs.State.{State}
 use Rattle.vsm_model.specs.WellFormed.{IsWellFormed}
 use Rattle.subpool_storage.specs.Subpools.{Subpools, is_there}
-use Rattle.cell_tables.specs.Table.{cell_pools_in}
+use Rattle.storage_changes.specs.PoolTable.{cell_pools_in}
 use Rattle.storage_changes.specs.State.{StorageState}
 
 -- the first of these that passes

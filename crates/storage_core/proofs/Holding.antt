@@ -14,16 +14,16 @@ use Rattle.storage_changes.specs.Changes.{Change as Meaning}
 use Rattle.storage_changes.specs.Meaning.{all_subpools, subpool_of, IsSound}
 use Rattle.storage_changes.proofs.Cases.{and-left}
 use Rattle.storage_changes.proofs.FirstLemmas.{first-nothing}
-use Rattle.storage_exchange.specs.declared.storage.Storage.{Storage as Parts}
+use Rattle.storage_exchange.specs.declared.storage.Parts.{Parts}
 use Rattle.storage_exchange.specs.Storage.{state_of}
 use Rattle.storage_swap.specs.declared.change.Change.{Change}
 use Rattle.storage_swap.specs.Fresh.{first_storage, IsFresh, FirstIsFirst}
 use Rattle.storage_swap.specs.Reserve.{Grown, Reserves}
 use Rattle.storage_swap.specs.Swap.{Ready, Discards}
-use Rattle.storage_history.specs.Apart.{AreApart}
-use Rattle.storage_history.specs.Kept.{apart-rest}
-use Rattle.storage_history.specs.Reserved.{reserve-apart}
-use Rattle.storage_history.specs.Steps.{storage_steps}
+use Rattle.storage_swap.specs.Apart.{AreApart}
+use Rattle.storage_swap.specs.HistoryKept.{apart-rest}
+use Rattle.storage_swap.specs.ReservedFit.{reserve-apart}
+use Rattle.storage_swap.specs.Steps.{storage_steps}
 use Rattle.storage_core.specs.Held.{IsHeld}
 use Rattle.storage_core.specs.Stays.{Stays}
 use Rattle.storage_core.proofs.Staying.{grown_stays}

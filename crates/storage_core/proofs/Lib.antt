@@ -12,3 +12,4 @@ mod PlanCases
 mod Owners
 mod TaskCounts
 mod CellPoolCounts
+pub mod Making

@@ -13,7 +13,7 @@ use Rattle.vsm_model.specs.Step.{step}
 use Rattle.storage_changes.specs.State.{StorageState}
 use Rattle.storage_changes.specs.Changes.{Change}
 use Rattle.storage_changes.specs.Meaning.{model_of}
-use Rattle.storage_plans.specs.declared.plan.Plan.{Plan as StoragePlan}
+use Rattle.storage_plans.specs.declared.plan.StoragePlan.{StoragePlan}
 use Rattle.storage_plans.specs.Plans.{CarriesOut, IsPlanned as IsStoragePlanned}
 use Rattle.storage_plans.proofs.Assigning.{none_assigned}
 use Rattle.task_plans.specs.declared.attach.AttachPlan.{AttachPlan}

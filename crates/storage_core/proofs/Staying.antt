@@ -5,15 +5,15 @@ use Rattle.vsm_elements.specs.Owners.{Moves}
 use Rattle.vsm_elements.proofs.MoveLemmas.{moves-none, moves-follow}
 use Rattle.storage_changes.specs.State.{StorageState}
 use Rattle.storage_changes.specs.Changes.{Change as Meaning}
-use Rattle.storage_exchange.specs.declared.storage.Storage.{Storage as Parts}
+use Rattle.storage_exchange.specs.declared.storage.Parts.{Parts}
 use Rattle.storage_exchange.specs.Storage.{hold, state_of, Stand}
 use Rattle.storage_swap.specs.declared.change.Change.{Change}
 use Rattle.storage_swap.specs.Reserve.{Grown, Reserves}
 use Rattle.storage_swap.specs.Swap.{change_holds, Discards}
-use Rattle.storage_history.specs.Apart.{AreApart, AreWhole}
-use Rattle.storage_history.specs.Kept.{moved-hold, moved-stand, moved-state, left, AllLeft, all-left}
-use Rattle.storage_history.specs.Reserved.{reserve-others, reserve-apart, reserve-whole}
-use Rattle.storage_history.specs.Steps.{storage_steps}
+use Rattle.storage_swap.specs.Apart.{AreApart, AreWhole}
+use Rattle.storage_swap.specs.HistoryKept.{moved-hold, moved-stand, moved-state, left, AllLeft, all-left}
+use Rattle.storage_swap.specs.ReservedFit.{reserve-others, reserve-apart, reserve-whole}
+use Rattle.storage_swap.specs.Steps.{storage_steps}
 use Rattle.storage_core.specs.Stays.{Stays}
 
 pub discard_stays : (p t u : Parts) (d : Meaning) (c : Change) → Reserves p d c t → Discards t c u → Stays p u

@@ -1,8 +1,9 @@
 -- How much memory a storage and its changes have.
-use Rattle.std.specs.Prelude.{◌≡◌}
-use Rattle.vsm_elements.specs.Store.{made}
-use Rattle.storage_exchange.specs.declared.storage.Storage.{Storage as Parts}
+use Rattle.std.specs.Prelude.{◌≡◌, ℕ, ◌+◌, ◌≤◌, max}
+use Rattle.vsm_elements.specs.Store.{made, live_count}
+use Rattle.storage_exchange.specs.declared.storage.Parts.{Parts}
 use Rattle.storage_exchange.specs.Exchange.{SameFrames}
+use Rattle.storage_swap.specs.Growth.{all_elements, MakesFrames}
 
 -- No element and no frame was made, and as many of both are spare: so as many elements are live, and as many frames are
 -- in tables and changes.
@@ -10,3 +11,14 @@ pub record SameMemory (p t : Parts) : Type 0 where
   pub as_many : made t.elements ≡ made p.elements
   pub spare : t.elements.spare ≡ p.elements.spare
   pub frames : SameFrames p.region t.region
+
+-- no element and no frame was made
+pub record MakesNone (p t : Parts) : Type 0 where
+  pub elements : made t.elements ≡ made p.elements
+  pub frames : t.region.made ≡ p.region.made
+
+-- For n elements and the frames of so many pages, at most a block of elements was made beyond these and the live ones,
+-- and no frame beyond these and those that weren't spare.
+pub record Makes (p t : Parts) (n pages : ℕ) : Type 0 where
+  pub elements : made t.elements ≤ max (all_elements p.elements) (live_count p.elements + n + 128)
+  pub frames : MakesFrames p.region t.region pages

@@ -16,13 +16,13 @@ use Rattle.vsm_model.specs.declared.Subpool.{Subpool}
 use Rattle.subpool_storage.specs.Extents.{extents}
 use Rattle.subpool_storage.specs.Subpools.{Subpools}
 use Rattle.storage_changes.specs.State.{StorageState}
-use Rattle.storage_exchange.specs.declared.storage.Storage.{Storage as Parts}
+use Rattle.storage_exchange.specs.declared.storage.Parts.{Parts}
 use Rattle.storage_changes.specs.Changes.{Change, no_pages}
 use Rattle.storage_changes.specs.Meaning.{model_of}
-use Rattle.storage_plans.specs.declared.plan.Plan.{Plan as StoragePlan}
+use Rattle.storage_plans.specs.declared.plan.StoragePlan.{StoragePlan}
 use Rattle.storage_plans.specs.Plans.{change_in}
 pub use Rattle.storage_plans.specs.Plans.{Assigns, AssignsOnly}
-use Rattle.task_actions.specs.Ending.{ended_below, weight_ended}
+use Rattle.change_laws.specs.Ending.{ended_below, weight_ended}
 use Rattle.task_plans.specs.TaskPlans.{numbers, attach_change, end_change}
 use Rattle.task_plans.specs.TaskPlans.{CanBeAttached, CanBeEnded}
 pub use Rattle.task_plans.specs.TaskPlans.{IsAccepted}

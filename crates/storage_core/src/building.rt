@@ -2,6 +2,7 @@
 ghost use Rattle.std.specs.Prelude.{◌≡◌, ℕ, None, ◌+◌, ◌^◌, ◌<◌, ◌≤◌, length, IsOk, OnErr, IfOk};
 ghost use Rattle.vsm_elements.specs.Store.{live_count};
 ghost use Rattle.cell_pool.specs.Pools.{mark_items};
+ghost use Rattle.storage_swap.specs.Growth.{MakesElements, MakesFrames};
 ghost use Rattle.storage_swap.specs.Reserve.{Reserves};
 ghost use Rattle.cell_plans.specs.CellPlans.{build_change, CanBeBuilt};
 ghost use Rattle.storage_core.specs.Meaning.{state_in_place, settings_of};
@@ -26,6 +27,10 @@ impl Storage {
             + (30 + (plan.settings.primary + mark_items plan.settings.primary))) }
         ensures live { IfOk result (λ _. live_count self.new.parts.elements ≤ live_count self.old.parts.elements
             + (30 + (plan.settings.primary + mark_items plan.settings.primary))) }
+        ensures made { IfOk result (λ _. MakesElements self.old.parts.elements self.new.parts.elements
+            (30 + (plan.settings.primary + mark_items plan.settings.primary))) }
+        ensures made_frames { IfOk result (λ _. MakesFrames self.old.parts.region self.new.parts.region
+            plan.fresh.len) }
         ensures err { OnErr result (Stays self.old.parts self.new.parts) }
         ensures needless { IsSpareFor self.old.parts
             (30 + (plan.settings.primary + mark_items plan.settings.primary)) plan.fresh → IsOk result }

@@ -4,6 +4,7 @@ ghost use Rattle.vsm_elements.specs.Store.{live_count};
 ghost use Rattle.storage_changes.specs.Changes.{Fit, overlay};
 ghost use Rattle.storage_changes.specs.Meaning.{IsSound};
 ghost use Rattle.storage_plans.specs.Plans.{change_in};
+ghost use Rattle.storage_swap.specs.Growth.{MakesElements, MakesFrames};
 ghost use Rattle.storage_swap.specs.Reserve.{Reserves};
 ghost use Rattle.storage_swap.specs.Swap.{means, Ready, Swaps, Discards};
 ghost use Rattle.storage_core.specs.Meaning.{state_in_place, settings_of};
@@ -18,7 +19,7 @@ use crate::plans::Plan;
 use crate::storage::Storage;
 use cell_plans::DeletePlan;
 use std::alloc::AllocError;
-use storage_plans::Plan as StoragePlan;
+use storage_plans::StoragePlan;
 use storage_swap::Change;
 use task_plans::{AttachPlan, EndPlan};
 
@@ -34,7 +35,8 @@ impl Storage {
     /// subpool, or the elements of a cell pool that comes. It has just as many frames as pages come to be assigned.
     ///
     /// `AllocError` where memory is refused: that can be only where fewer elements or frames are spare, or a table
-    /// isn't there. What was made before that stays, as spare elements and frames.
+    /// isn't there. What was made before that stays, as spare elements and frames. For a change at most a block of
+    /// elements is made beyond what it takes, and no frame.
     pub fn reserve(&mut self, plan: Plan) -> Result<Change, AllocError>
         requires { CanBeReserved (state_in_place self.old) plan }
         ensures ok { IfOk result (λ change. (id : ℕ) × IsIdFor (state_in_place self.old) plan id
@@ -46,6 +48,10 @@ impl Storage {
             ≤ self.new.parts.elements.spare + elements_needed (state_in_place self.old) plan) }
         ensures live { IfOk result (λ _. live_count self.new.parts.elements
             ≤ live_count self.old.parts.elements + elements_needed (state_in_place self.old) plan) }
+        ensures made { IfOk result (λ _. MakesElements self.old.parts.elements self.new.parts.elements
+            (elements_needed (state_in_place self.old) plan)) }
+        ensures made_frames { IfOk result (λ _. MakesFrames self.old.parts.region self.new.parts.region
+            (pages_assigned plan)) }
         ensures err { OnErr result (Stays self.old.parts self.new.parts) }
         ensures needless { IsSpare self.old.parts (state_in_place self.old) plan → IsOk result }
         ensures settings { settings_of self.new ≡ settings_of self.old }
@@ -71,6 +77,10 @@ impl Storage {
             ≤ self.new.parts.elements.spare + storage_elements (state_in_place self.old) plan) }
         ensures live { IfOk result (λ _. live_count self.new.parts.elements
             ≤ live_count self.old.parts.elements + storage_elements (state_in_place self.old) plan) }
+        ensures made { IfOk result (λ _. MakesElements self.old.parts.elements self.new.parts.elements
+            (storage_elements (state_in_place self.old) plan)) }
+        ensures made_frames { IfOk result (λ _. MakesFrames self.old.parts.region self.new.parts.region
+            plan.fresh.len) }
         ensures err { OnErr result (Stays self.old.parts self.new.parts) }
         ensures needless { IsSpareFor self.old.parts (storage_elements (state_in_place self.old) plan) plan.fresh
             → IsOk result }
@@ -97,6 +107,10 @@ impl Storage {
             ≤ self.new.parts.elements.spare + elements_needed (state_in_place self.old) (Attach plan)) }
         ensures live { IfOk result (λ _. live_count self.new.parts.elements
             ≤ live_count self.old.parts.elements + elements_needed (state_in_place self.old) (Attach plan)) }
+        ensures made { IfOk result (λ _. MakesElements self.old.parts.elements self.new.parts.elements
+            (elements_needed (state_in_place self.old) (Attach plan))) }
+        ensures made_frames { IfOk result (λ _. MakesFrames self.old.parts.region self.new.parts.region
+            0) }
         ensures err { OnErr result (Stays self.old.parts self.new.parts) }
         ensures needless { elements_needed (state_in_place self.old) (Attach plan) ≤ self.old.parts.elements.spare
             → IsOk result }
@@ -117,6 +131,10 @@ impl Storage {
             ≤ self.new.parts.elements.spare + elements_needed (state_in_place self.old) (End plan)) }
         ensures live { IfOk result (λ _. live_count self.new.parts.elements
             ≤ live_count self.old.parts.elements + elements_needed (state_in_place self.old) (End plan)) }
+        ensures made { IfOk result (λ _. MakesElements self.old.parts.elements self.new.parts.elements
+            (elements_needed (state_in_place self.old) (End plan))) }
+        ensures made_frames { IfOk result (λ _. MakesFrames self.old.parts.region self.new.parts.region
+            0) }
         ensures err { OnErr result (Stays self.old.parts self.new.parts) }
         ensures needless { elements_needed (state_in_place self.old) (End plan) ≤ self.old.parts.elements.spare
             → IsOk result }
@@ -137,6 +155,10 @@ impl Storage {
             ≤ self.new.parts.elements.spare + elements_needed (state_in_place self.old) (Delete plan)) }
         ensures live { IfOk result (λ _. live_count self.new.parts.elements
             ≤ live_count self.old.parts.elements + elements_needed (state_in_place self.old) (Delete plan)) }
+        ensures made { IfOk result (λ _. MakesElements self.old.parts.elements self.new.parts.elements
+            (elements_needed (state_in_place self.old) (Delete plan))) }
+        ensures made_frames { IfOk result (λ _. MakesFrames self.old.parts.region self.new.parts.region
+            0) }
         ensures err { OnErr result (Stays self.old.parts self.new.parts) }
         ensures needless { elements_needed (state_in_place self.old) (Delete plan) ≤ self.old.parts.elements.spare
             → IsOk result }

@@ -13,7 +13,7 @@ ghost use Rattle.storage_core.specs.Weight.{weight};
 
 use crate::storage::Storage;
 use cell_plans::{BuildPlan, DeletePlan, plan_build, plan_delete, plan_free, plan_get};
-use storage_plans::{Plan as StoragePlan, plan_obtain, plan_release, plan_store, plan_whole};
+use storage_plans::{StoragePlan, plan_obtain, plan_release, plan_store, plan_whole};
 use task_plans::{AttachPlan, EndPlan, plan_attach, plan_detach, plan_end_task, plan_run};
 use vsm_model::{Build, Cause, Get, Obtain, Release, Reply, Service};
 

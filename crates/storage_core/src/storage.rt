@@ -1,11 +1,11 @@
 ghost use Rattle.std.specs.Prelude.{◌≡◌, true, [], IfOk};
 ghost use Rattle.vsm_model.specs.Regions.{settings_valid};
 ghost use Rattle.storage_swap.specs.Fresh.{first_storage};
-ghost use Rattle.storage_history.specs.Apart.{AreWhole};
+ghost use Rattle.storage_swap.specs.Apart.{AreWhole};
 ghost use Rattle.storage_core.specs.Held.{IsHeld, IsHeld-prop};
 
 use std::alloc::{AllocError, Global};
-use storage_exchange::Storage as Parts;
+use storage_exchange::Parts;
 use storage_swap::fresh;
 use storage_swap::laws::first_is_first;
 use vsm_model::Settings;

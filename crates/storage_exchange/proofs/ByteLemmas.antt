@@ -15,7 +15,7 @@ use Rattle.storage_changes.specs.declared.record.Record.TheVariants.{Bytes}
 use Rattle.storage_changes.specs.Steps.{bytes_step}
 use Rattle.storage_changes.specs.Turned.{read}
 use Rattle.storage_changes.specs.Fits.{BytesFits}
-use Rattle.storage_exchange.specs.declared.storage.Storage.{Storage}
+use Rattle.storage_exchange.specs.declared.storage.Parts.{Parts}
 use Rattle.storage_exchange.specs.Storage.{state_of, walk_of, hold_with, StandsWith}
 use Rattle.storage_exchange.specs.Exchange.{Exchanges}
 use Rattle.storage_changes.proofs.Cases.{cond-in, cond-out}
@@ -37,7 +37,7 @@ list-read (suc n) (x ∷ xs) f a e h =
     let rest : xs ≡ read f (suc a) n = list-read n xs f (suc a) (omega (arith, e)) (λ i l. ap f (next-place a i) ∙ h (suc i) (omega (arith, l))) in
     λ j. first j ∷ rest j
 
-module _ (p : Storage) (r : BytesRecord) (given : List PageFrame) (parked : Head) (kept : ℕ) (h : BytesFits (walk_of p given parked kept) r) where
+module _ (p : Parts) (r : BytesRecord) (given : List PageFrame) (parked : Head) (kept : ℕ) (h : BytesFits (walk_of p given parked kept) r) where
   pub in-block : (a : ℕ) → a / 16 ≡ r.block → (is_unassigned p.elements p.unassigned (a / 4096) ≡ false) × IsSome (byte_at p.region a)
   in-block a e = not-masked (is_unassigned p.elements p.unassigned (a / 4096)) (byte_at p.region a) (h.there a e)
 
@@ -110,9 +110,9 @@ module _ (p : Storage) (r : BytesRecord) (given : List PageFrame) (parked : Head
       go false o = ap (λ (z : Option ℕ). if is_unassigned p.elements p.unassigned (a / 4096) then z else None) (elsewhere a o)
 
 -- whatever frames and subpools the change has
-module _ (p : Storage) (r : BytesRecord) (region : Tables) (new : List ℕ) (swaps : Swaps p.region region r.bytes new (16 * r.block) 0 (length r.bytes))
+module _ (p : Parts) (r : BytesRecord) (region : Tables) (new : List ℕ) (swaps : Swaps p.region region r.bytes new (16 * r.block) 0 (length r.bytes))
     (tables : SameTables p.region region) (counts : Counts region p.region.spare p.region.out p.region.made) where
-  abbrev t : Storage
+  abbrev t : Parts
   t = record p { region = region }
 
   pub bytes-exchanged : (given : List PageFrame) (parked : Head) → StandsWith p parked → Exchanges p t given given parked parked (Bytes r)

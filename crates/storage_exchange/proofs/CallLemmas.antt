@@ -13,11 +13,11 @@ use Rattle.task_tree.specs.TaskTree
 use Rattle.subpool_storage.specs.declared.storage.SubpoolStorage.{SubpoolStorage as Subpools}
 use Rattle.subpool_storage.specs.SubpoolStorage
 use Rattle.subpool_storage.proofs.LawLemmas.{storage_owns}
-use Rattle.storage_exchange.specs.declared.storage.Storage.{Storage}
+use Rattle.storage_exchange.specs.declared.storage.Parts.{Parts}
 use Rattle.storage_exchange.specs.Storage.{hold_with, StandsWith}
 use Rattle.storage_exchange.proofs.StructureLemmas.{PagesStay, SubpoolsStay, TasksStay, pages-stay, subpools-stay, tasks-stay, pages-live, pages-once, tasks-live, tasks-once, two-live, three-live}
 
-module _ (p : Storage) (parked : Subpools) (k : StandsWith p parked) (e : Store) where
+module _ (p : Parts) (parked : Subpools) (k : StandsWith p parked) (e : Store) where
   -- whose an element was
 
   abbrev in_pages : ℕ → ℕ
@@ -46,7 +46,7 @@ module _ (p : Storage) (parked : Subpools) (k : StandsWith p parked) (e : Store)
 
   -- a call on the subpools
   module _ (q : Subpools) (m : Moves p.elements e in_subpools (SubpoolStorage.hold e q)) (new : SubpoolStorage.Stands e q) where
-    abbrev pub with-subpools : Storage
+    abbrev pub with-subpools : Parts
     with-subpools = record { elements = e; region = p.region; unassigned = p.unassigned; subpools = q; tasks = p.tasks }
 
     beside-subpools : ((i : ℕ) → 0 < in_pages i + in_tasks i + in_parked i → at e i ≡ at p.elements i) × ((i : ℕ) → SubpoolStorage.hold e q i + (in_pages i + in_tasks i + in_parked i) ≤ 1)
@@ -75,7 +75,7 @@ module _ (p : Storage) (parked : Subpools) (k : StandsWith p parked) (e : Store)
 
   -- a call on the unassigned pages
   module _ (q : PageSet) (region : Tables) (m : Moves p.elements e in_pages (λ i. times i (Pages.owned e q))) (new : IsPages e q) where
-    abbrev pub with-pages : Storage
+    abbrev pub with-pages : Parts
     with-pages = record { elements = e; region = region; unassigned = q; subpools = p.subpools; tasks = p.tasks }
 
     beside-pages : ((i : ℕ) → 0 < in_subpools i + in_tasks i + in_parked i → at e i ≡ at p.elements i) × ((i : ℕ) → times i (Pages.owned e q) + (in_subpools i + in_tasks i + in_parked i) ≤ 1)
@@ -104,7 +104,7 @@ module _ (p : Storage) (parked : Subpools) (k : StandsWith p parked) (e : Store)
 
   -- a call on the tasks
   module _ (q : Tree) (m : Moves p.elements e in_tasks (λ i. times i (TaskTree.owned e q))) (new : IsTaskTree e q) where
-    abbrev pub with-tasks : Storage
+    abbrev pub with-tasks : Parts
     with-tasks = record { elements = e; region = p.region; unassigned = p.unassigned; subpools = p.subpools; tasks = q }
 
     beside-tasks : ((i : ℕ) → 0 < in_pages i + in_subpools i + in_parked i → at e i ≡ at p.elements i) × ((i : ℕ) → times i (TaskTree.owned e q) + (in_pages i + in_subpools i + in_parked i) ≤ 1)
@@ -134,7 +134,7 @@ module _ (p : Storage) (parked : Subpools) (k : StandsWith p parked) (e : Store)
   -- what one subpool has, or one cell pool, changes places with what is parked
   module _ (q others : Subpools) (m : Moves p.elements e (λ i. in_subpools i + in_parked i) (λ i. SubpoolStorage.hold e q i + SubpoolStorage.hold e others i)) (new : SubpoolStorage.Stands e q) (new-parked : SubpoolStorage.Stands e others)
       (apart : (i : ℕ) → SubpoolStorage.hold e q i + SubpoolStorage.hold e others i ≤ 1) where
-    abbrev pub with-exchanged : Storage
+    abbrev pub with-exchanged : Parts
     with-exchanged = record { elements = e; region = p.region; unassigned = p.unassigned; subpools = q; tasks = p.tasks }
 
     beside-exchanged : ((i : ℕ) → 0 < in_pages i + in_tasks i → at e i ≡ at p.elements i) × ((i : ℕ) → (SubpoolStorage.hold e q i + SubpoolStorage.hold e others i) + (in_pages i + in_tasks i) ≤ 1)

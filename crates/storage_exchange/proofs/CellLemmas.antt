@@ -20,7 +20,7 @@ use Rattle.storage_changes.specs.Walk.{Walk}
 use Rattle.storage_changes.specs.Steps.{step, extent_elements}
 use Rattle.storage_changes.specs.Fits.{IsExtent, CellPoolFits, CellExtentFits, CellFits}
 use Rattle.storage_changes.proofs.Cases.{cond-in, cond-out}
-use Rattle.storage_exchange.specs.declared.storage.Storage.{Storage}
+use Rattle.storage_exchange.specs.declared.storage.Parts.{Parts}
 use Rattle.storage_exchange.specs.Storage.{walk_of, StandsWith}
 use Rattle.storage_exchange.specs.Exchange.{Exchanges}
 use Rattle.storage_exchange.proofs.WalkLemmas.{walk-by-places}
@@ -32,12 +32,12 @@ abbrev walk_between : Walk → Subpools → Subpools → Walk
 walk_between w subpools parked = record w { state = record w.state { subpools = subpools }; parked = parked }
 
 -- what changes places with what is parked
-module _ (p : Storage) (parked : Head) (k : StandsWith p parked) (e : Store) (q others : Head) (now parked-now : Subpools)
+module _ (p : Parts) (parked : Head) (k : StandsWith p parked) (e : Store) (q others : Head) (now parked-now : Subpools)
     (new : SubpoolStorage.Stands e q) (new-parked : SubpoolStorage.Stands e others) (is : subpools_of e q ≡ now) (parked-is : subpools_of e others ≡ parked-now)
     (moved : Moves p.elements e (λ i. SubpoolStorage.hold p.elements p.subpools i + SubpoolStorage.hold p.elements parked i) (λ i. SubpoolStorage.hold e q i + SubpoolStorage.hold e others i))
     (apart : (i : ℕ) → SubpoolStorage.hold e q i + SubpoolStorage.hold e others i ≤ 1)
     (spares : e.spare ≡ p.elements.spare) (as-many : made e ≡ made p.elements) where
-  abbrev t : Storage
+  abbrev t : Parts
   t = with-exchanged p parked k e q others moved new new-parked apart
 
   between : (given : List PageFrame) (kept : ℕ) → walk_of t given others kept ≡ walk_between (walk_of p given parked kept) now parked-now
@@ -63,7 +63,7 @@ module _ (p : Storage) (parked : Head) (k : StandsWith p parked) (e : Store) (q 
   }
 
 -- the pages, the free storage and the cell pools of a subpool, and a cell pool
-module _ (p : Storage) (parked : Head) (k : StandsWith p parked) (e : Store) (q others : Head)
+module _ (p : Parts) (parked : Head) (k : StandsWith p parked) (e : Store) (q others : Head)
     (new : SubpoolStorage.Stands e q) (new-parked : SubpoolStorage.Stands e others)
     (moved : Moves p.elements e (λ i. SubpoolStorage.hold p.elements p.subpools i + SubpoolStorage.hold p.elements parked i) (λ i. SubpoolStorage.hold e q i + SubpoolStorage.hold e others i))
     (apart : (i : ℕ) → SubpoolStorage.hold e q i + SubpoolStorage.hold e others i ≤ 1)
@@ -83,7 +83,7 @@ module _ (p : Storage) (parked : Head) (k : StandsWith p parked) (e : Store) (q 
   pool-exchanged r is parked-is given = changed-places p parked k e q others (with_pool_of had had-parked r.pool) (with_pool_of had-parked had r.pool) new new-parked is parked-is moved apart spares as-many given (CellPool r) (λ kept. refl)
 
 -- the last extent of a cell pool
-module _ (p : Storage) (e : Store) (q : Head) (pool start count : ℕ) where
+module _ (p : Parts) (e : Store) (q : Head) (pool start count : ℕ) where
   abbrev cell_extent_record : Bool → CellExtentRecord
   cell_extent_record present = record { pool = pool; start = start; count = count; present = present }
 
@@ -106,7 +106,7 @@ module _ (p : Storage) (e : Store) (q : Head) (pool start count : ℕ) where
       (λ kept le h. (omega (arith, spares, le), ap (walk_with (walk_of p given parked kept) without-extent) (omega (arith, spares, le))))
 
 -- the first free cell of a cell pool
-module _ (p : Storage) (e : Store) (q : Head) (pool cell : ℕ) where
+module _ (p : Parts) (e : Store) (q : Head) (pool cell : ℕ) where
   abbrev cell_record : Bool → CellRecord
   cell_record free = record { pool = pool; cell = cell; free = free }
 

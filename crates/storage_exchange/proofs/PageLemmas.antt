@@ -22,7 +22,7 @@ use Rattle.storage_changes.specs.declared.record.PagesRecord.{PagesRecord}
 use Rattle.storage_changes.specs.declared.record.Record.TheVariants.{Pages as Assignment}
 use Rattle.storage_changes.specs.Steps.{pages_step}
 use Rattle.storage_changes.specs.Fits.{PagesFits}
-use Rattle.storage_exchange.specs.declared.storage.Storage.{Storage}
+use Rattle.storage_exchange.specs.declared.storage.Parts.{Parts}
 use Rattle.storage_exchange.specs.Storage.{walk_of, byte_held, StandsWith}
 use Rattle.storage_exchange.specs.Exchange.{HavePlaces, Exchanges}
 use Rattle.storage_changes.proofs.Cases.{cond-in, cond-out}
@@ -59,7 +59,7 @@ given-out false o g g' y h k l = l refl
 
 -- a run of pages is assigned
 
-module _ (p : Storage) (e : Store) (q : PageSet) (run : Run) (owned : Leaves p.elements e (Pages.owned p.elements p.unassigned) (Pages.owned e q)) (new : IsPages e q)
+module _ (p : Parts) (e : Store) (q : PageSet) (run : Run) (owned : Leaves p.elements e (Pages.owned p.elements p.unassigned) (Pages.owned e q)) (new : IsPages e q)
     (is : (page : ℕ) → is_unassigned e q page ≡ (not (inside page run) && is_unassigned p.elements p.unassigned page))
     (spares : e.spare + joins (λ page. is_unassigned p.elements p.unassigned page) run ≡ p.elements.spare + 1) where
   moved : Moves p.elements e (λ i. times i (Pages.owned p.elements p.unassigned)) (λ i. times i (Pages.owned e q))
@@ -68,7 +68,7 @@ module _ (p : Storage) (e : Store) (q : PageSet) (run : Run) (owned : Leaves p.e
   abbrev r : PagesRecord
   r = record { run = run; assigned = true }
 
-  abbrev t : Storage
+  abbrev t : Parts
   t = record p { elements = e; unassigned = q }
 
   is-in : (page : ℕ) → is_unassigned e q page ≡ (if inside page run then false else is_unassigned p.elements p.unassigned page)
@@ -103,7 +103,7 @@ module _ (p : Storage) (e : Store) (q : PageSet) (run : Run) (owned : Leaves p.e
 first-address : (page : ℕ) → (4096 * page) / 4096 ≡ page
 first-address page = omega arith
 
-module _ (p : Storage) (run : Run) (given : List PageFrame) (parked : Head) (kept : ℕ) (h : PagesFits (walk_of p given parked kept) (record { run = run; assigned = false })) where
+module _ (p : Parts) (run : Run) (given : List PageFrame) (parked : Head) (kept : ℕ) (h : PagesFits (walk_of p given parked kept) (record { run = run; assigned = false })) where
   in-run : (page : ℕ) → inside page run ≡ true → inside ((4096 * page) / 4096) run ≡ true
   in-run page i = ap (λ (z : ℕ). inside z run) (first-address page) ∙ i
 
@@ -141,7 +141,7 @@ module _ (s region : Tables) (frames : List PageFrame) (run : Run) (parks : Park
     go true i = i
     go false o = absurd (no-frame (held_at frames page) (beside page o).0 some)
 
-module _ (p : Storage) (e : Store) (q : PageSet) (run : Run) (owned : Leaves p.elements e (Pages.owned p.elements p.unassigned) (Pages.owned e q)) (new : IsPages e q)
+module _ (p : Parts) (e : Store) (q : PageSet) (run : Run) (owned : Leaves p.elements e (Pages.owned p.elements p.unassigned) (Pages.owned e q)) (new : IsPages e q)
     (is : (page : ℕ) → is_unassigned e q page ≡ (inside page run || is_unassigned p.elements p.unassigned page))
     (spares : e.spare + 1 ≡ p.elements.spare + joins (λ page. is_unassigned p.elements p.unassigned page) run)
     (given given' frames : List PageFrame) (region : Tables) (parks : Parks p.region region frames run.start run.len) (tables : SameTables p.region region)
@@ -153,7 +153,7 @@ module _ (p : Storage) (e : Store) (q : PageSet) (run : Run) (owned : Leaves p.e
   abbrev l : PagesRecord
   l = record { run = run; assigned = false }
 
-  abbrev u : Storage
+  abbrev u : Parts
   u = record p { elements = e; unassigned = q; region = region }
 
   is-out : (page : ℕ) → is_unassigned e q page ≡ (if inside page run then true else is_unassigned p.elements p.unassigned page)

@@ -20,7 +20,7 @@ use Rattle.storage_changes.specs.declared.record.Record.TheVariants.{Area, Exten
 use Rattle.storage_changes.specs.Walk.{Walk}
 use Rattle.storage_changes.specs.Steps.{step}
 use Rattle.storage_changes.specs.Fits.{Fits}
-use Rattle.storage_exchange.specs.declared.storage.Storage.{Storage}
+use Rattle.storage_exchange.specs.declared.storage.Parts.{Parts}
 use Rattle.storage_exchange.specs.Storage.{walk_of, StandsWith}
 use Rattle.storage_exchange.specs.Exchange.{Exchanges}
 use Rattle.storage_exchange.proofs.WalkLemmas.{walk-by-places}
@@ -33,8 +33,8 @@ tables-same s = record { tables = λ page. refl; segments = λ page. refl }
 abbrev pub walk_with : Walk → Subpools → ℕ → Walk
 walk_with w subpools spare = record w { state = record w.state { subpools = subpools }; spare = spare }
 
-module _ (p : Storage) (e : Store) (q parked : Head) (k : StandsWith p parked) (now : Subpools) (b : Becomes p.elements e p.subpools q now) where
-  abbrev t : Storage
+module _ (p : Parts) (e : Store) (q parked : Head) (k : StandsWith p parked) (now : Subpools) (b : Becomes p.elements e p.subpools q now) where
+  abbrev t : Parts
   t = with-subpools p parked k e q b.moves b.stands
 
   walk-now : (given : List PageFrame) (kept : ℕ) → walk_of t given parked kept ≡ walk_with (walk_of p given parked kept) now (e.spare - kept)
@@ -64,7 +64,7 @@ module _ (p : Storage) (e : Store) (q parked : Head) (k : StandsWith p parked) (
 
 -- the doublewords of an area
 
-module _ (p : Storage) (e : Store) (subpool : Subpool) (area : Run) where
+module _ (p : Parts) (e : Store) (subpool : Subpool) (area : Run) where
   abbrev area_record : Bool → AreaRecord
   area_record free = record { subpool = subpool; area = area; free = free }
 
@@ -90,7 +90,7 @@ module _ (p : Storage) (e : Store) (subpool : Subpool) (area : Run) where
 
 -- the pages of a run
 
-module _ (p : Storage) (e : Store) (subpool : Subpool) (run : Run) where
+module _ (p : Parts) (e : Store) (subpool : Subpool) (run : Run) where
   abbrev extent_record : Bool → ExtentRecord
   extent_record present = record { subpool = subpool; run = run; present = present }
 
@@ -116,7 +116,7 @@ module _ (p : Storage) (e : Store) (subpool : Subpool) (run : Run) where
 
 -- an owner's subpool
 
-module _ (p : Storage) (e : Store) (q : Head) (subpool : Subpool) where
+module _ (p : Parts) (e : Store) (q : Head) (subpool : Subpool) where
   abbrev own_record : Bool → OwnRecord
   own_record present = record { subpool = subpool; present = present }
 
@@ -140,7 +140,7 @@ module _ (p : Storage) (e : Store) (q : Head) (subpool : Subpool) where
 
 -- a subpool that another task sees
 
-module _ (p : Storage) (e : Store) (q : Head) (subpool : Subpool) (task : ℕ) where
+module _ (p : Parts) (e : Store) (q : Head) (subpool : Subpool) (task : ℕ) where
   abbrev sharer_record : Bool → SharerRecord
   sharer_record present = record { subpool = subpool; task = task; present = present }
 
@@ -164,7 +164,7 @@ module _ (p : Storage) (e : Store) (q : Head) (subpool : Subpool) (task : ℕ) w
 
 -- a subpool that passes to another task
 
-pub passed : (p : Storage) (e : Store) (q : Head) (r : PassRecord)
+pub passed : (p : Parts) (e : Store) (q : Head) (r : PassRecord)
     → Becomes p.elements e p.subpools q (with_passed (subpools_of p.elements p.subpools) r.subpool r.to) → e.spare ≡ p.elements.spare
     → (given : List PageFrame) (parked : Head) → StandsWith p parked → Exchanges p (record p { elements = e; subpools = q }) given given parked parked (Pass r)
 passed p e q r b spares given parked k =
@@ -187,11 +187,11 @@ own-as r v e = λ i. Own (record { subpool = r.subpool; present = sym e i })
 pub sharer-as : (r : SharerRecord) (v : Bool) → r.present ≡ v → Sharer (record { subpool = r.subpool; task = r.task; present = v }) ≡ Sharer r
 sharer-as r v e = λ i. Sharer (record { subpool = r.subpool; task = r.task; present = sym e i })
 
-pub exchanges-as : (p t : Storage) (given given' : List PageFrame) (parked parked' : Head) (r s : Record) → r ≡ s → Exchanges p t given given' parked parked' r → Exchanges p t given given' parked parked' s
+pub exchanges-as : (p t : Parts) (given given' : List PageFrame) (parked parked' : Head) (r s : Record) → r ≡ s → Exchanges p t given given' parked parked' r → Exchanges p t given given' parked parked' s
 exchanges-as p t given given' parked parked' r s e h = let P : Record → Type 0 = λ z. Exchanges p t given given' parked parked' z in subst P e h
 
 -- a storage and a record that are equal to those
-pub exchanges-by : (p t u : Storage) (given : List PageFrame) (parked : Head) (r s : Record) → u ≡ t → r ≡ s → Exchanges p t given given parked parked r → Exchanges p u given given parked parked s
+pub exchanges-by : (p t u : Parts) (given : List PageFrame) (parked : Head) (r s : Record) → u ≡ t → r ≡ s → Exchanges p t given given parked parked r → Exchanges p u given given parked parked s
 exchanges-by p t u given parked r s e k h =
-    let P : Storage → Type 0 = λ z. Exchanges p z given given parked parked s in
+    let P : Parts → Type 0 = λ z. Exchanges p z given given parked parked s in
     subst P (sym e) (exchanges-as p t given given parked parked r s k h)

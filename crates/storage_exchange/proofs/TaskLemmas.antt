@@ -23,7 +23,7 @@ use Rattle.storage_changes.specs.State.{Tasks}
 use Rattle.storage_changes.specs.Walk.{Walk}
 use Rattle.storage_changes.specs.Steps.{step}
 use Rattle.storage_changes.specs.Fits.{Fits}
-use Rattle.storage_exchange.specs.declared.storage.Storage.{Storage}
+use Rattle.storage_exchange.specs.declared.storage.Parts.{Parts}
 use Rattle.storage_exchange.specs.Storage.{tasks_of, walk_of, StandsWith}
 use Rattle.storage_exchange.specs.Exchange.{Exchanges}
 use Rattle.storage_changes.proofs.Cases.{cond-in, cond-out, and-false}
@@ -66,11 +66,11 @@ abbrev pub walk_with_tasks : Walk → Tasks → ℕ → Walk
 walk_with_tasks w tasks spare = record w { state = record w.state { tasks = tasks }; spare = spare }
 
 -- the tasks are these now
-module _ (p : Storage) (e : Store) (q : Tree) (now : Tasks) (new : IsTaskTree e q)
+module _ (p : Parts) (e : Store) (q : Tree) (now : Tasks) (new : IsTaskTree e q)
     (moved : Moves p.elements e (λ i. times i (TaskTree.owned p.elements p.tasks)) (λ i. times i (TaskTree.owned e q))) (as-many : made e ≡ made p.elements)
     (is-current : current q ≡ now.current) (parents : (task : ℕ) → parent e q task ≡ now.parents task)
     (words : (task k : ℕ) → (if nat_lt k 16 then word e q task k else 0) ≡ now.words task k) where
-  abbrev t : Storage
+  abbrev t : Parts
   t = record p { elements = e; tasks = q }
 
   module _ (given : List PageFrame) (parked : Head) (k : StandsWith p parked) where
@@ -100,7 +100,7 @@ module _ (p : Storage) (e : Store) (q : Tree) (now : Tasks) (new : IsTaskTree e 
     }
 
 -- a register
-module _ (p : Storage) (e : Store) (r : RegisterRecord) (low : r.register < 16) (new : IsTaskTree e p.tasks)
+module _ (p : Parts) (e : Store) (r : RegisterRecord) (low : r.register < 16) (new : IsTaskTree e p.tasks)
     (parents : (task : ℕ) → parent e p.tasks task ≡ parent p.elements p.tasks task)
     (words : (task k : ℕ) → k < 16 → word e p.tasks task k ≡ (if (task == r.task) && (k == r.register) then r.word else word p.elements p.tasks task k))
     (owned : Leaves p.elements e (TaskTree.owned p.elements p.tasks) (TaskTree.owned e p.tasks)) (spares : e.spare ≡ p.elements.spare) where
@@ -115,7 +115,7 @@ module _ (p : Storage) (e : Store) (r : RegisterRecord) (low : r.register < 16) 
       given parked k (Register r) (λ kept le fits. (omega (arith, le, spares), ap (walk_with_tasks (walk_of p given parked kept) with-register) (ap (λ (z : ℕ). z - kept) spares)))
 
 -- four registers
-module _ (p : Storage) (e : Store) (r : RegistersRecord) (high : r.first + 4 ≤ 16) (new : IsTaskTree e p.tasks)
+module _ (p : Parts) (e : Store) (r : RegistersRecord) (high : r.first + 4 ≤ 16) (new : IsTaskTree e p.tasks)
     (parents : (task : ℕ) → parent e p.tasks task ≡ parent p.elements p.tasks task)
     (words : FirstWritten (λ task k. word p.elements p.tasks task k) (λ task k. word e p.tasks task k) r.task r.first r.words 4)
     (owned : Leaves p.elements e (TaskTree.owned p.elements p.tasks) (TaskTree.owned e p.tasks)) (spares : e.spare ≡ p.elements.spare) where
@@ -149,7 +149,7 @@ module _ (old new : ℕ → ℕ → ℕ) (t : ℕ) (zeros : (k : ℕ) → (if na
     go false e = refl
 
 -- a task that comes or goes
-module _ (p : Storage) (e : Store) (q : Tree) (task under : ℕ) (zeros : (k : ℕ) → (tasks_of p).words task k ≡ 0) (new : IsTaskTree e q)
+module _ (p : Parts) (e : Store) (q : Tree) (task under : ℕ) (zeros : (k : ℕ) → (tasks_of p).words task k ≡ 0) (new : IsTaskTree e q)
     (is-current : current q ≡ current p.tasks)
     (words : (x k : ℕ) → k < 16 → word e q x k ≡ (if x == task then 0 else word p.elements p.tasks x k))
     (owned : Leaves p.elements e (TaskTree.owned p.elements p.tasks) (TaskTree.owned e q)) where

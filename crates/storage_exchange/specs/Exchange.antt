@@ -9,11 +9,11 @@ use Rattle.subpool_storage.specs.declared.storage.SubpoolStorage.{SubpoolStorage
 use Rattle.storage_changes.specs.declared.record.Record.{Record}
 use Rattle.storage_changes.specs.Steps.{step}
 use Rattle.storage_changes.specs.Fits.{Fits}
-use Rattle.storage_exchange.specs.declared.storage.Storage.{Storage}
+use Rattle.storage_exchange.specs.declared.storage.Parts.{Parts}
 use Rattle.storage_exchange.specs.Storage.{hold_with, walk_of, StandsWith}
 
 -- each of the frames can stand in a table
-abbrev pub HavePlaces : Storage → List PageFrame → Type 0
+abbrev pub HavePlaces : Parts → List PageFrame → Type 0
 HavePlaces p frames = (page : ℕ) → IsSome (held_at frames page) → IsTrue (has_table p.region page)
 
 -- no frame is made, and as many are spare
@@ -23,7 +23,7 @@ pub record SameFrames (old new : Pages) : Type 0 where
 
 -- The storage took the record's step, whatever elements are kept, and no element was made. The frames that the change
 -- was given before and after are `given` and `given'`, the subpools that it has parked `parked` and `parked'`.
-pub record Exchanges (p t : Storage) (given given' : List PageFrame) (parked parked' : SubpoolStorage) (r : Record)
+pub record Exchanges (p t : Parts) (given given' : List PageFrame) (parked parked' : SubpoolStorage) (r : Record)
     : Type 0 where
   pub stands : StandsWith t parked'
   pub moves : Moves p.elements t.elements (hold_with p parked) (hold_with t parked')

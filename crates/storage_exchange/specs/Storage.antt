@@ -14,22 +14,22 @@ use Rattle.subpool_storage.specs.SubpoolStorage.{subpools_of}
 use Rattle.subpool_storage.specs.SubpoolStorage
 use Rattle.storage_changes.specs.State.{Tasks, StorageState}
 use Rattle.storage_changes.specs.Walk.{Walk}
-use Rattle.storage_exchange.specs.declared.storage.Storage.{Storage}
+use Rattle.storage_exchange.specs.declared.storage.Parts.{Parts}
 
 -- how often the storage holds an element
-abbrev pub hold : Storage → ℕ → ℕ
+abbrev pub hold : Parts → ℕ → ℕ
 hold p i =
     times i (Pages.owned p.elements p.unassigned) + SubpoolStorage.hold p.elements p.subpools i
     + times i (TaskTree.owned p.elements p.tasks)
 
 -- each structure stands
-pub record Stand (p : Storage) : Type 0 where
+pub record Stand (p : Parts) : Type 0 where
   pub unassigned : IsPages p.elements p.unassigned
   pub subpools : SubpoolStorage.Stands p.elements p.subpools
   pub tasks : IsTaskTree p.elements p.tasks
 
 -- the tasks and their registers: a number past 15 is no register's
-abbrev pub tasks_of : Storage → Tasks
+abbrev pub tasks_of : Parts → Tasks
 tasks_of p =
     record {
       current = current p.tasks;
@@ -38,7 +38,7 @@ tasks_of p =
     }
 
 -- the state: an unassigned page has no bytes
-abbrev pub state_of : Storage → StorageState
+abbrev pub state_of : Parts → StorageState
 state_of p =
     record {
       tasks = tasks_of p;
@@ -48,7 +48,7 @@ state_of p =
     }
 
 -- an unassigned page has no frame
-abbrev pub IsFrameless : Storage → Type 0
+abbrev pub IsFrameless : Parts → Type 0
 IsFrameless p = (page : ℕ) → (state_of p).unassigned page ≡ true → bytes_at p.region page ≡ None
 
 -- the byte at an address, where its page's frame is among these
@@ -57,7 +57,7 @@ byte_held frames a = byte_of (held_at frames (a / 4096)) (a % 4096)
 
 -- Among the records of a change, where `kept` elements are no blank ones of the change: the frames that are yet to be
 -- brought stand in the tables at pages that are unassigned.
-abbrev pub walk_of : Storage → List PageFrame → SubpoolStorage → ℕ → Walk
+abbrev pub walk_of : Parts → List PageFrame → SubpoolStorage → ℕ → Walk
 walk_of p given parked kept =
     record {
       state = state_of p;
@@ -68,11 +68,11 @@ walk_of p given parked kept =
     }
 
 -- how often the storage and the subpools that a change has parked hold an element
-abbrev pub hold_with : Storage → SubpoolStorage → ℕ → ℕ
+abbrev pub hold_with : Parts → SubpoolStorage → ℕ → ℕ
 hold_with p parked i = hold p i + SubpoolStorage.hold p.elements parked i
 
 -- the storage stands, and parked subpools beside it, and no element has two owners
-pub record StandsWith (p : Storage) (others : SubpoolStorage) : Type 0 where
+pub record StandsWith (p : Parts) (others : SubpoolStorage) : Type 0 where
   pub storage : Stand p
   pub parked : SubpoolStorage.Stands p.elements others
   pub once : (i : ℕ) → hold_with p others i ≤ 1

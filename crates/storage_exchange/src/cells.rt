@@ -8,11 +8,11 @@ ghost use Rattle.storage_changes.specs.Fits.{CellPoolFits, CellExtentFits, CellF
 ghost use Rattle.storage_exchange.specs.Storage.{walk_of, Stand, StandsWith};
 ghost use Rattle.storage_exchange.specs.Exchange.{Exchanges};
 
-use crate::storage::Storage;
+use crate::storage::Parts;
 use storage_changes::{CellExtentRecord, CellPoolRecord, CellRecord};
 use subpool_storage::SubpoolStorage;
 
-impl Storage {
+impl Parts {
     // The cell pool is there, or it is parked, and the record by which that is taken back is answered.
     pub(crate) fn exchange_cell_pool(
         &mut self,

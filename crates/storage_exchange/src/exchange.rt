@@ -14,7 +14,7 @@ ghost use Rattle.storage_changes.specs.Fits.{RegisterFits, RegistersFits, BytesF
 ghost use Rattle.storage_exchange.specs.Storage.{state_of, walk_of, Stand, StandsWith};
 ghost use Rattle.storage_exchange.specs.Exchange.{Exchanges};
 
-use crate::storage::Storage;
+use crate::storage::Parts;
 use raw_region::Parked;
 use run_set::Run;
 use std::mem;
@@ -24,7 +24,7 @@ use storage_changes::{
 };
 use subpool_storage::SubpoolStorage;
 
-impl Storage {
+impl Parts {
     /// Exchanges a record with the storage: its places get its value, and the record with the value that they had is
     /// answered.
     ///

@@ -6,4 +6,4 @@ mod exchange;
 mod sharing;
 mod storage;
 
-pub use storage::Storage;
+pub use storage::Parts;

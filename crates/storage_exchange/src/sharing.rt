@@ -9,11 +9,11 @@ ghost use Rattle.storage_changes.specs.Fits.{TaskFits, TurnFits, SharerFits, Pas
 ghost use Rattle.storage_exchange.specs.Storage.{state_of, walk_of, Stand, StandsWith};
 ghost use Rattle.storage_exchange.specs.Exchange.{Exchanges};
 
-use crate::storage::Storage;
+use crate::storage::Parts;
 use storage_changes::{PassRecord, SharerRecord, TaskRecord, TurnRecord};
 use vsm_model::Subpool;
 
-impl Storage {
+impl Parts {
     // The task is there, or it is gone, and the record by which that is taken back is answered.
     pub(crate) fn exchange_task(&mut self, r: TaskRecord) -> TaskRecord
         requires stands { Stand self.old }

@@ -9,7 +9,7 @@ use vsm_elements::Elements;
 ///
 /// It owns every element that is not a change's.
 #[derive(Drop)]
-pub struct Storage {
+pub struct Parts {
     pub elements: Elements,
     pub region: Region,
     pub unassigned: Pages,

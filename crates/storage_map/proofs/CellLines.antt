@@ -4,11 +4,11 @@ use Rattle.std.specs.Prelude.{IfSome, option_map, option_copied}
 use Rattle.std.proofs.lemmas.List.Folds.{flat_map-map}
 use Rattle.arrayvec.specs.ArrayString.{ArrayString}
 use Rattle.cell_extents.specs.declared.settings.Extent.{Extent}
-use Rattle.cell_extents.specs.declared.settings.Settings.{Settings}
+use Rattle.cell_extents.specs.declared.settings.CellSettings.{CellSettings}
 use Rattle.cell_pool.specs.Pools.{Pool, rounded}
-use Rattle.cell_tables.specs.Order.{rows_behind}
-use Rattle.cell_tables.specs.Table.{extent_of, cell_pool_of}
-use Rattle.map_laws.specs.Cells.{EndInRegions}
+use Rattle.storage_changes.specs.TableOrder.{rows_behind}
+use Rattle.storage_changes.specs.PoolTable.{extent_of, cell_pool_of}
+use Rattle.change_laws.specs.MapCells.{EndInRegions}
 use Rattle.text_output.specs.Writing.{Puts}
 use Rattle.text_output.specs.declared.writing.Gathered.{Gathered}
 use Rattle.vsm_model.specs.CellPools.{CellPool, CellPools, CellExtent, extent_doublewords}
@@ -32,7 +32,7 @@ low_is None p e = ap (option_map (λ (n : ArrayString). n.bytes)) e
 low_is (Some r) p e = ap (option_map (λ (n : ArrayString). n.bytes)) e
 
 -- the lines of a cell pool: its first one, and those of extents and free cells
-abbrev pub lines_of : List ℕ → Settings → Option (List ℕ) → List Extent → List ℕ → List ℕ
+abbrev pub lines_of : List ℕ → CellSettings → Option (List ℕ) → List Extent → List ℕ → List ℕ
 lines_of name settings header extents cells =
     cell_pool_line name settings header ++ flat_map (cell_extent_line settings.size) extents ++ flat_map free_cell_line cells
 
@@ -42,7 +42,7 @@ lines_are p =
     (sym (flat_map-map (λ (x : CellExtent). area_line (codes "  EXTENT") x.address (8 * extent_doublewords (cell_pool_of p) x.cells)) extent_of p.extents))
 
 -- What is put of a cell pool's parts is put of the cell pool.
-pub pool_put : (old new : Option (List ℕ)) (a b : Gathered) (o : Option Pool) (name : List ℕ) (settings : Settings) (header : Option (List ℕ)) (extents : List Extent) (cells : List ℕ)
+pub pool_put : (old new : Option (List ℕ)) (a b : Gathered) (o : Option Pool) (name : List ℕ) (settings : CellSettings) (header : Option (List ℕ)) (extents : List Extent) (cells : List ℕ)
     → IfSome o (λ p. name ≡ p.name) → IfSome o (λ p. settings ≡ p.settings) → IfSome o (λ p. header ≡ p.header)
     → IfSome o (λ p. extents ≡ p.extents) → IfSome o (λ p. cells ≡ p.cells)
     → Puts old new a b (lines_of name settings header extents cells)
@@ -51,7 +51,7 @@ pool_put old new a b None name settings header extents cells n s h x c put = tt
 pool_put old new a b (Some p) name settings header extents cells n s h x c put =
     subst (Puts old new a b)
     (ap (λ (z : List ℕ). lines_of z settings header extents cells) n
-    ∙ ap (λ (z : Settings). lines_of p.name z header extents cells) s
+    ∙ ap (λ (z : CellSettings). lines_of p.name z header extents cells) s
     ∙ ap (λ (z : Option (List ℕ)). lines_of p.name p.settings z extents cells) h
     ∙ ap (λ (z : List Extent). lines_of p.name p.settings p.header z cells) x
     ∙ ap (λ (z : List ℕ). lines_of p.name p.settings p.header p.extents z) c
@@ -59,12 +59,12 @@ pool_put old new a b (Some p) name settings header extents cells n s h x c put =
     put
 
 -- its extents end in the regions
-pub pool_ends : (o : Option Pool) (settings : Settings) (extents : List Extent) → IsSome o → IfSome o EndInRegions
+pub pool_ends : (o : Option Pool) (settings : CellSettings) (extents : List Extent) → IsSome o → IfSome o EndInRegions
     → IfSome o (λ p. settings ≡ p.settings) → IfSome o (λ p. extents ≡ p.extents)
     → All (λ (x : Extent). x.start + rounded (x.count * settings.size) < 2 ^ 31) extents
 pool_ends None settings extents there ends s x = absurd (let no : false ≡ true = there in cc)
 pool_ends (Some p) settings extents there ends s x =
-    let P : Settings → Type 0 = λ z. All (λ (x : Extent). x.start + rounded (x.count * z.size) < 2 ^ 31) extents in
+    let P : CellSettings → Type 0 = λ z. All (λ (x : Extent). x.start + rounded (x.count * z.size) < 2 ^ 31) extents in
     let Q : List Extent → Type 0 = All (λ (x : Extent). x.start + rounded (x.count * p.settings.size) < 2 ^ 31) in
     subst P (sym s) (subst Q (sym x) ends)
 

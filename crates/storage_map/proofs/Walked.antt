@@ -1,12 +1,12 @@
 -- The subpools and sharers of a storage that a walk by places goes over.
 use Rattle.std.proofs.Common.{◌≡◌, ◌∷◌, sym, ap, ◌∙◌}
-use Rattle.map_laws.specs.Lists.{SharersAreShown}
+use Rattle.change_laws.specs.MapLists.{SharersAreShown}
 use Rattle.subpool_set.specs.Pools as pools
 use Rattle.subpool_set.specs.declared.places.PoolPlace.{PoolPlace}
 use Rattle.subpool_set.specs.declared.places.SharerPlace.{SharerPlace}
-use Rattle.cell_readings.specs.Storage.{Storage}
-use Rattle.cell_readings.specs.Meaning.{state_in_place, state_of}
-use Rattle.cell_readings.specs.Walks.{subpools_left, subpool_before, sharers_left}
+use Rattle.storage_core.specs.declared.storage.Storage.{Storage}
+use Rattle.storage_core.specs.Meaning.{state_in_place, state_of}
+use Rattle.storage_core.specs.Walks.{subpools_left, subpool_before, sharers_left}
 use Rattle.vsm_model.specs.declared.Subpool.{Subpool}
 use Rattle.vsm_model.specs.Map.{sharers}
 

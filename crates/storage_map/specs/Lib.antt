@@ -1,2 +1,3 @@
+pub mod Cells
 pub mod Totals
 pub mod Lines

@@ -4,7 +4,7 @@ use Rattle.std.specs.Prelude.{ℕ, ◌*◌, ◌==◌, if◌then◌else◌, Optio
 use Rattle.std.specs.Fmt.{decimal}
 use Rattle.run_set.specs.Runs.{Run}
 use Rattle.cell_extents.specs.declared.settings.Extent.{Extent}
-use Rattle.cell_extents.specs.declared.settings.Settings.{Settings}
+use Rattle.cell_extents.specs.declared.settings.CellSettings.{CellSettings}
 use Rattle.cell_pool.specs.Pools.{rounded}
 use Rattle.storage_map.specs.declared.counts.Totals.{Totals}
 use Rattle.vsm_model.specs.declared.Subpool.{Subpool}
@@ -29,7 +29,7 @@ subpool_line s p =
     ++ listed (sharers s p.number p.owner))
 
 -- the first line of a cell pool, with its name, what it was built with, and its header
-abbrev pub cell_pool_line : List ℕ → Settings → Option (List ℕ) → List ℕ
+abbrev pub cell_pool_line : List ℕ → CellSettings → Option (List ℕ) → List ℕ
 cell_pool_line name settings header =
     line
     (codes " CELLPOOL "

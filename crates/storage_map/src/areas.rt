@@ -1,14 +1,14 @@
 //! The lines of the extents and the free areas of a subpool.
 ghost use Rattle.std.specs.Prelude.{flat_map};
 ghost use Rattle.subpool_storage.specs.Extents.{extents, free_areas};
-ghost use Rattle.cell_readings.specs.Meaning.{state_in_place};
-ghost use Rattle.cell_readings.specs.Walks.{IsBehindSubpool, subpool_before};
+ghost use Rattle.storage_core.specs.Meaning.{state_in_place};
+ghost use Rattle.storage_core.specs.Walks.{IsBehindSubpool, subpool_before};
 ghost use Rattle.storage_map.specs.Lines.{extent_line, free_line};
 ghost use Rattle.text_output.specs.Writing.{Puts};
 
 use crate::fields::put_area;
-use cell_readings::{PoolPlace, Storage};
 use std::io::Write;
+use storage_core::{PoolPlace, Storage};
 use text_output::Gathered;
 
 /// Puts a line for each extent of the subpool before the place, ascending.

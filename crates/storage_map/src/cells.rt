@@ -1,20 +1,19 @@
 //! The lines of cell pools: what each was built with, its extents and its free cells.
 ghost use Rattle.std.specs.Prelude.{◌≡◌, ◌+◌, ◌*◌, ◌^◌, ◌<◌, All, IsSome, IfSome, flat_map, option_map};
 ghost use Rattle.cell_pool.specs.Pools.{rounded};
-ghost use Rattle.cell_readings.specs.Cells.{cell_pool, IsExtentPlace, extents_left, IsCellPlace, cells_left};
-ghost use Rattle.cell_tables.specs.Table.{cell_pool_of};
-ghost use Rattle.cell_readings.specs.Meaning.{state_of};
+ghost use Rattle.storage_map.specs.Cells.{cell_pool, IsExtentPlace, extents_left, IsCellPlace, cells_left};
+ghost use Rattle.storage_changes.specs.PoolTable.{cell_pool_of};
+ghost use Rattle.storage_core.specs.Meaning.{state_of};
 ghost use Rattle.storage_map.specs.Lines.{cell_extent_line, cell_pool_line, free_cell_line};
 ghost use Rattle.vsm_model.specs.Map.{cell_pool_lines, header_text, location_text};
 ghost use Rattle.text_output.specs.Writing.{Puts};
 
 use crate::fields::{put_area, put_field, put_hex_field};
-use cell_readings::{
-    CellId, CellPlace, Extent, ExtentPlace, Header, Name, Residence, Settings, Storage,
-    cell_pool_header, cell_pool_name, cell_pool_settings, first_cell_extent, first_free_cell,
-    next_cell_extent, next_cell_pool, next_free_cell,
-};
+use crate::pools::{cell_pool_header, cell_pool_name, cell_pool_settings, next_cell_pool};
+use crate::walks::{first_cell_extent, first_free_cell, next_cell_extent, next_free_cell};
+use cell_pool::{CellExtentPlace, CellId, CellPlace, CellSettings, Extent, Header, Name};
 use std::io::Write;
+use storage_core::{Residence, Storage};
 use text_output::Gathered;
 
 /// Puts on which side of the 16 MB line extents may lie.
@@ -46,7 +45,7 @@ pub(crate) fn put_cell_pool_line<W: Write>(
     gathered: &mut Gathered,
     writer: &mut W,
     name: &Name,
-    settings: Settings,
+    settings: CellSettings,
     header: &Option<Header>,
 )
     ensures { Puts (W.contents writer.old) (W.contents writer.new) gathered.old gathered.new
@@ -100,7 +99,7 @@ fn put_cell_extents<W: Write>(
     gathered: &mut Gathered,
     writer: &mut W,
     storage: &Storage,
-    first: ExtentPlace,
+    first: CellExtentPlace,
     size: u32,
 )
     requires place { IsExtentPlace storage.now first }

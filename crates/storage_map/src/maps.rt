@@ -1,7 +1,7 @@
 //! The whole map of a storage, and the line of its history.
 ghost use Rattle.storage_map.specs.Lines.{bytes_text, pages_text};
 ghost use Rattle.vsm_model.specs.Map.{history_line, storage_map};
-ghost use Rattle.cell_readings.specs.Meaning.{state_of, settings_of};
+ghost use Rattle.storage_core.specs.Meaning.{state_of, settings_of};
 ghost use Rattle.text_output.specs.Writing.{Puts, Writes};
 
 use crate::cells::put_cell_pools;
@@ -10,10 +10,10 @@ use crate::fields::put_field;
 use crate::subpools::put_subpools;
 use crate::sums::totals;
 use crate::tasks::put_tasks;
-use cell_readings::Storage;
-use map_laws::laws::subpools_are_shown;
+use change_laws::maps::subpools_are_shown;
 use std::io;
 use std::io::Write;
+use storage_core::Storage;
 use text_output::Gathered;
 
 /// Puts the line of the pages.

@@ -2,17 +2,17 @@
 ghost use Rattle.std.specs.Prelude.{◌≡◌, flat_map, true};
 ghost use Rattle.subpool_storage.specs.Order.{subpools_in_order};
 ghost use Rattle.subpool_storage.specs.Subpools.{is_there};
-ghost use Rattle.cell_readings.specs.Meaning.{state_in_place, state_of, settings_of};
-ghost use Rattle.cell_readings.specs.Walks.{IsBehindSubpool, subpool_before};
+ghost use Rattle.storage_core.specs.Meaning.{state_in_place, state_of, settings_of};
+ghost use Rattle.storage_core.specs.Walks.{IsBehindSubpool, subpool_before};
 ghost use Rattle.storage_map.specs.Lines.{sharer_text, subpool_line};
 ghost use Rattle.vsm_model.specs.Map.{listed, sharers, subpool_lines};
 ghost use Rattle.text_output.specs.Writing.{Puts};
 
 use crate::areas::{put_extents, put_free_areas};
 use crate::fields::put_field;
-use cell_readings::{PoolPlace, Storage, Subpool};
-use map_laws::laws::{runs_are_shown, subpools_are_shown};
+use change_laws::maps::{runs_are_shown, subpools_are_shown};
 use std::io::Write;
+use storage_core::{PoolPlace, Storage, Subpool};
 use text_output::{Gathered, put_decimal};
 
 /// Puts a comma and a task.

@@ -1,13 +1,13 @@
 //! The totals of a storage.
 ghost use Rattle.std.specs.Prelude.{◌≡◌, ◌+◌, ◌<◌, ◌^◌, true, false};
-ghost use Rattle.map_laws.specs.Totals.{pages_on_side, subpool_pages, subpool_free, all_pages, all_free};
-ghost use Rattle.cell_readings.specs.Meaning.{state_in_place, state_of, settings_of};
-ghost use Rattle.cell_readings.specs.Walks.{IsBehindSubpool, subpool_before};
+ghost use Rattle.change_laws.specs.MapTotals.{pages_on_side, subpool_pages, subpool_free, all_pages, all_free};
+ghost use Rattle.storage_core.specs.Meaning.{state_in_place, state_of, settings_of};
+ghost use Rattle.storage_core.specs.Walks.{IsBehindSubpool, subpool_before};
 ghost use Rattle.storage_map.specs.Totals.{totals_of};
 
 use crate::counts::Totals;
-use cell_readings::{PoolPlace, Run, Storage};
-use map_laws::laws::totals_are_sums;
+use change_laws::maps::totals_are_sums;
+use storage_core::{PoolPlace, Run, Storage};
 
 /// The pages of a subpool, or of all subpools, on each side of the 16 MB line.
 #[derive(Clone, Copy)]

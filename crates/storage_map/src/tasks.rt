@@ -1,13 +1,13 @@
 //! The lines of tasks: their parents and their registers.
 ghost use Rattle.std.specs.Prelude.{◌+◌, ◌≤◌, flat_map};
 ghost use Rattle.vsm_model.specs.Map.{numbers, register_line, task_lines};
-ghost use Rattle.cell_readings.specs.Meaning.{state_of};
+ghost use Rattle.storage_core.specs.Meaning.{state_of};
 ghost use Rattle.storage_map.specs.Lines.{current_text, register_words, task_line};
 ghost use Rattle.text_output.specs.Writing.{Puts};
 
 use crate::fields::{put_field, put_hex_field};
-use cell_readings::Storage;
 use std::io::Write;
+use storage_core::Storage;
 use text_output::Gathered;
 
 /// Puts that the task is the current one, and nothing where it isn't.

@@ -9,10 +9,10 @@ use Rattle.vsm_model.proofs.Least.{all_pass_from}
 use Rattle.storage_changes.specs.State.{StorageState}
 use Rattle.storage_changes.specs.Meaning.{model_of}
 use Rattle.storage_changes.specs.Turned.{read}
-use Rattle.storage_actions.specs.Actions.{bytes_with}
+use Rattle.change_laws.specs.StorageActions.{bytes_with}
 use Rattle.raw_region.specs.Pages.{bytes_at}
 use Rattle.raw_region.proofs.ForCallers.{byte_at-assigned}
-use Rattle.storage_exchange.specs.declared.storage.Storage.{Storage}
+use Rattle.storage_exchange.specs.declared.storage.Parts.{Parts}
 use Rattle.storage_exchange.specs.Storage.{state_of}
 use Rattle.storage_exchange.specs.Storage.{IsFrameless}
 use Rattle.storage_plans.specs.Reading.{put_at}
@@ -94,7 +94,7 @@ module _ (m : StorageState) (first address : ℕ) (bytes : List ℕ) where
       full = sym (ap length same) ∙ from_length count first
 
 -- a block whose addresses have bytes lies below the end of the addresses
-module _ (p : Storage) (frameless : IsFrameless p) (block : ℕ) (there : (a : ℕ) → a / 16 ≡ block → IsSome ((model_of (state_of p)).bytes a)) where
+module _ (p : Parts) (frameless : IsFrameless p) (block : ℕ) (there : (a : ℕ) → a / 16 ≡ block → IsSome ((model_of (state_of p)).bytes a)) where
   block_of : (16 * block) / 16 ≡ block
   block_of = omega arith
 

@@ -9,7 +9,7 @@ use Rattle.vsm_model.specs.Bytes.{byte_or_zero, are_there, bytes_from, load}
 use Rattle.vsm_model.specs.State.{State}
 use Rattle.vsm_model.proofs.Least.{all_pass_from, all_pass_stops}
 use Rattle.storage_changes.specs.Meaning.{model_of}
-use Rattle.storage_exchange.specs.declared.storage.Storage.{Storage}
+use Rattle.storage_exchange.specs.declared.storage.Parts.{Parts}
 use Rattle.storage_exchange.specs.Storage.{state_of}
 use Rattle.storage_exchange.specs.Storage.{IsFrameless}
 
@@ -29,7 +29,7 @@ bytes_got (suc n) (x ∷ xs) s a e h =
     let rest : bytes_from s (suc a) n ≡ xs = bytes_got n xs s (suc a) (omega (arith, e)) (λ i l. ap s.bytes (next_place a i) ∙ h (suc i) (omega (arith, l))) in
     λ j. first j ∷ rest j
 
-module _ (p : Storage) (frameless : IsFrameless p) where
+module _ (p : Parts) (frameless : IsFrameless p) where
   abbrev s : State
   s = model_of (state_of p)
 

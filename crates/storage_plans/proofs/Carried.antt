@@ -21,10 +21,10 @@ use Rattle.storage_changes.specs.declared.record.Record.{Record}
 use Rattle.storage_changes.specs.State.{StorageState}
 use Rattle.storage_changes.specs.Changes.{Change, change_from, change_of}
 use Rattle.storage_changes.specs.Meaning.{model_of, IsSound}
-use Rattle.storage_actions.specs.Actions.{run_of, register_records}
-use Rattle.storage_actions.specs.Leads.{Leads, AreRegisters}
-use Rattle.storage_actions.proofs.Rows.{none_fresh, setting_leads}
-use Rattle.storage_plans.specs.declared.plan.Plan.{Plan}
+use Rattle.change_laws.specs.StorageActions.{run_of, register_records}
+use Rattle.change_laws.specs.Leads.{Leads, AreRegisters}
+use Rattle.change_laws.proofs.Rows.{none_fresh, setting_leads}
+use Rattle.storage_plans.specs.declared.plan.StoragePlan.{StoragePlan}
 use Rattle.storage_plans.specs.Plans.{Assigns, CarriesOut, change_in}
 use Rattle.storage_plans.proofs.Assigning.{none_assigned}
 
@@ -37,7 +37,7 @@ register_and register word rows is are = let below : (ℕ × ℕ) → Type 0 = �
 
 module _ (settings : Settings) (names_full : Bool) (m : StorageState) (x : Service) where
   -- with a subpool that is emptied first, or with none,
-  pub carries_out_from : (plan : Plan) (emptied : Option Subpool) (records : List Record) (blanks : ℕ) (fresh : Run) (t : State) →
+  pub carries_out_from : (plan : StoragePlan) (emptied : Option Subpool) (records : List Record) (blanks : ℕ) (fresh : Run) (t : State) →
       plan.emptied ≡ emptied → plan.records.items ≡ records → plan.blanks ≡ blanks → plan.fresh ≡ fresh →
       step settings names_full (model_of m) x ≡ Accepted t plan.reply → Leads settings m (change_from m.subpools emptied records blanks fresh) t →
       IfSome emptied (λ p. is_there m.subpools p ≡ true) → blanks ≤ 5 → fresh.start + fresh.len ≤ 2 ^ 20 →
@@ -64,7 +64,7 @@ module _ (settings : Settings) (names_full : Bool) (m : StorageState) (x : Servi
       }
 
   -- and with none
-  pub carries_out : (plan : Plan) (records : List Record) (blanks : ℕ) (fresh : Run) (t : State) →
+  pub carries_out : (plan : StoragePlan) (records : List Record) (blanks : ℕ) (fresh : Run) (t : State) →
       plan.emptied ≡ None → plan.records.items ≡ records → plan.blanks ≡ blanks → plan.fresh ≡ fresh →
       step settings names_full (model_of m) x ≡ Accepted t plan.reply → Leads settings m (change_of records blanks fresh) t →
       blanks ≤ 5 → fresh.start + fresh.len ≤ 2 ^ 20 → ((page : ℕ) → inside page fresh ≡ true → m.unassigned page ≡ true) → Assigns m (change_of records blanks fresh) fresh →
@@ -77,7 +77,7 @@ module _ (settings : Settings) (names_full : Bool) (m : StorageState) (x : Servi
       step settings names_full (model_of m) x ≡ (if is_conditional x && answers_four cause then replied x (model_of m, Returned 4) else Refused cause)
   by_cause cause first = ap (answered settings (model_of m) x) first
 
-  pub four_carried_out : (cause : Cause) (plan : Plan) → IsSound settings m → first_cause (causes settings names_full (model_of m) x) ≡ Some cause →
+  pub four_carried_out : (cause : Cause) (plan : StoragePlan) → IsSound settings m → first_cause (causes settings names_full (model_of m) x) ≡ Some cause →
       is_conditional x ≡ true → answers_four cause ≡ true → plan.emptied ≡ None → plan.records.items ≡ register_records m ((15, 4) ∷ []) → plan.blanks ≡ 0 → plan.fresh ≡ run_of 0 0 →
       plan.reply ≡ Returned 4 → CarriesOut settings names_full m x plan
   four_carried_out cause plan sound first conditional four is_emptied is_records is_blanks is_fresh is_reply =

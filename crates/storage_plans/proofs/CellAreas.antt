@@ -8,9 +8,9 @@ use Rattle.cell_pool.specs.declared.pools.CellPools.{CellPools}
 use Rattle.cell_pool.specs.CellPools.{pool, by_id}
 use Rattle.cell_pool.specs.Laws.{AreOne}
 use Rattle.cell_pool.specs.Pools.{Pool, Meets}
-use Rattle.cell_tables.specs.Laws.{OverlapsAreMet, overlaps_table}
-use Rattle.cell_tables.specs.Named.{AreNamed}
-use Rattle.cell_tables.specs.Table.{cell_pools_in}
+use Rattle.storage_changes.specs.TableLaws.{OverlapsAreMet, overlaps_table}
+use Rattle.storage_changes.specs.NamedPools.{AreNamed}
+use Rattle.storage_changes.specs.PoolTable.{cell_pools_in}
 
 -- Of cell pools that stand: those that are found by their ids are those that are found by their names.
 module _ (s : Store) (q : CellPools) (pools : ℕ → Option Pool) (met : OverlapsAreMet) (one : AreOne s q) (named : AreNamed pools)

@@ -16,18 +16,18 @@ use Rattle.vsm_model.specs.State.{State}
 use Rattle.vsm_model.specs.Step.{step, answered}
 use Rattle.vsm_model.specs.Subpools.{same_subpool, seen_or_own}
 use Rattle.vsm_model.proofs.Chosen.{Stepped}
-use Rattle.storage_laws.proofs.Allowed.{whole_allowed}
-use Rattle.storage_laws.proofs.Cases.{some_from}
-use Rattle.storage_laws.proofs.Kept.{whole_release_leaves_well_formed}
-use Rattle.cell_tables.specs.Laws.{RowsOfTheOthersStay}
-use Rattle.cell_tables.specs.Named.{AreNamed}
+use Rattle.service_laws.proofs.Allowed.{whole_allowed}
+use Rattle.service_laws.proofs.Cases.{some_from}
+use Rattle.service_laws.proofs.Kept.{whole_release_leaves_well_formed}
+use Rattle.storage_changes.specs.TableLaws.{RowsOfTheOthersStay}
+use Rattle.storage_changes.specs.NamedPools.{AreNamed}
 use Rattle.subpool_storage.specs.Subpools.{is_there}
 use Rattle.storage_changes.specs.State.{StorageState}
 use Rattle.storage_changes.specs.Meaning.{model_of, IsSound}
-use Rattle.storage_actions.specs.Actions.{register_records, run_of}
-use Rattle.storage_actions.proofs.Emptying.{emptying_leads}
-use Rattle.storage_actions.proofs.Rows.{none_fresh}
-use Rattle.storage_plans.specs.declared.plan.Plan.{Plan}
+use Rattle.change_laws.specs.StorageActions.{register_records, run_of}
+use Rattle.change_laws.proofs.Emptying.{emptying_leads}
+use Rattle.change_laws.proofs.Rows.{none_fresh}
+use Rattle.storage_plans.specs.declared.plan.StoragePlan.{StoragePlan}
 use Rattle.storage_plans.specs.Plans.{CarriesOut}
 use Rattle.storage_plans.proofs.Assigning.{none_assigned}
 use Rattle.storage_plans.proofs.Carried.{carries_out_from, no_registers, register_and}
@@ -54,7 +54,7 @@ module _ (settings : Settings) (names_full : Bool) (m : StorageState) (number : 
       ap (λ owner. is_there m.subpools (record { number = number; owner = owner })) (ap (λ seen. unwrap_or seen s.current) at)
       ∙ sound.well_formed.sight.seen_is_there s.current number owner at
 
-  carried : settings_valid settings ≡ true → IsSound settings m → (plan : Plan) → plan.emptied ≡ Some own → plan.records.items ≡ register_records m ((15, 0) ∷ []) →
+  carried : settings_valid settings ≡ true → IsSound settings m → (plan : StoragePlan) → plan.emptied ≡ Some own → plan.records.items ≡ register_records m ((15, 0) ∷ []) →
       plan.blanks ≡ 1 → plan.fresh ≡ run_of 0 0 → plan.reply ≡ Returned 0 → CarriesOut settings names_full m (whole number) plan
   carried valid sound plan emptied records blanks fresh reply =
       let outcome : Reply → Stepped = λ r. Accepted after r in
@@ -64,7 +64,7 @@ module _ (settings : Settings) (names_full : Bool) (m : StorageState) (number : 
       (whole_release_leaves_well_formed settings names_full s after number (Returned 0) sound.well_formed accepted))
       (seen_is_there sound) (omega arith) (omega arith) (none_fresh m) (none_assigned _)
 
-  pub emptying_carried_out : settings_valid settings ≡ true → ∥ IsSound settings m ∥₁ → (p : Subpool) → p ≡ seen_or_own (model_of m) number → (plan : Plan) → plan.emptied ≡ Some p →
+  pub emptying_carried_out : settings_valid settings ≡ true → ∥ IsSound settings m ∥₁ → (p : Subpool) → p ≡ seen_or_own (model_of m) number → (plan : StoragePlan) → plan.emptied ≡ Some p →
       plan.records.items ≡ register_records m ((15, 0) ∷ []) → plan.blanks ≡ 1 → plan.fresh ≡ run_of 0 0 → plan.reply ≡ Returned 0 → ∥ CarriesOut settings names_full m (whole number) plan ∥₁
   emptying_carried_out valid sound p is plan emptied records blanks fresh reply =
       ∥∥₁_map sound (λ h. carried valid h plan (emptied ∙ ap Some is) records blanks fresh reply)

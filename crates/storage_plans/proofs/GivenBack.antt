@@ -22,17 +22,17 @@ use Rattle.vsm_model.specs.State.{State}
 use Rattle.vsm_model.specs.Step.{step, answered}
 use Rattle.vsm_model.specs.Subpools.{same_subpool, sees_one, seen_or_own}
 use Rattle.vsm_model.proofs.Chosen.{Stepped}
-use Rattle.storage_laws.proofs.Allowed.{release_allowed}
-use Rattle.storage_laws.proofs.Cases.{among_in, belongs_is}
-use Rattle.storage_laws.proofs.Kept.{release_leaves_well_formed}
+use Rattle.service_laws.proofs.Allowed.{release_allowed}
+use Rattle.service_laws.proofs.Cases.{among_in, belongs_is}
+use Rattle.service_laws.proofs.Kept.{release_leaves_well_formed}
 use Rattle.storage_changes.specs.State.{StorageState}
 use Rattle.storage_changes.specs.Meaning.{model_of, subpool_of, is_taken, IsSound}
 use Rattle.storage_changes.proofs.MeaningLemmas.{named_pages_are_there}
-use Rattle.storage_actions.specs.Actions.{run_of, emptied_pages, give_back_records, register_records}
-use Rattle.storage_actions.proofs.GivingBack.{giving_back_leads}
-use Rattle.storage_actions.proofs.Idle.{emptied_pages_are_a_run}
-use Rattle.storage_actions.proofs.Rows.{none_fresh}
-use Rattle.storage_plans.specs.declared.plan.Plan.{Plan}
+use Rattle.change_laws.specs.StorageActions.{run_of, emptied_pages, give_back_records, register_records}
+use Rattle.change_laws.proofs.GivingBack.{giving_back_leads}
+use Rattle.change_laws.proofs.Idle.{emptied_pages_are_a_run}
+use Rattle.change_laws.proofs.Rows.{none_fresh}
+use Rattle.storage_plans.specs.declared.plan.StoragePlan.{StoragePlan}
 use Rattle.storage_plans.specs.declared.release.GivenBack.{GivenBack}
 use Rattle.storage_plans.specs.Plans.{CarriesOut}
 use Rattle.storage_plans.specs.Releases.{area_causes, IsGivenBack}
@@ -116,7 +116,7 @@ module _ (settings : Settings) (m : StorageState) (r : Release) where
       ∙ (λ i. first_cause (area_causes settings s (sym (own number owner is seen) i) (sym at i) (sym long i)))
 
   -- an area that no cause keeps is given back by the plan
-  module _ (names_full : Bool) (found : GivenBack) (plan : Plan) (sound : IsSound settings m) (none : first_cause (release_causes settings s r) ≡ None)
+  module _ (names_full : Bool) (found : GivenBack) (plan : StoragePlan) (sound : IsSound settings m) (none : first_cause (release_causes settings s r) ≡ None)
       (its : found.subpool ≡ seen_or_own s r.number) (at : found.area ≡ run_of (r.address / 8) (doublewords r.length)) (some : 0 < found.area.len)
       (high : found.area.start + found.area.len ≤ 2 ^ 29) (given : IsGivenBack m found plan) where
     abbrev p : Subpool
@@ -161,7 +161,7 @@ module _ (settings : Settings) (m : StorageState) (r : Release) where
         (release_leaves_well_formed settings names_full s after r (Returned 0) sound.well_formed accepted))
         (omega arith) (omega arith) (none_fresh m) (none_assigned _)
 
-  pub is_given_back : (names_full : Bool) (found : GivenBack) (plan : Plan) → ∥ IsSound settings m ∥₁ → first_cause (release_causes settings s r) ≡ None →
+  pub is_given_back : (names_full : Bool) (found : GivenBack) (plan : StoragePlan) → ∥ IsSound settings m ∥₁ → first_cause (release_causes settings s r) ≡ None →
       found.subpool ≡ seen_or_own s r.number → found.area ≡ run_of (r.address / 8) (doublewords r.length) → 0 < found.area.len → found.area.start + found.area.len ≤ 2 ^ 29 →
       IsGivenBack m found plan → ∥ CarriesOut settings names_full m (release r) plan ∥₁
   is_given_back names_full found plan sound none its at some high given =

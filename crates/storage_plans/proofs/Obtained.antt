@@ -24,11 +24,11 @@ use Rattle.vsm_model.specs.Step.{answered, replied, step}
 use Rattle.vsm_model.specs.WellFormed.{IsWellFormed}
 use Rattle.vsm_model.proofs.Chosen.{Stepped}
 use Rattle.vsm_model.proofs.Least.{all_pass_at}
-use Rattle.storage_laws.specs.Kept.{IsRegister}
-use Rattle.storage_laws.proofs.Allowed.{obtain_allowed}
-use Rattle.storage_laws.proofs.Cases.{among_in, none_from, same_some, some_from}
-use Rattle.storage_laws.proofs.Kept.{obtain_leaves_well_formed}
-use Rattle.storage_laws.proofs.Places.{IsOf, Goes, place_goes, place_in_words, regions_are}
+use Rattle.service_laws.specs.StorageKept.{IsRegister}
+use Rattle.service_laws.proofs.Allowed.{obtain_allowed}
+use Rattle.service_laws.proofs.Cases.{among_in, none_from, same_some, some_from}
+use Rattle.service_laws.proofs.Kept.{obtain_leaves_well_formed}
+use Rattle.service_laws.proofs.Places.{IsOf, Goes, place_goes, place_in_words, regions_are}
 use Rattle.storage_changes.specs.declared.record.Record.{Record}
 use Rattle.storage_changes.specs.declared.record.Record.TheVariants.{Extent, Pages}
 use Rattle.storage_changes.specs.State.{StorageState}
@@ -36,15 +36,15 @@ use Rattle.storage_changes.specs.Changes.{change_of}
 use Rattle.storage_changes.specs.Meaning.{model_of, IsSound}
 use Rattle.storage_changes.proofs.MeaningLemmas.{free_storage_is_free, unassigned_pages_are_nobodys}
 use Rattle.subpool_storage.specs.Subpools.{is_there}
-use Rattle.storage_actions.specs.Actions.{area_records, own_records, register_records, run_of, take_fresh_records}
-use Rattle.storage_actions.specs.Leads.{AreRegisters, CanOwn, Leads, with_new}
-use Rattle.storage_actions.proofs.Fresh.{taking_fresh_leads}
-use Rattle.storage_actions.proofs.Rows.{none_fresh}
-use Rattle.storage_actions.proofs.Taking.{taking_leads}
+use Rattle.change_laws.specs.StorageActions.{area_records, own_records, register_records, run_of, take_fresh_records}
+use Rattle.change_laws.specs.Leads.{AreRegisters, CanOwn, Leads, with_new}
+use Rattle.change_laws.proofs.Fresh.{taking_fresh_leads}
+use Rattle.change_laws.proofs.Rows.{none_fresh}
+use Rattle.change_laws.proofs.Taking.{taking_leads}
 use Rattle.storage_plans.specs.declared.areas.FoundArea.{FoundArea}
 use Rattle.storage_plans.specs.declared.places.AreaPlace.{AreaPlace}
 use Rattle.storage_plans.specs.declared.places.AreaPlace.TheVariants as areas
-use Rattle.storage_plans.specs.declared.plan.Plan.{Plan}
+use Rattle.storage_plans.specs.declared.plan.StoragePlan.{StoragePlan}
 use Rattle.storage_plans.specs.ObtainPlans.{reply_registers, obtain_records, place_address, place_blanks, place_pages, place_records}
 use Rattle.storage_plans.specs.Places.{place_of}
 use Rattle.storage_plans.specs.Plans.{CarriesOut}
@@ -225,7 +225,7 @@ module _ (settings : Settings) (names_full : Bool) (m : StorageState) (o : Obtai
       ∙ ap (outcome (with_own (model_of m) o.number) found.count) (sym is.place)
       ∙ ap (λ (t : State). outcome t found.count goes) (made settings m o sound found.is_new is.is_new)
 
-  pub obtain_carried_out : IsSound settings m → IfSome o.register (λ r. r < 16) → (plan : Plan) → plan.emptied ≡ None → plan.records.items ≡ obtain_records m found o →
+  pub obtain_carried_out : IsSound settings m → IfSome o.register (λ r. r < 16) → (plan : StoragePlan) → plan.emptied ≡ None → plan.records.items ≡ obtain_records m found o →
       plan.blanks ≡ place_blanks found.place → plan.fresh ≡ place_pages found.count found.place →
       plan.reply ≡ Obtained (place_address found.place) (8 * found.count) → CarriesOut settings names_full m (obtain o) plan
   obtain_carried_out sound register plan emptied records blanks fresh reply =

@@ -23,7 +23,7 @@ use Rattle.storage_changes.specs.State.{StorageState}
 use Rattle.storage_changes.specs.Meaning.{model_of, subpool_of, is_taken, IsSound}
 use Rattle.storage_changes.proofs.Cases.{same-self, same-is, not-not}
 use Rattle.storage_changes.proofs.MeaningLemmas.{named_pages_are_there}
-use Rattle.storage_exchange.specs.declared.storage.Storage.{Storage}
+use Rattle.storage_exchange.specs.declared.storage.Parts.{Parts}
 use Rattle.storage_exchange.specs.Storage.{state_of, IsFrameless}
 use Rattle.storage_plans.specs.Places.{region_on}
 use Rattle.storage_plans.proofs.BytesRead.{byte_shown}
@@ -213,7 +213,7 @@ module _ (settings : Settings) (m : StorageState) (sound : IsSound settings m) w
       sound.well_formed.pages.has_bytes (4096 * page) ∙ ap (λ k. is_some (owner_of k)) at
 
 -- a page that has a frame and isn't the subpool's is another's
-module _ (settings : Settings) (s : Storage) (frameless : IsFrameless s) (sound : ∥ IsSound settings (state_of s) ∥₁) (p : Subpool) (page : ℕ) where
+module _ (settings : Settings) (s : Parts) (frameless : IsFrameless s) (sound : ∥ IsSound settings (state_of s) ∥₁) (p : Subpool) (page : ℕ) where
   framed : IsSound settings (state_of s) → is_some (bytes_at s.region page) ≡ is_some (subpool_of (state_of s).subpools page)
   framed h =
       let at : (4096 * page) / 4096 ≡ page = omega arith in
@@ -233,7 +233,7 @@ module _ (settings : Settings) (s : Storage) (frameless : IsFrameless s) (sound 
   is_others = ∥∥₁_elim sound (Bool-set _ _) (λ h. is_others_in h)
 
 -- where the page has no frame, it's nobody's
-pub not_others : (settings : Settings) (s : Storage) → IsFrameless s → ∥ IsSound settings (state_of s) ∥₁ → (p : Subpool) (page : ℕ) → is_some (bytes_at s.region page) ≡ false
+pub not_others : (settings : Settings) (s : Parts) → IsFrameless s → ∥ IsSound settings (state_of s) ∥₁ → (p : Subpool) (page : ℕ) → is_some (bytes_at s.region page) ≡ false
     → false ≡ holds (λ q. not (same_subpool p q)) (subpool_of (state_of s).subpools page)
 not_others settings s frameless sound p page e =
     ap (λ b. b && not ((state_of s).subpools.pages p page)) (sym e) ∙ is_others settings s frameless sound p page

@@ -16,18 +16,18 @@ use Rattle.vsm_model.proofs.Chosen.{Stepped}
 use Rattle.vsm_model.proofs.Least.{all_pass_at, all_pass_from, all_pass_stops}
 use Rattle.raw_region.specs.Pages.{bytes_at}
 use Rattle.raw_region.proofs.ForCallers.{byte_at-assigned}
-use Rattle.storage_laws.proofs.Kept.{store_leaves_well_formed}
+use Rattle.service_laws.proofs.Kept.{store_leaves_well_formed}
 use Rattle.storage_changes.specs.declared.record.Record.{Record}
 use Rattle.storage_changes.specs.declared.record.Record.TheVariants.{Bytes}
 use Rattle.storage_changes.specs.State.{StorageState}
 use Rattle.storage_changes.specs.Meaning.{model_of, IsSound}
 use Rattle.storage_changes.specs.Turned.{read}
-use Rattle.storage_actions.specs.Actions.{run_of, bytes_with, blocks_for, write_records}
-use Rattle.storage_actions.proofs.Rows.{none_fresh}
-use Rattle.storage_actions.proofs.Writing.{writing_leads}
-use Rattle.storage_exchange.specs.declared.storage.Storage.{Storage}
+use Rattle.change_laws.specs.StorageActions.{run_of, bytes_with, blocks_for, write_records}
+use Rattle.change_laws.proofs.Rows.{none_fresh}
+use Rattle.change_laws.proofs.Writing.{writing_leads}
+use Rattle.storage_exchange.specs.declared.storage.Parts.{Parts}
 use Rattle.storage_exchange.specs.Storage.{state_of, IsFrameless}
-use Rattle.storage_plans.specs.declared.plan.Plan.{Plan}
+use Rattle.storage_plans.specs.declared.plan.StoragePlan.{StoragePlan}
 use Rattle.storage_plans.specs.Plans.{CarriesOut}
 use Rattle.storage_plans.proofs.BytesRead.{byte_shown}
 use Rattle.storage_plans.proofs.Assigning.{none_assigned}
@@ -46,7 +46,7 @@ touched address (suc n) block low high =
       | inr from ↦ (16 * block, from, omega (arith, low, high), omega arith)
     ]
 
-module _ (p : Storage) (frameless : IsFrameless p) where
+module _ (p : Parts) (frameless : IsFrameless p) where
   abbrev s : State
   s = model_of (state_of p)
 
@@ -98,7 +98,7 @@ are_bytes (x ∷ xs) fits (suc k) d below = are_bytes xs (λ i. fits (suc i)) k 
 
 -- the plan of a store
 pub store_carried :
-    (settings : Settings) (names_full : Bool) (m : StorageState) (address : ℕ) (bytes : List ℕ) (plan : Plan) → are_there (model_of m) address (length bytes) ≡ true
+    (settings : Settings) (names_full : Bool) (m : StorageState) (address : ℕ) (bytes : List ℕ) (plan : StoragePlan) → are_there (model_of m) address (length bytes) ≡ true
     → All (λ byte. byte < 256) bytes → plan.emptied ≡ None → plan.records.items ≡ write_records m address bytes → plan.blanks ≡ 0 → plan.fresh ≡ run_of 0 0 → plan.reply ≡ Stored
     → ∥ IsSound settings m ∥₁ → ∥ CarriesOut settings names_full m (store address bytes) plan ∥₁
 store_carried settings names_full m address bytes plan there are emptied records blanks fresh reply sound =

@@ -10,7 +10,7 @@ use Rattle.vsm_model.specs.Regions.{pages_for}
 use Rattle.vsm_model.specs.Registers.{length_register, named_register}
 use Rattle.storage_changes.specs.declared.record.Record.{Record}
 use Rattle.storage_changes.specs.State.{StorageState}
-use Rattle.storage_actions.specs.Actions.{own_records, take_records, take_fresh_records, register_records, run_of}
+use Rattle.change_laws.specs.StorageActions.{own_records, take_records, take_fresh_records, register_records, run_of}
 use Rattle.storage_plans.specs.declared.areas.FoundArea.{FoundArea}
 use Rattle.storage_plans.specs.declared.places.AreaPlace.{AreaPlace}
 use Rattle.storage_plans.specs.declared.places.AreaPlace.TheVariants.{Inside, Fresh}

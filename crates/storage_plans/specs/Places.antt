@@ -7,14 +7,14 @@ use Rattle.vsm_model.specs.declared.limits.Settings.{Settings}
 use Rattle.vsm_model.specs.Areas.{Place, Inside, Fresh, Nowhere}
 use Rattle.vsm_model.specs.Regions.{Region, low_region, high_region}
 use Rattle.storage_changes.specs.Meaning.{IsSound}
-use Rattle.storage_exchange.specs.declared.storage.Storage.{Storage}
+use Rattle.storage_exchange.specs.declared.storage.Parts.{Parts}
 use Rattle.storage_exchange.specs.Storage.{state_of, Stand}
 use Rattle.storage_plans.specs.declared.places.AreaPlace.{AreaPlace}
 use Rattle.storage_plans.specs.declared.places.AreaPlace.TheVariants as areas
 
 -- The storage stands, and is sound at these settings. What is sound is so in more than one way, as each page has a
 -- taken doubleword: so it's only said that there is one.
-pub record StandsSound (settings : Settings) (p : Storage) : Type 0 where
+pub record StandsSound (settings : Settings) (p : Parts) : Type 0 where
   pub stands : Stand p
   pub sound : ∥ IsSound settings (state_of p) ∥₁
 

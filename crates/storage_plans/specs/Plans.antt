@@ -13,11 +13,11 @@ use Rattle.subpool_storage.specs.Subpools.{is_there}
 use Rattle.storage_changes.specs.State.{StorageState}
 use Rattle.storage_changes.specs.Changes.{Change, change_from, Fit, overlay}
 use Rattle.storage_changes.specs.Meaning.{model_of, IsSound}
-use Rattle.storage_plans.specs.declared.plan.Plan.{Plan}
+use Rattle.storage_plans.specs.declared.plan.StoragePlan.{StoragePlan}
 
 -- the change of its records behind those that empty its subpool, if it has one, with its blank elements, and frames of
 -- zeros for the pages that come to be assigned
-abbrev pub change_in : StorageState → Plan → Change
+abbrev pub change_in : StorageState → StoragePlan → Change
 change_in m plan = change_from m.subpools plan.emptied plan.records.items plan.blanks plan.fresh
 
 -- each page of the run comes to be assigned by the change
@@ -39,7 +39,7 @@ pub record IsAccepted (settings : Settings) (names_full : Bool) (m : StorageStat
 
 -- The service is accepted with the plan's reply, in the state that the plan's change leads to. The change fits, and
 -- leads to a sound storage, in which each page that it has a frame for came to be assigned.
-pub record CarriesOut (settings : Settings) (names_full : Bool) (m : StorageState) (x : Service) (plan : Plan)
+pub record CarriesOut (settings : Settings) (names_full : Bool) (m : StorageState) (x : Service) (plan : StoragePlan)
     : Type 0 where
   pub accepted : step settings names_full (model_of m) x ≡ Accepted (model_of (overlay m (change_in m plan))) plan.reply
   pub fits : Fit m (change_in m plan)
@@ -51,6 +51,6 @@ pub record CarriesOut (settings : Settings) (names_full : Bool) (m : StorageStat
   pub assigned : Assigns m (change_in m plan) plan.fresh
 
 -- A service was planned; or it's refused for this cause.
-abbrev pub IsPlanned : Settings → Bool → StorageState → Service → Result Plan Cause → Type 0
+abbrev pub IsPlanned : Settings → Bool → StorageState → Service → Result StoragePlan Cause → Type 0
 IsPlanned settings names_full m x (Ok plan) = ∥ CarriesOut settings names_full m x plan ∥₁
 IsPlanned settings names_full m x (Err cause) = step settings names_full (model_of m) x ≡ Refused cause

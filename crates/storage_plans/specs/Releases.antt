@@ -11,8 +11,8 @@ use Rattle.vsm_model.specs.Search.{some_pass}
 use Rattle.vsm_model.specs.State.{State}
 use Rattle.storage_changes.specs.declared.record.Record.{Record}
 use Rattle.storage_changes.specs.State.{StorageState}
-use Rattle.storage_actions.specs.Actions.{emptied_pages, give_back_records, register_records, run_of}
-use Rattle.storage_plans.specs.declared.plan.Plan.{Plan}
+use Rattle.change_laws.specs.StorageActions.{emptied_pages, give_back_records, register_records, run_of}
+use Rattle.storage_plans.specs.declared.plan.StoragePlan.{StoragePlan}
 use Rattle.storage_plans.specs.declared.release.GivenBack.{GivenBack}
 
 -- the last of a release's causes, those of an area of so many doublewords from this one on
@@ -30,7 +30,7 @@ given_back_records m p d count =
     give_back_records p d count pages.start pages.len ++ register_records m ((15, 0) ∷ [])
 
 -- The plan has these records.
-pub record IsGivenBack (m : StorageState) (found : GivenBack) (plan : Plan) : Type 0 where
+pub record IsGivenBack (m : StorageState) (found : GivenBack) (plan : StoragePlan) : Type 0 where
   pub emptied : plan.emptied ≡ None
   pub records : plan.records.items ≡ given_back_records m found.subpool found.area.start found.area.len
   pub blanks : plan.blanks ≡ 5

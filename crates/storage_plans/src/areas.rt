@@ -11,7 +11,7 @@ ghost use Rattle.storage_exchange.specs.Storage.{state_of};
 ghost use Rattle.storage_plans.specs.Places.{StandsSound, place_of};
 
 use crate::places::{AreaPlace, area_place, longest_place};
-use storage_exchange::Storage;
+use storage_exchange::Parts;
 use vsm_model::{Boundary, Cause, Lengths, Location, Obtain, Residence, Settings, Subpool};
 
 /// An area that was found for a request.
@@ -64,7 +64,7 @@ pub(crate) fn spacing_of(boundary: Boundary) -> u32
 
 /// The subpool that the current task sees at the number, or the one of its own that it is to have; and whether that one
 /// is new.
-pub fn subpool_for(storage: &Storage, settings: Settings, number: u8) -> (Subpool, bool)
+pub fn subpool_for(storage: &Parts, settings: Settings, number: u8) -> (Subpool, bool)
     requires { StandsSound settings storage.now }
     ensures subpool { result.0 ≡ seen_or_own (model_of (state_of storage.now)) number }
     ensures is_new { result.1 ≡ not (sees_one (model_of (state_of storage.now)) number) }
@@ -93,7 +93,7 @@ pub(crate) fn minimum_of(lengths: Lengths) -> u32
 // The most doublewords that the request can be given, between its rounded bounds, and where they go; `None` where not
 // even the fewest have a place. The maximum is tried first: a fixed length that has a place is looked for once.
 fn find_place(
-    storage: &Storage,
+    storage: &Parts,
     settings: Settings,
     o: Obtain,
     subpool: Subpool,
@@ -134,7 +134,7 @@ fn find_place(
 /// `BadLength` for a minimum of zero bytes or one above the maximum, `TooManyNames`, and `NoStorage` where not even the
 /// minimum has a place.
 pub(crate) fn find_area(
-    storage: &Storage,
+    storage: &Parts,
     settings: Settings,
     o: Obtain,
     names_full: bool,

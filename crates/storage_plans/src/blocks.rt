@@ -2,13 +2,13 @@
 ghost use Rattle.std.specs.Prelude.{◌≡◌, ℕ, ◌+◌, ◌-◌, ◌*◌, ◌/◌, ◌<◌, ◌^◌, length, slice_index_or, IsSome};
 ghost use Rattle.storage_changes.specs.Meaning.{model_of};
 ghost use Rattle.storage_changes.specs.Turned.{read};
-ghost use Rattle.storage_actions.specs.Actions.{bytes_with};
+ghost use Rattle.change_laws.specs.StorageActions.{bytes_with};
 ghost use Rattle.storage_exchange.specs.Storage.{state_of, IsFrameless};
 ghost use Rattle.storage_plans.specs.Reading.{put_at};
 
 use crate::reading::load;
 use storage_changes::BytesRecord;
-use storage_exchange::Storage;
+use storage_exchange::Parts;
 
 /// The bytes of a block.
 pub(crate) const BLOCK_BYTES: usize = 16;
@@ -30,7 +30,7 @@ fn put_over(held: &mut [u8], first: usize, address: usize, bytes: &[u8])
 
 /// The record of a block, once the bytes from the address on are these: its other bytes are those of the storage. Each
 /// address of the block has to lie in an assigned page.
-pub(crate) fn block_with(storage: &Storage, block: u32, address: u32, bytes: &[u8]) -> BytesRecord
+pub(crate) fn block_with(storage: &Parts, block: u32, address: u32, bytes: &[u8]) -> BytesRecord
     requires frameless { IsFrameless storage.now }
     requires there { (a : ℕ) → a / 16 ≡ block → IsSome ((model_of (state_of storage.now)).bytes a) }
     ensures { result ≡ record {

@@ -15,7 +15,7 @@ mod store;
 mod whole;
 
 pub use obtain::plan_obtain;
-pub use plan::{PLAN_RECORDS, Plan};
+pub use plan::{PLAN_RECORDS, StoragePlan};
 pub use reading::{current, load, register};
 pub use release::plan_release;
 pub use store::{STORE_MOST, plan_store};

@@ -4,7 +4,7 @@ ghost use Rattle.arrayvec.specs.ArrayVec.{array_vec_len};
 ghost use Rattle.vsm_model.specs.declared.replies.Reply.TheVariants.{Obtained};
 ghost use Rattle.vsm_model.specs.Regions.{pages_for, settings_valid};
 ghost use Rattle.vsm_model.specs.Services.{obtain};
-ghost use Rattle.storage_actions.specs.Actions.{own_records, register_records, run_of, take_fresh_records};
+ghost use Rattle.change_laws.specs.StorageActions.{own_records, register_records, run_of, take_fresh_records};
 ghost use Rattle.storage_exchange.specs.Storage.{state_of};
 ghost use Rattle.storage_plans.specs.ObtainPlans.{reply_registers, obtain_records, place_address, place_blanks};
 ghost use Rattle.storage_plans.specs.ObtainPlans.{place_pages, place_records};
@@ -13,13 +13,13 @@ ghost use Rattle.storage_plans.specs.Plans.{IsPlanned};
 
 use crate::areas::{FoundArea, find_area};
 use crate::places::AreaPlace;
-use crate::plan::{NO_PAGES, PLAN_RECORDS, Plan, answer_cause, push_area, push_register};
+use crate::plan::{NO_PAGES, PLAN_RECORDS, StoragePlan, answer_cause, push_area, push_register};
 use crate::searches::PAGE_DOUBLEWORDS;
 use arrayvec::ArrayVec;
 use descriptor_queue::Page;
 use run_set::Run;
 use storage_changes::{ExtentRecord, OwnRecord, PagesRecord, Record};
-use storage_exchange::Storage;
+use storage_exchange::Parts;
 use vsm_model::{Cause, Lengths, Obtain, Reply, Settings, Subpool};
 
 /// The bytes of a page.
@@ -106,7 +106,7 @@ pub fn push_place(
 // register 0 where it was asked for by bounds.
 fn push_reply(
     records: &mut ArrayVec<Record, PLAN_RECORDS>,
-    storage: &Storage,
+    storage: &Parts,
     o: Obtain,
     address: u32,
     length: u32,
@@ -151,7 +151,7 @@ pub fn needs_of(place: AreaPlace, count: u32) -> (u32, Run)
 }
 
 // The plan that takes the area that was found, with its address and its length in the registers.
-fn plan_area(storage: &Storage, found: FoundArea, o: Obtain) -> Plan
+fn plan_area(storage: &Parts, found: FoundArea, o: Obtain) -> StoragePlan
     requires { (place_address found.place < 2 ^ 32) × (0 < found.count) × (found.count < 2 ^ 29) }
     ensures emptied { result.emptied ≡ None }
     ensures records { result.records.items ≡ obtain_records (state_of storage.now) found o }
@@ -166,7 +166,7 @@ fn plan_area(storage: &Storage, found: FoundArea, o: Obtain) -> Plan
     push_place(&mut records, found.subpool, found.place, found.count);
     push_reply(&mut records, storage, o, address, length);
     let (blanks, fresh) = needs_of(found.place, found.count);
-    Plan {
+    StoragePlan {
         emptied: None,
         records,
         blanks,
@@ -187,11 +187,11 @@ fn plan_area(storage: &Storage, found: FoundArea, o: Obtain) -> Plan
 /// register 15 to 4, and nothing else.
 #[inline(never)]
 pub fn plan_obtain(
-    storage: &Storage,
+    storage: &Parts,
     settings: Settings,
     o: Obtain,
     names_full: bool,
-) -> Result<Plan, Cause>
+) -> Result<StoragePlan, Cause>
     requires sound { StandsSound settings storage.now }
     requires valid { settings_valid settings ≡ true }
     requires register { IfSome o.register (λ r. r < 16) }

@@ -7,7 +7,7 @@ ghost use Rattle.storage_exchange.specs.Storage.{state_of};
 ghost use Rattle.storage_plans.specs.Places.{IsUpTo, StandsSound, place_of, region_on};
 
 use crate::searches::{PAGE_DOUBLEWORDS, least_area, least_pages, longest_area, longest_pages};
-use storage_exchange::Storage;
+use storage_exchange::Parts;
 use vsm_model::{Residence, Settings, Subpool};
 
 /// A place for an area.
@@ -21,7 +21,7 @@ pub enum AreaPlace {
 
 // The place in the region on one side of the line: the subpool's own free storage comes first.
 fn place_on(
-    storage: &Storage,
+    storage: &Parts,
     settings: Settings,
     side: Residence,
     subpool: Subpool,
@@ -48,7 +48,7 @@ fn place_on(
 /// On the side above the line the high region comes before the low one; below it the low one is the only one. In a
 /// region the subpool's own free storage comes before unassigned pages, each time at the lowest address.
 pub fn area_place(
-    storage: &Storage,
+    storage: &Parts,
     settings: Settings,
     side: Residence,
     subpool: Subpool,
@@ -73,7 +73,7 @@ pub fn area_place(
 
 // The most doublewords that have a place in the region on one side of the line.
 fn longest_on(
-    storage: &Storage,
+    storage: &Parts,
     settings: Settings,
     side: Residence,
     subpool: Subpool,
@@ -93,7 +93,7 @@ fn longest_on(
 /// The most doublewords that have a place in the subpool, on a boundary of `spacing` doublewords: 1, or 512 for a page;
 /// 0 where not even one has. Each smaller number has a place too. Reads alone, and takes no memory.
 pub(crate) fn longest_place(
-    storage: &Storage,
+    storage: &Parts,
     settings: Settings,
     side: Residence,
     subpool: Subpool,

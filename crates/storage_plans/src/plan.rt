@@ -8,14 +8,14 @@ ghost use Rattle.vsm_model.specs.Services.{Service, is_conditional};
 ghost use Rattle.vsm_model.specs.Step.{causes};
 ghost use Rattle.storage_changes.specs.Meaning.{model_of, IsSound};
 ghost use Rattle.storage_changes.specs.declared.record.Record.TheVariants.{Register};
-ghost use Rattle.storage_actions.specs.Actions.{area_records, register_records, run_of};
+ghost use Rattle.change_laws.specs.StorageActions.{area_records, register_records, run_of};
 ghost use Rattle.storage_exchange.specs.Storage.{state_of};
 ghost use Rattle.storage_plans.specs.Plans.{IsPlanned};
 
 use arrayvec::ArrayVec;
 use run_set::Run;
 use storage_changes::{AreaRecord, Record, RegisterRecord};
-use storage_exchange::Storage;
+use storage_exchange::Parts;
 use vsm_model::{Cause, Reply, Subpool};
 
 /// The most records of a plan: the blocks of sixteen bytes that a store of 256 bytes can touch.
@@ -23,7 +23,7 @@ pub const PLAN_RECORDS: usize = 17;
 
 /// What an accepted request will do. It was found by reading alone, and nothing is changed yet.
 #[derive(Drop)]
-pub struct Plan {
+pub struct StoragePlan {
     /// The subpool whose pages and free storage go over into the change as they stand, before its records; `None` where
     /// there is none.
     pub emptied: Option<Subpool>,
@@ -80,7 +80,7 @@ pub fn push_register(
 }
 
 /// The plan of a conditional request that can't be met: register 15 gets 4, and nothing else changes.
-pub fn answer_four(storage: &Storage) -> Plan
+pub fn answer_four(storage: &Parts) -> StoragePlan
     ensures emptied { result.emptied ≡ None }
     ensures records { result.records.items ≡ register_records (state_of storage.now) ((15, 4) ∷ []) }
     ensures blanks { result.blanks ≡ 0 }
@@ -89,7 +89,7 @@ pub fn answer_four(storage: &Storage) -> Plan
 {
     let mut records = ArrayVec::new();
     push_register(&mut records, storage.tasks.current(), 15, 4);
-    Plan {
+    StoragePlan {
         emptied: None,
         records,
         blanks: 0,
@@ -100,7 +100,7 @@ pub fn answer_four(storage: &Storage) -> Plan
 
 /// What a request is answered of which this is the first cause: a plan that sets register 15 to 4, where it is
 /// conditional and the cause is one of those that such a form answers so; else the cause refuses it.
-pub fn answer_cause(storage: &Storage, cause: Cause, conditional: bool) -> Result<Plan, Cause>
+pub fn answer_cause(storage: &Parts, cause: Cause, conditional: bool) -> Result<StoragePlan, Cause>
     ensures emptied { IfOk result (λ plan. plan.emptied ≡ None) }
     ensures planned { (settings : Settings) (names_full : Bool) (x : Service)
         → ∥ IsSound settings (state_of storage.now) ∥₁

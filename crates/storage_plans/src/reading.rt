@@ -4,12 +4,12 @@ ghost use Rattle.vsm_model.specs.Bytes.{load};
 ghost use Rattle.storage_changes.specs.Meaning.{model_of};
 ghost use Rattle.storage_exchange.specs.Storage.{state_of, Stand, IsFrameless};
 
-use storage_exchange::Storage;
+use storage_exchange::Parts;
 use vsm_model::Cause;
 
 /// Reads the bytes from the address on. Refused with `NotAssigned` where one of them doesn't lie in an assigned page,
 /// and `out` is then as it was. Takes no memory.
-pub fn load(storage: &Storage, address: u32, out: &mut [u8]) -> Result<(), Cause>
+pub fn load(storage: &Parts, address: u32, out: &mut [u8]) -> Result<(), Cause>
     requires { IsFrameless storage.now }
     ensures ok { OnOk result (load (model_of (state_of storage.now)) address (length out.old) ≡ Some out.new) }
     ensures err { OnErr result (load (model_of (state_of storage.now)) address (length out.old) ≡ None) }
@@ -23,7 +23,7 @@ pub fn load(storage: &Storage, address: u32, out: &mut [u8]) -> Result<(), Cause
 }
 
 /// The word of a register of the task: 0 where there is no such task, and for a number past 15.
-pub fn register(storage: &Storage, task: u8, number: u8) -> u32
+pub fn register(storage: &Parts, task: u8, number: u8) -> u32
     requires { Stand storage.now }
     ensures { result ≡ (model_of (state_of storage.now)).words task number }
 {
@@ -35,7 +35,7 @@ pub fn register(storage: &Storage, task: u8, number: u8) -> u32
 }
 
 /// The task that makes the requests.
-pub fn current(storage: &Storage) -> u8
+pub fn current(storage: &Parts) -> u8
     ensures { result ≡ (model_of (state_of storage.now)).current }
 {
     storage.tasks.current()

@@ -14,7 +14,7 @@ ghost use Rattle.storage_plans.specs.Reasons.{IsReason, reasons_place};
 use crate::areas::{minimum_of, side_of, spacing_of};
 use crate::places::longest_place;
 use crate::searches::{PAGE_DOUBLEWORDS, least_area, least_pages, longest_area, longest_pages};
-use storage_exchange::Storage;
+use storage_exchange::Parts;
 use vsm_model::{Obtain, Residence, Settings, Subpool};
 
 /// What one side of the line has for an area.
@@ -33,7 +33,7 @@ pub struct SideReason {
 
 /// What one side of the line has for an area of `count` doublewords of the subpool, on a boundary of `spacing`.
 fn reason_on(
-    storage: &Storage,
+    storage: &Parts,
     settings: Settings,
     side: Residence,
     subpool: Subpool,
@@ -57,7 +57,7 @@ fn reason_on(
 
 /// What each side has that is looked at, in the order in which they are: above the line first, where it may be.
 pub fn reasons(
-    storage: &Storage,
+    storage: &Parts,
     settings: Settings,
     side: Residence,
     subpool: Subpool,
@@ -86,7 +86,7 @@ pub fn reasons(
 /// Why a request for storage finds an area for its minimum, or none: there is none just where the request wants
 /// storage.
 pub fn obtain_reasons(
-    storage: &Storage,
+    storage: &Parts,
     settings: Settings,
     o: Obtain,
     subpool: Subpool,

@@ -10,23 +10,23 @@ ghost use Rattle.vsm_model.specs.Search.{all_pass, some_pass, holds};
 ghost use Rattle.vsm_model.specs.Services.{release};
 ghost use Rattle.vsm_model.specs.Subpools.{same_subpool, seen_or_own};
 ghost use Rattle.storage_changes.specs.Meaning.{model_of};
-ghost use Rattle.storage_actions.specs.Actions.{area_records, emptied_pages, give_back_records, returned_records};
-ghost use Rattle.storage_actions.specs.Actions.{run_of};
+ghost use Rattle.change_laws.specs.StorageActions.{area_records, emptied_pages, give_back_records, returned_records};
+ghost use Rattle.change_laws.specs.StorageActions.{run_of};
 ghost use Rattle.storage_exchange.specs.Storage.{state_of, Stand, IsFrameless};
 ghost use Rattle.storage_plans.specs.Places.{StandsSound};
 ghost use Rattle.storage_plans.specs.Plans.{IsPlanned};
 ghost use Rattle.storage_plans.specs.Releases.{area_causes, IsGivenBack};
 
 use crate::areas::check_number;
-use crate::plan::{NO_PAGES, PLAN_RECORDS, Plan, answer_cause, push_area, push_register};
+use crate::plan::{NO_PAGES, PLAN_RECORDS, StoragePlan, answer_cause, push_area, push_register};
 use crate::searches::{PAGE_DOUBLEWORDS, pages_on};
 use arrayvec::ArrayVec;
 use cell_pool::laws::pools_are_one;
-use cell_tables::laws::overlaps_are_met;
 use descriptor_queue::Page;
 use run_set::{Cover, Run};
+use storage_changes::tables::overlaps_are_met;
 use storage_changes::{ExtentRecord, PagesRecord, Record};
-use storage_exchange::Storage;
+use storage_exchange::Parts;
 use subpool_storage::laws::cell_pools_are_named;
 use vsm_model::{Cause, Release, Reply, Residence, Settings, Subpool};
 
@@ -80,7 +80,7 @@ fn lies_in_a_region(settings: Settings, pages: Run) -> bool
 }
 
 // Whether each page of the run is the subpool's.
-fn has_pages(storage: &Storage, subpool: Subpool, pages: Run) -> bool
+fn has_pages(storage: &Parts, subpool: Subpool, pages: Run) -> bool
     requires stands { Stand storage.now }
     requires range { pages.start + pages.len < 2 ^ 32 }
     ensures { result ≡ all_pass ((state_of storage.now).subpools.pages subpool) pages.start pages.len }
@@ -97,7 +97,7 @@ fn has_pages(storage: &Storage, subpool: Subpool, pages: Run) -> bool
 }
 
 // Whether the page is another subpool's. A page has a frame just where some subpool has the page.
-fn is_others(storage: &Storage, settings: Settings, subpool: Subpool, page: Page) -> bool
+fn is_others(storage: &Parts, settings: Settings, subpool: Subpool, page: Page) -> bool
     requires sound { StandsSound settings storage.now }
     requires frameless { IsFrameless storage.now }
     ensures { result ≡ holds (λ p. not (same_subpool subpool p)) ((model_of (state_of storage.now)).pages page) }
@@ -106,7 +106,7 @@ fn is_others(storage: &Storage, settings: Settings, subpool: Subpool, page: Page
 }
 
 // Whether a page of the run is another subpool's.
-fn has_others(storage: &Storage, settings: Settings, subpool: Subpool, pages: Run) -> bool
+fn has_others(storage: &Parts, settings: Settings, subpool: Subpool, pages: Run) -> bool
     requires sound { StandsSound settings storage.now }
     requires frameless { IsFrameless storage.now }
     requires range { pages.start + pages.len < 2 ^ 32 }
@@ -123,12 +123,7 @@ fn has_others(storage: &Storage, settings: Settings, subpool: Subpool, pages: Ru
 }
 
 // Whether the area is the subpool's and taken, or the first cause that refuses to give it back.
-fn check_area(
-    storage: &Storage,
-    settings: Settings,
-    subpool: Subpool,
-    area: Run,
-) -> Result<(), Cause>
+fn check_area(storage: &Parts, settings: Settings, subpool: Subpool, area: Run) -> Result<(), Cause>
     requires sound { StandsSound settings storage.now }
     requires frameless { IsFrameless storage.now }
     requires valid { settings_valid settings ≡ true }
@@ -157,7 +152,7 @@ fn check_area(
 }
 
 // Whether no extent of a cell pool has a byte in common with the area.
-fn check_cells(storage: &Storage, area: Run) -> Result<(), Cause>
+fn check_cells(storage: &Parts, area: Run) -> Result<(), Cause>
     requires stands { Stand storage.now }
     requires some { 0 < area.len }
     requires range { area.start + area.len ≤ 2 ^ 29 }
@@ -178,7 +173,7 @@ fn check_cells(storage: &Storage, area: Run) -> Result<(), Cause>
 }
 
 // What the release gives back, or the first cause that refuses it in any form.
-fn find_given_back(storage: &Storage, settings: Settings, r: Release) -> Result<GivenBack, Cause>
+fn find_given_back(storage: &Parts, settings: Settings, r: Release) -> Result<GivenBack, Cause>
     requires sound { StandsSound settings storage.now }
     requires frameless { IsFrameless storage.now }
     requires valid { settings_valid settings ≡ true }
@@ -216,7 +211,7 @@ fn find_given_back(storage: &Storage, settings: Settings, r: Release) -> Result<
 }
 
 // Whether each doubleword of the area, if it has any, is free storage of the subpool.
-fn is_free(storage: &Storage, subpool: Subpool, area: Run) -> bool
+fn is_free(storage: &Parts, subpool: Subpool, area: Run) -> bool
     requires stands { Stand storage.now }
     requires range { area.start + area.len ≤ 2 ^ 29 }
     ensures { result ≡ all_pass ((state_of storage.now).subpools.free subpool) area.start area.len }
@@ -229,7 +224,7 @@ fn is_free(storage: &Storage, subpool: Subpool, area: Run) -> bool
 }
 
 // The pages that the area empties when it's given back.
-fn emptied(storage: &Storage, subpool: Subpool, area: Run) -> Run
+fn emptied(storage: &Parts, subpool: Subpool, area: Run) -> Run
     requires stands { Stand storage.now }
     requires some { 0 < area.len }
     requires range { area.start + area.len ≤ 2 ^ 29 }
@@ -319,7 +314,7 @@ fn push_given_back(records: &mut ArrayVec<Record, PLAN_RECORDS>, found: GivenBac
 }
 
 // The plan of a release that no cause refuses.
-fn give_back(storage: &Storage, found: GivenBack) -> Plan
+fn give_back(storage: &Parts, found: GivenBack) -> StoragePlan
     requires stands { Stand storage.now }
     requires some { 0 < found.area.len }
     requires range { found.area.start + found.area.len ≤ 2 ^ 29 }
@@ -329,7 +324,7 @@ fn give_back(storage: &Storage, found: GivenBack) -> Plan
     let mut records = ArrayVec::new();
     push_given_back(&mut records, found, pages);
     push_register(&mut records, storage.tasks.current(), 15, 0);
-    Plan {
+    StoragePlan {
         emptied: None,
         records,
         blanks: RELEASE_BLANKS,
@@ -349,7 +344,7 @@ fn give_back(storage: &Storage, found: GivenBack) -> Plan
 /// common with an extent of a cell pool. A conditional form has in place of the last three a plan that sets register 15
 /// to 4, and nothing else.
 #[inline(never)]
-pub fn plan_release(storage: &Storage, settings: Settings, r: Release) -> Result<Plan, Cause>
+pub fn plan_release(storage: &Parts, settings: Settings, r: Release) -> Result<StoragePlan, Cause>
     requires sound { StandsSound settings storage.now }
     requires frameless { IsFrameless storage.now }
     requires valid { settings_valid settings ≡ true }

@@ -8,7 +8,7 @@ ghost use Rattle.storage_plans.specs.Places.{IsUpTo, StandsSound, region_on};
 
 use descriptor_queue::Page;
 use run_set::Run;
-use storage_exchange::Storage;
+use storage_exchange::Parts;
 use vsm_model::{Residence, Settings, Subpool};
 
 /// The doublewords of a page.
@@ -50,7 +50,7 @@ fn area_on(settings: Settings, side: Residence) -> Run
 /// The least doubleword of the region on that side of the line from which `count` doublewords are free storage of the
 /// subpool, as a multiple of `spacing`. Reads alone.
 pub(crate) fn least_area(
-    storage: &Storage,
+    storage: &Parts,
     settings: Settings,
     side: Residence,
     subpool: Subpool,
@@ -70,7 +70,7 @@ pub(crate) fn least_area(
 
 /// The least page of the region on that side of the line from which `count` pages are nobody's. Reads alone.
 pub(crate) fn least_pages(
-    storage: &Storage,
+    storage: &Parts,
     settings: Settings,
     side: Residence,
     count: u32,
@@ -89,7 +89,7 @@ pub(crate) fn least_pages(
 /// The greatest number of doublewords of the region on that side of the line that are free storage of the subpool, from
 /// a multiple of `spacing` on; 0 where there is none. Reads alone.
 pub(crate) fn longest_area(
-    storage: &Storage,
+    storage: &Parts,
     settings: Settings,
     side: Residence,
     subpool: Subpool,
@@ -109,7 +109,7 @@ pub(crate) fn longest_area(
 
 /// The greatest number of pages in a row of the region on that side of the line that are nobody's; 0 where there is
 /// none. Reads alone.
-pub(crate) fn longest_pages(storage: &Storage, settings: Settings, side: Residence) -> u32
+pub(crate) fn longest_pages(storage: &Parts, settings: Settings, side: Residence) -> u32
     requires sound { StandsSound settings storage.now }
     requires valid { settings_valid settings ≡ true }
     ensures up_to { IsUpTo (λ count. is_some

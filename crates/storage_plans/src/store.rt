@@ -4,16 +4,16 @@ ghost use Rattle.vsm_model.specs.declared.limits.Settings.{Settings};
 ghost use Rattle.vsm_model.specs.Bytes.{are_there};
 ghost use Rattle.vsm_model.specs.Services.{store};
 ghost use Rattle.storage_changes.specs.Meaning.{model_of};
-ghost use Rattle.storage_actions.specs.Actions.{blocks_for, write_records};
+ghost use Rattle.change_laws.specs.StorageActions.{blocks_for, write_records};
 ghost use Rattle.storage_exchange.specs.Storage.{state_of, IsFrameless};
 ghost use Rattle.storage_plans.specs.Places.{StandsSound};
 ghost use Rattle.storage_plans.specs.Plans.{IsPlanned};
 
 use crate::blocks::{BLOCK_BYTES, block_with};
-use crate::plan::{NO_PAGES, PLAN_RECORDS, Plan};
+use crate::plan::{NO_PAGES, PLAN_RECORDS, StoragePlan};
 use arrayvec::ArrayVec;
 use storage_changes::Record;
-use storage_exchange::Storage;
+use storage_exchange::Parts;
 use vsm_model::{Cause, Reply};
 
 /// The most bytes of one store.
@@ -24,7 +24,7 @@ const PAGE_BYTES: usize = 4_096;
 
 // Whether each of so many bytes from the address on lies in an assigned page. They lie in two pages at most: that of
 // the first and that of the last one.
-fn are_assigned(storage: &Storage, address: u32, count: usize) -> bool
+fn are_assigned(storage: &Parts, address: u32, count: usize) -> bool
     requires frameless { IsFrameless storage.now }
     requires room { count ≤ 256 }
     ensures { result ≡ are_there (model_of (state_of storage.now)) address count }
@@ -54,7 +54,7 @@ fn blocks_touched(address: u32, count: usize) -> u32
 }
 
 // The records of the blocks that the bytes from the address on touch.
-fn block_records(storage: &Storage, address: u32, bytes: &[u8]) -> ArrayVec<Record, PLAN_RECORDS>
+fn block_records(storage: &Parts, address: u32, bytes: &[u8]) -> ArrayVec<Record, PLAN_RECORDS>
     requires frameless { IsFrameless storage.now }
     requires room { length bytes.now ≤ 256 }
     requires there { are_there (model_of (state_of storage.now)) address (length bytes.now) ≡ true }
@@ -75,7 +75,7 @@ fn block_records(storage: &Storage, address: u32, bytes: &[u8]) -> ArrayVec<Reco
 ///
 /// Refused with `NotAssigned` where one of the bytes doesn't lie in an assigned page.
 #[inline(never)]
-pub fn plan_store(storage: &Storage, address: u32, bytes: &[u8]) -> Result<Plan, Cause>
+pub fn plan_store(storage: &Parts, address: u32, bytes: &[u8]) -> Result<StoragePlan, Cause>
     requires frameless { IsFrameless storage.now }
     requires room { length bytes.now ≤ 256 }
     ensures planned { (settings : Settings) (names_full : Bool) → StandsSound settings storage.now
@@ -85,7 +85,7 @@ pub fn plan_store(storage: &Storage, address: u32, bytes: &[u8]) -> Result<Plan,
     if !are_assigned(storage, address, bytes.len()) {
         return Err(Cause::NotAssigned);
     }
-    Ok(Plan {
+    Ok(StoragePlan {
         emptied: None,
         records: block_records(storage, address, bytes),
         blanks: 0,

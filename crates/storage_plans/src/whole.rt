@@ -8,16 +8,16 @@ ghost use Rattle.vsm_model.specs.Releasing.{whole_causes};
 ghost use Rattle.vsm_model.specs.Services.{whole};
 ghost use Rattle.vsm_model.specs.Subpools.{seen_or_own};
 ghost use Rattle.storage_changes.specs.Meaning.{model_of};
-ghost use Rattle.storage_actions.specs.Actions.{register_records, run_of};
+ghost use Rattle.change_laws.specs.StorageActions.{register_records, run_of};
 ghost use Rattle.storage_exchange.specs.Storage.{state_of, Stand};
 ghost use Rattle.storage_plans.specs.Places.{StandsSound};
 ghost use Rattle.storage_plans.specs.Plans.{IsPlanned};
 
 use crate::areas::check_number;
-use crate::plan::{NO_PAGES, Plan, push_register};
+use crate::plan::{NO_PAGES, StoragePlan, push_register};
 use arrayvec::ArrayVec;
-use cell_tables::laws::rows_of_the_others_stay;
-use storage_exchange::Storage;
+use storage_changes::tables::rows_of_the_others_stay;
+use storage_exchange::Parts;
 use subpool_storage::laws::cell_pools_are_named;
 use vsm_model::{Cause, Reply, Subpool};
 
@@ -25,7 +25,7 @@ use vsm_model::{Cause, Reply, Subpool};
 const WHOLE_BLANKS: u32 = 1;
 
 // The subpool that the current task sees at the number and owns, or the first cause that refuses its release.
-fn find_owned(storage: &Storage, number: u32) -> Result<Subpool, Cause>
+fn find_owned(storage: &Parts, number: u32) -> Result<Subpool, Cause>
     requires { Stand storage.now }
     ensures none { IfOk result (λ p. first_cause (whole_causes (model_of (state_of storage.now)) number) ≡ None) }
     ensures subpool { IfOk result (λ p. p ≡ seen_or_own (model_of (state_of storage.now)) number) }
@@ -50,7 +50,7 @@ fn find_owned(storage: &Storage, number: u32) -> Result<Subpool, Cause>
 }
 
 // The plan of a release that no cause refuses.
-fn empty(storage: &Storage, subpool: Subpool) -> Plan
+fn empty(storage: &Parts, subpool: Subpool) -> StoragePlan
     ensures emptied { result.emptied ≡ Some subpool }
     ensures records { result.records.items ≡ register_records (state_of storage.now) ((15, 0) ∷ []) }
     ensures blanks { result.blanks ≡ 1 }
@@ -59,7 +59,7 @@ fn empty(storage: &Storage, subpool: Subpool) -> Plan
 {
     let mut records = ArrayVec::new();
     push_register(&mut records, storage.tasks.current(), 15, 0);
-    Plan {
+    StoragePlan {
         emptied: Some(subpool),
         records,
         blanks: WHOLE_BLANKS,
@@ -77,7 +77,7 @@ fn empty(storage: &Storage, subpool: Subpool) -> Plan
 /// `SubpoolNotAllowed`), `WholeOfZero` for subpool 0, `NotInSubpool` where the task doesn't see the subpool, and
 /// `NotOwner` where it doesn't own it.
 #[inline(never)]
-pub fn plan_whole(storage: &Storage, number: u32) -> Result<Plan, Cause>
+pub fn plan_whole(storage: &Parts, number: u32) -> Result<StoragePlan, Cause>
     requires { Stand storage.now }
     ensures planned { (settings : Settings) (names_full : Bool) → settings_valid settings ≡ true
         → StandsSound settings storage.now

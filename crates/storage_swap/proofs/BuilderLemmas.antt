@@ -1,5 +1,5 @@
 -- A change is made record by record beside the storage.
-use Rattle.std.proofs.Common.{◌≡◌, ℕ, ◌+◌, ◌/◌, ◌<◌, ◌≤◌, if◌then◌else◌, List, [], ◌∷◌, ◌++◌, length, length-append, map, Some, None, Result, Ok, Err, IfOk, IfErr, IsSome, IsTrue, inl, inr, refl, sym, ap, ◌∙◌, arith, subst}
+use Rattle.std.proofs.Common.{◌≡◌, ℕ, ◌+◌, ◌/◌, ◌<◌, ◌≤◌, max, if◌then◌else◌, List, [], ◌∷◌, ◌++◌, length, length-append, map, Some, None, Result, Ok, Err, IfOk, IfErr, IsSome, IsTrue, inl, inr, refl, sym, ap, ◌∙◌, arith, subst}
 use Rattle.std.proofs.lemmas.List.{append_assoc, append-nil}
 use Rattle.vsm_elements.specs.Store.{Store, SameElements, at, live_count}
 use Rattle.vsm_elements.specs.Chain.{Link, last_or, links, owned, ids, IsChain}
@@ -15,11 +15,12 @@ use Rattle.subpool_storage.specs.SubpoolStorage
 use Rattle.storage_changes.specs.declared.record.Record.{Record}
 use Rattle.storage_changes.specs.Changes.{Change, no_pages}
 use Rattle.storage_changes.proofs.Cases.{cond-out}
-use Rattle.storage_exchange.specs.declared.storage.Storage.{Storage}
+use Rattle.storage_exchange.specs.declared.storage.Parts.{Parts}
 use Rattle.storage_exchange.specs.Storage.{hold, hold_with, byte_held, StandsWith}
 use Rattle.storage_swap.specs.declared.builder.ChangeBuilder.{ChangeBuilder}
 use Rattle.storage_swap.specs.declared.change.Change.{Change as TheChange}
 use Rattle.storage_swap.specs.Beside.{record_at, records_of}
+use Rattle.storage_swap.specs.Growth.{all_elements, MakesElements}
 use Rattle.storage_swap.specs.Swap.{change_holds, Ready}
 use Rattle.storage_swap.specs.Reserve.{Grown, MoreTables, Reserves}
 use Rattle.storage_swap.specs.Builder.{so_far, records_in, parked_in, meaning_with, builder_holds, IsBuilding, Keeps, Builds, Pushes, Finishes}
@@ -28,6 +29,10 @@ use Rattle.storage_swap.proofs.FrameLemmas.{nowhere}
 use Rattle.storage_swap.proofs.ThreeLemmas.{no_ids}
 use Rattle.storage_swap.proofs.KeptLemmas.{over, holds-live, same-hold, same-stands, same-state, same-unassigned, kept-hold, kept-parked-hold, kept-stands, kept-state, kept-unassigned, kept-parked}
 
+-- What was made for two reservations, one behind the other: m and n are how many elements each was for, and k is both.
+pub makes-follow : (a b c live next m n k : ℕ) → b ≤ max a (live + m + 128) → next + n ≤ live + k → m ≤ k → c ≤ max b (next + n + 128) → c ≤ max a (live + k + 128)
+makes-follow a b c live next m n k first more within second = omega (arith, first, more, within, second)
+
 -- so it is after a refusal too
 pub if-refused : {R E : Type 0} (P : Type 0) (r : Result R E) → P → IfErr r (λ _. P)
 if-refused P (Ok x) h = tt
@@ -35,16 +40,16 @@ if-refused P (Err e) h = h
 
 -- one behind the other
 
-pub keeps-follow : (s t u : Storage) (f g h : ℕ → ℕ) → Keeps s t f g → Keeps t u g h → Keeps s u f h
+pub keeps-follow : (s t u : Parts) (f g h : ℕ → ℕ) → Keeps s t f g → Keeps t u g h → Keeps s u f h
 keeps-follow s t u f g h a b = record {
-  same = b.same ∙ ap (λ (z : Storage). over z u.elements) a.same;
+  same = b.same ∙ ap (λ (z : Parts). over z u.elements) a.same;
   shows = b.shows ∙ a.shows;
   held = λ i. b.held i ∙ a.held i;
   kept = λ i n. b.kept i (omega (arith, n, a.held i)) ∙ a.kept i n;
   moves = moves-follow s.elements t.elements u.elements f g h a.moves b.moves;
 }
 
-pub keeps-like : (s t : Storage) (f g F G : ℕ → ℕ) → Keeps s t f g → ((i : ℕ) → F i ≡ f i) → ((i : ℕ) → G i ≡ g i) → Keeps s t F G
+pub keeps-like : (s t : Parts) (f g F G : ℕ → ℕ) → Keeps s t f g → ((i : ℕ) → F i ≡ f i) → ((i : ℕ) → G i ≡ g i) → Keeps s t F G
 keeps-like s t f g F G k a b = record {
   same = k.same;
   shows = k.shows;
@@ -53,24 +58,24 @@ keeps-like s t f g F G k a b = record {
   moves = moves-like s.elements t.elements f g F G k.moves a b;
 }
 
-pub builds-follow : (s t u : Storage) (a b c : ChangeBuilder) → Builds s a t b → Builds t b u c → Builds s a u c
+pub builds-follow : (s t u : Parts) (a b c : ChangeBuilder) → Builds s a t b → Builds t b u c → Builds s a u c
 builds-follow s t u a b c first second = record {
   building = second.building;
   keeps = keeps-follow s t u (builder_holds s a) (builder_holds t b) (builder_holds u c) first.keeps second.keeps;
 }
 
 -- nothing was done
-pub builds-none : (s : Storage) (a : ChangeBuilder) → IsBuilding s a → Builds s a s a
+pub builds-none : (s : Parts) (a : ChangeBuilder) → IsBuilding s a → Builds s a s a
 builds-none s a h = record {
   building = h;
   keeps = record { same = refl; shows = refl; held = λ i. refl; kept = λ i n. refl; moves = moves-none s.elements s.elements (builder_holds s a) (λ i. refl) };
 }
 
-pub pushes-none : (s : Storage) (a : ChangeBuilder) → Pushes s a [] s a
-pushes-none s a = record { records = sym (append-nil (records_in s a)); parked = refl; spare = omega arith; live = omega arith }
+pub pushes-none : (s : Parts) (a : ChangeBuilder) → Pushes s a [] s a
+pushes-none s a = record { records = sym (append-nil (records_in s a)); parked = refl; spare = omega arith; live = omega arith; made = omega arith }
 
 -- The records become others, or stay.
-module _ (s : Storage) (a : ChangeBuilder) (h : IsBuilding s a) (e : Store) (chain : Chain) (stand : IsChain e chain) (last : ℕ) (is-last : last ≡ last_or 0 (links e chain))
+module _ (s : Parts) (a : ChangeBuilder) (h : IsBuilding s a) (e : Store) (chain : Chain) (stand : IsChain e chain) (last : ℕ) (is-last : last ≡ last_or 0 (links e chain))
     (m : Moves s.elements e (λ i. times i (owned s.elements a.records)) (λ i. times i (owned e chain))) where
   abbrev had-records : ℕ → ℕ
   had-records i = times i (owned s.elements a.records)
@@ -132,7 +137,7 @@ module _ (s : Storage) (a : ChangeBuilder) (h : IsBuilding s a) (e : Store) (cha
   records-parked = kept-parked s a.parked e h.ready.stands had-records has-records m once
 
 -- What is parked becomes something else.
-module _ (s : Storage) (a : ChangeBuilder) (h : IsBuilding s a) (e : Store) (parked : TheParked) (stand : Stands e parked)
+module _ (s : Parts) (a : ChangeBuilder) (h : IsBuilding s a) (e : Store) (parked : TheParked) (stand : Stands e parked)
     (m : Moves s.elements e (SubpoolStorage.hold s.elements a.parked) (SubpoolStorage.hold e parked)) where
   abbrev had-parked : ℕ → ℕ
   had-parked = SubpoolStorage.hold s.elements a.parked
@@ -204,7 +209,7 @@ no-bytes : (a : ℕ) → byte_held [] a ≡ (if inside (a / 4096) no_pages then 
 no-bytes a = sym (cond-out (inside (a / 4096) no_pages) (Some 0) None (nowhere (a / 4096)))
 
 -- Elements are made.
-module _ (s : Storage) (a : ChangeBuilder) (h : IsBuilding s a) (e : Store) (same : SameElements s.elements e) where
+module _ (s : Parts) (a : ChangeBuilder) (h : IsBuilding s a) (e : Store) (same : SameElements s.elements e) where
   pub grown-chain : IsChain e a.records × (links e a.records ≡ links s.elements a.records)
   grown-chain = chain-kept s.elements e a.records h.ready.records (λ i n. same i)
 
@@ -224,8 +229,8 @@ module _ (s : Storage) (a : ChangeBuilder) (h : IsBuilding s a) (e : Store) (sam
   pub grown-parked : parked_in (over s e) a ≡ parked_in s a
   grown-parked = records-parked s a h e a.records grown-chain.0 a.last (h.last ∙ sym (ap (last_or 0) grown-chain.1)) still
 
-  pub grown-pushes : s.elements.spare ≤ e.spare → live_count e ≡ live_count s.elements → Pushes s a [] (over s e) a
-  grown-pushes more live = record { records = grown-records ∙ sym (append-nil (records_in s a)); parked = grown-parked; spare = omega (arith, more); live = omega (arith, live) }
+  pub grown-pushes : s.elements.spare ≤ e.spare → live_count e ≡ live_count s.elements → e.spare ≤ max s.elements.spare 128 → Pushes s a [] (over s e) a
+  grown-pushes more live few = record { records = grown-records ∙ sym (append-nil (records_in s a)); parked = grown-parked; spare = omega (arith, more); live = omega (arith, live); made = omega (arith, live, few) }
 
   -- one record more, of a spare one
   module _ (added : Record) (end : Store) (chain : Chain) (stand : IsChain end chain) (last : ℕ) (is-last : last ≡ last_or 0 (links end chain)) (put : records_of end chain ≡ records_of e a.records ++ added ∷ [])
@@ -236,14 +241,15 @@ module _ (s : Storage) (a : ChangeBuilder) (h : IsBuilding s a) (e : Store) (sam
         builds-follow s (over s e) (over s end) a a (record { records = chain; last = last; parked = a.parked }) first
         (records-build (over s e) a first.building end chain stand last is-last (moves-of e end (owned e a.records) (owned end chain) f))
 
-    pub push-pushes : s.elements.spare ≤ e.spare → live_count e ≡ live_count s.elements → end.spare + 1 ≡ e.spare → Pushes s a (added ∷ []) (over s end) (record { records = chain; last = last; parked = a.parked })
-    push-pushes more live less =
+    pub push-pushes : s.elements.spare ≤ e.spare → live_count e ≡ live_count s.elements → e.spare ≤ max s.elements.spare 128 → end.spare + 1 ≡ e.spare → Pushes s a (added ∷ []) (over s end) (record { records = chain; last = last; parked = a.parked })
+    push-pushes more live few less =
         let first : Builds s a (over s e) a = grown-builds in
         record {
           records = put ∙ ap (λ (z : List Record). z ++ added ∷ []) grown-records;
           parked = records-parked (over s e) a first.building end chain stand last is-last (moves-of e end (owned e a.records) (owned end chain) f) ∙ grown-parked;
           spare = omega (arith, more, less);
           live = omega (arith, live, less, f.as_many);
+          made = omega (arith, live, few, less, f.as_many);
         }
 
   -- what is parked becomes something else
@@ -329,7 +335,7 @@ module _ (s : Storage) (a : ChangeBuilder) (h : IsBuilding s a) (e : Store) (sam
     }
 
 -- All of it is given back.
-module _ (s : Storage) (b : ChangeBuilder) (h : IsBuilding s b) (e : Store) (m : Moves s.elements e (builder_holds s b) no_ids) where
+module _ (s : Parts) (b : ChangeBuilder) (h : IsBuilding s b) (e : Store) (m : Moves s.elements e (builder_holds s b) no_ids) where
   gone-own : (i : ℕ) → 0 < hold s i → at e i ≡ at s.elements i
   gone-own = rest-same s.elements e (builder_holds s b) no_ids m (hold s) (λ i. omega (arith, h.ready.once i)) (holds-live s h.ready.stands.storage)
 
@@ -343,14 +349,14 @@ module _ (s : Storage) (b : ChangeBuilder) (h : IsBuilding s b) (e : Store) (m :
   }
 
 -- It began with nothing.
-module _ (p t u : Storage) (a b : ChangeBuilder) (none : (i : ℕ) → builder_holds p a i ≡ 0) (begun : Builds p a t b) where
+module _ (p t u : Parts) (a b : ChangeBuilder) (none : (i : ℕ) → builder_holds p a i ≡ 0) (begun : Builds p a t b) where
   all-since : (g : ℕ → ℕ) → Keeps t u (builder_holds t b) g → Keeps p u no_ids g
   all-since g k =
       keeps-like p u (builder_holds p a) g no_ids g (keeps-follow p t u (builder_holds p a) (builder_holds t b) g begun.keeps k) (λ i. sym (none i)) (λ i. refl)
 
   module _ (g : ℕ → ℕ) (k : Keeps p u no_ids g) where
     same-region : u.region ≡ p.region
-    same-region = ap (λ (z : Storage). z.region) k.same
+    same-region = ap (λ (z : Parts). z.region) k.same
 
     same-tables : MoreTables p.region u.region
     same-tables = record {
@@ -390,25 +396,27 @@ module _ (p t u : Storage) (a b : ChangeBuilder) (none : (i : ℕ) → builder_h
       }
 
 -- Of the records that are to come, these are left: so far the others came.
-pub record Leads (s : Storage) (a : ChangeBuilder) (all : List Record) (t : Storage) (b : ChangeBuilder) (left : List Record) : Type 0 where
+pub record Leads (s : Parts) (a : ChangeBuilder) (all : List Record) (t : Parts) (b : ChangeBuilder) (left : List Record) : Type 0 where
   pub builds : Builds s a t b
   pub records : records_in t b ++ left ≡ records_in s a ++ all
   pub parked : parked_in t b ≡ parked_in s a
   pub spare : s.elements.spare + length left ≤ t.elements.spare + length all
   pub live : live_count t.elements + length left ≤ live_count s.elements + length all
+  pub made : MakesElements s.elements t.elements (length all)
 
-pub leads-none : (s : Storage) (a : ChangeBuilder) (all : List Record) → IsBuilding s a → Leads s a all s a all
-leads-none s a all h = record { builds = builds-none s a h; records = refl; parked = refl; spare = omega arith; live = omega arith }
+pub leads-none : (s : Parts) (a : ChangeBuilder) (all : List Record) → IsBuilding s a → Leads s a all s a all
+leads-none s a all h = record { builds = builds-none s a h; records = refl; parked = refl; spare = omega arith; live = omega arith; made = omega arith }
 
-module _ (s t : Storage) (a b : ChangeBuilder) (all left : List Record) (l : Leads s a all t b left) where
+module _ (s t : Parts) (a b : ChangeBuilder) (all left : List Record) (l : Leads s a all t b left) where
   -- those in front come
-  pub leads-more : (u : Storage) (c : ChangeBuilder) (one rest : List Record) → left ≡ one ++ rest → Builds t b u c → Pushes t b one u c → Leads s a all u c rest
+  pub leads-more : (u : Parts) (c : ChangeBuilder) (one rest : List Record) → left ≡ one ++ rest → Builds t b u c → Pushes t b one u c → Leads s a all u c rest
   leads-more u c one rest is k p = record {
     builds = builds-follow s t u a b c l.builds k;
     records = ap (λ (z : List Record). z ++ rest) p.records ∙ append_assoc (records_in t b) one rest ∙ ap (λ (z : List Record). records_in t b ++ z) (sym is) ∙ l.records;
     parked = p.parked ∙ l.parked;
     spare = omega (arith, l.spare, p.spare, ap length is, length-append one rest);
     live = omega (arith, l.live, p.live, ap length is, length-append one rest);
+    made = makes-follow (all_elements s.elements) (all_elements t.elements) (all_elements u.elements) (live_count s.elements) (live_count t.elements) (length all) (length one) (length all) l.made (omega (arith, l.live, ap length is, length-append one rest)) (omega arith) p.made;
   }
 
   -- all came
@@ -418,16 +426,18 @@ module _ (s t : Storage) (a b : ChangeBuilder) (all left : List Record) (l : Lea
     parked = l.parked;
     spare = omega (arith, l.spare, ap length is);
     live = omega (arith, l.live, ap length is);
+    made = l.made;
   }
 
   -- there is room for what is left
   pub leads-room : length all ≤ s.elements.spare → length left ≤ t.elements.spare
   leads-room h = omega (arith, l.spare, h)
 
-pub pushes-follow : (s t u : Storage) (a b c : ChangeBuilder) (xs ys : List Record) → Pushes s a xs t b → Pushes t b ys u c → Pushes s a (xs ++ ys) u c
+pub pushes-follow : (s t u : Parts) (a b c : ChangeBuilder) (xs ys : List Record) → Pushes s a xs t b → Pushes t b ys u c → Pushes s a (xs ++ ys) u c
 pushes-follow s t u a b c xs ys p q = record {
   records = q.records ∙ ap (λ (z : List Record). z ++ ys) p.records ∙ append_assoc (records_in s a) xs ys;
   parked = q.parked ∙ p.parked;
   spare = omega (arith, p.spare, q.spare, length-append xs ys);
   live = omega (arith, p.live, q.live, length-append xs ys);
+  made = makes-follow (all_elements s.elements) (all_elements t.elements) (all_elements u.elements) (live_count s.elements) (live_count t.elements) (length xs) (length ys) (length (xs ++ ys)) p.made (omega (arith, p.live, length-append xs ys)) (omega (arith, length-append xs ys)) q.made;
 }

@@ -8,13 +8,13 @@ use Rattle.subpool_storage.specs.SubpoolStorage
 use Rattle.storage_changes.specs.State.{StorageState}
 use Rattle.storage_changes.specs.Changes.{Change, change_building}
 use Rattle.storage_changes.proofs.Cases.{cond-in}
-use Rattle.storage_exchange.specs.declared.storage.Storage.{Storage}
+use Rattle.storage_exchange.specs.declared.storage.Parts.{Parts}
 use Rattle.storage_exchange.specs.Storage.{state_of}
 use Rattle.storage_swap.specs.declared.change.Change.{Change as TheChange}
 use Rattle.storage_swap.specs.Reserve.{Reserves}
 
 -- Else both held its element.
-pub id-is-new : PoolsAreHeld → (p t : Storage) (d : Change) (c : TheChange) (pool : Pool) → Reserves p (change_building pool d) c t → (state_of p).subpools.cells pool.id ≡ None
+pub id-is-new : PoolsAreHeld → (p t : Parts) (d : Change) (c : TheChange) (pool : Pool) → Reserves p (change_building pool d) c t → (state_of p).subpools.cells pool.id ≡ None
 id-is-new held p t d c pool r = go ((state_of p).subpools.cells pool.id) refl where
   parked : (subpools_of t.elements c.parked).cells pool.id ≡ Some pool
   parked = ap (λ (z : Change). z.parked.cells pool.id) r.meaning ∙ cond-in (pool.id == pool.id) (Some pool) (d.parked.cells pool.id) (eq-eqb pool.id pool.id refl)

@@ -15,7 +15,7 @@ use Rattle.storage_changes.specs.Turned.{turned}
 use Rattle.storage_changes.specs.Steps.{step}
 use Rattle.storage_changes.specs.Fits.{Fits}
 use Rattle.storage_changes.proofs.Cases.{walk-same}
-use Rattle.storage_exchange.specs.declared.storage.Storage.{Storage}
+use Rattle.storage_exchange.specs.declared.storage.Parts.{Parts}
 use Rattle.storage_exchange.specs.Storage.{hold_with, state_of, walk_of, StandsWith}
 use Rattle.storage_exchange.specs.Exchange.{Exchanges}
 use Rattle.storage_swap.specs.Beside.{record_at, records_of, hold_beside, Beside, SwapsFirst}
@@ -33,16 +33,16 @@ pub first-record : (s : Store) (c : Chain) (n : Link) (r : Record) (rs : List Re
 first-record s c n r rs e k = heads-are (record_at n) r (map record_at (drop 1 (links s c))) rs (sym (ap (map record_at) (first-link (links s c) n e)) ∙ k)
 
 -- the same walk over elements that leave the storage and the parked subpools as they were
-pub kept-walk : (p : Storage) (q : SubpoolStorage) (e : Store) (k : StandsWith p q) (f g : ℕ → ℕ) (m : Moves p.elements e f g) (once : (i : ℕ) → f i + hold_with p q i ≤ 1) → e.spare ≡ p.elements.spare
+pub kept-walk : (p : Parts) (q : SubpoolStorage) (e : Store) (k : StandsWith p q) (f g : ℕ → ℕ) (m : Moves p.elements e f g) (once : (i : ℕ) → f i + hold_with p q i ≤ 1) → e.spare ≡ p.elements.spare
     → (given : List PageFrame) (kept : ℕ) → walk_of (over p e) given q kept ≡ walk_of p given q kept
 kept-walk p q e k f g m once same given kept = walk-same (walk_of (over p e) given q kept) (walk_of p given q kept) (kept-state p q e k f g m once)
     (λ a. ap (λ b. if b then byte_at p.region a else None) (kept-unassigned p q e k f g m once (a / 4096))) (λ a. refl) (kept-parked p q e k f g m once) (ap (λ (n : ℕ). n - kept) same)
 
 -- the chain stays beside the exchange
-pub first-kept : (p m : Storage) (given given' : List PageFrame) (q q' : SubpoolStorage) (c : Chain) (r : Record) → Beside p q c → Exchanges p m given given' q q' r → IsChain m.elements c
+pub first-kept : (p m : Parts) (given given' : List PageFrame) (q q' : SubpoolStorage) (c : Chain) (r : Record) → Beside p q c → Exchanges p m given given' q q' r → IsChain m.elements c
 first-kept p m given given' q q' c r b x = (chain-kept p.elements m.elements c b.chain (λ i h. rest-same p.elements m.elements (hold_with p q) (hold_with m q') x.moves (λ j. times j (owned p.elements c)) b.once (chain-live p.elements c b.chain) i h)).0
 
-module _ (p m : Storage) (e : Store) (given given' : List PageFrame) (q q' : SubpoolStorage) (c : Chain) (b : Beside p q c) (n n' : Link) (got : slice_get (links p.elements c) 0 ≡ Some n) (x : Exchanges p m given given' q q' (record_at n))
+module _ (p m : Parts) (e : Store) (given given' : List PageFrame) (q q' : SubpoolStorage) (c : Chain) (b : Beside p q c) (n n' : Link) (got : slice_get (links p.elements c) 0 ≡ Some n) (x : Exchanges p m given given' q q' (record_at n))
     (is : record_at n' ≡ turned (state_of p) (record_at n)) (chain : IsChain e c) (written : links e c ≡ n' ∷ drop 1 (links m.elements c)) (id : n'.id ≡ n.id) (f : Leaves m.elements e (owned m.elements c) (owned e c)) (spares : e.spare ≡ m.elements.spare) where
   abbrev chain_ids : ℕ → ℕ
   chain_ids i = times i (owned p.elements c)
@@ -98,7 +98,7 @@ module _ (p m : Storage) (e : Store) (given given' : List PageFrame) (q q' : Sub
         (omega (arith, s.0, spares), kept-walk m q' e x.stands chain_ids chain_ids written-moves once-written spares given' kept ∙ s.1 ∙ ap (step (walk_of p given q kept)) first.0)
 
 -- what the exchange of the first record asks
-pub first-asks : (p : Storage) (given : List PageFrame) (q : SubpoolStorage) (c : Chain) (n : Link) → slice_get (links p.elements c) 0 ≡ Some n
+pub first-asks : (p : Parts) (given : List PageFrame) (q : SubpoolStorage) (c : Chain) (n : Link) → slice_get (links p.elements c) 0 ≡ Some n
     → (r : Record) × (rs : List Record) × (kept : ℕ) × (kept ≤ p.elements.spare) × (records_of p.elements c ≡ r ∷ rs) × Fits (walk_of p given q kept) r
     → (kept : ℕ) × (kept ≤ p.elements.spare) × Fits (walk_of p given q kept) (record_at n)
 first-asks p given q c n got (r, rs, kept, le, l, fits) = let P : Record → Type 0 = λ z. Fits (walk_of p given q kept) z in

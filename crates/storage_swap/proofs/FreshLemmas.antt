@@ -26,7 +26,7 @@ use Rattle.subpool_storage.specs.Subpools.{no_subpools, with_own}
 use Rattle.subpool_storage.specs.SubpoolStorage.{subpools_of, Stands}
 use Rattle.subpool_storage.specs.SubpoolStorage
 use Rattle.storage_changes.proofs.Cases.{state-same}
-use Rattle.storage_exchange.specs.declared.storage.Storage.{Storage}
+use Rattle.storage_exchange.specs.declared.storage.Parts.{Parts}
 use Rattle.storage_exchange.specs.Storage.{hold, tasks_of, state_of}
 use Rattle.storage_swap.specs.Fresh.{first_storage, IsFresh}
 use Rattle.storage_exchange.proofs.StructureLemmas.{TasksStay}
@@ -60,7 +60,7 @@ module _ (settings : Settings) (none first mid second end : Store) (region : Tab
     (subpools-move : Moves mid second no_ids (SubpoolStorage.hold second subpools))
     (stand-pages : IsPages end unassigned) (pages-are : (page : ℕ) → is_unassigned end unassigned page ≡ in_a_region settings page) (pages-move : Leaves second end [] (Pages.owned end unassigned))
     (fresh-region : IsFreshRegion region (settings.low_k / 4) (settings.high_k / 4)) where
-  abbrev p : Storage
+  abbrev p : Parts
   p = record { elements = end; region = region; unassigned = unassigned; subpools = subpools; tasks = tree }
 
   abbrev tree-ids : ℕ → ℕ

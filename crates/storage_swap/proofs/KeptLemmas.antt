@@ -18,17 +18,17 @@ use Rattle.subpool_storage.specs.declared.storage.SubpoolStorage.{SubpoolStorage
 use Rattle.subpool_storage.specs.SubpoolStorage.{subpools_of, Stands}
 use Rattle.subpool_storage.specs.SubpoolStorage
 use Rattle.storage_changes.proofs.Cases.{state-same}
-use Rattle.storage_exchange.specs.declared.storage.Storage.{Storage}
+use Rattle.storage_exchange.specs.declared.storage.Parts.{Parts}
 use Rattle.storage_exchange.specs.Storage.{hold, hold_with, tasks_of, state_of, Stand, StandsWith}
 use Rattle.storage_exchange.proofs.StructureLemmas.{TasksStay}
 use Rattle.storage_swap.proofs.Below.{trees-kept, storage-owns, storage-stays}
 
 -- over other elements
-abbrev pub over : Storage → Store → Storage
+abbrev pub over : Parts → Store → Parts
 over p e = record p { elements = e }
 
 -- what the storage holds is live
-pub holds-live : (p : Storage) → Stand p → (i : ℕ) → 0 < hold p i → IsSome (at p.elements i)
+pub holds-live : (p : Parts) → Stand p → (i : ℕ) → 0 < hold p i → IsSome (at p.elements i)
 holds-live p k i h = elim (none-or-some (times i (Pages.owned p.elements p.unassigned))) [
   | inr z ↦ (pages_stand p.elements p.unassigned k.unassigned).1.live i (some-from i (Pages.owned p.elements p.unassigned) z)
   | inl z ↦ elim (none-or-some (SubpoolStorage.hold p.elements p.subpools i)) [
@@ -38,20 +38,20 @@ holds-live p k i h = elim (none-or-some (times i (Pages.owned p.elements p.unass
 ]
 
 -- and what it holds with parked subpools
-pub with-live : (p : Storage) (q : TheParked) → StandsWith p q → (i : ℕ) → 0 < hold_with p q i → IsSome (at p.elements i)
+pub with-live : (p : Parts) (q : TheParked) → StandsWith p q → (i : ℕ) → 0 < hold_with p q i → IsSome (at p.elements i)
 with-live p q k i h = elim (none-or-some (hold p i)) [
   | inr z ↦ holds-live p k.storage i z
   | inl z ↦ (storage-owns p.elements q k.parked).1 i (omega (arith, h, z))
 ]
 
 -- over another region
-pub region-stands : (p : Storage) (region : Tables) → Stand p → Stand (record p { region = region })
+pub region-stands : (p : Parts) (region : Tables) → Stand p → Stand (record p { region = region })
 region-stands p region k = record { unassigned = k.unassigned; subpools = k.subpools; tasks = k.tasks }
 
-pub region-stands-with : (p : Storage) (q : TheParked) (region : Tables) → StandsWith p q → StandsWith (record p { region = region }) q
+pub region-stands-with : (p : Parts) (q : TheParked) (region : Tables) → StandsWith p q → StandsWith (record p { region = region }) q
 region-stands-with p q region k = record { storage = region-stands p region k.storage; parked = k.parked; once = k.once }
 
-module _ (p : Storage) (e : Store) (k : Stand p) (same : (i : ℕ) → 0 < hold p i → at e i ≡ at p.elements i) where
+module _ (p : Parts) (e : Store) (k : Stand p) (same : (i : ℕ) → 0 < hold p i → at e i ≡ at p.elements i) where
   pages : IsPages e p.unassigned × (page_runs e p.unassigned ≡ page_runs p.elements p.unassigned) × (Pages.owned e p.unassigned ≡ Pages.owned p.elements p.unassigned)
   pages = sets_kept p.elements e p.unassigned.set k.unassigned (λ i n. same i (omega (arith, times-some i (Pages.owned p.elements p.unassigned) n)))
 
@@ -82,7 +82,7 @@ module _ (p : Storage) (e : Store) (k : Stand p) (same : (i : ℕ) → 0 < hold 
       (λ a. ap (λ (b : Bool). if b then None else byte_at p.region a) (same-unassigned (a / 4096)))
 
 -- beside parked subpools, where a call on something else leaves both
-module _ (p : Storage) (q : TheParked) (e : Store) (k : StandsWith p q) (f g : ℕ → ℕ) (m : Moves p.elements e f g) (once : (i : ℕ) → f i + hold_with p q i ≤ 1) where
+module _ (p : Parts) (q : TheParked) (e : Store) (k : StandsWith p q) (f g : ℕ → ℕ) (m : Moves p.elements e f g) (once : (i : ℕ) → f i + hold_with p q i ≤ 1) where
   same : (i : ℕ) → 0 < hold_with p q i → at e i ≡ at p.elements i
   same = rest-same p.elements e f g m (hold_with p q) once (with-live p q k)
 

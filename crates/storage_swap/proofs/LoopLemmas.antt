@@ -17,7 +17,7 @@ use Rattle.storage_changes.specs.Turned.{turned, back_onto}
 use Rattle.storage_changes.specs.Steps.{step, walk}
 use Rattle.storage_changes.specs.Fits.{Fits, FitInTurn}
 use Rattle.subpool_storage.specs.declared.storage.SubpoolStorage.{SubpoolStorage}
-use Rattle.storage_exchange.specs.declared.storage.Storage.{Storage}
+use Rattle.storage_exchange.specs.declared.storage.Parts.{Parts}
 use Rattle.storage_exchange.specs.Storage.{hold_with, state_of, walk_of, StandsWith}
 use Rattle.storage_exchange.specs.Exchange.{HavePlaces, SameFrames}
 use Rattle.storage_swap.specs.Beside.{record_at, records_of, hold_beside, Beside, SwapsFirst, SwapsAll}
@@ -25,11 +25,11 @@ use Rattle.storage_swap.proofs.KeptLemmas.{over, kept-hold-with, kept-stands}
 use Rattle.storage_swap.proofs.FirstLemmas.{kept-walk}
 
 -- how often the storage, parked subpools and both chains hold an element
-abbrev pub hold_all : Storage → SubpoolStorage → Chain → Chain → ℕ → ℕ
+abbrev pub hold_all : Parts → SubpoolStorage → Chain → Chain → ℕ → ℕ
 hold_all p q c d i = hold_with p q i + (times i (owned p.elements c) + times i (owned p.elements d))
 
 -- so far: the storage, the records to come and those that are done, from a storage p and its records c
-pub record Going (p : Storage) (given : List PageFrame) (q : SubpoolStorage) (c : Chain) (s : Storage) (given' : List PageFrame) (q' : SubpoolStorage) (rest done : Chain) : Type 0 where
+pub record Going (p : Parts) (given : List PageFrame) (q : SubpoolStorage) (c : Chain) (s : Parts) (given' : List PageFrame) (q' : SubpoolStorage) (rest done : Chain) : Type 0 where
   pub stands : StandsWith s q'
   pub rest_chain : IsChain s.elements rest
   pub done_chain : IsChain s.elements done
@@ -46,7 +46,7 @@ pub record Going (p : Storage) (given : List PageFrame) (q : SubpoolStorage) (c 
   pub places : HavePlaces p given → HavePlaces s given'
 
 -- at the start
-pub begins : (p : Storage) (given : List PageFrame) (q : SubpoolStorage) (c done : Chain) → Beside p q c → done.first ≡ 0 → done.count ≡ 0 → Going p given q c p given q c done
+pub begins : (p : Parts) (given : List PageFrame) (q : SubpoolStorage) (c done : Chain) → Beside p q c → done.first ≡ 0 → done.count ≡ 0 → Going p given q c p given q c done
 begins p given q c done b first count =
     let none : links p.elements done ≡ [] = ap (follow p.elements done.first) count in
     let P : List Link → Type 0 = λ ns. IsChainOf p.elements done ns in
@@ -67,7 +67,7 @@ begins p given q c done b first count =
     }
 
 -- at the end
-pub ends : (p s : Storage) (given given' : List PageFrame) (q q' : SubpoolStorage) (c rest done : Chain) → Going p given q c s given' q' rest done → rest.count ≡ 0 → SwapsAll p s given given' q q' c done
+pub ends : (p s : Parts) (given given' : List PageFrame) (q q' : SubpoolStorage) (c rest done : Chain) → Going p given q c s given' q' rest done → rest.count ≡ 0 → SwapsAll p s given given' q q' c done
 ends p s given given' q q' c rest done g count =
     let none : links s.elements rest ≡ [] = ap (follow s.elements rest.first) count in
     record {
@@ -86,7 +86,7 @@ ends p s given given' q q' c rest done g count =
     }
 
 -- what the first record's exchange asks
-pub first-fits : (p s : Storage) (given given' : List PageFrame) (q q' : SubpoolStorage) (c rest done : Chain) → Going p given q c s given' q' rest done → 0 < rest.count
+pub first-fits : (p s : Parts) (given given' : List PageFrame) (q q' : SubpoolStorage) (c rest done : Chain) → Going p given q c s given' q' rest done → 0 < rest.count
     → (kept : ℕ) × (kept ≤ p.elements.spare) × FitInTurn (walk_of p given q kept) (records_of p.elements c)
     → (r : Record) × (rs : List Record) × (kept : ℕ) × (kept ≤ s.elements.spare) × (records_of s.elements rest ≡ r ∷ rs) × Fits (walk_of s given' q' kept) r
 first-fits p s given given' q q' c rest done g some (kept, le, h) = go (records_of s.elements rest) refl where
@@ -95,7 +95,7 @@ first-fits p s given given' q q' c rest done g some (kept, le, h) = go (records_
   go (r ∷ rs) e = let P : List Record → Type 0 = λ l. FitInTurn (walk_of s given' q' kept) l in (r, rs, kept, (g.fits kept le h).0, e, (subst P e (g.fits kept le h).1).0)
 
 -- a turn
-module _ (p s m : Storage) (e : Store) (given given' given'' : List PageFrame) (q q' q'' : SubpoolStorage) (c rest done rest' done' : Chain) (g : Going p given q c s given' q' rest done)
+module _ (p s m : Parts) (e : Store) (given given' given'' : List PageFrame) (q q' q'' : SubpoolStorage) (c rest done rest' done' : Chain) (g : Going p given q c s given' q' rest done)
     (first : (r : Record) (rs : List Record) → records_of s.elements rest ≡ r ∷ rs → SwapsFirst s m given' given'' q' q'' rest r rs) (some : 0 < rest.count) where
   abbrev rest_ids : ℕ → ℕ
   rest_ids i = times i (owned s.elements rest)
@@ -132,7 +132,7 @@ module _ (p s m : Storage) (e : Store) (given given' given'' : List PageFrame) (
       once-moved : (i : ℕ) → (times i (owned m.elements rest) + times i (owned m.elements done)) + hold_with m q'' i ≤ 1
       once-moved i = omega (arith, once-mid i, done-same i)
 
-      abbrev t : Storage
+      abbrev t : Parts
       t = over m e
 
       new-hold : (i : ℕ) → hold_with t q'' i ≡ hold_with m q'' i

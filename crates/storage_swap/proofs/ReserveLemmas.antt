@@ -24,7 +24,7 @@ use Rattle.storage_changes.specs.declared.record.Record.{Record}
 use Rattle.storage_changes.specs.State.{StorageState}
 use Rattle.storage_changes.specs.Changes.{Change, change_from}
 use Rattle.storage_changes.proofs.Cases.{state-same}
-use Rattle.storage_exchange.specs.declared.storage.Storage.{Storage}
+use Rattle.storage_exchange.specs.declared.storage.Parts.{Parts}
 use Rattle.storage_exchange.specs.Storage.{hold, state_of, byte_held, Stand, IsFrameless}
 use Rattle.storage_swap.specs.declared.change.Change.{Change as TheChange}
 use Rattle.storage_swap.specs.Beside.{record_at, records_of}
@@ -54,8 +54,8 @@ byte-fresh frames fresh held a = ap (λ (b : Option (List ℕ)). byte_of b (a % 
   go false = refl
 
 -- over other elements, where a call on something else leaves the storage, and over another region with the same pages
-module _ (p : Storage) (e : Store) (region : Tables) (k : Stand p) (one : (i : ℕ) → hold p i ≤ 1) (g : ℕ → ℕ) (m : Moves p.elements e no_ids g) (pages : SamePages p.region region) where
-  abbrev u : Storage
+module _ (p : Parts) (e : Store) (region : Tables) (k : Stand p) (one : (i : ℕ) → hold p i ≤ 1) (g : ℕ → ℕ) (m : Moves p.elements e no_ids g) (pages : SamePages p.region region) where
+  abbrev u : Parts
   u = record p { elements = e; region = region }
 
   own : (i : ℕ) → 0 < hold p i → at e i ≡ at p.elements i
@@ -78,14 +78,14 @@ module _ (p : Storage) (e : Store) (region : Tables) (k : Stand p) (one : (i : �
   moved-frameless b page h = pages page ∙ b page (sym (ap (λ (z : StorageState). z.unassigned page) moved-state) ∙ h)
 
 -- The change is put together of what it has taken, in elements where all of it stands.
-module _ (p : Storage) (m : Change) (fresh : Run) (k : Stand p) (one : (i : ℕ) → hold p i ≤ 1) (frameless : IsFrameless p) (tables : HaveTables p.region fresh.start fresh.len)
+module _ (p : Parts) (m : Change) (fresh : Run) (k : Stand p) (one : (i : ℕ) → hold p i ≤ 1) (frameless : IsFrameless p) (tables : HaveTables p.region fresh.start fresh.len)
     (bring : (a : ℕ) → m.frames a ≡ (if inside (a / 4096) fresh then Some 0 else None))
     (end : Store) (region : Tables) (c : TheChange) (moved : Moves p.elements end no_ids (change_holds end c)) (apart : (i : ℕ) → change_holds end c i + hold p i ≤ 1)
     (records : IsChain end c.records) (is : records_of end c.records ≡ m.records) (blanks : IsChain end c.blanks) (count : c.blanks.count ≡ m.blanks)
     (parked-stands : Stands end c.parked) (parked-is : subpools_of end c.parked ≡ m.parked)
     (held : (page : ℕ) → held_at c.frames page ≡ (if inside page fresh then Some zeros else None)) (pages : SamePages p.region region) (same : SameTables p.region region)
     (long : length c.frames ≡ fresh.len) (out : region.out ≡ p.region.out + fresh.len) where
-  abbrev t : Storage
+  abbrev t : Parts
   t = record p { elements = end; region = region }
 
   hold-end : (i : ℕ) → hold t i ≡ hold p i
@@ -120,7 +120,7 @@ module _ (p : Storage) (m : Change) (fresh : Run) (k : Stand p) (one : (i : ℕ)
     out = omega (arith, out, long);
   }
 
-module _ (p : Storage) (m : Change) (fresh : Run) (k : Stand p) (one : (i : ℕ) → hold p i ≤ 1) (frameless : IsFrameless p) (tables : HaveTables p.region fresh.start fresh.len)
+module _ (p : Parts) (m : Change) (fresh : Run) (k : Stand p) (one : (i : ℕ) → hold p i ≤ 1) (frameless : IsFrameless p) (tables : HaveTables p.region fresh.start fresh.len)
     (bring : (a : ℕ) → m.frames a ≡ (if inside (a / 4096) fresh then Some 0 else None))
     (region : Tables) (frames : List PageFrame) (held : (page : ℕ) → held_at frames page ≡ (if inside page fresh then Some zeros else None)) (pages : SamePages p.region region) (same : SameTables p.region region)
     (long : length frames ≡ fresh.len) (out : region.out ≡ p.region.out + fresh.len) where
@@ -225,12 +225,12 @@ parked-range s q k None h = tt
 parked-range s q k (Some p) h = (subpools_are_there s q k).0 p.owner p.number (there-some (subpools_of s q) p h)
 
 -- the growth before it
-module _ (p m : Storage) (k : Stand p) (one : (i : ℕ) → hold p i ≤ 1) (g : Grown p m) where
+module _ (p m : Parts) (k : Stand p) (one : (i : ℕ) → hold p i ≤ 1) (g : Grown p m) where
   still : Moves p.elements m.elements no_ids no_ids
   still = moves-none p.elements m.elements no_ids g.elements
 
   pub grown-stands : Stand m
-  grown-stands = let P : Storage → Type 0 = λ z. Stand z in subst P (sym g.same) (moved-stands p m.elements m.region k one no_ids still g.pages)
+  grown-stands = let P : Parts → Type 0 = λ z. Stand z in subst P (sym g.same) (moved-stands p m.elements m.region k one no_ids still g.pages)
 
   pub grown-state : state_of m ≡ state_of p
   grown-state = ap state_of g.same ∙ moved-state p m.elements m.region k one no_ids still g.pages
@@ -239,18 +239,18 @@ module _ (p m : Storage) (k : Stand p) (one : (i : ℕ) → hold p i ≤ 1) (g :
   grown-subpools = ap (λ (z : StorageState). z.subpools) grown-state
 
   grown-hold : (i : ℕ) → hold m i ≡ hold p i
-  grown-hold i = ap (λ (z : Storage). hold z i) g.same ∙ moved-hold p m.elements m.region k one no_ids still g.pages i
+  grown-hold i = ap (λ (z : Parts). hold z i) g.same ∙ moved-hold p m.elements m.region k one no_ids still g.pages i
 
   pub grown-once : (i : ℕ) → hold m i ≤ 1
   grown-once i = omega (arith, grown-hold i, one i)
 
   pub grown-frameless : IsFrameless p → IsFrameless m
-  grown-frameless b = let P : Storage → Type 0 = λ z. IsFrameless z in subst P (sym g.same) (moved-frameless p m.elements m.region k one no_ids still g.pages b)
+  grown-frameless b = let P : Parts → Type 0 = λ z. IsFrameless z in subst P (sym g.same) (moved-frameless p m.elements m.region k one no_ids still g.pages b)
 
   pub grown-unassigned : (fresh : Run) → ((page : ℕ) → inside page fresh ≡ true → (state_of p).unassigned page ≡ true) → (page : ℕ) → inside page fresh ≡ true → (state_of m).unassigned page ≡ true
   grown-unassigned fresh h page i = ap (λ (z : StorageState). z.unassigned page) grown-state ∙ h page i
 
-  pub grown-reserves : (d : Change) (c : TheChange) (t : Storage) → Reserves m d c t → Reserves p d c t
+  pub grown-reserves : (d : Change) (c : TheChange) (t : Parts) → Reserves m d c t → Reserves p d c t
   grown-reserves d c t r = record {
     ready = r.ready;
     shows = r.shows ∙ grown-state;

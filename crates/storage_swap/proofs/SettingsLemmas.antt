@@ -7,9 +7,9 @@ use Rattle.vsm_model.specs.declared.limits.Settings.{Settings}
 use Rattle.vsm_model.specs.Regions.{settings_valid, size_valid}
 use Rattle.vsm_model.specs.Search.{holds}
 use Rattle.vsm_model.specs.CellPools.{CellPools}
-use Rattle.cell_tables.specs.Named.{AreNamed}
-use Rattle.cell_tables.specs.Table.{cell_pools_in}
-use Rattle.cell_tables.specs.Laws.{RowsAreCounted}
+use Rattle.storage_changes.specs.NamedPools.{AreNamed}
+use Rattle.storage_changes.specs.PoolTable.{cell_pools_in}
+use Rattle.storage_changes.specs.TableLaws.{RowsAreCounted}
 use Rattle.subpool_storage.specs.Subpools.{no_subpools, with_own, is_there}
 use Rattle.storage_changes.specs.Meaning.{first_of, all_subpools, subpool_of, is_taken}
 use Rattle.storage_changes.proofs.Cases.{and-left, and-right}

@@ -21,7 +21,7 @@ use Rattle.storage_changes.specs.Turned.{back_onto}
 use Rattle.storage_changes.specs.Fits.{FitInTurn}
 use Rattle.storage_changes.specs.Changes.{outset, arrival, Fit, inverse}
 use Rattle.storage_changes.proofs.Cases.{state-same, walk-same}
-use Rattle.storage_exchange.specs.declared.storage.Storage.{Storage}
+use Rattle.storage_exchange.specs.declared.storage.Parts.{Parts}
 use Rattle.storage_exchange.specs.Storage.{hold_with, state_of, walk_of, byte_held}
 use Rattle.storage_exchange.specs.Exchange.{HavePlaces, SameFrames}
 use Rattle.storage_swap.specs.declared.change.Change.{Change as TheChange}
@@ -34,21 +34,21 @@ not-false : (b : Bool) → b ≡ true → b ≡ false → ⊥
 not-false b p q = cc
 
 -- the pages of a change's frames are unassigned
-fresh-page : (p : Storage) (c : TheChange) → Fit (state_of p) (means p.elements c) → (page : ℕ) → IsSome (held_at c.frames page) → (state_of p).unassigned page ≡ true
+fresh-page : (p : Parts) (c : TheChange) → Fit (state_of p) (means p.elements c) → (page : ℕ) → IsSome (held_at c.frames page) → (state_of p).unassigned page ≡ true
 fresh-page p c fit page h = sym (ap (λ (x : ℕ). (state_of p).unassigned x) (first-address page)) ∙ fit.fresh (4096 * page) (held-some c.frames page h)
 
 -- an assigned page brings no frame
-not-brought : (p : Storage) (c : TheChange) → Fit (state_of p) (means p.elements c) → (page : ℕ) → (state_of p).unassigned page ≡ false → held_at c.frames page ≡ None
+not-brought : (p : Parts) (c : TheChange) → Fit (state_of p) (means p.elements c) → (page : ℕ) → (state_of p).unassigned page ≡ false → held_at c.frames page ≡ None
 not-brought p c fit page e = none-if (held_at c.frames page) (λ h. not-false ((state_of p).unassigned page) (fresh-page p c fit page h) e)
 
-pub can-enter : (p : Storage) (c : TheChange) → Ready p c → Fit (state_of p) (means p.elements c) → CanEnter p.region c.frames
+pub can-enter : (p : Parts) (c : TheChange) → Ready p c → Fit (state_of p) (means p.elements c) → CanEnter p.region c.frames
 can-enter p c r fit page h = (r.places page h, r.frameless page (fresh-page p c fit page h))
 
 -- the blank elements are given back, and the frames stand in the tables
-module _ (p : Storage) (c : TheChange) (r : Ready p c) (fit : Fit (state_of p) (means p.elements c)) (e : Store) (region : Tables) (given : List PageFrame)
+module _ (p : Parts) (c : TheChange) (r : Ready p c) (fit : Fit (state_of p) (means p.elements c)) (e : Store) (region : Tables) (given : List PageFrame)
     (f : Leaves p.elements e (owned p.elements c.blanks) []) (spares : e.spare ≡ p.elements.spare + c.blanks.count)
     (pages : (x : ℕ) → bytes_at region x ≡ option_or (held_at c.frames x) (bytes_at p.region x)) (tables : SameTables p.region region) (out : region.out + length c.frames ≡ p.region.out) (empty : given ≡ []) (counts : SameFrames p.region region) where
-  abbrev m : Storage
+  abbrev m : Parts
   m = record p { elements = e; region = region }
 
   abbrev blanks_ids : ℕ → ℕ
@@ -110,7 +110,7 @@ module _ (p : Storage) (c : TheChange) (r : Ready p c) (fit : Fit (state_of p) (
   fits-turn = (kept, omega (arith, spares), fit-here)
 
   -- all records change sides, and blank elements are taken
-  module _ (s : Storage) (given' : List PageFrame) (parked' : TheParked) (records' : Chain) (w : SwapsAll m s given given' c.parked parked' c.records records') where
+  module _ (s : Parts) (given' : List PageFrame) (parked' : TheParked) (records' : Chain) (w : SwapsAll m s given given' c.parked parked' c.records records') where
     steps : (kept ≤ s.elements.spare) × (walk_of s given' parked' kept ≡ walk (walk_of m given c.parked kept) (records_of e c.records)) × (records_of s.elements records' ≡ back_onto (walk_of m given c.parked kept) [] (records_of e c.records))
     steps = w.steps kept (omega (arith, spares)) fit-here
 
@@ -124,7 +124,7 @@ module _ (p : Storage) (c : TheChange) (r : Ready p c) (fit : Fit (state_of p) (
     turns = steps.2 ∙ ap (λ (v : Walk). back_onto v [] (records_of e c.records)) starts ∙ ap (back_onto (outset (state_of p) (means p.elements c)) []) same-records
 
     module _ (end : Store) (blanks' : Chain) (chain : IsChain end blanks') (g : Leaves s.elements end [] (owned end blanks')) (spare : end.spare ≡ kept) (count : blanks'.count + kept ≡ s.elements.spare) where
-      abbrev t : Storage
+      abbrev t : Parts
       t = over s end
 
       abbrev d : TheChange

@@ -4,7 +4,7 @@ use Rattle.vsm_elements.specs.Store.{Store, at}
 use Rattle.vsm_elements.specs.declared.element.Element.{Element}
 use Rattle.vsm_elements.specs.Owners.{Moves}
 use Rattle.vsm_elements.proofs.MoveLemmas.{none-or-some, moves-follow, moves-by, rest-same, once-after}
-use Rattle.storage_exchange.specs.declared.storage.Storage.{Storage}
+use Rattle.storage_exchange.specs.declared.storage.Parts.{Parts}
 use Rattle.storage_exchange.specs.Storage.{hold, Stand}
 use Rattle.storage_swap.proofs.KeptLemmas.{holds-live}
 
@@ -18,7 +18,7 @@ live-after s t f g same old new i n = elim (none-or-some (g i)) [
   | inr z ↦ new i z
 ]
 
-module _ (p : Storage) (k : Stand p) (one : (i : ℕ) → hold p i ≤ 1) (e e' end : Store) (f g h : ℕ → ℕ)
+module _ (p : Parts) (k : Stand p) (one : (i : ℕ) → hold p i ≤ 1) (e e' end : Store) (f g h : ℕ → ℕ)
     (first : Moves p.elements e no_ids f) (first-once : (i : ℕ) → f i ≤ 1) (first-live : (i : ℕ) → 0 < f i → IsSome (at e i))
     (second : Moves e e' no_ids g) (second-once : (i : ℕ) → g i ≤ 1) (second-live : (i : ℕ) → 0 < g i → IsSome (at e' i))
     (third : Moves e' end no_ids h) (third-once : (i : ℕ) → h i ≤ 1) where

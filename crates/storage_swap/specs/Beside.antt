@@ -12,7 +12,7 @@ use Rattle.storage_changes.specs.Records.{record_of}
 use Rattle.storage_changes.specs.Steps.{step, walk}
 use Rattle.storage_changes.specs.Turned.{turned, back_onto}
 use Rattle.storage_changes.specs.Fits.{Fits, FitInTurn}
-use Rattle.storage_exchange.specs.declared.storage.Storage.{Storage}
+use Rattle.storage_exchange.specs.declared.storage.Parts.{Parts}
 use Rattle.storage_exchange.specs.Storage.{hold_with, state_of, walk_of, StandsWith}
 use Rattle.storage_exchange.specs.Exchange.{HavePlaces, SameFrames}
 
@@ -24,17 +24,17 @@ abbrev pub records_of : Store → Chain → List Record
 records_of s c = map record_at (links s c)
 
 -- how often the storage, parked subpools and a chain hold an element
-abbrev pub hold_beside : Storage → SubpoolStorage → Chain → ℕ → ℕ
+abbrev pub hold_beside : Parts → SubpoolStorage → Chain → ℕ → ℕ
 hold_beside p q c i = hold_with p q i + times i (owned p.elements c)
 
 -- the storage stands with the parked subpools, and the chain beside them
-pub record Beside (p : Storage) (q : SubpoolStorage) (c : Chain) : Type 0 where
+pub record Beside (p : Parts) (q : SubpoolStorage) (c : Chain) : Type 0 where
   pub stands : StandsWith p q
   pub chain : IsChain p.elements c
   pub once : (i : ℕ) → hold_beside p q c i ≤ 1
 
 -- the first record changed sides with the storage, and nothing else; no element was made
-pub record SwapsFirst (p t : Storage) (given given' : List PageFrame) (q q' : SubpoolStorage) (c : Chain) (r : Record)
+pub record SwapsFirst (p t : Parts) (given given' : List PageFrame) (q q' : SubpoolStorage) (c : Chain) (r : Record)
     (rs : List Record) : Type 0 where
   pub beside : Beside t q' c
   pub moves : Moves p.elements t.elements (hold_beside p q c) (hold_beside t q' c)
@@ -50,7 +50,7 @@ pub record SwapsFirst (p t : Storage) (given given' : List PageFrame) (q q' : Su
   pub places : HavePlaces p given → HavePlaces t given'
 
 -- all records did, in their order
-pub record SwapsAll (p t : Storage) (given given' : List PageFrame) (q q' : SubpoolStorage) (c c' : Chain)
+pub record SwapsAll (p t : Parts) (given given' : List PageFrame) (q q' : SubpoolStorage) (c c' : Chain)
     : Type 0 where
   pub beside : Beside t q' c'
   pub moves : Moves p.elements t.elements (hold_beside p q c) (hold_beside t q' c')

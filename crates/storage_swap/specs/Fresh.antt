@@ -8,7 +8,7 @@ use Rattle.vsm_model.specs.State.{first_state}
 use Rattle.subpool_storage.specs.Subpools.{no_subpools, with_own}
 use Rattle.storage_changes.specs.State.{StorageState}
 use Rattle.storage_changes.specs.Meaning.{model_of}
-use Rattle.storage_exchange.specs.declared.storage.Storage.{Storage}
+use Rattle.storage_exchange.specs.declared.storage.Parts.{Parts}
 use Rattle.storage_exchange.specs.Storage.{hold, state_of, Stand, IsFrameless}
 
 -- task 1 is current, its registers are zero, it owns and sees an empty subpool 0, and no page is assigned
@@ -26,7 +26,7 @@ first_storage settings =
     }
 
 -- The storage is that, each live element is its own, and no frame is out. Each page of the regions can have a table.
-pub record IsFresh (settings : Settings) (p : Storage) : Type 0 where
+pub record IsFresh (settings : Settings) (p : Parts) : Type 0 where
   pub shows : state_of p ≡ first_storage settings
   pub stands : Stand p
   pub once : (i : ℕ) → hold p i ≤ 1

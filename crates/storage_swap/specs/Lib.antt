@@ -1,6 +1,13 @@
+pub mod Apart
+pub mod HistoryKept
+pub mod Steps
+pub mod ReservedFit
+pub mod WholeFresh
+pub mod HistoryProps
 pub mod Beside
 pub mod Swap
 pub mod Reserve
+pub mod Growth
 pub mod Builder
 pub mod Building
 pub mod Fresh

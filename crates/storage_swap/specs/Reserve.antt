@@ -11,7 +11,7 @@ use Rattle.subpool_storage.specs.Subpools.{Subpools, no_subpools, with_own}
 use Rattle.storage_changes.specs.declared.record.Record.{Record}
 use Rattle.storage_changes.specs.declared.record.Record.TheVariants.{Queues}
 use Rattle.storage_changes.specs.Changes.{Change, unassigned_records}
-use Rattle.storage_exchange.specs.declared.storage.Storage.{Storage}
+use Rattle.storage_exchange.specs.declared.storage.Parts.{Parts}
 use Rattle.storage_exchange.specs.Storage.{hold, state_of}
 use Rattle.storage_swap.specs.declared.change.Change.{Change as TheChange}
 use Rattle.storage_swap.specs.Swap.{means, change_holds, Ready}
@@ -22,7 +22,7 @@ pub record MoreTables (old new : Pages) : Type 0 where
   pub segments : (page : ℕ) → has_segment new page ≡ has_segment old page
 
 -- Spare elements, spare frames and tables may have been made, and nothing else changed.
-pub record Grown (p t : Storage) : Type 0 where
+pub record Grown (p t : Parts) : Type 0 where
   pub same : t ≡ record p { elements = t.elements; region = t.region }
   pub elements : SameElements p.elements t.elements
   pub pages : SamePages p.region t.region
@@ -30,7 +30,7 @@ pub record Grown (p t : Storage) : Type 0 where
   pub out : t.region.out ≡ p.region.out
 
 -- The change is there, the storage is as it was, and elements and frames are the change's that no one had.
-pub record Reserves (p : Storage) (d : Change) (c : TheChange) (t : Storage) : Type 0 where
+pub record Reserves (p : Parts) (d : Change) (c : TheChange) (t : Parts) : Type 0 where
   pub ready : Ready t c
   pub shows : state_of t ≡ state_of p
   pub meaning : means t.elements c ≡ d

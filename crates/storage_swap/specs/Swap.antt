@@ -10,7 +10,7 @@ use Rattle.subpool_storage.specs.SubpoolStorage.{subpools_of}
 use Rattle.subpool_storage.specs.SubpoolStorage
 use Rattle.subpool_storage.specs.Held.{GivenBack}
 use Rattle.storage_changes.specs.Changes.{Change, overlay, inverse}
-use Rattle.storage_exchange.specs.declared.storage.Storage.{Storage}
+use Rattle.storage_exchange.specs.declared.storage.Parts.{Parts}
 use Rattle.storage_exchange.specs.Storage.{hold, state_of, byte_held, StandsWith}
 use Rattle.storage_exchange.specs.Exchange.{HavePlaces, SameFrames}
 use Rattle.storage_swap.specs.declared.change.Change.{Change as TheChange}
@@ -37,12 +37,12 @@ abbrev pub change_holds : Store → TheChange → ℕ → ℕ
 change_holds s c i = held_by s c.records c.blanks c.parked i
 
 -- the storage and a change of it together
-abbrev pub both_hold : Storage → TheChange → ℕ → ℕ
+abbrev pub both_hold : Parts → TheChange → ℕ → ℕ
 both_hold p c i = hold p i + change_holds p.elements c i
 
 -- A change beside the storage: both stand, no element has two owners, an unassigned page has no frame, and the change's
 -- frames are out and can stand in the tables.
-pub record Ready (p : Storage) (c : TheChange) : Type 0 where
+pub record Ready (p : Parts) (c : TheChange) : Type 0 where
   pub stands : StandsWith p c.parked
   pub records : IsChain p.elements c.records
   pub blanks : IsChain p.elements c.blanks
@@ -53,7 +53,7 @@ pub record Ready (p : Storage) (c : TheChange) : Type 0 where
 
 -- The storage is what the change means, and the change the one that leads back. Elements and frames went from the one
 -- to the other, and nothing else changed: as many elements and frames are spare, and none was made.
-pub record Swaps (p : Storage) (c : TheChange) (t : Storage) (d : TheChange) : Type 0 where
+pub record Swaps (p : Parts) (c : TheChange) (t : Parts) (d : TheChange) : Type 0 where
   pub before : Ready p c
   pub after : Ready t d
   pub shows : state_of t ≡ overlay (state_of p) (means p.elements c)
@@ -67,7 +67,7 @@ pub record Swaps (p : Storage) (c : TheChange) (t : Storage) (d : TheChange) : T
 
 -- The change's elements are spare and its frames too, and nothing else changed: just as many more of both are spare as
 -- the change had, and none was made.
-pub record Discards (p : Storage) (c : TheChange) (t : Storage) : Type 0 where
+pub record Discards (p : Parts) (c : TheChange) (t : Parts) : Type 0 where
   pub before : Ready p c
   pub same : t ≡ record p { elements = t.elements; region = t.region }
   pub moves : Moves p.elements t.elements (change_holds p.elements c) (λ i. 0)

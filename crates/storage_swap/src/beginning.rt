@@ -13,7 +13,7 @@ use descriptor_queue::Pages;
 use raw_region::{Geometry, Region};
 use run_set::Run;
 use std::alloc::{AllocError, Global};
-use storage_exchange::Storage;
+use storage_exchange::Parts;
 use subpool_storage::SubpoolStorage;
 use task_tree::TaskTree;
 use vsm_elements::Elements;
@@ -31,7 +31,7 @@ const ELEMENTS: u32 = 7;
 /// and both regions without a frame.
 ///
 /// It answers an error where memory is refused.
-pub fn fresh(alloc: Global, settings: Settings) -> Result<Storage, AllocError>
+pub fn fresh(alloc: Global, settings: Settings) -> Result<Parts, AllocError>
     requires { settings_valid settings ≡ true }
     ensures { IfOk result (λ storage. IsFresh settings storage) }
 {
@@ -45,7 +45,7 @@ pub fn fresh(alloc: Global, settings: Settings) -> Result<Storage, AllocError>
     let tasks = TaskTree::new(&mut elements);
     let subpools = first_subpools(&mut elements);
     let unassigned = all_pages(&mut elements, settings);
-    Ok(Storage {
+    Ok(Parts {
         elements,
         region,
         unassigned,

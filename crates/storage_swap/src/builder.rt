@@ -4,8 +4,9 @@ ghost use Rattle.std.specs.Prelude.{◌≡◌, ℕ, ◌+◌, ◌<◌, ◌≤◌,
 ghost use Rattle.vsm_elements.specs.Store.{live_count};
 ghost use Rattle.subpool_storage.specs.Held.{GivenBack};
 ghost use Rattle.subpool_storage.specs.Subpools.{no_subpools};
-ghost use Rattle.storage_exchange.specs.declared.storage.Storage.{Storage as TheStorage};
+ghost use Rattle.storage_exchange.specs.declared.storage.Parts.{Parts as TheStorage};
 ghost use Rattle.storage_exchange.specs.Storage.{hold, Stand, IsFrameless};
+ghost use Rattle.storage_swap.specs.Growth.{MakesElements};
 ghost use Rattle.storage_swap.specs.Builder.{builder_holds, records_in, parked_in};
 ghost use Rattle.storage_swap.specs.Builder.{IsBuilding, Keeps, Builds, Pushes, Parks, Finishes};
 
@@ -15,7 +16,7 @@ use crate::reserve::take_blanks;
 use raw_region::Parked;
 use std::alloc::AllocError;
 use storage_changes::Record;
-use storage_exchange::Storage;
+use storage_exchange::Parts;
 use subpool_storage::SubpoolStorage;
 use vsm_elements::{Chain, Id};
 use vsm_model::Subpool;
@@ -56,7 +57,7 @@ impl ChangeBuilder {
     /// One record more, behind the last one. It takes one element.
     ///
     /// `AllocError` where none is spare and memory is refused: the records then stay as they are.
-    pub fn push(&mut self, storage: &mut Storage, added: Record) -> Result<(), AllocError>
+    pub fn push(&mut self, storage: &mut Parts, added: Record) -> Result<(), AllocError>
         requires { IsBuilding storage.old self.old }
         ensures builds { Builds storage.old self.old storage.new self.new }
         ensures ok { OnOk result (Pushes storage.old self.old (added ∷ []) storage.new self.new) }
@@ -72,7 +73,7 @@ impl ChangeBuilder {
     /// be parked already. It takes one element.
     ///
     /// `AllocError` where none is spare and memory is refused: nothing more is parked then.
-    pub fn park(&mut self, storage: &mut Storage, subpool: Subpool) -> Result<(), AllocError>
+    pub fn park(&mut self, storage: &mut Parts, subpool: Subpool) -> Result<(), AllocError>
         requires building { IsBuilding storage.old self.old }
         requires range { (1 ≤ subpool.owner) × (subpool.owner ≤ 64) × (subpool.number ≤ 127) }
         requires unseen { (parked_in storage.old self.old).sight subpool.owner subpool.number ≡ None }
@@ -91,13 +92,15 @@ impl ChangeBuilder {
     /// Each call on a queue takes one blank element at most, and one has to be left.
     ///
     /// `AllocError` where fewer are spare and memory is refused: all that it had is spare then.
-    pub fn finish(self, storage: &mut Storage, blanks: u32) -> Result<Change, AllocError>
+    pub fn finish(self, storage: &mut Parts, blanks: u32) -> Result<Change, AllocError>
         requires { IsBuilding storage.old self }
         ensures ok { IfOk result (λ change. Finishes storage.old self blanks storage.new change) }
         ensures err { IfErr result (λ _. Keeps storage.old storage.new (builder_holds storage.old self) (λ i. 0)) }
         ensures uses { IfOk result (λ _. storage.old.elements.spare ≤ storage.new.elements.spare + blanks) }
         ensures live { IfOk result (λ _. live_count storage.new.elements
             ≤ live_count storage.old.elements + blanks) }
+        ensures made { IfOk result (λ _. MakesElements storage.old.elements storage.new.elements blanks) }
+        ensures same_frames { IfOk result (λ _. storage.new.region ≡ storage.old.region) }
         ensures needless { blanks ≤ storage.old.elements.spare → IsOk result }
     {
         if let Err(refused) = storage.elements.reserve(blanks) {
@@ -119,7 +122,7 @@ impl ChangeBuilder {
     }
 
     /// Gives back every element, those of the subpools that it has parked among them. The storage stays as it is.
-    pub fn discard(self, storage: &mut Storage)
+    pub fn discard(self, storage: &mut Parts)
         requires { IsBuilding storage.old self }
         ensures keeps { Keeps storage.old storage.new (builder_holds storage.old self) (λ i. 0) }
         ensures spares { GivenBack (builder_holds storage.old self) storage.old.elements storage.new.elements }

@@ -10,6 +10,7 @@ ghost use Rattle.subpool_storage.specs.Subpools.{no_subpools, with_new_pool};
 ghost use Rattle.subpool_storage.specs.SubpoolStorage.{subpools_of, hold as held_parked, Stands};
 ghost use Rattle.storage_changes.specs.Changes.{change_of, change_building};
 ghost use Rattle.storage_exchange.specs.Storage.{hold, state_of, Stand, IsFrameless};
+ghost use Rattle.storage_swap.specs.Growth.{MakesElements, MakesFrames};
 ghost use Rattle.storage_swap.specs.Reserve.{Grown, Reserves};
 ghost use Rattle.storage_swap.specs.Building.{pool_as, pool_elements, elements_to_build};
 
@@ -19,7 +20,7 @@ use crate::reserve::{grow, take_blanks, take_frames};
 use run_set::Run;
 use std::alloc::AllocError;
 use storage_changes::Record;
-use storage_exchange::Storage;
+use storage_exchange::Parts;
 use subpool_storage::laws::pools_are_held;
 use subpool_storage::{CellId, CellSettings, Header, Name, SubpoolStorage};
 use vsm_elements::Elements;
@@ -45,9 +46,10 @@ impl Change {
     /// bytes, and each of them has to be unassigned.
     ///
     /// It answers an error where memory is refused. What was made before that stays, as spare elements, spare frames
-    /// and tables. Where so many elements and frames are spare and the tables are there, it takes no memory.
+    /// and tables. Where so many elements and frames are spare and the tables are there, it takes no memory. At most a
+    /// block of elements is made beyond what is needed, and no frame.
     pub fn reserve_building(
-        storage: &mut Storage,
+        storage: &mut Parts,
         pool: &NewPool<'_>,
         records: &[Record],
         blanks: u32,
@@ -72,6 +74,9 @@ impl Change {
             ≤ storage.new.elements.spare + elements_to_build pool.now (length records.now) blanks) }
         ensures live { IfOk result (λ _. live_count storage.new.elements
             ≤ live_count storage.old.elements + elements_to_build pool.now (length records.now) blanks) }
+        ensures made { MakesElements storage.old.elements storage.new.elements
+            (elements_to_build pool.now (length records.now) blanks) }
+        ensures made_frames { MakesFrames storage.old.region storage.new.region fresh.len }
         ensures needless { elements_to_build pool.now (length records.now) blanks ≤ storage.old.elements.spare
             → fresh.len ≤ storage.old.region.spare → HaveTables storage.old.region fresh.start fresh.len
             → IsOk result }
@@ -85,7 +90,7 @@ impl Change {
 
 // The change, of what is spare, and the id of the cell pool.
 fn make_building(
-    storage: &mut Storage,
+    storage: &mut Parts,
     pool: &NewPool<'_>,
     records: &[Record],
     blanks: u32,
@@ -108,6 +113,7 @@ fn make_building(
     ensures spare { storage.new.elements.spare + elements_to_build pool.now (length records.now) blanks
         ≡ storage.old.elements.spare }
     ensures as_many { made storage.new.elements ≡ made storage.old.elements }
+    ensures as_many_frames { storage.new.region.made ≡ storage.old.region.made }
 {
     pools_are_held();
     let (parked, id) = park_pool(&mut storage.elements, pool);

@@ -40,19 +40,6 @@ pub(crate) fn take_records(
     chain
 }
 
-// These records as a chain, in their order.
-pub(crate) fn chain_of(elements: &mut Elements, records: &[Record]) -> Chain
-    requires room { length records.now ≤ elements.old.spare }
-    ensures chain { IsChain elements.new result }
-    ensures records { records_of elements.new result ≡ records.now }
-    ensures owned { Leaves elements.old elements.new [] (owned elements.new result) }
-    ensures spare { elements.new.spare + length records.now ≡ elements.old.spare }
-{
-    let mut chain = Chain::new();
-    append_records(elements, &mut chain, 0, records);
-    chain
-}
-
 // These records, behind the one by which a cell pool comes.
 pub(crate) fn building_records(elements: &mut Elements, pool: CellId, records: &[Record]) -> Chain
     requires room { 1 + length records.now ≤ elements.old.spare }

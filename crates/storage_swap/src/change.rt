@@ -11,7 +11,7 @@ ghost use Rattle.storage_swap.specs.Swap.{held_by, means, Ready, Swaps, Discards
 use crate::records::{fill, swap_records};
 use raw_region::Parked;
 use std::mem;
-use storage_exchange::Storage;
+use storage_exchange::Parts;
 use subpool_storage::SubpoolStorage;
 use vsm_elements::{Chain, Elements};
 
@@ -32,7 +32,7 @@ impl Change {
     ///
     /// It takes no memory: no block of elements and no frame is made, and no frame is copied. So many elements are
     /// spare as before.
-    pub fn swap(&mut self, storage: &mut Storage)
+    pub fn swap(&mut self, storage: &mut Parts)
         requires ready { Ready storage.old self.old }
         requires fits { Fit (state_of storage.old) (means storage.old.elements self.old) }
         ensures { Swaps storage.old self.old storage.new self.new }
@@ -54,7 +54,7 @@ impl Change {
     /// Gives back every element and every frame of the change, those of the subpools that it has parked among them.
     ///
     /// The bytes of the frames are gone. The storage stays as it is.
-    pub fn discard(self, storage: &mut Storage)
+    pub fn discard(self, storage: &mut Parts)
         requires { Ready storage.old self }
         ensures { Discards storage.old self storage.new }
     {

@@ -4,7 +4,7 @@ ghost use Rattle.std.specs.Prelude.{◌≡◌, ℕ, ◌+◌, ◌*◌, List, leng
 ghost use Rattle.vsm_elements.specs.Store.{AreLive};
 ghost use Rattle.raw_region.specs.Pages.{AreAssigned};
 
-use storage_exchange::Storage;
+use storage_exchange::Parts;
 
 /// What a storage was made of.
 #[derive(Clone, Copy, Debug, PartialEq, Eq)]
@@ -18,7 +18,7 @@ pub struct Released {
 /// Frees all blocks of elements and all frames, and answers how many there were. A drop does the same.
 ///
 /// The frames and the elements of changes go with the blocks and are theirs to free: a change is discarded before.
-pub fn release(storage: Storage) -> Released
+pub fn release(storage: Parts) -> Released
     ensures listed { (ids : List ℕ) × AreLive storage.elements ids }
     ensures blocks { (ids : List ℕ) → AreLive storage.elements ids
         → length ids + storage.elements.spare ≡ 128 * result.blocks }
@@ -26,7 +26,7 @@ pub fn release(storage: Storage) -> Released
     ensures frames { (pages : List ℕ) → AreAssigned storage.region pages
         → length pages + storage.region.spare ≡ result.frames }
 {
-    let Storage {
+    let Parts {
         elements,
         region,
         unassigned: _,

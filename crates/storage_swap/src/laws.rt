@@ -3,7 +3,7 @@
 ghost use Rattle.storage_swap.specs.Fresh.{FirstIsFirst};
 ghost use Rattle.storage_swap.specs.Laws.{SwapsLeadBack};
 
-use cell_tables::laws::rows_are_counted;
+use storage_changes::tables::rows_are_counted;
 
 /// A change that was exchanged can be exchanged back. The state is then as it was, and the change means what it meant.
 pub fn swaps_lead_back()

@@ -9,17 +9,12 @@ ghost use Rattle.storage_exchange.specs.Storage.{walk_of};
 ghost use Rattle.storage_swap.specs.Beside.{records_of, Beside, SwapsFirst, SwapsAll};
 
 use raw_region::Parked;
-use storage_exchange::Storage;
+use storage_exchange::Parts;
 use subpool_storage::SubpoolStorage;
 use vsm_elements::{Chain, Elements};
 
 // The first record changes sides with the storage.
-fn swap_first(
-    storage: &mut Storage,
-    given: &mut Parked,
-    parked: &mut SubpoolStorage,
-    records: &Chain,
-)
+fn swap_first(storage: &mut Parts, given: &mut Parked, parked: &mut SubpoolStorage, records: &Chain)
     requires beside { Beside storage.old parked.old records.now }
     requires fits { (r : TheRecord) × (rs : List TheRecord) × (kept : ℕ) × (kept ≤ storage.old.elements.spare)
         × (records_of storage.old.elements records.now ≡ r ∷ rs)
@@ -34,7 +29,7 @@ fn swap_first(
 
 // Every record changes sides with the storage. They then stand in reverse order.
 pub(crate) fn swap_records(
-    storage: &mut Storage,
+    storage: &mut Parts,
     given: &mut Parked,
     parked: &mut SubpoolStorage,
     records: &mut Chain,

@@ -16,6 +16,7 @@ ghost use Rattle.subpool_storage.specs.Subpools.{is_there};
 ghost use Rattle.subpool_storage.specs.SubpoolStorage.{subpools_of, hold as held_parked, Stands};
 ghost use Rattle.storage_changes.specs.Changes.{change_from};
 ghost use Rattle.storage_exchange.specs.Storage.{hold, state_of, Stand, IsFrameless};
+ghost use Rattle.storage_swap.specs.Growth.{MakesElements, MakesFrames};
 ghost use Rattle.storage_swap.specs.Reserve.{Grown, Reserves, elements_for, emptied_extents, emptying, parked_under};
 
 use crate::chains::take_records;
@@ -26,7 +27,7 @@ use raw_region::{Parked, Region};
 use run_set::Run;
 use std::alloc::AllocError;
 use storage_changes::Record;
-use storage_exchange::Storage;
+use storage_exchange::Parts;
 use subpool_storage::SubpoolStorage;
 use subpool_storage::laws::{extents_are_few, subpools_are_there};
 use vsm_elements::{Chain, Elements};
@@ -45,9 +46,10 @@ impl Change {
     /// to be unassigned.
     ///
     /// It answers an error where memory is refused. What was made before that stays, as spare elements, spare frames
-    /// and tables. Where so many elements and frames are spare and the tables are there, it takes no memory.
+    /// and tables. Where so many elements and frames are spare and the tables are there, it takes no memory. At most a
+    /// block of elements is made beyond what is needed, and no frame.
     pub fn reserve(
-        storage: &mut Storage,
+        storage: &mut Parts,
         emptied: Option<Subpool>,
         records: &[Record],
         blanks: u32,
@@ -69,6 +71,9 @@ impl Change {
             + elements_for (state_of storage.old).subpools emptied (length records.now) blanks) }
         ensures live { IfOk result (λ _. live_count storage.new.elements ≤ live_count storage.old.elements
             + elements_for (state_of storage.old).subpools emptied (length records.now) blanks) }
+        ensures made { MakesElements storage.old.elements storage.new.elements
+            (elements_for (state_of storage.old).subpools emptied (length records.now) blanks) }
+        ensures made_frames { MakesFrames storage.old.region storage.new.region fresh.len }
         ensures needless { elements_for (state_of storage.old).subpools emptied (length records.now) blanks
             ≤ storage.old.elements.spare
             → fresh.len ≤ storage.old.region.spare → HaveTables storage.old.region fresh.start fresh.len
@@ -82,7 +87,7 @@ impl Change {
 }
 
 // How many elements the change takes.
-fn elements_needed(storage: &Storage, emptied: Option<Subpool>, records: u32, blanks: u32) -> u32
+fn elements_needed(storage: &Parts, emptied: Option<Subpool>, records: u32, blanks: u32) -> u32
     requires stands { Stand storage.now }
     requires size { records + blanks ≤ 2 ^ 20 }
     ensures { result ≡ elements_for (state_of storage.now).subpools emptied records blanks }
@@ -95,7 +100,7 @@ fn elements_needed(storage: &Storage, emptied: Option<Subpool>, records: u32, bl
 }
 
 // The extents of the subpool that is emptied; none where none is.
-fn extents_emptied(storage: &Storage, emptied: Option<Subpool>) -> Extents
+fn extents_emptied(storage: &Parts, emptied: Option<Subpool>) -> Extents
     requires { Stand storage.now }
     ensures extents { IsExtents storage.now.elements result }
     ensures runs { extents storage.now.elements result ≡ emptied_extents (state_of storage.now).subpools emptied }
@@ -109,11 +114,13 @@ fn extents_emptied(storage: &Storage, emptied: Option<Subpool>) -> Extents
 }
 
 // So many elements are spare, and a frame and a table for each page of the run.
-pub(crate) fn grow(storage: &mut Storage, elements: u32, fresh: Run) -> Result<(), AllocError>
+pub(crate) fn grow(storage: &mut Parts, elements: u32, fresh: Run) -> Result<(), AllocError>
     requires segments { (page : ℕ) → inside page fresh ≡ true → IsTrue (has_segment storage.old.region page) }
     ensures grown { Grown storage.old storage.new }
     ensures more { storage.old.elements.spare ≤ storage.new.elements.spare }
     ensures live { live_count storage.new.elements ≡ live_count storage.old.elements }
+    ensures made { MakesElements storage.old.elements storage.new.elements elements }
+    ensures made_frames { MakesFrames storage.old.region storage.new.region fresh.len }
     ensures elements { OnOk result (elements ≤ storage.new.elements.spare) }
     ensures frames { OnOk result (fresh.len ≤ storage.new.region.spare) }
     ensures tables { OnOk result (HaveTables storage.new.region fresh.start fresh.len) }
@@ -128,7 +135,7 @@ pub(crate) fn grow(storage: &mut Storage, elements: u32, fresh: Run) -> Result<(
 
 // The change, of what is spare.
 fn make(
-    storage: &mut Storage,
+    storage: &mut Parts,
     emptied: Option<Subpool>,
     records: &[Record],
     blanks: u32,
@@ -152,6 +159,7 @@ fn make(
         + elements_for (state_of storage.old).subpools emptied (length records.now) blanks
         ≡ storage.old.elements.spare }
     ensures as_many { made storage.new.elements ≡ made storage.old.elements }
+    ensures as_many_frames { storage.new.region.made ≡ storage.old.region.made }
 {
     subpools_are_there();
     let extents = extents_emptied(storage, emptied);
@@ -207,6 +215,7 @@ pub(crate) fn take_frames(region: &mut Region, run: Run) -> Parked
     ensures tables { SameTables region.old region.new }
     ensures count { length result ≡ run.len }
     ensures out { region.new.out ≡ region.old.out + run.len }
+    ensures made { region.new.made ≡ region.old.made }
 {
     let end = run.start + run.len;
     let mut page = run.start;

@@ -5,7 +5,7 @@ use Rattle.std.proofs.lemmas.Bool.{eq-eqb, eqb-true, cond-true, cond-false}
 use Rattle.vsm_elements.specs.Store.{Store}
 use Rattle.vsm_elements.proofs.ChainFrame.{false_if}
 use Rattle.subpool_set.proofs.KeyLemmas.{not_both}
-use Rattle.cell_pool.specs.Pools.{Settings}
+use Rattle.cell_pool.specs.Pools.{CellSettings}
 use Rattle.cell_pool.specs.Pools.{Pool, at_id, extended}
 use Rattle.cell_pool.specs.CellPools.{pool, by_id}
 use Rattle.cell_pool.specs.Laws.{AreOne}
@@ -26,7 +26,7 @@ name_is_none s q name h unnamed = go (pool s q.cells name) refl where
   go (Some p) e = let k : (p.name ≡ name) × (by_id s q.cells p.id ≡ Some p) = one.names name p e in absurd (unnamed p.id p k.1 k.0)
 
 -- the cell pool that came, without an extent
-abbrev pub bare_pool : ℕ → List ℕ → Settings → Option (List ℕ) → Pool
+abbrev pub bare_pool : ℕ → List ℕ → CellSettings → Option (List ℕ) → Pool
 bare_pool id name settings header = record { id = id; name = name; settings = settings; header = header; extents = []; cells = [] }
 
 module _ (old new : ℕ → Option Pool) (id : ℕ) (base : Pool) (is : (i : ℕ) → new i ≡ (if i == id then Some base else old i)) where
@@ -40,7 +40,7 @@ module _ (old new : ℕ → Option Pool) (id : ℕ) (base : Pool) (is : (i : ℕ
   of_new P h = let Q : Option Pool → Type 0 = λ o. IfSome o P in subst Q (sym new_is_there) h
 
 -- with its extent
-module _ (s : Store) (q : SubpoolStorage) (h : Stands s q) (id : ℕ) (name : List ℕ) (settings : Settings) (header : Option (List ℕ)) (start count : ℕ) (mid end : ℕ → Option Pool)
+module _ (s : Store) (q : SubpoolStorage) (h : Stands s q) (id : ℕ) (name : List ℕ) (settings : CellSettings) (header : Option (List ℕ)) (start count : ℕ) (mid end : ℕ → Option Pool)
     (came : (i : ℕ) → mid i ≡ (if i == id then Some (bare_pool id name settings header) else by_id s q.cells i))
     (grew : (i : ℕ) → end i ≡ option_map (at_id id (extended start count)) (mid i)) where
   abbrev base : Pool

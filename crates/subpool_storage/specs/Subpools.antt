@@ -7,7 +7,7 @@ use Rattle.vsm_model.specs.declared.Subpool.{Subpool}
 use Rattle.vsm_model.specs.Passing.{sight_after_gift}
 use Rattle.vsm_model.specs.Search.{holds}
 use Rattle.vsm_model.specs.Subpools.{same_subpool}
-use Rattle.cell_pool.specs.Pools.{Pool, Settings, cells_from, at_id, handed_on, exchanged, lies_in}
+use Rattle.cell_pool.specs.Pools.{Pool, CellSettings, cells_from, at_id, handed_on, exchanged, lies_in}
 
 -- A set is its test: equal subpools are equal at every place.
 pub record Subpools : Type 0 where
@@ -84,7 +84,7 @@ abbrev pub with_changed : Subpools → ℕ → (Pool → Pool) → Subpools
 with_changed m id change = record m { cells = λ i. option_map (at_id id change) (m.cells i) }
 
 -- a cell pool of one extent, whose cells are all free, in ascending order
-abbrev pub built_pool : ℕ → List ℕ → Settings → Option (List ℕ) → ℕ → ℕ → Pool
+abbrev pub built_pool : ℕ → List ℕ → CellSettings → Option (List ℕ) → ℕ → ℕ → Pool
 built_pool id name settings header start count =
     record {
       id = id;

@@ -11,7 +11,7 @@ ghost use Rattle.subpool_storage.specs.Subpools.{HasPool, IsSingle, IsUnnamed};
 ghost use Rattle.subpool_storage.specs.SubpoolStorage.{subpools_of, hold, Stands, Becomes};
 
 use crate::storage::SubpoolStorage;
-use cell_pool::{CellId, CellPools, Header, Name, Settings as CellSettings};
+use cell_pool::{CellId, CellPools, CellSettings, Header, Name};
 use vsm_elements::Elements;
 
 #[tactic(auto, unfolding(

@@ -10,6 +10,6 @@ mod readers;
 mod sharing;
 mod storage;
 
-pub use cell_pool::{CellId, CellPools, Header, Name, Settings as CellSettings};
+pub use cell_pool::{CellId, CellPools, CellSettings, Header, Name};
 pub use storage::SubpoolStorage;
 pub use subpool_set::{PoolPlace, SharerPlace};

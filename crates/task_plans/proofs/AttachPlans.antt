@@ -18,15 +18,15 @@ use Rattle.vsm_model.specs.Step.{step, answered}
 use Rattle.vsm_model.specs.Tasks.{attach_causes, free_number}
 use Rattle.vsm_model.proofs.Chosen.{Stepped}
 use Rattle.vsm_model.proofs.Least.{least_by}
-use Rattle.task_laws.proofs.Attaches.{attach_leaves_well_formed}
+use Rattle.service_laws.proofs.Attaches.{attach_leaves_well_formed}
 use Rattle.task_tree.specs.Tasks.{IsLeastFree}
-use Rattle.cell_tables.specs.Named.{AreNamed}
+use Rattle.storage_changes.specs.NamedPools.{AreNamed}
 use Rattle.storage_changes.specs.State.{StorageState}
 use Rattle.storage_changes.specs.Meaning.{model_of, IsSound}
-use Rattle.storage_actions.specs.Leads.{Leads}
+use Rattle.change_laws.specs.Leads.{Leads}
 use Rattle.storage_plans.proofs.Carried.{no_registers, register_and}
-use Rattle.task_actions.specs.Attaching.{with_attached, CanAttach}
-use Rattle.task_actions.specs.Laws.{AttachingLeads}
+use Rattle.change_laws.specs.Attaching.{with_attached, CanAttach}
+use Rattle.change_laws.specs.TaskLaws.{AttachingLeads}
 use Rattle.task_plans.specs.declared.attach.AttachPlan.{AttachPlan}
 use Rattle.task_plans.specs.TaskPlans.{numbers, attach_change, IsAccepted, IsAttachPlanned}
 

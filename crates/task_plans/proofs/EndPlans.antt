@@ -21,16 +21,16 @@ use Rattle.vsm_model.specs.Tasks.{end_task_causes, ended}
 use Rattle.vsm_model.specs.WellFormed.{IsWellFormed, TasksAreSound}
 use Rattle.vsm_model.proofs.Chosen.{Stepped}
 use Rattle.vsm_model.proofs.Least.{all_pass_from, all_pass_none}
-use Rattle.task_laws.proofs.Ends.{not_one, not_now, parent_of_ended}
-use Rattle.task_laws.proofs.Options.{held}
-use Rattle.task_laws.proofs.Stays.{detach_leaves_well_formed, end_task_leaves_well_formed}
-use Rattle.cell_tables.specs.Named.{AreNamed}
+use Rattle.service_laws.proofs.Ends.{not_one, not_now, parent_of_ended}
+use Rattle.service_laws.proofs.Options.{held}
+use Rattle.service_laws.proofs.TaskStays.{detach_leaves_well_formed, end_task_leaves_well_formed}
+use Rattle.storage_changes.specs.NamedPools.{AreNamed}
 use Rattle.storage_changes.specs.State.{StorageState}
 use Rattle.storage_changes.specs.Meaning.{model_of, IsSound}
-use Rattle.storage_actions.proofs.Cases.{same_answers}
+use Rattle.change_laws.proofs.Cases.{same_answers}
 use Rattle.storage_plans.proofs.Carried.{no_registers, register_and}
-use Rattle.task_actions.specs.Ending.{AreSubtasksFirst, CanEnd, ended_below}
-use Rattle.task_actions.specs.Laws.{EndingLeads, EndsAreInOrder}
+use Rattle.change_laws.specs.Ending.{AreSubtasksFirst, CanEnd, ended_below}
+use Rattle.change_laws.specs.TaskLaws.{EndingLeads, EndsAreInOrder}
 use Rattle.task_plans.specs.declared.end.EndPlan.{EndPlan}
 use Rattle.task_plans.specs.TaskPlans.{end_change, IsAccepted, IsEndPlanned}
 use Rattle.task_plans.proofs.Climbs.{climb_here}

@@ -6,8 +6,8 @@ use Rattle.std.proofs.lemmas.Bool.{or_left, or_right, eqb-true, eq-eqb, lt-ltb, 
 use Rattle.std.proofs.lemmas.List.{drop_all, get_or-set_other, get_or-set_same}
 use Rattle.vsm_model.specs.Search.{is_in}
 use Rattle.vsm_model.specs.Passing.{is_bad_list}
-use Rattle.task_laws.proofs.Numbers.{IsPrivate, good_numbers}
-use Rattle.task_laws.proofs.Tables.{left_part, right_part}
+use Rattle.service_laws.proofs.Numbers.{IsPrivate, good_numbers}
+use Rattle.service_laws.proofs.TaskTables.{left_part, right_part}
 
 -- what is bad behind a place is bad
 bad_behind : (k : ℕ) (xs : List ℕ) → is_bad_list (drop k xs) ≡ true → is_bad_list xs ≡ true

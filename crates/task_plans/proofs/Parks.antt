@@ -14,12 +14,13 @@ use Rattle.subpool_storage.specs.SubpoolStorage.{IsSubpoolPlace, subpools_left}
 use Rattle.storage_changes.specs.Changes.{empties}
 use Rattle.storage_changes.specs.Names.{AreNames}
 use Rattle.storage_changes.proofs.Cases.{cond-out, same-self}
-use Rattle.storage_exchange.specs.declared.storage.Storage.{Storage}
+use Rattle.storage_exchange.specs.declared.storage.Parts.{Parts}
 use Rattle.storage_exchange.specs.Storage.{state_of}
 use Rattle.storage_swap.specs.declared.builder.ChangeBuilder.{ChangeBuilder}
 use Rattle.storage_swap.specs.Builder.{records_in, parked_in, IsBuilding, Builds}
-use Rattle.storage_swap.proofs.BuilderLemmas.{builds-none, builds-follow}
-use Rattle.task_actions.specs.Ending.{ended_below}
+use Rattle.storage_swap.specs.Growth.{all_elements, MakesElements}
+use Rattle.storage_swap.proofs.BuilderLemmas.{builds-none, builds-follow, makes-follow}
+use Rattle.change_laws.specs.Ending.{ended_below}
 use Rattle.task_plans.specs.TaskPlans.{owned_among, parked_onto, parks_all, CanPark}
 use Rattle.task_plans.proofs.Walks.{place_kept}
 
@@ -86,7 +87,7 @@ filter-first f x xs = go (f x) where
   go false = refl
 
 -- Of the subpools that tasks of the subtree own, those behind the place are yet to be parked.
-pub record ParksLead (top : ℕ) (s : Storage) (a : ChangeBuilder) (t : Storage) (b : ChangeBuilder) (place : PoolPlace) : Type 0 where
+pub record ParksLead (top : ℕ) (s : Parts) (a : ChangeBuilder) (t : Parts) (b : ChangeBuilder) (place : PoolPlace) : Type 0 where
   pub builds : Builds s a t b
   pub there : IsSubpoolPlace t.elements t.subpools place
   pub records : records_in t b ≡ records_in s a
@@ -94,8 +95,9 @@ pub record ParksLead (top : ℕ) (s : Storage) (a : ChangeBuilder) (t : Storage)
   pub can : CanPark (parked_in t b) (owned_among (state_of s) top (subpools_left t.elements t.subpools place))
   pub spare : s.elements.spare + length (owned_among (state_of s) top (subpools_left t.elements t.subpools place)) ≤ t.elements.spare + length (parks_all (state_of s) top)
   pub live : live_count t.elements + length (owned_among (state_of s) top (subpools_left t.elements t.subpools place)) ≤ live_count s.elements + length (parks_all (state_of s) top)
+  pub made : MakesElements s.elements t.elements (length (parks_all (state_of s) top))
 
-module _ (top : ℕ) (s : Storage) (a : ChangeBuilder) where
+module _ (top : ℕ) (s : Parts) (a : ChangeBuilder) where
   abbrev owned : List Subpool → List Subpool
   owned = owned_among (state_of s) top
 
@@ -111,9 +113,10 @@ module _ (top : ℕ) (s : Storage) (a : ChangeBuilder) where
         can = subst P (sym all) can;
         spare = omega (arith, ap (λ (xs : List Subpool). length (owned xs)) all);
         live = omega (arith, ap (λ (xs : List Subpool). length (owned xs)) all);
+        made = omega arith;
       }
 
-  module _ (t : Storage) (b : ChangeBuilder) (place : PoolPlace) (w : ParksLead top s a t b place) where
+  module _ (t : Parts) (b : ChangeBuilder) (place : PoolPlace) (w : ParksLead top s a t b place) where
     pub parks_done : subpools_left t.elements t.subpools place ≡ [] → parked_in s a ≡ no_subpools
         → (parked_in t b ≡ empties (parks_all (state_of s) top)) × (s.elements.spare ≤ t.elements.spare + length (parks_all (state_of s) top))
         × (live_count t.elements ≤ live_count s.elements + length (parks_all (state_of s) top))
@@ -137,9 +140,9 @@ module _ (top : ℕ) (s : Storage) (a : ChangeBuilder) where
       pub parks_room : length (parks_all (state_of s) top) ≤ s.elements.spare → length added ≤ t.elements.spare
       parks_room room = omega (arith, room, w.spare, ap length front, length-append added later)
 
-      pub parks_more : (u : Storage) (c : ChangeBuilder) → IsSubpoolPlace t.elements t.subpools next → Builds t b u c → records_in u c ≡ records_in t b → parked_in u c ≡ parked_onto (parked_in t b) added
-          → t.elements.spare ≤ u.elements.spare + length added → live_count u.elements ≤ live_count t.elements + length added → ParksLead top s a u c next
-      parks_more u c there builds records parked spare live =
+      pub parks_more : (u : Parts) (c : ChangeBuilder) → IsSubpoolPlace t.elements t.subpools next → Builds t b u c → records_in u c ≡ records_in t b → parked_in u c ≡ parked_onto (parked_in t b) added
+          → t.elements.spare ≤ u.elements.spare + length added → live_count u.elements ≤ live_count t.elements + length added → MakesElements t.elements u.elements (length added) → ParksLead top s a u c next
+      parks_more u c there builds records parked spare live made =
           let k = place_kept t u _ _ builds.keeps w.builds.building.ready.stands.storage next there in
           let P : List Subpool → Type 0 = CanPark (parked_in t b) in
           let Q : List Subpool → Type 0 = λ xs. CanPark (parked_in u c) (owned xs) in
@@ -153,9 +156,11 @@ module _ (top : ℕ) (s : Storage) (a : ChangeBuilder) where
             can = subst Q (sym k.1) (subst R (sym parked) (can-rest (parked_in t b) added later (subst P front w.can)));
             spare = omega (arith, w.spare, spare, ap length front, length-append added later, ap (λ (xs : List Subpool). length (owned xs)) k.1);
             live = omega (arith, w.live, live, ap length front, length-append added later, ap (λ (xs : List Subpool). length (owned xs)) k.1);
+            made = makes-follow (all_elements s.elements) (all_elements t.elements) (all_elements u.elements) (live_count s.elements) (live_count t.elements)
+                (length (parks_all (state_of s) top)) (length added) (length (parks_all (state_of s) top)) w.made (omega (arith, w.live, ap length front, length-append added later)) (omega arith) made;
           }
 
-      pub parks_less : (u : Storage) (c : ChangeBuilder) → IsSubpoolPlace t.elements t.subpools next → Builds t b u c
+      pub parks_less : (u : Parts) (c : ChangeBuilder) → IsSubpoolPlace t.elements t.subpools next → Builds t b u c
           → length (subpools_left u.elements u.subpools next) < length (subpools_left t.elements t.subpools place)
       parks_less u c there builds =
           let k = place_kept t u _ _ builds.keeps w.builds.building.ready.stands.storage next there in

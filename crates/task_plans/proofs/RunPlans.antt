@@ -12,17 +12,17 @@ use Rattle.vsm_model.specs.Standing.{Accepted, Refused}
 use Rattle.vsm_model.specs.State.{State, is_task}
 use Rattle.vsm_model.specs.Step.{step, answered}
 use Rattle.vsm_model.proofs.Chosen.{Stepped}
-use Rattle.task_laws.proofs.Stays.{run_leaves_well_formed}
+use Rattle.service_laws.proofs.TaskStays.{run_leaves_well_formed}
 use Rattle.storage_changes.specs.State.{StorageState}
 use Rattle.storage_changes.specs.Meaning.{model_of, IsSound}
-use Rattle.storage_actions.specs.Actions.{run_of}
-use Rattle.storage_actions.proofs.Rows.{none_fresh}
-use Rattle.storage_plans.specs.declared.plan.Plan.{Plan}
+use Rattle.change_laws.specs.StorageActions.{run_of}
+use Rattle.change_laws.proofs.Rows.{none_fresh}
+use Rattle.storage_plans.specs.declared.plan.StoragePlan.{StoragePlan}
 use Rattle.storage_plans.specs.Plans.{CarriesOut}
 use Rattle.storage_plans.proofs.Assigning.{none_assigned}
 use Rattle.storage_plans.proofs.Carried.{carries_out}
-use Rattle.task_actions.specs.Attaching.{turn_records}
-use Rattle.task_actions.specs.Laws.{TurningLeads}
+use Rattle.change_laws.specs.Attaching.{turn_records}
+use Rattle.change_laws.specs.TaskLaws.{TurningLeads}
 
 module _ (settings : Settings) (names_full : Bool) (m : StorageState) (task : ℕ) where
   abbrev s : State
@@ -39,7 +39,7 @@ module _ (settings : Settings) (names_full : Bool) (m : StorageState) (task : �
       λ h. false_from_ne_true (is_task s task) (λ there. absurd (omega (arith, high, (h.well_formed.tasks.numbered task there).1))) in
       by_task false (∥∥₁_elim sound (Bool-set (is_task s task) false) none)
 
-  pub run_carried : TurningLeads → is_task s task ≡ true → ∥ IsSound settings m ∥₁ → (plan : Plan) → plan.emptied ≡ None → plan.records.items ≡ turn_records task →
+  pub run_carried : TurningLeads → is_task s task ≡ true → ∥ IsSound settings m ∥₁ → (plan : StoragePlan) → plan.emptied ≡ None → plan.records.items ≡ turn_records task →
       plan.blanks ≡ 0 → plan.fresh ≡ run_of 0 0 → plan.reply ≡ Turn task → ∥ CarriesOut settings names_full m (run task) plan ∥₁
   run_carried law there sound plan emptied records blanks fresh reply =
       let after : State = record s { current = task } in

@@ -25,7 +25,7 @@ use Rattle.subpool_storage.proofs.PlaceStays.{places_stay}
 use Rattle.storage_changes.specs.declared.record.Record.{Record}
 use Rattle.storage_changes.specs.declared.record.Record.TheVariants.{Pages}
 use Rattle.storage_changes.specs.Changes.{unassigned_records}
-use Rattle.storage_exchange.specs.declared.storage.Storage.{Storage}
+use Rattle.storage_exchange.specs.declared.storage.Parts.{Parts}
 use Rattle.storage_exchange.specs.Storage.{hold, state_of, Stand}
 use Rattle.storage_swap.specs.declared.builder.ChangeBuilder.{ChangeBuilder}
 use Rattle.storage_swap.specs.Builder.{IsBuilding, Keeps, Builds, Pushes}
@@ -33,9 +33,9 @@ use Rattle.storage_swap.proofs.BuilderLemmas.{Leads, leads-none, leads-more, lea
 use Rattle.task_plans.proofs.Rests.{drop_next, drop_none}
 
 -- places, over elements that came beside the storage
-module _ (t u : Storage) (f g : ℕ → ℕ) (k : Keeps t u f g) (stand : Stand t) where
+module _ (t u : Parts) (f g : ℕ → ℕ) (k : Keeps t u f g) (stand : Stand t) where
   same-subpools : u.subpools ≡ t.subpools
-  same-subpools = ap (λ (z : Storage). z.subpools) k.same
+  same-subpools = ap (λ (z : Parts). z.subpools) k.same
 
   its-kept : (i : ℕ) → 0 < SubpoolStorage.hold t.elements t.subpools i → at u.elements i ≡ at t.elements i
   its-kept i n = k.kept i (omega (arith, n))
@@ -53,11 +53,11 @@ module _ (t u : Storage) (f g : ℕ → ℕ) (k : Keeps t u f g) (stand : Stand 
       subst P (sym same-subpools) ((places_stay t.elements u.elements t.subpools stand.subpools its-kept).1 place h)
 
 -- Of the records of the subpools, those behind the place are left.
-pub record WalkLeads (h : List Subpool → List Record) (s : Storage) (a : ChangeBuilder) (t : Storage) (b : ChangeBuilder) (place : PoolPlace) : Type 0 where
+pub record WalkLeads (h : List Subpool → List Record) (s : Parts) (a : ChangeBuilder) (t : Parts) (b : ChangeBuilder) (place : PoolPlace) : Type 0 where
   pub there : IsSubpoolPlace t.elements t.subpools place
   pub leads : Leads s a (h (subpools_in_order (state_of s).subpools)) t b (h (subpools_left t.elements t.subpools place))
 
-module _ (h : List Subpool → List Record) (s : Storage) (a : ChangeBuilder) where
+module _ (h : List Subpool → List Record) (s : Parts) (a : ChangeBuilder) where
   abbrev whole : List Record
   whole = h (subpools_in_order (state_of s).subpools)
 
@@ -67,7 +67,7 @@ module _ (h : List Subpool → List Record) (s : Storage) (a : ChangeBuilder) wh
       let P : List Subpool → Type 0 = λ xs. Leads s a whole s a (h xs) in
       record { there = there; leads = subst P (sym all) (leads-none s a whole building) }
 
-  module _ (t : Storage) (b : ChangeBuilder) (place : PoolPlace) (w : WalkLeads h s a t b place) where
+  module _ (t : Parts) (b : ChangeBuilder) (place : PoolPlace) (w : WalkLeads h s a t b place) where
     pub walk_all : subpools_left t.elements t.subpools place ≡ [] → h [] ≡ [] → Pushes s a whole t b
     walk_all none nil = leads-all s t a b whole (h (subpools_left t.elements t.subpools place)) w.leads (ap h none ∙ nil)
 
@@ -82,7 +82,7 @@ module _ (h : List Subpool → List Record) (s : Storage) (a : ChangeBuilder) wh
           let r = leads-room s t a b whole (h (subpools_left t.elements t.subpools place)) w.leads room in
           omega (arith, r, ap length front, length-append added (h (subpools_left t.elements t.subpools next)))
 
-      pub walk_more : (u : Storage) (c : ChangeBuilder) → IsSubpoolPlace t.elements t.subpools next → Builds t b u c → Pushes t b added u c → WalkLeads h s a u c next
+      pub walk_more : (u : Parts) (c : ChangeBuilder) → IsSubpoolPlace t.elements t.subpools next → Builds t b u c → Pushes t b added u c → WalkLeads h s a u c next
       walk_more u c there builds pushes =
           let k = place_kept t u _ _ builds.keeps w.leads.builds.building.ready.stands.storage next there in
           let P : List Subpool → Type 0 = λ xs. Leads s a whole u c (h xs) in
@@ -91,24 +91,24 @@ module _ (h : List Subpool → List Record) (s : Storage) (a : ChangeBuilder) wh
             leads = subst P (sym k.1) (leads-more s t a b whole (h (subpools_left t.elements t.subpools place)) w.leads u c added (h (subpools_left t.elements t.subpools next)) front builds pushes);
           }
 
-      pub walk_less : (u : Storage) (c : ChangeBuilder) → IsSubpoolPlace t.elements t.subpools next → Builds t b u c
+      pub walk_less : (u : Parts) (c : ChangeBuilder) → IsSubpoolPlace t.elements t.subpools next → Builds t b u c
           → length (subpools_left u.elements u.subpools next) < length (subpools_left t.elements t.subpools place)
       walk_less u c there builds =
           let k = place_kept t u _ _ builds.keeps w.leads.builds.building.ready.stands.storage next there in
           omega (arith, ap length k.1, ap length is)
 
 -- Of the records of those who share a subpool, those behind the place are left.
-pub record SharersLead (h : List ℕ → List Record) (p : Subpool) (all : List ℕ) (s : Storage) (a : ChangeBuilder) (t : Storage) (b : ChangeBuilder) (place : SharerPlace) : Type 0 where
+pub record SharersLead (h : List ℕ → List Record) (p : Subpool) (all : List ℕ) (s : Parts) (a : ChangeBuilder) (t : Parts) (b : ChangeBuilder) (place : SharerPlace) : Type 0 where
   pub there : IsSharerPlace t.elements t.subpools place
   pub leads : Leads s a (h all) t b (h (sharers_left t.elements t.subpools place p))
 
-module _ (h : List ℕ → List Record) (p : Subpool) (all : List ℕ) (s : Storage) (a : ChangeBuilder) where
+module _ (h : List ℕ → List Record) (p : Subpool) (all : List ℕ) (s : Parts) (a : ChangeBuilder) where
   pub sharers_none : (place : SharerPlace) → IsBuilding s a → IsSharerPlace s.elements s.subpools place → sharers_left s.elements s.subpools place p ≡ all → SharersLead h p all s a s a place
   sharers_none place building there is =
       let P : List ℕ → Type 0 = λ xs. Leads s a (h all) s a (h xs) in
       record { there = there; leads = subst P (sym is) (leads-none s a (h all) building) }
 
-  module _ (t : Storage) (b : ChangeBuilder) (place : SharerPlace) (w : SharersLead h p all s a t b place) where
+  module _ (t : Parts) (b : ChangeBuilder) (place : SharerPlace) (w : SharersLead h p all s a t b place) where
     pub sharers_all : sharers_left t.elements t.subpools place p ≡ [] → h [] ≡ [] → Pushes s a (h all) t b
     sharers_all none nil = leads-all s t a b (h all) (h (sharers_left t.elements t.subpools place p)) w.leads (ap h none ∙ nil)
 
@@ -122,7 +122,7 @@ module _ (h : List ℕ → List Record) (p : Subpool) (all : List ℕ) (s : Stor
           let r = leads-room s t a b (h all) (h (sharers_left t.elements t.subpools place p)) w.leads room in
           omega (arith, r, ap length before, length-append added (h (sharers_left t.elements t.subpools next p)))
 
-      pub sharers_more : (u : Storage) (c : ChangeBuilder) → IsSharerPlace t.elements t.subpools next → Builds t b u c → Pushes t b added u c → SharersLead h p all s a u c next
+      pub sharers_more : (u : Parts) (c : ChangeBuilder) → IsSharerPlace t.elements t.subpools next → Builds t b u c → Pushes t b added u c → SharersLead h p all s a u c next
       sharers_more u c there builds pushes =
           let k = sharer_place_kept t u _ _ builds.keeps w.leads.builds.building.ready.stands.storage next there in
           let P : List ℕ → Type 0 = λ xs. Leads s a (h all) u c (h xs) in
@@ -131,14 +131,14 @@ module _ (h : List ℕ → List Record) (p : Subpool) (all : List ℕ) (s : Stor
             leads = subst P (sym (k.1 p)) (leads-more s t a b (h all) (h (sharers_left t.elements t.subpools place p)) w.leads u c added (h (sharers_left t.elements t.subpools next p)) before builds pushes);
           }
 
-      pub sharers_less : (u : Storage) (c : ChangeBuilder) → IsSharerPlace t.elements t.subpools next → Builds t b u c
+      pub sharers_less : (u : Parts) (c : ChangeBuilder) → IsSharerPlace t.elements t.subpools next → Builds t b u c
           → length (sharers_left u.elements u.subpools next p) < length (sharers_left t.elements t.subpools place p)
       sharers_less u c there builds =
           let k = sharer_place_kept t u _ _ builds.keeps w.leads.builds.building.ready.stands.storage next there in
           omega (arith, ap length (k.1 p), ap length is)
 
 -- Of the records of extents, those behind the place are left.
-pub record ExtentsLead (all : List Run) (s : Storage) (a : ChangeBuilder) (t : Storage) (b : ChangeBuilder) (q : TheExtents) (place : RunPlace) : Type 0 where
+pub record ExtentsLead (all : List Run) (s : Parts) (a : ChangeBuilder) (t : Parts) (b : ChangeBuilder) (q : TheExtents) (place : RunPlace) : Type 0 where
   pub stand : IsExtents t.elements q
   pub runs : extents t.elements q ≡ all
   pub own : (i : ℕ) → times i (Extents.owned t.elements q) ≤ hold s i
@@ -147,13 +147,13 @@ pub record ExtentsLead (all : List Run) (s : Storage) (a : ChangeBuilder) (t : S
   pub leads : Leads s a (unassigned_records all) t b (unassigned_records (drop (place_index place) all))
 
 -- elements that came beside the storage leave its extents
-pub extents_over : (s t u : Storage) (f g : ℕ → ℕ) (q : TheExtents) → ((i : ℕ) → hold t i ≡ hold s i) → ((i : ℕ) → times i (Extents.owned t.elements q) ≤ hold s i) → IsExtents t.elements q → Keeps t u f g
+pub extents_over : (s t u : Parts) (f g : ℕ → ℕ) (q : TheExtents) → ((i : ℕ) → hold t i ≡ hold s i) → ((i : ℕ) → times i (Extents.owned t.elements q) ≤ hold s i) → IsExtents t.elements q → Keeps t u f g
     → IsExtents u.elements q × (extents u.elements q ≡ extents t.elements q) × ((i : ℕ) → times i (Extents.owned u.elements q) ≤ hold s i) × ((place : RunPlace) → IsPlace t.elements q place → IsPlace u.elements q place)
 extents_over s t u f g q held own stand k =
     let r = extents_kept t.elements u.elements q stand (λ i m. k.kept i (omega (arith, times-some i (Extents.owned t.elements q) m, own i, held i))) in
     (r.0, r.1, λ i. omega (arith, ap (times i) r.3, own i), λ place there. extent_places_kept t.elements u.elements q place stand (λ i m. k.kept i (omega (arith, times-some i (Extents.owned t.elements q) m, own i, held i))) there)
 
-module _ (all : List Run) (s : Storage) (a : ChangeBuilder) (t : Storage) (b : ChangeBuilder) (q : TheExtents) (place : RunPlace) (w : ExtentsLead all s a t b q place) where
+module _ (all : List Run) (s : Parts) (a : ChangeBuilder) (t : Parts) (b : ChangeBuilder) (q : TheExtents) (place : RunPlace) (w : ExtentsLead all s a t b q place) where
   pub extents_done : None ≡ slice_get (extents t.elements q) (place_index place) → Pushes s a (unassigned_records all) t b
   extents_done is =
       let none : slice_get all (place_index place) ≡ None = ap (λ (rs : List Run). slice_get rs (place_index place)) (sym w.runs) ∙ sym is in
@@ -177,7 +177,7 @@ module _ (all : List Run) (s : Storage) (a : ChangeBuilder) (t : Storage) (b : C
         let r = leads-room s t a b (unassigned_records all) (unassigned_records (drop (place_index place) all)) w.leads room in
         omega (arith, r, ap length onward)
 
-    pub extents_more : (u : Storage) (c : ChangeBuilder) → IsPlace t.elements q next → Builds t b u c → Pushes t b (Pages (record { run = run; assigned = false }) ∷ []) u c → ExtentsLead all s a u c q next
+    pub extents_more : (u : Parts) (c : ChangeBuilder) → IsPlace t.elements q next → Builds t b u c → Pushes t b (Pages (record { run = run; assigned = false }) ∷ []) u c → ExtentsLead all s a u c q next
     extents_more u c there builds pushes =
         let r = extents_over s t u _ _ q w.leads.builds.keeps.held w.own w.stand builds.keeps in
         record {
@@ -191,11 +191,11 @@ module _ (all : List Run) (s : Storage) (a : ChangeBuilder) (t : Storage) (b : C
         }
 
 -- the last records come, where they are not refused
-pub ok_follows : {E : Type 0} (s t u : Storage) (a b c : ChangeBuilder) (xs ys : List Record) (r : Result (Unit {0}) E) → Pushes s a xs t b → OnOk r (Pushes t b ys u c) → OnOk r (Pushes s a (xs ++ ys) u c)
+pub ok_follows : {E : Type 0} (s t u : Parts) (a b c : ChangeBuilder) (xs ys : List Record) (r : Result (Unit {0}) E) → Pushes s a xs t b → OnOk r (Pushes t b ys u c) → OnOk r (Pushes s a (xs ++ ys) u c)
 ok_follows s t u a b c xs ys (Ok x) p q = pushes-follow s t u a b c xs ys p q
 ok_follows s t u a b c xs ys (Err e) p q = tt
 
-pub ok_last : {E : Type 0} (s t u : Storage) (a b c : ChangeBuilder) (all left : List Record) → Leads s a all t b left → (r : Result (Unit {0}) E) → Builds t b u c → OnOk r (Pushes t b left u c) → OnOk r (Pushes s a all u c)
+pub ok_last : {E : Type 0} (s t u : Parts) (a b c : ChangeBuilder) (all left : List Record) → Leads s a all t b left → (r : Result (Unit {0}) E) → Builds t b u c → OnOk r (Pushes t b left u c) → OnOk r (Pushes s a all u c)
 ok_last s t u a b c all left l (Ok x) builds p =
     leads-all s u a c all [] (leads-more s t a b all left l u c left [] (sym (append-nil left)) builds p) refl
 ok_last s t u a b c all left l (Err e) builds p = tt

@@ -19,10 +19,10 @@ use Rattle.vsm_model.specs.Step.{step}
 use Rattle.storage_changes.specs.State.{StorageState}
 use Rattle.storage_changes.specs.Changes.{Change, change_parking}
 use Rattle.storage_changes.specs.Meaning.{model_of}
-use Rattle.storage_actions.specs.Actions.{register_records}
-use Rattle.task_actions.specs.Attaching.{attach_records, attach_blanks, CanAttach}
-use Rattle.task_actions.specs.Ending.{ended_below, owned_by_these, end_records, end_blanks, with_turn, CanEnd}
-use Rattle.task_actions.specs.Ending.{ended_records, removed_records, unshared_records, weight_ended}
+use Rattle.change_laws.specs.StorageActions.{register_records}
+use Rattle.change_laws.specs.Attaching.{attach_records, attach_blanks, CanAttach}
+use Rattle.change_laws.specs.Ending.{ended_below, owned_by_these, end_records, end_blanks, with_turn, CanEnd}
+use Rattle.change_laws.specs.Ending.{ended_records, removed_records, unshared_records, weight_ended}
 pub use Rattle.storage_plans.specs.Plans.{IsAccepted}
 use Rattle.task_plans.specs.declared.attach.AttachPlan.{AttachPlan}
 use Rattle.task_plans.specs.declared.end.EndPlan.{EndPlan}

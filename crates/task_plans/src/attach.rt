@@ -5,21 +5,22 @@ ghost use Rattle.vsm_elements.specs.Store.{live_count};
 ghost use Rattle.vsm_model.specs.declared.limits.Settings.{Settings};
 ghost use Rattle.vsm_model.specs.Services.{attach};
 ghost use Rattle.storage_exchange.specs.Storage.{hold, state_of, Stand, IsFrameless};
-ghost use Rattle.storage_actions.specs.Actions.{register_records};
+ghost use Rattle.change_laws.specs.StorageActions.{register_records};
 ghost use Rattle.storage_plans.specs.Places.{StandsSound};
 ghost use Rattle.storage_swap.specs.Builder.{IsBuilding, Builds, Pushes};
+ghost use Rattle.storage_swap.specs.Growth.{MakesElements};
 ghost use Rattle.storage_swap.specs.Reserve.{Grown, Reserves};
 ghost use Rattle.task_plans.specs.TaskPlans.{attach_change, numbers, CanBeAttached, IsAttachPlanned};
 
 use crate::numbers::{has_bad_number, numbers_of, numbers_or_none, some_is_anothers};
 use crate::passing::{push_gifts, push_shares, push_zero};
 use crate::registers::push_register;
+use change_laws::tasks::attaching_leads;
 use std::alloc::AllocError;
 use storage_changes::{Record, TaskRecord};
-use storage_exchange::Storage;
+use storage_exchange::Parts;
 use storage_swap::{Change, ChangeBuilder};
 use subpool_storage::laws::cell_pools_are_named;
-use task_actions::laws::attaching_leads;
 use vsm_model::{Attach, Cause};
 
 /// A task that comes, below the current one. Nothing is changed yet.
@@ -39,7 +40,7 @@ pub struct AttachPlan {
 /// the subpools that are given first; `BadList` where a number is 0, above 127 or named twice; `NotOwner` where a
 /// subpool that is given is another task's; and `TooManyTasks`.
 #[inline(never)]
-pub fn plan_attach(storage: &Storage, request: Attach) -> Result<AttachPlan, Cause>
+pub fn plan_attach(storage: &Parts, request: Attach) -> Result<AttachPlan, Cause>
     requires stands { Stand storage.now }
     requires frameless { IsFrameless storage.now }
     ensures { (settings : Settings) (names_full : Bool) → StandsSound settings storage.now
@@ -70,7 +71,7 @@ impl AttachPlan {
     ///
     /// `AllocError` where memory is refused: what was made before that stays, as spare elements. Where so many elements
     /// are spare as it has records and blank elements, it takes no memory. It uses no more of them.
-    pub fn reserve(self, storage: &mut Storage) -> Result<Change, AllocError>
+    pub fn reserve(self, storage: &mut Parts) -> Result<Change, AllocError>
         requires stands { Stand storage.old }
         requires once { (i : ℕ) → hold storage.old i ≤ 1 }
         requires frameless { IsFrameless storage.old }
@@ -85,6 +86,9 @@ impl AttachPlan {
             storage.old.elements.spare ≤ storage.new.elements.spare + (length d.records + d.blanks)) }
         ensures live { IfOk result (λ _. let d = attach_change (state_of storage.old) self in
             live_count storage.new.elements ≤ live_count storage.old.elements + (length d.records + d.blanks)) }
+        ensures made { IfOk result (λ _. let d = attach_change (state_of storage.old) self in
+            MakesElements storage.old.elements storage.new.elements (length d.records + d.blanks)) }
+        ensures same_frames { IfOk result (λ _. storage.new.region ≡ storage.old.region) }
     {
         let mut builder = ChangeBuilder::new();
         match self.push_records(storage, &mut builder) {
@@ -99,7 +103,7 @@ impl AttachPlan {
     // The records of the change, in their order. Answers how many blank elements it has.
     fn push_records(
         self,
-        storage: &mut Storage,
+        storage: &mut Parts,
         builder: &mut ChangeBuilder,
     ) -> Result<u32, AllocError>
         requires building { IsBuilding storage.old builder.old }

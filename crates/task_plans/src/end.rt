@@ -16,24 +16,25 @@ ghost use Rattle.storage_changes.specs.Names.{AreNames};
 ghost use Rattle.storage_exchange.specs.Storage.{hold, state_of, Stand, IsFrameless};
 ghost use Rattle.storage_plans.specs.Places.{StandsSound};
 ghost use Rattle.storage_swap.specs.Builder.{parked_in, records_in, IsBuilding, Builds, Pushes};
+ghost use Rattle.storage_swap.specs.Growth.{MakesElements};
 ghost use Rattle.storage_swap.specs.Reserve.{Grown, Reserves};
-ghost use Rattle.task_actions.specs.Ending.{ended_below, owned_by_these, emptying_records, removed};
-ghost use Rattle.task_actions.specs.Ending.{released_records, removed_records, unseeing, unshared, unshared_records};
+ghost use Rattle.change_laws.specs.Ending.{ended_below, owned_by_these, emptying_records, removed};
+ghost use Rattle.change_laws.specs.Ending.{released_records, removed_records, unseeing, unshared, unshared_records};
 ghost use Rattle.task_plans.specs.Parents.{AreParents};
 ghost use Rattle.task_plans.specs.TaskPlans.{end_change, owned_among, parked_onto, parks_all};
 ghost use Rattle.task_plans.specs.TaskPlans.{rest_records, unseeing_among, CanBeEnded, CanPark, IsEndPlanned};
 
 use crate::ended::{Parents, is_ended, push_ended, read_parents};
 use crate::registers::push_register;
+use change_laws::tasks::{ending_leads, ends_are_in_order};
 use descriptor_queue::Extents;
 use std::alloc::AllocError;
 use storage_changes::{OwnRecord, PagesRecord, QueuesRecord, Record, SharerRecord, TurnRecord};
-use storage_exchange::Storage;
+use storage_exchange::Parts;
 use storage_swap::{Change, ChangeBuilder};
 use subpool_set::PoolPlace;
 use subpool_storage::SubpoolStorage;
 use subpool_storage::laws::{cell_pools_are_named, subpools_are_there};
-use task_actions::laws::{ending_leads, ends_are_in_order};
 use task_tree::TreeFault;
 use task_tree::laws::trees_stand;
 use vsm_model::{Cause, Reply, Subpool};
@@ -55,7 +56,7 @@ pub struct EndPlan {
 /// The causes that refuse it, in order: `NoTask` where there is no such task, and `NotParent` where the current task
 /// isn't its parent.
 #[inline(never)]
-pub fn plan_detach(storage: &Storage, task: u32) -> Result<EndPlan, Cause>
+pub fn plan_detach(storage: &Parts, task: u32) -> Result<EndPlan, Cause>
     requires stands { Stand storage.now }
     ensures { (settings : Settings) (names_full : Bool) → settings_valid settings ≡ true
         → StandsSound settings storage.now
@@ -86,7 +87,7 @@ pub fn plan_detach(storage: &Storage, task: u32) -> Result<EndPlan, Cause>
 ///
 /// The causes that refuse it, in order: `HasSubtask`, and `NotParent` for task 1, which has no parent.
 #[inline(never)]
-pub fn plan_end_task(storage: &Storage) -> Result<EndPlan, Cause>
+pub fn plan_end_task(storage: &Parts) -> Result<EndPlan, Cause>
     requires stands { Stand storage.now }
     ensures { (settings : Settings) (names_full : Bool) → settings_valid settings ≡ true
         → StandsSound settings storage.now
@@ -123,7 +124,7 @@ impl EndPlan {
     ///
     /// `AllocError` where memory is refused: what was made before that stays, as spare elements. Where so many elements
     /// are spare as it parks subpools and has records and blank elements, it takes no memory. It uses no more of them.
-    pub fn reserve(self, storage: &mut Storage) -> Result<Change, AllocError>
+    pub fn reserve(self, storage: &mut Parts) -> Result<Change, AllocError>
         requires stands { Stand storage.old }
         requires once { (i : ℕ) → hold storage.old i ≤ 1 }
         requires frameless { IsFrameless storage.old }
@@ -141,6 +142,10 @@ impl EndPlan {
         ensures live { IfOk result (λ _. let d = end_change (state_of storage.old) self in
             live_count storage.new.elements ≤ live_count storage.old.elements
             + (length (parks_all (state_of storage.old) self.top) + (length d.records + d.blanks))) }
+        ensures made { IfOk result (λ _. let d = end_change (state_of storage.old) self in
+            MakesElements storage.old.elements storage.new.elements
+            (length (parks_all (state_of storage.old) self.top) + (length d.records + d.blanks))) }
+        ensures same_frames { IfOk result (λ _. storage.new.region ≡ storage.old.region) }
     {
         let mut builder = ChangeBuilder::new();
         match self.push_records(storage, &mut builder) {
@@ -156,7 +161,7 @@ impl EndPlan {
     // has.
     fn push_records(
         self,
-        storage: &mut Storage,
+        storage: &mut Parts,
         builder: &mut ChangeBuilder,
     ) -> Result<u32, AllocError>
         requires building { IsBuilding storage.old builder.old }
@@ -175,6 +180,9 @@ impl EndPlan {
         ensures live { OnOk result (live_count storage.new.elements
             ≤ live_count storage.old.elements + (length (parks_all (state_of storage.old) self.top)
             + length (end_change (state_of storage.old) self).records)) }
+        ensures made { OnOk result (MakesElements storage.old.elements storage.new.elements
+            (length (parks_all (state_of storage.old) self.top)
+            + length (end_change (state_of storage.old) self).records)) }
         ensures needless { length (parks_all (state_of storage.old) self.top)
             + length (end_change (state_of storage.old) self).records ≤ storage.old.elements.spare → IsOk result }
     {
@@ -190,7 +198,7 @@ impl EndPlan {
     // The records behind the turn.
     fn push_rest(
         self,
-        storage: &mut Storage,
+        storage: &mut Parts,
         builder: &mut ChangeBuilder,
         parents: &Parents,
     ) -> Result<(), AllocError>
@@ -214,7 +222,7 @@ impl EndPlan {
 
 // An empty subpool is parked under the name of each that a task of the subtree owns.
 fn park_owned(
-    storage: &mut Storage,
+    storage: &mut Parts,
     builder: &mut ChangeBuilder,
     parents: &Parents,
     top: u8,
@@ -230,6 +238,8 @@ fn park_owned(
         ≤ storage.new.elements.spare + length (parks_all (state_of storage.old) top)) }
     ensures live { OnOk result (live_count storage.new.elements
         ≤ live_count storage.old.elements + length (parks_all (state_of storage.old) top)) }
+    ensures made { OnOk result (MakesElements storage.old.elements storage.new.elements
+        (length (parks_all (state_of storage.old) top))) }
     ensures needless { length (parks_all (state_of storage.old) top) ≤ storage.old.elements.spare → IsOk result }
 {
     subpools_are_there();
@@ -243,7 +253,7 @@ fn park_owned(
 
 // One is parked under this name, where a task of the subtree is the owner.
 fn park_one(
-    storage: &mut Storage,
+    storage: &mut Parts,
     builder: &mut ChangeBuilder,
     parents: &Parents,
     top: u8,
@@ -260,6 +270,8 @@ fn park_one(
         ≤ storage.new.elements.spare + length (owned_among (state_of storage.old) top (subpool ∷ []))) }
     ensures live { OnOk result (live_count storage.new.elements
         ≤ live_count storage.old.elements + length (owned_among (state_of storage.old) top (subpool ∷ []))) }
+    ensures made { OnOk result (MakesElements storage.old.elements storage.new.elements
+        (length (owned_among (state_of storage.old) top (subpool ∷ [])))) }
     ensures needless { length (owned_among (state_of storage.old) top (subpool ∷ []))
         ≤ storage.old.elements.spare → IsOk result }
 {
@@ -272,7 +284,7 @@ fn park_one(
 // The storage of each subpool that a task of the subtree owns goes over into the change, and its pages become
 // unassigned.
 fn push_released(
-    storage: &mut Storage,
+    storage: &mut Parts,
     builder: &mut ChangeBuilder,
     parents: &Parents,
     top: u8,
@@ -296,7 +308,7 @@ fn push_released(
 
 // So does that of one subpool, where a task of the subtree is the owner.
 fn push_emptied(
-    storage: &mut Storage,
+    storage: &mut Parts,
     builder: &mut ChangeBuilder,
     parents: &Parents,
     top: u8,
@@ -320,7 +332,7 @@ fn push_emptied(
 
 // The pages of each extent of the subpool become unassigned.
 fn push_extents(
-    storage: &mut Storage,
+    storage: &mut Parts,
     builder: &mut ChangeBuilder,
     subpool: Subpool,
 ) -> Result<(), AllocError>
@@ -346,7 +358,7 @@ fn push_extents(
 
 // Tasks of the subtree see no subpool of others any more, nor others theirs.
 fn push_unshared(
-    storage: &mut Storage,
+    storage: &mut Parts,
     builder: &mut ChangeBuilder,
     parents: &Parents,
     top: u8,
@@ -370,7 +382,7 @@ fn push_unshared(
 
 // Those who share the subpool and end, or all where its owner does, see it no more. The place is right behind it.
 fn push_unseeing(
-    storage: &mut Storage,
+    storage: &mut Parts,
     builder: &mut ChangeBuilder,
     parents: &Parents,
     subpool: Subpool,
@@ -401,7 +413,7 @@ fn push_unseeing(
 
 // One who shares the subpool sees it no more, where it ends or its owner does.
 fn push_unseen(
-    storage: &mut Storage,
+    storage: &mut Parts,
     builder: &mut ChangeBuilder,
     parents: &Parents,
     subpool: Subpool,
@@ -430,7 +442,7 @@ fn push_unseen(
 
 // The subpools that tasks of the subtree own are gone.
 fn push_removed(
-    storage: &mut Storage,
+    storage: &mut Parts,
     builder: &mut ChangeBuilder,
     parents: &Parents,
     top: u8,
@@ -454,7 +466,7 @@ fn push_removed(
 
 // So is one, where a task of the subtree is the owner.
 fn push_gone(
-    storage: &mut Storage,
+    storage: &mut Parts,
     builder: &mut ChangeBuilder,
     parents: &Parents,
     top: u8,

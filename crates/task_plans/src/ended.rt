@@ -4,13 +4,13 @@ ghost use Rattle.std.specs.Prelude.{◌≡◌, ◌<◌, ◌≤◌, [], ◌∷◌
 ghost use Rattle.vsm_model.specs.Search.{is_in};
 ghost use Rattle.storage_exchange.specs.Storage.{state_of, Stand};
 ghost use Rattle.storage_swap.specs.Builder.{IsBuilding, Builds, Pushes};
-ghost use Rattle.task_actions.specs.Ending.{cleared_quarter, is_below_by, ended_below, ended_level, ended_records};
+ghost use Rattle.change_laws.specs.Ending.{cleared_quarter, is_below_by, ended_below, ended_level, ended_records};
 ghost use Rattle.std.specs.List.{flat_map};
 ghost use Rattle.task_plans.specs.Parents.{AreParents};
 
 use std::alloc::AllocError;
 use storage_changes::{Record, RegistersRecord, TaskRecord};
-use storage_exchange::Storage;
+use storage_exchange::Parts;
 use storage_swap::ChangeBuilder;
 use task_tree::laws::trees_stand;
 
@@ -30,7 +30,7 @@ pub(crate) struct Parents {
 }
 
 /// The parents of all tasks.
-pub(crate) fn read_parents(storage: &Storage) -> Parents
+pub(crate) fn read_parents(storage: &Parts) -> Parents
     requires stands { Stand storage.now }
     ensures { AreParents result.of (state_of storage.now).tasks.parents }
 {
@@ -44,7 +44,7 @@ pub(crate) fn read_parents(storage: &Storage) -> Parents
 }
 
 // The parent of a task; `None` where there is no such task.
-fn parent_in(storage: &Storage, parents: &Parents, task: u8) -> Option<u8>
+fn parent_in(storage: &Parts, parents: &Parents, task: u8) -> Option<u8>
     requires { AreParents parents.now.of (state_of storage.now).tasks.parents }
     ensures { result ≡ (state_of storage.now).tasks.parents task }
 {
@@ -57,7 +57,7 @@ fn parent_in(storage: &Storage, parents: &Parents, task: u8) -> Option<u8>
 }
 
 // Whether the task is just so many steps below the other.
-fn is_below_by(storage: &Storage, parents: &Parents, top: u8, steps: u8, task: u8) -> bool
+fn is_below_by(storage: &Parts, parents: &Parents, top: u8, steps: u8, task: u8) -> bool
     requires { AreParents parents.now.of (state_of storage.now).tasks.parents }
     ensures { result ≡ is_below_by (state_of storage.now).tasks.parents top steps task }
 {
@@ -72,7 +72,7 @@ fn is_below_by(storage: &Storage, parents: &Parents, top: u8, steps: u8, task: u
 }
 
 /// Whether the task is among those of the subtree.
-pub(crate) fn is_ended(storage: &Storage, parents: &Parents, top: u8, task: u8) -> bool
+pub(crate) fn is_ended(storage: &Parts, parents: &Parents, top: u8, task: u8) -> bool
     requires { AreParents parents.now.of (state_of storage.now).tasks.parents }
     ensures { result ≡ is_in (ended_below (state_of storage.now).tasks.parents top) task }
 {
@@ -94,7 +94,7 @@ pub(crate) fn is_ended(storage: &Storage, parents: &Parents, top: u8, task: u8) 
 
 // Four registers of a task become zeros: a quarter of its sixteen.
 fn push_quarter(
-    storage: &mut Storage,
+    storage: &mut Parts,
     builder: &mut ChangeBuilder,
     task: u8,
     quarter: u8,
@@ -116,7 +116,7 @@ fn push_quarter(
 
 // The registers of a task become zeros, and it is gone.
 fn push_ended_task(
-    storage: &mut Storage,
+    storage: &mut Parts,
     builder: &mut ChangeBuilder,
     task: u8,
 ) -> Result<(), AllocError>
@@ -143,7 +143,7 @@ fn push_ended_task(
 
 // The task is gone, where it is so many steps below the other.
 fn push_ended_at(
-    storage: &mut Storage,
+    storage: &mut Parts,
     builder: &mut ChangeBuilder,
     parents: &Parents,
     top: u8,
@@ -168,7 +168,7 @@ fn push_ended_at(
 
 // The tasks that are so many steps below the other are gone.
 fn push_ended_level(
-    storage: &mut Storage,
+    storage: &mut Parts,
     builder: &mut ChangeBuilder,
     parents: &Parents,
     top: u8,
@@ -191,7 +191,7 @@ fn push_ended_level(
 
 /// The tasks of the subtree are gone, those furthest below its top first.
 pub(crate) fn push_ended(
-    storage: &mut Storage,
+    storage: &mut Parts,
     builder: &mut ChangeBuilder,
     parents: &Parents,
     top: u8,

@@ -9,7 +9,7 @@ ghost use Rattle.storage_exchange.specs.Storage.{state_of, Stand, IsFrameless};
 ghost use Rattle.task_plans.specs.TaskPlans.{numbers};
 
 use arrayvec::ArrayVec;
-use storage_exchange::Storage;
+use storage_exchange::Parts;
 use storage_plans::load;
 use vsm_model::{Cause, Passed};
 
@@ -19,7 +19,7 @@ pub(crate) const NUMBERS_MOST: usize = 255;
 pub(crate) type Numbers = ArrayVec<u32, NUMBERS_MOST>;
 
 /// The numbers that the operand names, or `NotAssigned` where a byte of its list doesn't lie in an assigned page.
-pub(crate) fn numbers_of(storage: &Storage, passed: Passed) -> Result<Numbers, Cause>
+pub(crate) fn numbers_of(storage: &Parts, passed: Passed) -> Result<Numbers, Cause>
     requires frameless { IsFrameless storage.now }
     ensures ok { IfOk result (λ numbers. numbers_in (model_of (state_of storage.now)) passed ≡ Some numbers.items) }
     ensures err { IfErr result (λ cause. (cause ≡ Cause.NotAssigned)
@@ -37,7 +37,7 @@ pub(crate) fn numbers_of(storage: &Storage, passed: Passed) -> Result<Numbers, C
 }
 
 /// The numbers that the operand names, and none where a byte of its list doesn't lie in an assigned page.
-pub(crate) fn numbers_or_none(storage: &Storage, passed: Passed) -> Numbers
+pub(crate) fn numbers_or_none(storage: &Parts, passed: Passed) -> Numbers
     requires frameless { IsFrameless storage.now }
     ensures { result.items ≡ numbers (state_of storage.now) passed }
 {
@@ -48,7 +48,7 @@ pub(crate) fn numbers_or_none(storage: &Storage, passed: Passed) -> Numbers
 }
 
 // The byte at the address, or `NotAssigned` where it doesn't lie in an assigned page.
-fn byte_at(storage: &Storage, address: u32) -> Result<u8, Cause>
+fn byte_at(storage: &Parts, address: u32) -> Result<u8, Cause>
     requires frameless { IsFrameless storage.now }
     ensures ok { IfOk result (λ byte. (model_of (state_of storage.now)).bytes address ≡ Some byte) }
     ensures err { IfErr result (λ cause. (cause ≡ Cause.NotAssigned)
@@ -72,7 +72,7 @@ fn numbers_from(bytes: &[u8]) -> Numbers
 }
 
 // The numbers of a list: a byte that counts those that follow, and a byte for each.
-fn listed_at(storage: &Storage, address: u32) -> Result<Numbers, Cause>
+fn listed_at(storage: &Parts, address: u32) -> Result<Numbers, Cause>
     requires frameless { IsFrameless storage.now }
     ensures ok { IfOk result (λ numbers.
         numbers_in (model_of (state_of storage.now)) (Passed.Listed address) ≡ Some numbers.items) }
@@ -119,7 +119,7 @@ pub(crate) fn has_bad_number(given: &Numbers, shared: &Numbers) -> bool
 }
 
 // Whether the current task sees a subpool at the number that another owns.
-fn is_anothers(storage: &Storage, number: u8) -> bool
+fn is_anothers(storage: &Parts, number: u8) -> bool
     requires stands { Stand storage.now }
     ensures { result ≡ is_anothers (model_of (state_of storage.now)) number }
 {
@@ -134,7 +134,7 @@ fn is_anothers(storage: &Storage, number: u8) -> bool
 }
 
 /// Whether another task than the current one owns the subpool that it sees at one of the numbers.
-pub(crate) fn some_is_anothers(storage: &Storage, numbers: &Numbers) -> bool
+pub(crate) fn some_is_anothers(storage: &Parts, numbers: &Numbers) -> bool
     requires stands { Stand storage.now }
     requires range { All (λ number. number ≤ 127) numbers.now.items }
     ensures { result ≡ list_any (is_anothers (model_of (state_of storage.now))) numbers.now.items }

@@ -4,12 +4,12 @@ ghost use Rattle.std.specs.Prelude.{◌≡◌, ◌≤◌, ◌++◌, length, All,
 ghost use Rattle.std.specs.List.{flat_map};
 ghost use Rattle.storage_exchange.specs.Storage.{state_of};
 ghost use Rattle.storage_swap.specs.Builder.{IsBuilding, Builds, Pushes};
-ghost use Rattle.task_actions.specs.Attaching.{made, shared, gift_records, share_records, zero_records};
+ghost use Rattle.change_laws.specs.Attaching.{made, shared, gift_records, share_records, zero_records};
 
 use crate::numbers::Numbers;
 use std::alloc::AllocError;
 use storage_changes::{OwnRecord, PassRecord, Record, SharerRecord};
-use storage_exchange::Storage;
+use storage_exchange::Parts;
 use storage_swap::ChangeBuilder;
 use vsm_model::Subpool;
 
@@ -36,7 +36,7 @@ fn shared(number: u8, owner: u8, task: u8) -> Record
 
 // A number that is given to the task.
 fn push_gift(
-    storage: &mut Storage,
+    storage: &mut Parts,
     builder: &mut ChangeBuilder,
     task: u8,
     number: u8,
@@ -66,7 +66,7 @@ fn push_gift(
 
 // A number that is shared with the task.
 fn push_share(
-    storage: &mut Storage,
+    storage: &mut Parts,
     builder: &mut ChangeBuilder,
     task: u8,
     number: u8,
@@ -93,7 +93,7 @@ fn push_share(
 
 /// Subpool 0 is shared with the task, or it's one of its own.
 pub(crate) fn push_zero(
-    storage: &mut Storage,
+    storage: &mut Parts,
     builder: &mut ChangeBuilder,
     task: u8,
     shares_zero: bool,
@@ -114,7 +114,7 @@ pub(crate) fn push_zero(
 
 /// The numbers are given to the task, in their order.
 pub(crate) fn push_gifts(
-    storage: &mut Storage,
+    storage: &mut Parts,
     builder: &mut ChangeBuilder,
     task: u8,
     numbers: &Numbers,
@@ -135,7 +135,7 @@ pub(crate) fn push_gifts(
 
 /// The numbers are shared with the task, in their order.
 pub(crate) fn push_shares(
-    storage: &mut Storage,
+    storage: &mut Parts,
     builder: &mut ChangeBuilder,
     task: u8,
     numbers: &Numbers,

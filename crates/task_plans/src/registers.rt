@@ -6,12 +6,12 @@ ghost use Rattle.storage_swap.specs.Builder.{IsBuilding, Builds, Pushes};
 
 use std::alloc::AllocError;
 use storage_changes::{Record, RegisterRecord};
-use storage_exchange::Storage;
+use storage_exchange::Parts;
 use storage_swap::ChangeBuilder;
 
 /// One more record: a register of the task gets the word.
 pub(crate) fn push_register(
-    storage: &mut Storage,
+    storage: &mut Parts,
     builder: &mut ChangeBuilder,
     task: u8,
     register: u8,

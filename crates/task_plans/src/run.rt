@@ -4,22 +4,22 @@ ghost use Rattle.std.specs.Prelude.{◌≡◌, Bool, None, IfOk};
 ghost use Rattle.vsm_model.specs.declared.limits.Settings.{Settings};
 ghost use Rattle.vsm_model.specs.declared.replies.Reply.TheVariants.{Turn};
 ghost use Rattle.vsm_model.specs.Services.{run};
-ghost use Rattle.storage_actions.specs.Actions.{run_of};
+ghost use Rattle.change_laws.specs.StorageActions.{run_of};
 ghost use Rattle.storage_exchange.specs.Storage.{state_of, Stand};
 ghost use Rattle.storage_plans.specs.Places.{StandsSound};
 ghost use Rattle.storage_plans.specs.Plans.{IsPlanned};
-ghost use Rattle.task_actions.specs.Attaching.{turn_records};
+ghost use Rattle.change_laws.specs.Attaching.{turn_records};
 
 use arrayvec::ArrayVec;
+use change_laws::tasks::turning_leads;
 use run_set::Run;
 use storage_changes::{Record, TurnRecord};
-use storage_exchange::Storage;
-use storage_plans::Plan;
-use task_actions::laws::turning_leads;
+use storage_exchange::Parts;
+use storage_plans::StoragePlan;
 use vsm_model::{Cause, Reply};
 
 // The plan of a turn to a task that is there.
-fn turn_to(task: u8) -> Plan
+fn turn_to(task: u8) -> StoragePlan
     ensures emptied { result.emptied ≡ None }
     ensures records { result.records.items ≡ turn_records task }
     ensures blanks { result.blanks ≡ 0 }
@@ -28,7 +28,7 @@ fn turn_to(task: u8) -> Plan
 {
     let mut records = ArrayVec::new();
     records.push(Record::Turn(TurnRecord { task }));
-    Plan {
+    StoragePlan {
         emptied: None,
         records,
         blanks: 0,
@@ -40,7 +40,7 @@ fn turn_to(task: u8) -> Plan
 /// A plan by which another task makes the requests, the bench's own RUN. No register is set. Reads alone, and takes no
 /// memory. Refused with `NoTask` where there is no such task.
 #[inline(never)]
-pub fn plan_run(storage: &Storage, task: u32) -> Result<Plan, Cause>
+pub fn plan_run(storage: &Parts, task: u32) -> Result<StoragePlan, Cause>
     requires stands { Stand storage.now }
     ensures planned { (settings : Settings) (names_full : Bool) → StandsSound settings storage.now
         → IsPlanned settings names_full (state_of storage.now) (run task) result }

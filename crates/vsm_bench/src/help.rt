@@ -16,7 +16,8 @@ The low region lies below the 16 MB line, the high region above it. An area that
 lies in the high region, whose size --high sets, or in the low one where that has no room. LOC=RES, which holds where
 LOC is left out, asks by --residence: with 24 for an area below the line, with 31 for one on either side.
 
-What can be written in a script is told in docs/STATEMENTS.md, what is printed in docs/MESSAGES.md.
+What can be written in a script is told in vsm-statements(5), what is printed in vsm-messages(7): pages of the manual,
+made from STATEMENTS.md and MESSAGES.md.
 
 Exit status:
    0  no statement was refused, or help was asked for
@@ -35,6 +36,8 @@ Example: where the file example.vsm has these lines, each behind a blank,
   0000001 RC=0 A=00006000 L=00000068
   0000002 RC=0
   0000003 KEPT=1
+
+nilbozad 0.1.0 (rattle-kit-13f logic dac8208d650f15bf)
 ";
 
 /// Help's end, which stands behind what it says of the options.

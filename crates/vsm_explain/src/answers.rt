@@ -5,11 +5,12 @@ ghost use Rattle.explain_list.specs.declared.faults.ListFault.{ListFault};
 ghost use Rattle.vsm_explain.specs.Status.{IsOutcome};
 
 use crate::faults::Fault;
+use answer_meanings::{MeaningFault, code};
 use explain_list::{ListFault, Shown, list};
-use explain_questions::{About, Asking, Question, Refusal};
+use explain_questions::{About, Asking, Question, WordRefusal};
 use explain_report::{ReportFault, over_time, report};
 use explain_who::{Asked, WhoFault, log, who};
-use explain_why::{WhyFault, code, why};
+use explain_why::{WhyFault, why};
 use script_steps::{NewFault, Watch};
 use std::alloc::Global;
 use std::io::Write;
@@ -18,7 +19,7 @@ use vsm_model::Settings;
 /// What is said where there is no bench.
 fn new_fault<'a>(fault: NewFault) -> Fault<'a> {
     match fault {
-        NewFault::Setting => Fault::Words(Refusal::Settings),
+        NewFault::Setting => Fault::Words(WordRefusal::Settings),
         NewFault::NoMemory => Fault::Memory,
     }
 }
@@ -32,8 +33,8 @@ fn list_fault<'a>(fault: ListFault) -> Fault<'a> {
     }
 }
 
-/// What is said where the statement of a line can't be explained, or these words aren't an answer.
-fn why_fault<'a>(line: u32, words: &'a str, fault: WhyFault) -> Fault<'a> {
+/// What is said where the statement of a line can't be explained.
+fn why_fault<'a>(line: u32, fault: WhyFault) -> Fault<'a> {
     match fault {
         WhyFault::New(fault) => new_fault(fault),
         WhyFault::TooLong => Fault::TooLong,
@@ -41,7 +42,6 @@ fn why_fault<'a>(line: u32, words: &'a str, fault: WhyFault) -> Fault<'a> {
         WhyFault::NoLine(lines) => Fault::NoLine { line, lines },
         WhyFault::Aside => Fault::Aside(line),
         WhyFault::Dropped => Fault::Dropped(line),
-        WhyFault::NoAnswer => Fault::Words(Refusal::NoLine(words)),
     }
 }
 
@@ -65,7 +65,9 @@ fn who_fault<'a>(fault: WhoFault) -> Fault<'a> {
         WhoFault::TooLong => Fault::TooLong,
         WhoFault::Write => Fault::Write,
         WhoFault::Memory => Fault::Memory,
-        WhoFault::Count => Fault::Words(Refusal::Count("")),
+        WhoFault::Count => Fault::Words(WordRefusal::Count("")),
+        WhoFault::NoTask(task) => Fault::NoTask(task),
+        WhoFault::NoName(_) => Fault::NoName,
     }
 }
 
@@ -105,7 +107,8 @@ fn explain_words<'a, W: Write>(
 ) -> Result<bool, Fault<'a>> {
     match code(words.as_bytes(), out) {
         Ok(()) => Ok(false),
-        Err(fault) => Err(why_fault(0, first, fault)),
+        Err(MeaningFault::NoAnswer) => Err(Fault::Words(WordRefusal::NoLine(first))),
+        Err(MeaningFault::Write) => Err(Fault::Write),
     }
 }
 
@@ -134,6 +137,8 @@ fn asked(about: About) -> Asked {
         },
         About::Register { task, register } => Asked::Register { task, register },
         About::Name(name) => Asked::Name(name),
+        About::Subpool(subpool) => Asked::Subpool(subpool),
+        About::Holder(address) => Asked::Holder(address),
     }
 }
 
@@ -141,7 +146,7 @@ fn asked(about: About) -> Asked {
 fn explained<'a>(line: u32, outcome: Result<bool, WhyFault>) -> Result<bool, Fault<'a>> {
     match outcome {
         Ok(refused) => Ok(refused),
-        Err(fault) => Err(why_fault(line, "", fault)),
+        Err(fault) => Err(why_fault(line, fault)),
     }
 }
 

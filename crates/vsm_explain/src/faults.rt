@@ -3,7 +3,7 @@ ghost use Rattle.std.specs.Prelude.{◌≡◌};
 ghost use Rattle.vsm_explain.specs.Status.{fault_status, IsFailure};
 
 use crate::scripts::{MOST_BYTES, Unread};
-use explain_questions::Refusal;
+use explain_questions::WordRefusal;
 use std::fmt;
 use std::fmt::{Display, Formatter};
 use std::io::Write;
@@ -12,7 +12,7 @@ use std::io::Write;
 #[derive(Clone, Copy)]
 pub(crate) enum Fault<'a> {
     /// The words ask for nothing.
-    Words(Refusal<'a>),
+    Words(WordRefusal<'a>),
     /// No script is named, and standard input is a terminal.
     Terminal,
     /// The script of this name can't be explained.
@@ -29,6 +29,10 @@ pub(crate) enum Fault<'a> {
     Aside(u32),
     /// The line isn't carried out, since one before it breaks a rule of continuation.
     Dropped(u32),
+    /// There never is such a task.
+    NoTask(u8),
+    /// There never is the name that is asked for.
+    NoName,
 }
 
 /// What is said of a script that can't be explained.
@@ -67,6 +71,10 @@ impl Display for Fault<'_> {
                 f,
                 "line {line} isn't carried out: a line before it breaks a rule of continuation",
             ),
+            Fault::NoTask(task) => write!(f, "no statement that stands makes a task {task}"),
+            Fault::NoName => f.write_str(
+                "no statement that stands defines the name that --name asks for",
+            ),
         }
     }
 }
@@ -83,7 +91,9 @@ fn status_of(fault: &Fault<'_>) -> u8
         | Fault::Memory
         | Fault::NoLine { .. }
         | Fault::Aside(_)
-        | Fault::Dropped(_) => 16,
+        | Fault::Dropped(_)
+        | Fault::NoTask(_)
+        | Fault::NoName => 16,
     }
 }
 

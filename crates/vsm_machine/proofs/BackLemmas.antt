@@ -6,17 +6,17 @@ use Rattle.name_table.specs.Table.{rows_of}
 use Rattle.step_history.specs.Single.{steps_twice}
 use Rattle.vsm_machine.specs.NameSteps.{is_ready, can_take_by, can_step, can_fit}
 use Rattle.vsm_machine.specs.declared.machine.Machine.{Machine}
-use Rattle.vsm_machine.specs.declared.machine.Change.{Change}
+use Rattle.vsm_machine.specs.declared.machine.MachineChange.{MachineChange}
 use Rattle.vsm_machine.specs.Changes.{MachineState, Difference, shown, means, step_of, fit, overlay, inverse, Apart}
 use Rattle.vsm_machine.specs.Changes.{CanSwap, Swaps, machine_steps}
 use Rattle.vsm_machine.specs.Laws.{SwapsLeadBack}
 
 -- a change that can be exchanged fits the state,
-can-fits : (m : Machine) (c : Change) → CanSwap m c → fit (shown m) (means m c)
+can-fits : (m : Machine) (c : MachineChange) → CanSwap m c → fit (shown m) (means m c)
 can-fits m c h = (h.fits, can_fit m.names (step_of c) h.can)
 
 -- and one that fits it, and stands ready beside the storage, can be exchanged
-fits-can : (m : Machine) (c : Change) → swap.Ready m.storage.parts c.storage → fit (shown m) (means m c) → CanSwap m c
+fits-can : (m : Machine) (c : MachineChange) → swap.Ready m.storage.parts c.storage → fit (shown m) (means m c) → CanSwap m c
 fits-can m c r f = record {
   ready = r;
   fits = f.0;
@@ -26,7 +26,7 @@ fits-can m c r f = record {
 }
 
 -- what was exchanged fits the state that it left
-back-fits : (m n : Machine) (c d : Change) → fit (shown m) (means m c) → Swaps m c n d → fit (shown n) (means n d)
+back-fits : (m n : Machine) (c d : MachineChange) → fit (shown m) (means m c) → Swaps m c n d → fit (shown n) (means n d)
 back-fits m n c d f w =
     let P : MachineState → Type 0 = λ s. fit s (inverse (shown m) (means m c)) in
     let Q : Difference → Type 0 = λ x. fit (shown n) x in

@@ -2,3 +2,4 @@ pub mod Planning
 mod FirstCause
 mod BackLemmas
 mod FrameLemmas
+pub mod MakingLemmas

@@ -17,10 +17,10 @@ use Rattle.storage_changes.specs.Props.{Fit-prop}
 use Rattle.storage_changes.proofs.WalkLemmas.{changes_lead_back}
 use Rattle.storage_swap.specs.declared.change.Change.{Change as RawChange}
 use Rattle.storage_swap.specs.Swap as swap
-use Rattle.storage_history.specs.declared.steps.Steps.{Steps}
-use Rattle.storage_history.specs.Apart.{AreApart, AreWhole}
-use Rattle.storage_history.specs.Props.{AreApart-prop, AreWhole-prop}
-use Rattle.storage_history.specs.Steps.{storage_steps}
+use Rattle.storage_swap.specs.declared.steps.Steps.{Steps}
+use Rattle.storage_swap.specs.Apart.{AreApart, AreWhole}
+use Rattle.storage_swap.specs.HistoryProps.{AreApart-prop, AreWhole-prop}
+use Rattle.storage_swap.specs.Steps.{storage_steps}
 use Rattle.storage_core.specs.Frames.{AssignsItsFrames}
 use Rattle.storage_core.specs.Memory.{SameMemory}
 use Rattle.storage_core.specs.Meaning.{state_in_place, settings_of}
@@ -34,7 +34,7 @@ use Rattle.vsm_machine.specs.NameSteps.{is_ready, stepped_by, turned_by, CanStep
 use Rattle.vsm_machine.specs.NameSteps.{undefines_none, name_fits_back, name_leads_back, name_turns_back, can_step}
 use Rattle.vsm_machine.specs.NameSteps.{same_ready}
 use Rattle.vsm_machine.specs.declared.machine.Machine.{Machine}
-use Rattle.vsm_machine.specs.declared.machine.Change.{Change}
+use Rattle.vsm_machine.specs.declared.machine.MachineChange.{MachineChange}
 use mathlib.Core.HLevel.{×_prop, Unit-prop}
 use mathlib.Core.Bool.{Bool-set}
 
@@ -60,7 +60,7 @@ abbrev pub plain_of : Machine → NamedState
 plain_of m = named_of (shown m)
 
 -- the step of the name that a change has, if it has one
-abbrev pub step_of : Change → Option NameStep
+abbrev pub step_of : MachineChange → Option NameStep
 step_of c = option_map step_in c.name
 
 -- What a change means: the change of the storage, and the step of a name. A name that it defines has to be in the
@@ -70,7 +70,7 @@ pub record Difference : Type 0 where
   pub step : Option NameStep
   pub known : Bool
 
-abbrev pub means : Machine → Change → Difference
+abbrev pub means : Machine → MachineChange → Difference
 means m c = record {
   storage = swap.means m.storage.parts.elements c.storage;
   step = step_of c;
@@ -104,18 +104,18 @@ inverse m d = record {
 }
 
 -- the changes of the storage
-abbrev pub storages : List Change → List RawChange
+abbrev pub storages : List MachineChange → List RawChange
 storages cs = map (λ c. c.storage) cs
 
 -- These hold different elements and frames, and so does the storage,
-abbrev pub Apart : Machine → List Change → Type 0
+abbrev pub Apart : Machine → List MachineChange → Type 0
 Apart m cs = AreApart m.storage.parts (storages cs)
 
 -- and together all that there are.
-abbrev pub Whole : Machine → List Change → Type 0
+abbrev pub Whole : Machine → List MachineChange → Type 0
 Whole m cs = AreWhole m.storage.parts (storages cs)
 
-pub record CanSwap (m : Machine) (c : Change) : Type 0 where
+pub record CanSwap (m : Machine) (c : MachineChange) : Type 0 where
   pub ready : swap.Ready m.storage.parts c.storage
   pub fits : StorageFits (settings_of m.storage) (state_in_place m.storage)
       (swap.means m.storage.parts.elements c.storage)
@@ -123,7 +123,7 @@ pub record CanSwap (m : Machine) (c : Change) : Type 0 where
 
 -- The change of the storage is exchanged with it, and the step of the name is taken and turned; the table holds the
 -- same names.
-pub record Swaps (m : Machine) (c : Change) (n : Machine) (d : Change) : Type 0 where
+pub record Swaps (m : Machine) (c : MachineChange) (n : Machine) (d : MachineChange) : Type 0 where
   pub storage : swap.Swaps m.storage.parts c.storage n.storage.parts d.storage
   pub settings : settings_of n.storage ≡ settings_of m.storage
   pub names : rows_of n.names ≡ stepped_by (rows_of m.names) (step_of c)
@@ -136,22 +136,22 @@ abbrev pub HasSameMemory : Machine → Machine → Type 0
 HasSameMemory m n = SameMemory m.storage.parts n.storage.parts
 
 -- What the change held of the storage is spare, and all else is as it was.
-pub record Discards (m : Machine) (c : Change) (n : Machine) : Type 0 where
+pub record Discards (m : Machine) (c : MachineChange) (n : Machine) : Type 0 where
   pub storage : swap.Discards m.storage.parts c.storage n.storage.parts
   pub settings : settings_of n.storage ≡ settings_of m.storage
   pub names : n.names ≡ m.names
 
-abbrev pub machine_fits : List Change → Machine → List Change → Type 0
+abbrev pub machine_fits : List MachineChange → Machine → List MachineChange → Type 0
 machine_fits = steps_fit fit overlay shown means Apart
 
-abbrev pub machine_states : List Change → Machine → List Change → List MachineState
+abbrev pub machine_states : List MachineChange → Machine → List MachineChange → List MachineState
 machine_states = steps_states fit overlay shown means Apart
 
 -- A kept change defines no name, since it takes a statement back; and an undone one makes no name undefined.
-abbrev pub DefineNone : List Change → Type 0
+abbrev pub DefineNone : List MachineChange → Type 0
 DefineNone cs = AllByRecursion (λ c. defines_none (step_of c) ≡ true) cs
 
-abbrev pub UndefineNone : List Change → Type 0
+abbrev pub UndefineNone : List MachineChange → Type 0
 UndefineNone cs = AllByRecursion (λ c. undefines_none (step_of c) ≡ true) cs
 
 -- the two facts of the names of a difference that fits
@@ -189,18 +189,18 @@ abbrev pub steps_in : Machine → Steps
 steps_in m = record { storage = m.storage.parts }
 
 -- a change means the same where its change of the storage does, and the table is ready for it alike
-pub same_meaning : (m n : Machine) (c : Change)
+pub same_meaning : (m n : Machine) (c : MachineChange)
     → swap.means n.storage.parts.elements c.storage ≡ swap.means m.storage.parts.elements c.storage
     → is_ready n.names (step_of c) ≡ is_ready m.names (step_of c) → means n c ≡ means m c
 same_meaning m n c e f = λ i. record { storage = e i; step = step_of c; known = f i }
 
 -- the changes of the storage of a list with one in its middle
-pub storages_at : (xs ys : List Change) (c : Change)
+pub storages_at : (xs ys : List MachineChange) (c : MachineChange)
     → storages (xs ++ c ∷ ys) ≡ storages xs ++ c.storage ∷ storages ys
-storages_at xs ys c = map-append (λ (x : Change). x.storage) xs (c ∷ ys)
+storages_at xs ys c = map-append (λ (x : MachineChange). x.storage) xs (c ∷ ys)
 
-pub storages_of : (xs ys : List Change) → storages (xs ++ ys) ≡ storages xs ++ storages ys
-storages_of xs ys = map-append (λ (x : Change). x.storage) xs ys
+pub storages_of : (xs ys : List MachineChange) → storages (xs ++ ys) ≡ storages xs ++ storages ys
+storages_of xs ys = map-append (λ (x : MachineChange). x.storage) xs ys
 
 pub machine_steps : SingleSteps fit overlay inverse shown means Apart Whole CanSwap Swaps Discards
 machine_steps = record {
@@ -268,13 +268,14 @@ fits_after_prop m [] = Unit-prop
 fits_after_prop m (d ∷ ds) = ×_prop (fit-prop m d) (fits_after_prop (overlay m d) ds)
 
 -- whether changes fit is a question with one answer
-pub machine_fits_prop : (ks : List Change) (m : Machine) (us : List Change) → IsProp (machine_fits ks m us)
+pub machine_fits_prop : (ks : List MachineChange) (m : Machine) (us : List MachineChange)
+    → IsProp (machine_fits ks m us)
 machine_fits_prop ks m us = ×_prop (×_prop (fits_before_prop (map (means m) ks) (shown m))
     (fits_after_prop (shown m) (map (means m) us))) (AreApart-prop m.storage.parts (storages (ks ++ us)))
 
 -- nothing is missing from a machine and its kept and undone changes: a question with one answer too
-abbrev pub IsWhole : List Change → Machine → List Change → Type 0
+abbrev pub IsWhole : List MachineChange → Machine → List MachineChange → Type 0
 IsWhole ks m us = Whole m (ks ++ us)
 
-pub IsWhole-prop : (ks : List Change) (m : Machine) (us : List Change) → IsProp (IsWhole ks m us)
+pub IsWhole-prop : (ks : List MachineChange) (m : Machine) (us : List MachineChange) → IsProp (IsWhole ks m us)
 IsWhole-prop ks m us = AreWhole-prop m.storage.parts (storages (ks ++ us))

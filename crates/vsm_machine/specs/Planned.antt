@@ -15,7 +15,7 @@ use Rattle.storage_changes.specs.State.{StorageState}
 use Rattle.storage_swap.specs.Reserve.{Reserves}
 use Rattle.name_table.specs.Steps.{NameStep, define, step_in, step_to}
 use Rattle.vsm_machine.specs.declared.machine.Machine.{Machine}
-use Rattle.vsm_machine.specs.declared.machine.Change.{Change}
+use Rattle.vsm_machine.specs.declared.machine.MachineChange.{MachineChange}
 use Rattle.vsm_machine.specs.declared.plans.Planned.{Planned}
 use Rattle.vsm_machine.specs.declared.refusals.Refusal.{Refusal}
 use Rattle.vsm_machine.specs.NameSteps.{CanStepBy, undefines_none}
@@ -79,7 +79,7 @@ IsPlanned m x (Err e) = (why : Why) × (statement_step m.settings (named_of m) x
 
 -- The change was made of the plan: that of its storage beside this one, in which a cell pool that comes has an id that
 -- none had, and the step of its name.
-pub record IsChangeOf (m : Machine) (p : Planned) (n : Machine) (c : Change) : Type 0 where
+pub record IsChangeOf (m : Machine) (p : Planned) (n : Machine) (c : MachineChange) : Type 0 where
   pub id : ℕ
   pub free : IsIdFor (state_in_place m.storage) p.plan id
   pub storage : Reserves m.storage.parts (change_for (state_in_place m.storage) id p.plan) c.storage n.storage.parts

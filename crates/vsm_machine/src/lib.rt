@@ -1,9 +1,9 @@
 //! The machine of a bench: its storage with the names that its statements define, plans of statements, and the changes
 //! that carry them out.
 //!
-//! [`plan_of`] finds by reading alone what a statement will do, or why it's refused; [`reserve`] makes a [`Change`] of
-//! the plan, with all the memory that it needs; and the machine's `swap` applies the change and leaves what takes it
-//! back.
+//! [`plan_of`] finds by reading alone what a statement will do, or why it's refused; [`reserve`] makes a
+//! [`MachineChange`] of the plan, with all the memory that it needs; and the machine's `swap` applies the change and
+//! leaves what takes it back.
 #![tactic(auto)]
 
 mod causes;
@@ -15,7 +15,7 @@ mod services;
 mod values;
 
 pub use causes::{UnknownName, cause_of};
-pub use machine::{Change, Machine};
+pub use machine::{Machine, MachineChange};
 pub use plans::{Planned, plan_of, reserve};
 pub use refusals::{NewFault, Refusal};
 pub use services::service_of;

@@ -21,7 +21,7 @@ pub struct Machine {
 /// What takes a machine to another state, and back from there: a change of its storage, and at most one name with its
 /// other word.
 #[derive(Drop)]
-pub struct Change {
+pub struct MachineChange {
     /// The change of the storage.
     pub storage: storage_core::Change,
     /// The step of a name, where the statement gives one an address.
@@ -45,7 +45,7 @@ impl Reversible for Machine {
     ghost use Rattle.vsm_machine.specs.Changes.{MachineState, shown, machine_fits, machine_states, Apart, Whole};
     ghost use Rattle.vsm_machine.specs.Changes.{CanSwap, Swaps, Discards, machine_laws};
 
-    type Change = Change;
+    type Change = MachineChange;
 
     ghost Meaning = { MachineState };
 
@@ -65,13 +65,13 @@ impl Reversible for Machine {
 
     ghost discards = { Discards };
 
-    fn swap(&mut self, c: &mut Change) {
+    fn swap(&mut self, c: &mut MachineChange) {
         self.storage.swap(&mut c.storage);
         swap_name(&mut self.names, &mut c.name);
     }
 
-    fn discard(&mut self, c: Change) {
-        let Change { storage, .. } = c;
+    fn discard(&mut self, c: MachineChange) {
+        let MachineChange { storage, .. } = c;
         self.storage.discard(storage);
     }
 

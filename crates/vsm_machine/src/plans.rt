@@ -1,19 +1,20 @@
 //! What a statement will do to a machine, found by reading alone, and the change that does it.
-ghost use Rattle.std.specs.Prelude.{◌≡◌, ℕ, ◌≤◌, true, List, None, IfOk, IfSome, IsOk, OnErr, OnOk};
+ghost use Rattle.std.specs.Prelude.{◌≡◌, ℕ, ◌≤◌, true, List, IfOk, IfSome, IsOk, OnErr, OnOk};
 ghost use Rattle.std.specs.Option.{option_map};
 ghost use Rattle.vsm_model.specs.Names.{is_one_too_many};
 ghost use Rattle.storage_core.specs.Meaning.{state_in_place, settings_of};
-ghost use Rattle.storage_core.specs.Planned.{CanBeReserved, elements_needed};
+ghost use Rattle.storage_core.specs.Planned.{CanBeReserved, elements_needed, pages_assigned};
+ghost use Rattle.storage_core.specs.Memory.{Makes};
 ghost use Rattle.storage_core.specs.Stays.{Stays};
 ghost use Rattle.macro_statements.specs.Requests.{act_in, IsValidAct};
-ghost use Rattle.name_table.specs.Table.{rows_of, knows};
+ghost use Rattle.name_table.specs.Table.{rows_of, knows, HasRoom};
 ghost use Rattle.name_table.specs.Steps.{step_in};
 ghost use Rattle.vsm_machine.specs.NameSteps.{CanStepBy};
 ghost use Rattle.vsm_machine.specs.Changes.{shown, step_of};
 ghost use Rattle.vsm_machine.specs.Planned.{step_for, step_planned, defined_by, IsPlanned, IsChangeOf};
 ghost use Rattle.vsm_machine.specs.Supplies.{NeedsNoMore};
 
-use crate::machine::{Change, Machine};
+use crate::machine::{Machine, MachineChange};
 use crate::refusals::Refusal;
 use crate::services::{family_of, name_of, service_of};
 use macro_statements::Statement;
@@ -93,7 +94,7 @@ fn make_ready(names: &mut NameTable, new: Option<Name>) -> Result<(), AllocError
     ensures rows { rows_of names.new ≡ rows_of names.old }
     ensures ok { OnOk result (IfSome new (λ name. knows names.new name.bytes ≡ true)) }
     ensures err { OnErr result ((name : List ℕ) → knows names.new name ≡ knows names.old name) }
-    ensures needless { new ≡ None → IsOk result }
+    ensures needless { IfSome new (λ name. HasRoom names.old name.bytes) → IsOk result }
 {
     match new {
         Some(name) => match names.reserve(name) {
@@ -115,9 +116,10 @@ fn make_ready(names: &mut NameTable, new: Option<Name>) -> Result<(), AllocError
 /// names are as they were, whatever the answer.
 ///
 /// Refused where there is no memory for it; the table then holds the names that it held. Where as many elements are
-/// spare as the change takes, and a frame and a table for each page that comes to be assigned, and no name is defined,
-/// it takes no memory.
-pub fn reserve(machine: &mut Machine, planned: Planned) -> Result<Change, AllocError>
+/// spare as the change takes, and a frame and a table for each page that comes to be assigned, and there is room for
+/// the name that is defined, if one is, it takes no memory. At most a block of elements is made beyond those that the
+/// change takes, and no frame beyond those of its pages.
+pub fn reserve(machine: &mut Machine, planned: Planned) -> Result<MachineChange, AllocError>
     requires { CanBeReserved (state_in_place machine.old.storage) planned.plan }
     ensures is { IfOk result (λ c. IsChangeOf machine.old planned machine.new c) }
     ensures settings { settings_of machine.new.storage ≡ settings_of machine.old.storage }
@@ -128,6 +130,8 @@ pub fn reserve(machine: &mut Machine, planned: Planned) -> Result<Change, AllocE
     ensures same { OnErr result ((name : List ℕ) → knows machine.new.names name ≡ knows machine.old.names name) }
     ensures needless { elements_needed (state_in_place machine.old.storage) planned.plan
         ≤ machine.old.storage.parts.elements.spare → NeedsNoMore machine.old planned → IsOk result }
+    ensures made { IfOk result (λ _. Makes machine.old.storage.parts machine.new.storage.parts
+        (elements_needed (state_in_place machine.old.storage) planned.plan) (pages_assigned planned.plan)) }
 {
     let Planned { plan, name } = planned;
     let storage = match machine.storage.reserve(plan) {
@@ -135,7 +139,7 @@ pub fn reserve(machine: &mut Machine, planned: Planned) -> Result<Change, AllocE
         Err(fault) => return Err(fault),
     };
     match make_ready(&mut machine.names, new_name(&name)) {
-        Ok(()) => Ok(Change { storage, name }),
+        Ok(()) => Ok(MachineChange { storage, name }),
         Err(fault) => {
             machine.storage.discard(storage);
             Err(fault)

@@ -1,7 +1,8 @@
-use Rattle.std.proofs.Common.{◌++◌, map, ap}
-use Rattle.explain_who.specs.Who.{differences_of}
+use Rattle.std.proofs.Common.{map}
 use Rattle.explain_who.specs.Code.{difference_in}
+use Rattle.explain_who.proofs.Followed.{all_found}
 use Rattle.explain_who.proofs.found.changes.Goals as goal
 
-pub loop-i-init : goal.loop-i-init
-loop-i-init c = ap (λ xs. map difference_in xs ++ differences_of c.args.traced.now.first c.standing-standing.result.now) c.new-found.ensures.items
+pub returns-clause-standing : goal.returns-clause-standing
+returns-clause-standing c =
+    all_found c.differences.result (λ xs. map difference_in xs.items) c.args.traced.now c.standing.result.now c.standing.ensures c.differences.ensures

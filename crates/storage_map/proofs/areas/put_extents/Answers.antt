@@ -1,8 +1,8 @@
 use Rattle.std.proofs.Common.{ℕ, flat_map, drop, sym, ap, subst}
 use Rattle.run_set.specs.RunSet.{place_index}
 use Rattle.subpool_storage.specs.Extents.{extents}
-use Rattle.cell_readings.specs.Meaning.{state_in_place}
-use Rattle.cell_readings.specs.Walks.{subpool_before, IsExtentPlace}
+use Rattle.storage_core.specs.Meaning.{state_in_place}
+use Rattle.storage_core.specs.Walks.{subpool_before, IsExtentPlace}
 use Rattle.storage_map.specs.Lines.{extent_line}
 use Rattle.storage_map.proofs.Remaining.{remains_all, remains_less, all_put, drop_next, drop_end, fewer}
 use Rattle.storage_map.proofs.areas.put_extents.Goals as goal

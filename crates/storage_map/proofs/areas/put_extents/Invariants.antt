@@ -1,8 +1,8 @@
 use Rattle.std.proofs.Common.{flat_map, ◌-◌, length, drop}
 use Rattle.run_set.specs.RunSet.{place_index}
 use Rattle.subpool_storage.specs.Extents.{extents}
-use Rattle.cell_readings.specs.Meaning.{state_in_place}
-use Rattle.cell_readings.specs.Walks.{subpool_before, IsExtentPlace}
+use Rattle.storage_core.specs.Meaning.{state_in_place}
+use Rattle.storage_core.specs.Walks.{subpool_before, IsExtentPlace}
 use Rattle.storage_map.specs.Lines.{extent_line}
 use Rattle.storage_map.proofs.Remaining.{Remains}
 use Rattle.storage_map.proofs.areas.put_extents.Given as goal

@@ -1,8 +1,8 @@
 use Rattle.std.proofs.Common.{ℕ, flat_map, drop, sym, ap, subst}
 use Rattle.run_set.specs.RunSet.{place_index}
 use Rattle.subpool_storage.specs.Extents.{free_areas}
-use Rattle.cell_readings.specs.Meaning.{state_in_place}
-use Rattle.cell_readings.specs.Walks.{subpool_before, IsFreeAreaPlace}
+use Rattle.storage_core.specs.Meaning.{state_in_place}
+use Rattle.storage_core.specs.Walks.{subpool_before, IsFreeAreaPlace}
 use Rattle.storage_map.specs.Lines.{free_line}
 use Rattle.storage_map.proofs.Remaining.{remains_all, remains_less, all_put, drop_next, drop_end, fewer}
 use Rattle.storage_map.proofs.areas.put_free_areas.Goals as goal

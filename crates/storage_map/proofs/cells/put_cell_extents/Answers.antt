@@ -2,7 +2,7 @@ use Rattle.std.proofs.Common.{ℕ, ◌+◌, ◌*◌, ◌^◌, ◌<◌, All, List
 use Rattle.std.proofs.lemmas.List.Elements.{All-head, All-tail}
 use Rattle.cell_extents.specs.declared.settings.Extent.{Extent}
 use Rattle.cell_pool.specs.Pools.{rounded}
-use Rattle.cell_readings.specs.Cells.{extents_left}
+use Rattle.storage_map.specs.Cells.{extents_left}
 use Rattle.storage_map.specs.Lines.{cell_extent_line}
 use Rattle.storage_map.proofs.Remaining.{remains_all, remains_less, all_put, shorter}
 use Rattle.storage_map.proofs.cells.put_cell_extents.Goals as goal

@@ -1,6 +1,6 @@
 use Rattle.std.proofs.Common.{◌+◌, ◌*◌, ◌^◌, ◌<◌, All, flat_map, length}
 use Rattle.cell_pool.specs.Pools.{rounded}
-use Rattle.cell_readings.specs.Cells.{IsExtentPlace, extents_left}
+use Rattle.storage_map.specs.Cells.{IsExtentPlace, extents_left}
 use Rattle.storage_map.specs.Lines.{cell_extent_line}
 use Rattle.storage_map.proofs.Remaining.{Remains}
 use Rattle.storage_map.proofs.cells.put_cell_extents.Given as goal

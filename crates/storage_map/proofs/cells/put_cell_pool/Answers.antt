@@ -1,7 +1,7 @@
 use Rattle.std.proofs.Common.{◌++◌, flat_map}
 use Rattle.std.specs.Prelude.{option_map}
 use Rattle.text_output.proofs.Gathering.{puts_both}
-use Rattle.cell_readings.specs.Cells.{cell_pool, extents_left, cells_left}
+use Rattle.storage_map.specs.Cells.{cell_pool, extents_left, cells_left}
 use Rattle.storage_map.specs.Lines.{cell_extent_line, cell_pool_line, free_cell_line}
 use Rattle.storage_map.proofs.CellLines.{pool_put, pool_ends}
 use Rattle.storage_map.proofs.cells.put_cell_pool.Goals as goal

@@ -1,9 +1,9 @@
 use Rattle.std.proofs.Common.{◌≡◌, ◌∷◌, ◌<◌, ℕ, List, [], Option, Some, None, length, flat_map, ap, subst}
 use Rattle.std.specs.Prelude.{IfSome, option_map}
-use Rattle.cell_readings.specs.Cells.{cell_pool}
-use Rattle.cell_tables.specs.Order.{rows_behind}
-use Rattle.cell_tables.specs.Table.{cell_pool_of}
-use Rattle.cell_readings.specs.Meaning.{state_of}
+use Rattle.storage_map.specs.Cells.{cell_pool}
+use Rattle.storage_changes.specs.TableOrder.{rows_behind}
+use Rattle.storage_changes.specs.PoolTable.{cell_pool_of}
+use Rattle.storage_core.specs.Meaning.{state_of}
 use Rattle.storage_map.proofs.CellLines.{row_lines, all_rows, low_is, fewer_rows, rows_remain}
 use Rattle.storage_map.proofs.Remaining.{remains_all, all_put}
 use Rattle.storage_map.proofs.cells.put_cell_pools.Goals as goal

@@ -1,7 +1,7 @@
 use Rattle.std.proofs.Common.{flat_map, length}
 use Rattle.std.specs.Prelude.{option_map}
-use Rattle.cell_tables.specs.Order.{rows_behind}
-use Rattle.cell_readings.specs.Meaning.{state_of}
+use Rattle.storage_changes.specs.TableOrder.{rows_behind}
+use Rattle.storage_core.specs.Meaning.{state_of}
 use Rattle.storage_map.proofs.CellLines.{row_lines}
 use Rattle.storage_map.proofs.Remaining.{Remains}
 use Rattle.storage_map.proofs.cells.put_cell_pools.Given as goal

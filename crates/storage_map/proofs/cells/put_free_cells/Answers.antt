@@ -1,5 +1,5 @@
 use Rattle.std.proofs.Common.{flat_map, refl, ap}
-use Rattle.cell_readings.specs.Cells.{cells_left}
+use Rattle.storage_map.specs.Cells.{cells_left}
 use Rattle.storage_map.specs.Lines.{free_cell_line}
 use Rattle.storage_map.proofs.Remaining.{remains_all, remains_less, all_put, shorter}
 use Rattle.storage_map.proofs.cells.put_free_cells.Goals as goal

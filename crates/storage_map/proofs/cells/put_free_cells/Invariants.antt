@@ -1,5 +1,5 @@
 use Rattle.std.proofs.Common.{flat_map, length}
-use Rattle.cell_readings.specs.Cells.{IsCellPlace, cells_left}
+use Rattle.storage_map.specs.Cells.{IsCellPlace, cells_left}
 use Rattle.storage_map.specs.Lines.{free_cell_line}
 use Rattle.storage_map.proofs.Remaining.{Remains}
 use Rattle.storage_map.proofs.cells.put_free_cells.Given as goal

@@ -1,5 +1,5 @@
 use Rattle.std.proofs.Common.{[]}
-use Rattle.cell_readings.specs.Meaning.{settings_of, state_of}
+use Rattle.storage_core.specs.Meaning.{settings_of, state_of}
 use Rattle.text_output.proofs.Gathering.{empty_holds}
 use Rattle.text_output.proofs.Known.{appends_nothing}
 use Rattle.vsm_model.specs.Map.{storage_map}

@@ -1,7 +1,7 @@
 use Rattle.std.proofs.Common.{ℕ, List, flat_map, refl, sym, ap, ◌∙◌, subst}
 use Rattle.std.specs.Fmt.{decimal}
-use Rattle.cell_readings.specs.Meaning.{state_of}
-use Rattle.cell_readings.specs.Walks.{sharers_left}
+use Rattle.storage_core.specs.Meaning.{state_of}
+use Rattle.storage_core.specs.Walks.{sharers_left}
 use Rattle.vsm_model.specs.Map.{listed, sharers}
 use Rattle.text_output.specs.Writing.{Puts}
 use Rattle.storage_map.specs.Lines.{sharer_text}

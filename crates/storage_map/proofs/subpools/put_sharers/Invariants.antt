@@ -1,6 +1,6 @@
 use Rattle.std.proofs.Common.{flat_map, length}
-use Rattle.cell_readings.specs.Meaning.{state_of}
-use Rattle.cell_readings.specs.Walks.{IsSharerPlace, sharers_left}
+use Rattle.storage_core.specs.Meaning.{state_of}
+use Rattle.storage_core.specs.Walks.{IsSharerPlace, sharers_left}
 use Rattle.vsm_model.specs.Map.{listed, sharers}
 use Rattle.storage_map.specs.Lines.{sharer_text}
 use Rattle.storage_map.proofs.Remaining.{Remains}

@@ -1,6 +1,6 @@
 use Rattle.std.proofs.Common.{◌++◌, flat_map, sym, subst}
 use Rattle.subpool_storage.specs.Extents.{extents, free_areas}
-use Rattle.cell_readings.specs.Meaning.{state_in_place, state_of, settings_of}
+use Rattle.storage_core.specs.Meaning.{state_in_place, state_of, settings_of}
 use Rattle.text_output.specs.Writing.{Puts}
 use Rattle.vsm_model.specs.declared.Subpool.{Subpool}
 use Rattle.text_output.proofs.Gathering.{puts_both}

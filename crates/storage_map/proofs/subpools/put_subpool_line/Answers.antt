@@ -2,7 +2,7 @@ use Rattle.std.proofs.Common.{ℕ, [], ◌∷◌, ◌++◌, codes, subst}
 use Rattle.text_output.specs.Writing.{Puts}
 use Rattle.text_output.proofs.Gathering.{puts_both}
 use Rattle.vsm_model.specs.Map.{field, listed, sharers}
-use Rattle.cell_readings.specs.Meaning.{state_of}
+use Rattle.storage_core.specs.Meaning.{state_of}
 use Rattle.storage_map.proofs.subpools.put_subpool_line.Goals as goal
 
 pub returns : goal.returns

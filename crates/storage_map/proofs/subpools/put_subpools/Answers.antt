@@ -1,8 +1,8 @@
 use Rattle.std.proofs.Common.{ℕ, List, flat_map, sym, ap}
 use Rattle.vsm_model.specs.declared.Subpool.{Subpool}
 use Rattle.subpool_storage.specs.Order.{subpools_in_order}
-use Rattle.cell_readings.specs.Meaning.{state_in_place, state_of, settings_of}
-use Rattle.cell_readings.specs.Walks.{subpools_left}
+use Rattle.storage_core.specs.Meaning.{state_in_place, state_of, settings_of}
+use Rattle.storage_core.specs.Walks.{subpools_left}
 use Rattle.vsm_model.specs.Map.{subpool_lines}
 use Rattle.storage_map.proofs.Remaining.{remains_all, remains_less, all_put, shorter}
 use Rattle.storage_map.proofs.subpools.put_subpools.Goals as goal

@@ -2,9 +2,9 @@ use Rattle.std.proofs.Common.{ℕ, drop, sym, ap, subst, arith}
 use Rattle.run_set.specs.Runs.{Run}
 use Rattle.run_set.specs.RunSet.{place_index}
 use Rattle.subpool_storage.specs.Extents.{free_areas}
-use Rattle.map_laws.specs.Totals.{sum_of}
-use Rattle.cell_readings.specs.Meaning.{state_in_place}
-use Rattle.cell_readings.specs.Walks.{subpool_before, IsFreeAreaPlace}
+use Rattle.change_laws.specs.MapTotals.{sum_of}
+use Rattle.storage_core.specs.Meaning.{state_in_place}
+use Rattle.storage_core.specs.Walks.{subpool_before, IsFreeAreaPlace}
 use Rattle.storage_map.proofs.Remaining.{drop_next, drop_end, fewer}
 use Rattle.storage_map.proofs.sums.free_of.Goals as goal
 

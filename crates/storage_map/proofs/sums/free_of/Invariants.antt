@@ -1,9 +1,9 @@
 use Rattle.std.proofs.Common.{◌≡◌, ◌+◌, ◌-◌, length, drop}
 use Rattle.run_set.specs.RunSet.{place_index}
 use Rattle.subpool_storage.specs.Extents.{free_areas}
-use Rattle.map_laws.specs.Totals.{sum_of, subpool_free}
-use Rattle.cell_readings.specs.Meaning.{state_in_place}
-use Rattle.cell_readings.specs.Walks.{subpool_before, IsFreeAreaPlace}
+use Rattle.change_laws.specs.MapTotals.{sum_of, subpool_free}
+use Rattle.storage_core.specs.Meaning.{state_in_place}
+use Rattle.storage_core.specs.Walks.{subpool_before, IsFreeAreaPlace}
 use Rattle.storage_map.proofs.sums.free_of.Given as goal
 
 abbrev pub invariant-loop-area : goal.invariant-loop-area

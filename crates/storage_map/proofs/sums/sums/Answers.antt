@@ -1,7 +1,7 @@
 use Rattle.std.proofs.Common.{true, false, ap, arith}
-use Rattle.cell_readings.specs.Walks.{subpools_left, subpool_before}
-use Rattle.map_laws.specs.Totals.{sum_of, subpool_pages, subpool_free}
-use Rattle.cell_readings.specs.Meaning.{state_in_place}
+use Rattle.storage_core.specs.Walks.{subpools_left, subpool_before}
+use Rattle.change_laws.specs.MapTotals.{sum_of, subpool_pages, subpool_free}
+use Rattle.storage_core.specs.Meaning.{state_in_place}
 use Rattle.storage_map.proofs.Remaining.{shorter}
 use Rattle.storage_map.proofs.Walked.{next_before}
 use Rattle.storage_map.proofs.sums.sums.Goals as goal

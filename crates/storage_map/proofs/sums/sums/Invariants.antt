@@ -1,7 +1,7 @@
 use Rattle.std.proofs.Common.{◌≡◌, ◌+◌, true, false, length}
-use Rattle.map_laws.specs.Totals.{sum_of, subpool_pages, subpool_free, all_pages, all_free}
-use Rattle.cell_readings.specs.Meaning.{state_in_place}
-use Rattle.cell_readings.specs.Walks.{IsSubpoolPlace, subpools_left}
+use Rattle.change_laws.specs.MapTotals.{sum_of, subpool_pages, subpool_free, all_pages, all_free}
+use Rattle.storage_core.specs.Meaning.{state_in_place}
+use Rattle.storage_core.specs.Walks.{IsSubpoolPlace, subpools_left}
 use Rattle.storage_map.proofs.sums.sums.Given as goal
 
 abbrev pub invariant-loop-behind : goal.invariant-loop-behind

@@ -1,6 +1,6 @@
 use Rattle.std.proofs.Common.{◌≡◌, ◌+◌, ◌-◌, ◌*◌, true, false, sym, ap, ◌∙◌, arith}
 use Rattle.std.specs.Prelude.{◌/◌}
-use Rattle.cell_readings.specs.Meaning.{state_in_place, state_of, settings_of}
+use Rattle.storage_core.specs.Meaning.{state_in_place, state_of, settings_of}
 use Rattle.vsm_model.specs.declared.limits.Settings.{Settings}
 use Rattle.vsm_model.specs.Map.{total_bytes}
 use Rattle.storage_map.proofs.Bounds.{sums_are}

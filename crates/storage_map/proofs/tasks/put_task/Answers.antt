@@ -1,5 +1,5 @@
 use Rattle.std.proofs.Common.{◌++◌, codes, sym, subst}
-use Rattle.cell_readings.specs.Meaning.{state_of}
+use Rattle.storage_core.specs.Meaning.{state_of}
 use Rattle.text_output.specs.Writing.{Puts}
 use Rattle.text_output.proofs.Gathering.{puts_both, puts_none}
 use Rattle.vsm_model.specs.Map.{register_line}

@@ -1,5 +1,5 @@
 use Rattle.std.proofs.Common.{◌+◌, flat_map, refl, ap}
-use Rattle.cell_readings.specs.Meaning.{state_of}
+use Rattle.storage_core.specs.Meaning.{state_of}
 use Rattle.vsm_model.specs.Map.{numbers, task_lines}
 use Rattle.storage_map.proofs.Remaining.{remains_all, remains_less, all_put}
 use Rattle.storage_map.proofs.Shown.{numbers_next, numbers_end}

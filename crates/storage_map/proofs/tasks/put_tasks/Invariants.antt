@@ -1,5 +1,5 @@
 use Rattle.std.proofs.Common.{flat_map}
-use Rattle.cell_readings.specs.Meaning.{state_of}
+use Rattle.storage_core.specs.Meaning.{state_of}
 use Rattle.vsm_model.specs.Map.{numbers, task_lines}
 use Rattle.storage_map.proofs.Remaining.{Remains}
 use Rattle.storage_map.proofs.tasks.put_tasks.Given as goal

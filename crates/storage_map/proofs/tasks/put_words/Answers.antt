@@ -1,5 +1,5 @@
 use Rattle.std.proofs.Common.{ℕ, ◌+◌, flat_map, refl, ap, subst}
-use Rattle.cell_readings.specs.Meaning.{state_of}
+use Rattle.storage_core.specs.Meaning.{state_of}
 use Rattle.text_output.specs.Writing.{Puts}
 use Rattle.vsm_model.specs.Map.{hex_field}
 use Rattle.storage_map.specs.Lines.{register_words}

@@ -1,5 +1,5 @@
 use Rattle.std.proofs.Common.{◌+◌}
-use Rattle.cell_readings.specs.Meaning.{state_of}
+use Rattle.storage_core.specs.Meaning.{state_of}
 use Rattle.storage_map.specs.Lines.{register_words}
 use Rattle.storage_map.proofs.Remaining.{Remains}
 use Rattle.storage_map.proofs.tasks.put_words.Given as goal

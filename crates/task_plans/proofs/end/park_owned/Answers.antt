@@ -3,7 +3,7 @@ use Rattle.vsm_model.specs.declared.Subpool.{Subpool}
 use Rattle.subpool_storage.specs.Subpools.{Subpools}
 use Rattle.storage_changes.specs.State.{StorageState}
 use Rattle.storage_exchange.specs.Storage.{state_of}
-use Rattle.task_actions.specs.Ending.{ended_below}
+use Rattle.change_laws.specs.Ending.{ended_below}
 use Rattle.task_plans.specs.TaskPlans.{owned_among, parks_all, CanPark}
 use Rattle.task_plans.proofs.OwnedNames.{owned_are_names}
 use Rattle.task_plans.proofs.Parks.{names_can, parks_none, parks_done, parks_can, parks_more, parks_less}
@@ -51,7 +51,7 @@ loop-subpool-preserved c =
     let w = c.loop-subpool.invariant in
     let added : StorageState → List Subpool = λ m. owned_among m top (x ∷ []) in
     parks_more top p c.args.builder.now t c.loop-subpool.builder c.loop-subpool.place w c.in-Some.next x c.in-Some.ensures.next (added (state_of t)) (ap added w.builds.keeps.shows) c.park_one.new.storage c.park_one.new.builder c.in-Some.ensures.place c.park_one.ensures.builds
-    c.in_ok-park_one.ensures.records c.in_ok-park_one.ensures.parked c.in_ok-park_one.ensures.spare c.in_ok-park_one.ensures.live
+    c.in_ok-park_one.ensures.records c.in_ok-park_one.ensures.parked c.in_ok-park_one.ensures.spare c.in_ok-park_one.ensures.live c.in_ok-park_one.ensures.made
 
 pub returns-clause-parked : goal.returns-clause-parked
 returns-clause-parked c = (parks_done c.args.top c.args.storage.now c.args.builder.now c.loop-subpool.storage c.loop-subpool.builder c.loop-subpool.place c.loop-subpool.invariant c.in_default.ensures.none c.requires.none).0

@@ -1,6 +1,6 @@
 use Rattle.std.proofs.Common.{◌≡◌, List, [], ◌∷◌, ap}
 use Rattle.std.specs.List.{flat_map}
-use Rattle.task_actions.specs.Ending.{ended_below, emptying_records}
+use Rattle.change_laws.specs.Ending.{ended_below, emptying_records}
 use Rattle.task_plans.specs.TaskPlans.{owned_among}
 use Rattle.vsm_model.specs.declared.Subpool.{Subpool}
 use Rattle.vsm_model.specs.Search.{is_in}

@@ -5,7 +5,7 @@ use Rattle.subpool_set.specs.Pools.{sharers}
 use Rattle.storage_changes.specs.declared.record.Record.{Record}
 use Rattle.storage_changes.specs.State.{StorageState}
 use Rattle.storage_exchange.specs.Storage.{state_of}
-use Rattle.task_actions.specs.Ending.{ended_below, unshared}
+use Rattle.change_laws.specs.Ending.{ended_below, unshared}
 use Rattle.task_plans.specs.TaskPlans.{unseeing_among}
 use Rattle.task_plans.proofs.Walks.{sharers_more, sharers_less, mapped_first}
 use Rattle.task_plans.proofs.ParentLemmas.{still}

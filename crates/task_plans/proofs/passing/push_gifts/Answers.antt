@@ -6,7 +6,7 @@ use Rattle.storage_changes.specs.State.{StorageState}
 use Rattle.storage_exchange.specs.Storage.{state_of}
 use Rattle.storage_swap.specs.Builder.{Pushes}
 use Rattle.storage_swap.proofs.BuilderLemmas.{leads-more}
-use Rattle.task_actions.specs.Attaching.{gift_records}
+use Rattle.change_laws.specs.Attaching.{gift_records}
 use Rattle.task_plans.proofs.passing.push_gifts.Goals as goal
 
 pub loop-k-preserved : goal.loop-k-preserved

@@ -4,7 +4,6 @@ use Rattle.vsm_model.specs.Names.{is_one_too_many}
 use Rattle.vsm_model.specs.Standing as outcome
 use Rattle.vsm_model.specs.Standing.{Refused}
 use Rattle.vsm_model.specs.Step.{step}
-use Rattle.macro_statements.specs.Requests.{act_in}
 use Rattle.storage_core.specs.Meaning.{state_of, settings_of}
 use Rattle.storage_core.specs.Planned.{CanBePlanned}
 use Rattle.name_table.specs.Table.{rows_of}

@@ -1,5 +1,5 @@
-use Rattle.std.proofs.Common.{◌≡◌, true, IfSome, sym, subst}
-use Rattle.name_table.specs.Table.{knows}
+use Rattle.std.proofs.Common.{◌≡◌, true, IfSome, IsOk, sym, subst}
+use Rattle.name_table.specs.Table.{knows, HasRoom}
 use Rattle.vsm_machine.proofs.Planning.{now_known}
 use Rattle.vsm_machine.proofs.plans.make_ready.Goals as goal
 
@@ -7,3 +7,9 @@ pub returns-in-Ok-clause-ok : goal.returns-in-Ok-clause-ok
 returns-in-Ok-clause-ok c =
     subst (λ o. IfSome o (λ name. knows c.forget_undone.new.self name.bytes ≡ true)) (sym c.in-Some.is)
     (c.forget_undone.ensures.own (now_known c.in-Some.name.bytes _ _ (c.in-Ok.ensures.ok c.in-Some.name.bytes)))
+
+-- where there is room, nothing is refused
+pub returns-in-Err-clause-needless : goal.returns-in-Err-clause-needless
+returns-in-Err-clause-needless c room =
+    let its = subst (λ o. IfSome o (λ name. HasRoom c.args.names.now name.bytes)) c.in-Some.is room in
+    subst IsOk c.in-Err.is (c.reserve.ensures.needless its)

@@ -8,6 +8,7 @@ use Rattle.vsm_machine.specs.Changes.{Whole, DefineNone, UndefineNone, shown, pl
 use Rattle.bench_core.specs.Stands.{bench_of, bench_at}
 use Rattle.bench_core.proofs.Accepted.{reserved_of, accepted_as, stays_readied, gives_of, failed_isnt_ok}
 use Rattle.bench_core.proofs.Applied.{can_swap, applied_fits, applied_apart, applied_whole, applied_settings, kept_bench, kept_directed, next, unchanged_bench, unchanged_fits}
+use Rattle.vsm_machine.proofs.MakingLemmas.{makes_in_all}
 use Rattle.bench_core.proofs.Moves.{discards_settings}
 use Rattle.bench_core.proofs.bench.Bench.carry_out.Goals as goal
 
@@ -160,3 +161,10 @@ pub returns-in-Err-clause-needless : goal.returns-in-Err-clause-needless
 returns-in-Err-clause-needless c = λ x planned supplied.
     let ok : IsOk c.reserve.result = c.reserve.ensures.needless (omega (arith, planned.light, supplied.elements)) (supplied.plans c.args.planned planned) in
     failed_isnt_ok c.in-Err.field-0 c.reserve.result c.in-Err.is ok
+
+-- what is made
+
+pub returns-clause-made : goal.returns-clause-made
+returns-clause-made c = λ x planned.
+    makes_in_all c.args.self.now.machine c.reserve.new.machine c.swap.new.self c.push_reserved.new.s x c.args.planned c.in-Ok.change c.swap.new.c _
+    planned c.in-Ok.ensures.made c.swap.ensures c.push_reserved.ensures.discarded

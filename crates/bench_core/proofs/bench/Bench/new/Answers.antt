@@ -3,7 +3,7 @@ use Rattle.vsm_model.specs.Standing.{new_bench}
 use Rattle.storage_changes.specs.Meaning.{model_of}
 use Rattle.step_history.specs.Log.{Log}
 use Rattle.vsm_machine.specs.declared.machine.Machine.{Machine}
-use Rattle.vsm_machine.specs.declared.machine.Change.{Change}
+use Rattle.vsm_machine.specs.declared.machine.MachineChange.{MachineChange}
 use Rattle.vsm_machine.specs.Changes.{machine_fits, Whole, DefineNone, UndefineNone}
 use Rattle.bench_core.specs.Stands.{bench_at}
 use Rattle.bench_core.proofs.bench.Bench.new.Goals as goal
@@ -23,9 +23,9 @@ invariant_of-result c =
     let whole = c.in_ok-storage.ensures.whole in
     let empty = sym c.in_ok-history.ensures in
     record {
-      fits = subst (λ (l : Log Change). machine_fits l.kept m l.undone) empty ((tt, tt), whole.apart);
-      whole = subst (λ (l : Log Change). Whole m (l.kept ++ l.undone)) empty whole;
-      kept_define_none = subst (λ (l : Log Change). DefineNone l.kept) empty tt;
-      undone_undefine_none = subst (λ (l : Log Change). UndefineNone l.undone) empty tt;
+      fits = subst (λ (l : Log MachineChange). machine_fits l.kept m l.undone) empty ((tt, tt), whole.apart);
+      whole = subst (λ (l : Log MachineChange). Whole m (l.kept ++ l.undone)) empty whole;
+      kept_define_none = subst (λ (l : Log MachineChange). DefineNone l.kept) empty tt;
+      undone_undefine_none = subst (λ (l : Log MachineChange). UndefineNone l.undone) empty tt;
       limit = ap (λ l. l.limit) c.in_ok-history.ensures ∙ ap (λ s. s.history) (sym c.in_ok-storage.ensures.settings);
     }

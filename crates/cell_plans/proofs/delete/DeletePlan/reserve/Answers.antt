@@ -6,7 +6,8 @@ use Rattle.storage_changes.specs.declared.record.Record.{Record}
 use Rattle.storage_changes.specs.Changes.{change_of, no_pages}
 use Rattle.storage_exchange.specs.Storage.{state_of}
 use Rattle.storage_swap.specs.Builder.{records_in, parked_in}
-use Rattle.storage_swap.proofs.BuilderLemmas.{made-reserves}
+use Rattle.storage_swap.specs.Growth.{all_elements, MakesElements}
+use Rattle.storage_swap.proofs.BuilderLemmas.{made-reserves, makes-follow}
 use Rattle.cell_plans.specs.CellPlans.{delete_change}
 use Rattle.cell_plans.proofs.DeletePlans.{delete_is}
 use Rattle.cell_plans.proofs.delete.DeletePlan.reserve.Goals as goal
@@ -42,3 +43,13 @@ returns-in-Ok-clause-live c =
     let d = delete_change (state_of p) c.args.self in
     IfOk-weaker c.finish.result (λ _. live_count u.elements ≤ live_count t.elements + c.in-Ok.blanks) (λ _. live_count u.elements ≤ live_count p.elements + (length d.records + d.blanks))
     (λ change more. omega (arith, more, c.in-Ok.ensures.ok.live, c.in-Ok.ensures.blanks)) c.finish.ensures.live
+
+pub returns-in-Ok-clause-made : goal.returns-in-Ok-clause-made
+returns-in-Ok-clause-made c =
+    let p = c.args.storage.now in
+    let t = c.push_records.new.storage in
+    let u = c.finish.new.storage in
+    let d = delete_change (state_of p) c.args.self in
+    IfOk-weaker c.finish.result (λ _. MakesElements t.elements u.elements c.in-Ok.blanks) (λ _. MakesElements p.elements u.elements (length d.records + d.blanks))
+    (λ change more. makes-follow (all_elements p.elements) (all_elements t.elements) (all_elements u.elements) (live_count p.elements) (live_count t.elements)
+    (length d.records) c.in-Ok.blanks (length d.records + d.blanks) c.in-Ok.ensures.ok.made (omega (arith, c.in-Ok.ensures.ok.live, c.in-Ok.ensures.blanks)) (omega arith) more) c.finish.ensures.made

@@ -1,5 +1,5 @@
 -- A name that the table holds is no other name, and a new one is one row more behind all others.
-use Rattle.std.proofs.Common.{◌≡◌, ◌≤◌, None, [], ◌∷◌, is_some, length, map, take, ap, sym, ◌∙◌, arith}
+use Rattle.std.proofs.Common.{◌≡◌, ◌≤◌, inl, inr, true≢false, None, [], ◌∷◌, is_some, length, map, take, ap, sym, ◌∙◌, arith}
 use Rattle.std.specs.Map.{lookup}
 use Rattle.std.proofs.lemmas.List.{take-append-le, map-append}
 use Rattle.indexmap.proofs.CallerLemmas.{insert_entry-new}
@@ -33,3 +33,10 @@ returns-in-Ok-clause-ok c other =
     ap (λ l. is_some (word_of (map row_of l) other)) (c.in-Ok.ensures.entries ∙ insert_entry-new same_key t.table key 0 none)
     ∙ ap (λ l. is_some (word_of l other)) (map-append row_of t.table.entries ((key, 0) ∷ []))
     ∙ knows-more (all_rows t) key.bytes other 0
+
+-- where it isn't held and memory is refused, there was no room
+pub returns-in-Err-clause-needless : goal.returns-in-Err-clause-needless
+returns-in-Err-clause-needless c room = elim room [
+  | inl known ↦ absurd (true≢false (sym known ∙ sym (ap is_some (lookup-is c.args.name c.args.self.now.table.entries)) ∙ sym c.contains_key.ensures ∙ c.if-contains_key.false))
+  | inr more ↦ absurd (true≢false (sym (c.in-Err.ensures.succeeds more)))
+]

@@ -44,3 +44,34 @@ returns-clause-told c = λ settings given answers h.
         omega (arith, refused, h.refused, t.refused, u.refused, c.told_refused.ensures.count, c.told_refused-2.ensures.count),
       ),
     )
+
+pub returns-clause-brings : goal.returns-clause-brings
+returns-clause-brings c = λ settings given answers h.
+    let b0 = bench_of c.args.self.bench in
+    let b1 = bench_of c.take_last-last.new.bench in
+    let shown = c.take_last-last.result in
+    let shown2 = c.tell_end-open_statement.result in
+    let at_end = told_at_end c.finish.result in
+    let last = c.take_last-last.ensures.tells (map columns h.lines) (answers_of answers) h.rest h.told h.long (c.as_slice.ensures.value ∙ h.kept) in
+    let tells : Tells settings b0 last.0 shown b1 = subst (λ s. Tells s b0 last.0 shown b1) h.under last.2 in
+    let t = tells_more settings answers b0 b1 last.0 shown h.led tells in
+    let u = tells_more settings (answers ++ t.more) b1 b1 at_end shown2 t.led (c.tell_end-open_statement.ensures settings b1) in
+    let all : (answers_of answers ++ last.0) ++ at_end ≡ answers_of ((answers ++ t.more) ++ u.more) =
+    (λ i. (answers_of answers ++ sym t.answers i) ++ sym u.answers i)
+    ∙ ap (λ x. x ++ answers_of u.more) (sym (map-append _ answers t.more))
+    ∙ sym (map-append _ (answers ++ t.more) u.more) in
+    record {
+      more = t.more;
+      also = u.more;
+      last = t.brings;
+      unended = u.brings;
+      led = t.led;
+      led_on = u.led;
+      ended = record {
+        lines = h.lines;
+        rest = h.rest;
+        within = h.within;
+        told = subst (Answers (map columns h.lines ++ last_line h.rest)) all (c.finish.ensures.answers _ _ last.1);
+        met = u.led.met;
+      };
+    }

@@ -23,6 +23,7 @@ returns c = λ settings given answers h.
     let all : answers_of answers ++ told ≡ answers_of (answers ++ t.more) = ap (λ x. answers_of answers ++ x) (sym t.answers) ∙ sym (map-append _ answers t.more) in (
       t.more,
       t.text,
+      t.brings,
       record {
         lines = h.lines ++ h.rest ∷ [];
         rest = [];

@@ -3,7 +3,7 @@ use Rattle.vsm_elements.specs.Store.{live_count}
 use Rattle.storage_core.specs.Meaning.{state_in_place}
 use Rattle.storage_core.proofs.Holding.{reserved_is_held}
 use Rattle.storage_core.proofs.Staying.{failed_stays}
-use Rattle.storage_core.proofs.Counted.{uses_within}
+use Rattle.storage_core.proofs.Counted.{uses_within, makes_within, no_frame_made}
 use Rattle.storage_core.proofs.TaskCounts.{attach-fits, attach_few}
 use Rattle.storage_core.proofs.storage.Storage.reserve_attach.Goals as goal
 
@@ -37,3 +37,12 @@ pub returns-clause-live : goal.returns-clause-live
 returns-clause-live c =
     let s = c.args.self.now in
     uses_within (live_count c.reserve.new.storage.elements) (live_count s.parts.elements) _ _ (attach-fits (state_in_place s) c.args.plan) c.reserve.result c.reserve.ensures.live
+
+pub returns-clause-made : goal.returns-clause-made
+returns-clause-made c =
+    let s = c.args.self.now in
+    makes_within s.parts.elements c.reserve.new.storage.elements _ _ (attach-fits (state_in_place s) c.args.plan) c.reserve.result c.reserve.ensures.made
+
+pub returns-clause-made_frames : goal.returns-clause-made_frames
+returns-clause-made_frames c =
+    no_frame_made c.args.self.now.parts.region c.reserve.new.storage.region c.reserve.result c.reserve.ensures.same_frames

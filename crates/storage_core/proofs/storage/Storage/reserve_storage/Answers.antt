@@ -1,6 +1,8 @@
 use Rattle.vsm_elements.specs.Store.{live_count}
+use Rattle.storage_swap.specs.Growth.{MakesElements, MakesFrames}
 use Rattle.storage_core.specs.Meaning.{state_in_place}
-use Rattle.storage_core.proofs.Counted.{few_answered, needed_for, uses_within}
+use Rattle.storage_core.specs.Planned.{storage_elements}
+use Rattle.storage_core.proofs.Counted.{few_answered, if_made, made_within, needed_for, uses_within}
 use Rattle.storage_core.proofs.Holding.{reserved_is_held, unassigned_in_region}
 use Rattle.storage_core.proofs.Staying.{failed_stays}
 use Rattle.storage_core.proofs.storage.Storage.reserve_storage.Goals as goal
@@ -43,3 +45,15 @@ returns-clause-live c =
     let plan = c.args.plan in
     uses_within (live_count c.reserve.new.storage.elements) (live_count s.parts.elements) _ _
     (needed_for (state_in_place s).subpools plan.emptied _ plan.blanks c.as_slice.ensures.fits) c.reserve.result c.reserve.ensures.live
+
+pub returns-clause-made : goal.returns-clause-made
+returns-clause-made c =
+    let s = c.args.self.now in
+    let plan = c.args.plan in
+    let e = c.reserve.new.storage.elements in
+    if_made (MakesElements s.parts.elements e (storage_elements (state_in_place s) plan)) c.reserve.result
+    (made_within s.parts.elements e _ _ (needed_for (state_in_place s).subpools plan.emptied _ plan.blanks c.as_slice.ensures.fits) c.reserve.ensures.made)
+
+pub returns-clause-made_frames : goal.returns-clause-made_frames
+returns-clause-made_frames c =
+    if_made (MakesFrames c.args.self.now.parts.region c.reserve.new.storage.region c.args.plan.fresh.len) c.reserve.result c.reserve.ensures.made_frames

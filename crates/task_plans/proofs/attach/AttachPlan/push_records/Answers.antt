@@ -4,11 +4,11 @@ use Rattle.std.proofs.lemmas.List.{append_assoc}
 use Rattle.storage_changes.specs.declared.record.Record.{Record}
 use Rattle.storage_changes.specs.declared.record.Record.TheVariants.{Task, Register}
 use Rattle.storage_changes.specs.State.{StorageState}
-use Rattle.storage_actions.specs.Actions.{register_records}
+use Rattle.change_laws.specs.StorageActions.{register_records}
 use Rattle.storage_exchange.specs.Storage.{state_of}
 use Rattle.storage_swap.specs.Builder.{Pushes}
 use Rattle.storage_swap.proofs.BuilderLemmas.{builds-follow, pushes-follow}
-use Rattle.task_actions.specs.Attaching.{gift_records, share_records, zero_records}
+use Rattle.change_laws.specs.Attaching.{gift_records, share_records, zero_records}
 use Rattle.task_plans.specs.TaskPlans.{numbers}
 use Rattle.task_plans.proofs.RecordCounts.{four_together}
 use Rattle.task_plans.proofs.NumberLists.{first_private, second_private}

@@ -1,10 +1,13 @@
-use Rattle.std.proofs.Common.{◌≡◌, ◌++◌, List, ap, ◌∙◌}
+use Rattle.std.proofs.Common.{◌≡◌, ◌+◌, ◌++◌, List, length, ap, ◌∙◌, arith}
+use Rattle.std.proofs.lemmas.Result.{IfOk-weaker}
+use Rattle.vsm_elements.specs.Store.{live_count}
 use Rattle.subpool_storage.specs.Subpools.{no_subpools}
 use Rattle.storage_changes.specs.declared.record.Record.{Record}
 use Rattle.storage_changes.specs.Changes.{change_of, no_pages}
 use Rattle.storage_exchange.specs.Storage.{state_of}
 use Rattle.storage_swap.specs.Builder.{records_in, parked_in}
-use Rattle.storage_swap.proofs.BuilderLemmas.{made-reserves}
+use Rattle.storage_swap.specs.Growth.{all_elements, MakesElements}
+use Rattle.storage_swap.proofs.BuilderLemmas.{made-reserves, makes-follow}
 use Rattle.task_plans.specs.TaskPlans.{attach_change}
 use Rattle.task_plans.proofs.attach.AttachPlan.reserve.Goals as goal
 
@@ -20,3 +23,13 @@ returns-in-Ok-clause-ok c =
     let parked : parked_in t b ≡ no_subpools = c.in-Ok.ensures.ok.parked ∙ c.new-builder.ensures.parked p in
     made-reserves p t c.finish.new.storage a b (c.new-builder.ensures.none p) c.push_records.ensures.builds c.in-Ok.blanks d c.finish.result c.finish.ensures.ok
     (λ i. record (change_of (records i) (c.in-Ok.ensures.blanks i) no_pages) { parked = parked i })
+
+pub returns-in-Ok-clause-made : goal.returns-in-Ok-clause-made
+returns-in-Ok-clause-made c =
+    let p = c.args.storage.now in
+    let t = c.push_records.new.storage in
+    let u = c.finish.new.storage in
+    let d = attach_change (state_of p) c.args.self in
+    IfOk-weaker c.finish.result (λ _. MakesElements t.elements u.elements c.in-Ok.blanks) (λ _. MakesElements p.elements u.elements (length d.records + d.blanks))
+    (λ change more. makes-follow (all_elements p.elements) (all_elements t.elements) (all_elements u.elements) (live_count p.elements) (live_count t.elements)
+    (length d.records) c.in-Ok.blanks (length d.records + d.blanks) c.in-Ok.ensures.ok.made (omega (arith, c.in-Ok.ensures.ok.live, c.in-Ok.ensures.blanks)) (omega arith) more) c.finish.ensures.made

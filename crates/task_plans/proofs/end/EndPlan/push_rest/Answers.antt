@@ -5,11 +5,11 @@ use Rattle.vsm_model.specs.declared.replies.Reply.{Reply}
 use Rattle.storage_changes.specs.declared.record.Record.{Record}
 use Rattle.storage_changes.specs.declared.record.Record.TheVariants.{Register}
 use Rattle.storage_changes.specs.State.{StorageState}
-use Rattle.storage_actions.specs.Actions.{register_records}
+use Rattle.change_laws.specs.StorageActions.{register_records}
 use Rattle.storage_exchange.specs.Storage.{state_of}
 use Rattle.storage_swap.specs.Builder.{Pushes}
 use Rattle.storage_swap.proofs.BuilderLemmas.{builds-follow, pushes-follow}
-use Rattle.task_actions.specs.Ending.{ended_below, ended_records, removed_records, unshared_records, with_turn}
+use Rattle.change_laws.specs.Ending.{ended_below, ended_records, removed_records, unshared_records, with_turn}
 use Rattle.task_plans.specs.TaskPlans.{end_registers}
 use Rattle.task_plans.proofs.RecordCounts.{no_register}
 use Rattle.task_plans.proofs.Walks.{ok_follows}

@@ -1,0 +1,94 @@
+//! What an answer means, by its text.
+use crate::messages::{Message, answers, faults, refusals, system_codes, user_codes};
+use crate::words::{names, without_abend};
+use std::io::Write;
+use text_output::Gathered;
+
+/// Why what an answer means can't be told.
+#[derive(Clone, Copy, Debug, PartialEq, Eq)]
+pub enum MeaningFault {
+    /// There is no answer of this text.
+    NoAnswer,
+    /// The writer took no more.
+    Write,
+}
+
+/// Whether the text is one of those of the answer.
+fn is_of(text: &[u8], message: &Message) -> bool {
+    for printed in message.texts {
+        if names(text, printed.as_bytes()) {
+            return true;
+        }
+    }
+    false
+}
+
+/// Puts the texts of an answer, with commas between.
+fn put_texts<W: Write>(gathered: &mut Gathered, writer: &mut W, texts: &[&str]) {
+    for (place, text) in texts.iter().enumerate() {
+        if place > 0 {
+            gathered.put(writer, b",");
+        }
+        gathered.put(writer, text.as_bytes());
+    }
+}
+
+/// Puts an answer's texts, what it means, and what it leaves or what to do.
+fn put_message<W: Write>(gathered: &mut Gathered, writer: &mut W, message: &Message) {
+    put_texts(gathered, writer, message.texts);
+    gathered.put(writer, b"\n  ");
+    gathered.put(writer, message.meaning.as_bytes());
+    gathered.put(writer, b"\n  ");
+    gathered.put(writer, message.advice.as_bytes());
+    gathered.put(writer, b"\n");
+}
+
+/// Puts each answer of a table that is of this text, and says whether there is one.
+fn put_table<W: Write>(
+    gathered: &mut Gathered,
+    writer: &mut W,
+    table: &[Message],
+    text: &[u8],
+) -> bool {
+    let mut found = false;
+    for message in table {
+        if is_of(text, message) {
+            put_message(gathered, writer, message);
+            found = true;
+        }
+    }
+    found
+}
+
+/// Puts each answer of this text, and says whether there is one.
+fn put_messages<W: Write>(gathered: &mut Gathered, writer: &mut W, text: &[u8]) -> bool {
+    let mut found = false;
+    for table in [
+        answers(),
+        system_codes(),
+        user_codes(),
+        refusals(),
+        faults(),
+    ] {
+        if put_table(gathered, writer, table, text) {
+            found = true;
+        }
+    }
+    found
+}
+
+/// Writes what an answer means, and what it leaves or what to do: a completion code (`S878`, `U3008`), `RC=4` or
+/// `RC 4`, or the words of a fault or a refusal, in either case. Of several answers that begin with these words it
+/// writes each; with a value, as `RC=0 A=00006000`, they are the whole answer.
+///
+/// `NoAnswer` where none does; `Write` where the writer takes no more.
+pub fn code<W: Write>(text: &[u8], out: &mut W) -> Result<(), MeaningFault> {
+    let mut gathered = Gathered::new();
+    if !put_messages(&mut gathered, out, without_abend(text)) {
+        return Err(MeaningFault::NoAnswer);
+    }
+    match gathered.finish(out) {
+        Ok(()) => Ok(()),
+        Err(_) => Err(MeaningFault::Write),
+    }
+}

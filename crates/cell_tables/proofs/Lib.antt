@@ -1,5 +1,0 @@
-mod Rows
-mod Tabled
-mod Changes
-mod Found
-mod Ordered

@@ -1,4 +1,0 @@
-pub mod Named
-pub mod Table
-pub mod Laws
-pub mod Order

@@ -1,8 +1,0 @@
-//! The rows of the table in the order of their names. The law is the contract of a function that does nothing.
-
-ghost use Rattle.cell_tables.specs.Order.{RowsComeInOrder};
-
-/// The rows behind a name begin with that of the cell pool whose name comes next, and go on with those behind that one.
-pub fn rows_come_in_order()
-    ensures { RowsComeInOrder }
-{}

@@ -1,0 +1,11 @@
+pub mod StorageActions
+pub mod Leads
+pub mod StorageLaws
+pub mod Attaching
+pub mod Ending
+pub mod TaskLaws
+pub mod CellActions
+pub mod CellLaws
+pub mod MapCells
+pub mod MapLists
+pub mod MapTotals

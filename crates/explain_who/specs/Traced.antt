@@ -1,0 +1,50 @@
+-- A script that was followed to its end.
+use Rattle.std.specs.Prelude.{◌≡◌, ℕ, List, ◌++◌, take, Option, Some, None, Result, Ok, Err}
+use Rattle.line_history.specs.Trails as marks
+use Rattle.line_history.specs.Trails.{marks_of}
+use Rattle.line_history.specs.declared.trail.Trail.{Trail}
+use Rattle.vsm_model.specs.declared.limits.Settings.{Settings}
+use Rattle.vsm_model.specs.Names.{first_named_state}
+use Rattle.vsm_model.specs.Standing.{nothing_stands}
+use Rattle.bench_core.specs.Machine.{statement_step}
+use Rattle.script_steps.specs.Output.{Marked}
+use Rattle.script_steps.specs.Taken.{Took, Ended}
+use Rattle.script_steps.specs.declared.session.Session.{Session}
+use Rattle.explain_who.specs.Lined.{lined_all, standing_differences}
+use Rattle.explain_who.specs.Readings.{reading}
+use Rattle.explain_who.specs.Who.{Difference}
+use Rattle.explain_who.specs.declared.faults.WhoFault.{WhoFault}
+use Rattle.explain_who.specs.declared.readings.Asked.{Asked}
+use Rattle.explain_who.specs.declared.readings.Seen.{Seen}
+use Rattle.explain_who.specs.declared.tracing.Traced.{Traced}
+
+-- The trail has the statements that stand by the definition after these answers, and those that are undone, each with
+-- its line and what is read behind it.
+abbrev pub Follows : Settings → Option Asked → List Marked → Trail Seen → Type 0
+Follows settings asked answers trail =
+    marks.Follows first_named_state (statement_step settings) (reading settings asked)
+    (lined_all settings nothing_stands answers) (marks_of trail)
+
+-- What a line brought is followed; or nothing was taken.
+abbrev pub FollowsLine : Settings → Option Asked → List ℕ → ℕ → List Marked → Session → Trail Seen
+    → Result (Option ℕ) WhoFault → Type 0
+FollowsLine settings asked script at answers s trail (Ok (Some next)) =
+    (more : List Marked) × Took settings (take next script) (answers ++ more) s
+    × Follows settings asked (answers ++ more) trail
+FollowsLine settings asked script at answers s trail (Ok None) =
+    Took settings (take at script) answers s × Follows settings asked answers trail
+FollowsLine settings asked script at answers s trail (Err fault) = Unit {0}
+
+-- A whole script is followed: its answers, what is read first, and its trail.
+pub record IsTraced (settings : Settings) (script : List ℕ) (asked : Option Asked) (t : Traced) : Type 0 where
+  pub answers : List Marked
+  pub ended : Ended settings script answers
+  pub first : t.first ≡ reading settings asked first_named_state
+  pub follows : Follows settings asked answers t.trail
+
+-- These lines are named: just those at whose statements the reading differs between the standing statements up to
+-- them and those before them, with both readings.
+abbrev pub IsFound : Settings → List ℕ → Option Asked → List Difference → Type 0
+IsFound settings script asked found =
+    (answers : List Marked) × Ended settings script answers
+    × (found ≡ standing_differences settings (reading settings asked) answers)

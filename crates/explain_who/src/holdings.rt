@@ -1,0 +1,86 @@
+//! What a subpool has: its pages and its free storage, in short.
+ghost use Rattle.std.specs.Prelude.{◌≡◌, ◌+◌, ◌^◌, ◌<◌, map};
+ghost use Rattle.change_laws.specs.MapLists.{pair_of};
+ghost use Rattle.subpool_storage.specs.Extents.{extents, free_areas};
+ghost use Rattle.storage_core.specs.Meaning.{settings_of, state_in_place, state_of};
+ghost use Rattle.explain_who.specs.Holdings.{holding_of, in_short, same_holding, with_run};
+
+use change_laws::maps::runs_are_shown;
+use storage_core::{Storage, Subpool};
+
+/// Runs of pages or of doublewords in short: how many numbers are in them, and how many runs there are.
+#[derive(Clone, Copy, Debug, PartialEq, Eq)]
+pub struct Runs {
+    pub total: u32,
+    pub count: u32,
+}
+
+/// What a subpool has.
+#[derive(Clone, Copy, Debug, PartialEq, Eq)]
+pub struct Holding {
+    /// Its pages of 4,096 bytes, and its extents.
+    pub pages: Runs,
+    /// Its free doublewords, and its free areas.
+    pub free: Runs,
+}
+
+impl Holding {
+    /// Whether two subpools have the same in short.
+    pub(crate) fn is_same(&self, other: &Holding) -> bool
+        ensures { result ≡ same_holding self.now other.now }
+    {
+        self.pages.total == other.pages.total
+            && self.pages.count == other.pages.count
+            && self.free.total == other.free.total
+            && self.free.count == other.free.count
+    }
+}
+
+/// With a run of so many numbers more.
+fn with_run(runs: Runs, length: u32) -> Runs
+    requires total { runs.total + length < 2 ^ 32 }
+    requires count { runs.count + 1 < 2 ^ 32 }
+    ensures { result ≡ with_run runs length }
+{
+    Runs {
+        total: runs.total + length,
+        count: runs.count + 1,
+    }
+}
+
+/// The extents of a subpool, in pages.
+fn extents_of(storage: &Storage, subpool: Subpool) -> Runs
+    ensures { result ≡ in_short (map pair_of (extents (state_in_place storage.now).subpools subpool)) }
+{
+    let mut runs = Runs { total: 0, count: 0 };
+    let mut place = storage.first_extent(subpool);
+    while let Some((run, behind)) = storage.next_extent(place) {
+        runs = with_run(runs, run.len);
+        place = behind;
+    }
+    runs
+}
+
+/// The free areas of a subpool, in doublewords.
+fn free_areas_of(storage: &Storage, subpool: Subpool) -> Runs
+    ensures { result ≡ in_short (map pair_of (free_areas (state_in_place storage.now).subpools subpool)) }
+{
+    let mut runs = Runs { total: 0, count: 0 };
+    let mut place = storage.first_free_area(subpool);
+    while let Some((area, behind)) = storage.next_free_area(place) {
+        runs = with_run(runs, area.len);
+        place = behind;
+    }
+    runs
+}
+
+/// What a subpool has: nothing where there is no such subpool.
+pub(crate) fn holding_of(storage: &Storage, subpool: Subpool) -> Holding
+    ensures { result ≡ holding_of (settings_of storage.now) (state_of storage.now) subpool }
+{
+    runs_are_shown();
+    Holding {
+        pages: extents_of(storage, subpool),
+        free: free_areas_of(storage, subpool),
+    }
+}

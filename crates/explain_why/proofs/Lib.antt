@@ -1,2 +1,0 @@
--- Lemmas on the place of an area.
-pub mod NoPlace

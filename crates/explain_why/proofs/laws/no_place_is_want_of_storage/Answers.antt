@@ -1,5 +1,0 @@
-use Rattle.explain_why.proofs.NoPlace.{no_place_is_want_of_storage}
-use Rattle.explain_why.proofs.laws.no_place_is_want_of_storage.Goals as goal
-
-pub returns : goal.returns
-returns c = no_place_is_want_of_storage

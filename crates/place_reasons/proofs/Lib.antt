@@ -1,0 +1,3 @@
+-- Lemmas on the place of an area, and on what is told of it.
+pub mod Endings
+pub mod NoPlace

@@ -1,0 +1,31 @@
+-- What is looked at for the place of an area that is asked for.
+use Rattle.std.specs.Prelude.{◌≡◌, ◌⊎◌, ◌↔◌, Bool, true, not, ◌&&◌, ◌==◌, nat_lt, Some, None}
+use Rattle.vsm_model.specs.declared.causes.Cause.TheVariants.{NoStorage}
+use Rattle.vsm_model.specs.declared.limits.Settings.{Settings}
+use Rattle.vsm_model.specs.declared.services.Obtain.{Obtain}
+use Rattle.vsm_model.specs.Areas.{Place}
+use Rattle.vsm_model.specs.Causes.{first_cause}
+use Rattle.vsm_model.specs.Obtaining.{longest, obtain_causes}
+use Rattle.vsm_model.specs.Services.{maximum, minimum}
+use Rattle.vsm_model.specs.State.{State}
+use Rattle.storage_plans.specs.Reasons.{reasons_place}
+use Rattle.place_reasons.specs.declared.places.Sides.{Sides}
+
+-- The number can be asked for, and the lengths are in order.
+abbrev pub asks_for_place : Obtain → Bool
+asks_for_place o =
+    not (nat_lt 127 o.number) && not (minimum o.lengths == 0) && not (nat_lt (maximum o.lengths) (minimum o.lengths))
+
+-- the place that the sides lead to
+abbrev pub sides_place : Sides → Place
+sides_place r = reasons_place (r.first, r.second)
+
+-- A request without a cause, or whose first cause is want of storage, comes to look for a place; and it has none just
+-- where its first cause is that.
+abbrev pub NoPlaceIsWantOfStorage : Type 0
+NoPlaceIsWantOfStorage =
+    (settings : Settings) (names_full : Bool) (s : State) (o : Obtain)
+    → (first_cause (obtain_causes settings names_full s o) ≡ None)
+    ⊎ (first_cause (obtain_causes settings names_full s o) ≡ Some NoStorage)
+    → (asks_for_place o ≡ true)
+    × ((longest settings s o ≡ None) ↔ (first_cause (obtain_causes settings names_full s o) ≡ Some NoStorage))

@@ -1,0 +1,37 @@
+-- What is told of the place of an area: lines of text that end in the place, or in that there is none.
+use Rattle.std.specs.Prelude.{ℕ, ◌*◌, ◌-◌, ◌^◌, min, List, [], ◌++◌, Option, Some, None, codes}
+use Rattle.vsm_model.specs.Areas.{Place, Inside, Fresh, Nowhere}
+use Rattle.vsm_model.specs.Texts.{hexadecimal}
+use Rattle.storage_plans.specs.Reasons.{side_place}
+use Rattle.storage_plans.specs.declared.reasons.SideReason.{SideReason}
+use Rattle.text_output.specs.Writing.{Puts}
+use Rattle.text_output.specs.declared.writing.Gathered.{Gathered}
+
+-- an address in eight digits, up to the last of a fullword
+abbrev pub address_text : ℕ → List ℕ
+address_text address = hexadecimal 8 (min address (2 ^ 32 - 1))
+
+-- how a place is told, where there is one
+abbrev pub found_text : Place → List ℕ
+found_text (Inside d) = codes "fits: the lowest place is " ++ address_text (8 * d) ++ codes "\n"
+found_text (Fresh page) =
+    codes "the lowest unassigned pages that are as many in a row begin at " ++ address_text (4096 * page) ++ codes "\n"
+found_text Nowhere = []
+
+-- or that there is none
+abbrev pub place_text : Place → List ℕ
+place_text (Inside d) = found_text (Inside d)
+place_text (Fresh page) = found_text (Fresh page)
+place_text Nowhere = codes "  no place\n"
+
+-- the place on a side, where that is looked at
+abbrev pub option_place : Option SideReason → Place
+option_place None = Nowhere
+option_place (Some r) = side_place r
+
+-- Some text follows all text before it; and ends in this one.
+abbrev pub PutsEnding : Option (List ℕ) → Option (List ℕ) → Gathered → Gathered → List ℕ → Type 0
+PutsEnding old new before after last = (front : List ℕ) × Puts old new before after (front ++ last)
+
+abbrev pub PutsSome : Option (List ℕ) → Option (List ℕ) → Gathered → Gathered → Type 0
+PutsSome old new before after = (text : List ℕ) × Puts old new before after text

@@ -1,0 +1,47 @@
+//! Lines of text, put piece by piece.
+ghost use Rattle.place_reasons.specs.Told.{PutsSome};
+
+use std::io::Write;
+use text_output::{Gathered, put_decimal, put_hexadecimal};
+
+/// A piece of a line.
+#[derive(Clone, Copy)]
+pub enum Piece<'a> {
+    Text(&'a str),
+    /// In decimal.
+    Number(u32),
+    /// In eight hexadecimal digits.
+    Address(u32),
+    /// In as many hexadecimal digits as it has.
+    Digits(u32),
+}
+
+/// Puts a piece.
+fn put_piece<W: Write>(gathered: &mut Gathered, writer: &mut W, piece: Piece<'_>)
+    ensures { PutsSome (W.contents writer.old) (W.contents writer.new) gathered.old gathered.new }
+{
+    match piece {
+        Piece::Text(text) => gathered.put(writer, text.as_bytes()),
+        Piece::Number(n) => put_decimal(gathered, writer, u64::from(n)),
+        Piece::Address(address) => put_hexadecimal(gathered, writer, 8, address),
+        Piece::Digits(n) => put_hexadecimal(gathered, writer, 1, n),
+    }
+}
+
+/// Puts pieces, one behind the other.
+pub fn put_pieces<W: Write>(gathered: &mut Gathered, writer: &mut W, pieces: &[Piece<'_>])
+    ensures { PutsSome (W.contents writer.old) (W.contents writer.new) gathered.old gathered.new }
+{
+    for piece in pieces {
+        put_piece(gathered, writer, *piece);
+    }
+}
+
+/// Puts a line of pieces, behind two blanks.
+pub fn put_line<W: Write>(gathered: &mut Gathered, writer: &mut W, pieces: &[Piece<'_>])
+    ensures { PutsSome (W.contents writer.old) (W.contents writer.new) gathered.old gathered.new }
+{
+    gathered.put(writer, b"  ");
+    put_pieces(gathered, writer, pieces);
+    gathered.put(writer, b"\n");
+}

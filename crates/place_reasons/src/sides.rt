@@ -1,0 +1,204 @@
+//! What each side of the line has for an area, told.
+ghost use Rattle.std.specs.Prelude.{◌≡◌, not, IfSome};
+ghost use Rattle.vsm_model.specs.Areas.{Inside, Fresh, is_nowhere};
+ghost use Rattle.storage_plans.specs.Reasons.{side_place};
+ghost use Rattle.text_output.specs.Writing.{Puts};
+ghost use Rattle.place_reasons.specs.Places.{sides_place};
+ghost use Rattle.place_reasons.specs.Told.{found_text, option_place, place_text, PutsEnding, PutsSome};
+
+use crate::areas::{FreeAreas, free_areas};
+use crate::pieces::{Piece, put_pieces};
+use crate::places::Sides;
+use std::io::Write;
+use storage_core::{Residence, SideReason, Storage, Subpool};
+use text_output::{Gathered, put_hexadecimal};
+
+/// How a side is called.
+fn side_word(side: Residence) -> &'static str {
+    match side {
+        Residence::Below => "  below: ",
+        Residence::Above => "  above: ",
+    }
+}
+
+/// Puts which free areas of the subpool are on a side.
+fn put_free_areas<W: Write>(
+    gathered: &mut Gathered,
+    writer: &mut W,
+    side: Residence,
+    sum: FreeAreas,
+)
+    ensures { PutsSome (W.contents writer.old) (W.contents writer.new) gathered.old gathered.new }
+{
+    let word = if sum.areas == 1 {
+        " free area, "
+    } else {
+        " free areas, "
+    };
+    put_pieces(
+        gathered,
+        writer,
+        &[
+            Piece::Text(side_word(side)),
+            Piece::Number(sum.areas),
+            Piece::Text(word),
+            Piece::Number(sum.doublewords.saturating_mul(8)),
+            Piece::Text(" bytes, "),
+        ],
+    );
+}
+
+/// Puts that the area fits at a doubleword.
+fn put_fit<W: Write>(gathered: &mut Gathered, writer: &mut W, doubleword: u32)
+    ensures { Puts (W.contents writer.old) (W.contents writer.new) gathered.old gathered.new
+        (found_text (Inside doubleword)) }
+{
+    gathered.put(writer, b"fits: the lowest place is ");
+    put_hexadecimal(gathered, writer, 8, 8u32.saturating_mul(doubleword));
+    gathered.put(writer, b"\n");
+}
+
+/// Puts what the subpool's own free storage on a side has.
+fn put_inside<W: Write>(gathered: &mut Gathered, writer: &mut W, sum: FreeAreas, reason: SideReason)
+    ensures some { PutsSome (W.contents writer.old) (W.contents writer.new) gathered.old gathered.new }
+    ensures place { IfSome reason.inside (λ d. PutsEnding (W.contents writer.old) (W.contents writer.new)
+        gathered.old gathered.new (found_text (Inside d))) }
+{
+    put_free_areas(gathered, writer, reason.side, sum);
+    match reason.inside {
+        Some(doubleword) => put_fit(gathered, writer, doubleword),
+        None => put_pieces(
+            gathered,
+            writer,
+            &[
+                Piece::Text("none fits (the largest has "),
+                Piece::Number(sum.largest.saturating_mul(8)),
+                Piece::Text(")\n"),
+            ],
+        ),
+    }
+}
+
+/// Puts how many pages are wanted on a side.
+fn put_wanted<W: Write>(gathered: &mut Gathered, writer: &mut W, side: Residence, pages: u32)
+    ensures { PutsSome (W.contents writer.old) (W.contents writer.new) gathered.old gathered.new }
+{
+    let word = if pages == 1 {
+        " page wanted; "
+    } else {
+        " pages wanted; "
+    };
+    put_pieces(
+        gathered,
+        writer,
+        &[
+            Piece::Text(side_word(side)),
+            Piece::Number(pages),
+            Piece::Text(word),
+        ],
+    );
+}
+
+/// Puts that enough unassigned pages begin at a page.
+fn put_run<W: Write>(gathered: &mut Gathered, writer: &mut W, page: u32)
+    ensures { Puts (W.contents writer.old) (W.contents writer.new) gathered.old gathered.new
+        (found_text (Fresh page)) }
+{
+    gathered.put(
+        writer,
+        b"the lowest unassigned pages that are as many in a row begin at ",
+    );
+    put_hexadecimal(gathered, writer, 8, 4096u32.saturating_mul(page));
+    gathered.put(writer, b"\n");
+}
+
+/// Puts what the unassigned pages on a side have for so many doublewords.
+fn put_fresh<W: Write>(gathered: &mut Gathered, writer: &mut W, count: u32, reason: SideReason)
+    ensures some { PutsSome (W.contents writer.old) (W.contents writer.new) gathered.old gathered.new }
+    ensures place { IfSome reason.fresh (λ page. PutsEnding (W.contents writer.old) (W.contents writer.new)
+        gathered.old gathered.new (found_text (Fresh page))) }
+{
+    put_wanted(gathered, writer, reason.side, count.div_ceil(512));
+    match reason.fresh {
+        Some(page) => put_run(gathered, writer, page),
+        None => put_pieces(
+            gathered,
+            writer,
+            &[
+                Piece::Text("the longest run of unassigned pages has "),
+                Piece::Number(reason.longest_run),
+                Piece::Text("\n"),
+            ],
+        ),
+    }
+}
+
+/// Puts what a side has; `true` where it has a place, which ends the search.
+fn put_side<W: Write>(
+    gathered: &mut Gathered,
+    writer: &mut W,
+    sum: FreeAreas,
+    count: u32,
+    reason: SideReason,
+) -> bool
+    ensures place { PutsEnding (W.contents writer.old) (W.contents writer.new) gathered.old gathered.new
+        (found_text (side_place reason)) }
+    ensures found { result ≡ not (is_nowhere (side_place reason)) }
+{
+    put_inside(gathered, writer, sum, reason);
+    if reason.inside.is_some() {
+        return true;
+    }
+    put_fresh(gathered, writer, count, reason);
+    reason.fresh.is_some()
+}
+
+/// Puts what the second side has, where there is one; `true` where it has a place.
+fn put_second<W: Write>(
+    gathered: &mut Gathered,
+    writer: &mut W,
+    storage: &Storage,
+    subpool: Subpool,
+    count: u32,
+    second: Option<SideReason>,
+) -> bool
+    ensures place { PutsEnding (W.contents writer.old) (W.contents writer.new) gathered.old gathered.new
+        (found_text (option_place second)) }
+    ensures found { result ≡ not (is_nowhere (option_place second)) }
+{
+    match second {
+        Some(reason) => {
+            let sum = free_areas(storage, subpool, reason.side);
+            put_side(gathered, writer, sum, count, reason)
+        }
+        None => false,
+    }
+}
+
+/// Puts what the sides have for an area of a subpool: lines that end in its place, or in that there is none.
+pub fn put_sides<W: Write>(
+    gathered: &mut Gathered,
+    writer: &mut W,
+    storage: &Storage,
+    subpool: Subpool,
+    sides: &Sides,
+)
+    ensures { PutsEnding (W.contents writer.old) (W.contents writer.new) gathered.old gathered.new
+        (place_text (sides_place sides.now)) }
+{
+    let sum = free_areas(storage, subpool, sides.first.side);
+    if put_side(gathered, writer, sum, sides.count, sides.first) {
+        return;
+    }
+    if put_second(
+        gathered,
+        writer,
+        storage,
+        subpool,
+        sides.count,
+        sides.second,
+    ) {
+        return;
+    }
+    gathered.put(writer, b"  no place\n");
+}

@@ -1,0 +1,11 @@
+//! Where a statement is wrong: its faulty operand, the roles of lines, the caret, warnings and hints.
+#![tactic(auto)]
+
+pub mod carets;
+pub mod fields;
+pub mod hints;
+pub mod lines;
+pub mod operands;
+pub mod roles;
+pub mod warnings;
+pub mod words;

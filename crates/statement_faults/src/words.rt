@@ -1,0 +1,52 @@
+//! Words that go out around the answers: text that is put together in memory first.
+
+use arrayvec::ArrayVec;
+use itoa::Buffer;
+
+/// The most bytes of words that stand together.
+const WORDS: usize = 4096;
+
+/// Words that are put together: 4,096 bytes at most. What has no room is left out.
+#[derive(Drop)]
+pub struct Words {
+    text: ArrayVec<u8, WORDS>,
+}
+
+impl Words {
+    /// No words.
+    pub fn new() -> Words {
+        Words {
+            text: ArrayVec::new(),
+        }
+    }
+
+    /// Takes all words out.
+    pub fn clear(&mut self) {
+        self.text.clear();
+    }
+
+    /// The words so far.
+    pub fn as_slice(&self) -> &[u8] {
+        self.text.as_slice()
+    }
+
+    /// Appends a text, or as much of it as has room.
+    pub fn add(&mut self, more: &[u8]) {
+        let room = WORDS.saturating_sub(self.text.len());
+        let count = more.len().min(room);
+        let _ = self.text.try_extend_from_slice(&more[..count]);
+    }
+
+    /// Appends so many blanks, 80 at most.
+    pub fn add_blanks(&mut self, count: usize) {
+        self.add(&[b' '; 80][..count.min(80)]);
+    }
+
+    /// Appends a number in decimal digits, behind blanks where it has fewer digits than the width.
+    pub fn add_number(&mut self, number: u32, width: usize) {
+        let mut buffer = Buffer::new();
+        let digits = buffer.format(number).as_bytes();
+        self.add_blanks(width.saturating_sub(digits.len()));
+        self.add(digits);
+    }
+}

@@ -1,5 +1,0 @@
-use Rattle.storage_actions.proofs.Idle.{emptied_pages_are_a_run}
-use Rattle.storage_actions.proofs.laws.emptied_pages_are_a_run.Goals as goal
-
-pub returns : goal.returns
-returns c = emptied_pages_are_a_run

@@ -1,5 +1,0 @@
-use Rattle.storage_actions.proofs.Emptying.{emptying_leads}
-use Rattle.storage_actions.proofs.laws.emptying_leads.Goals as goal
-
-pub returns : goal.returns
-returns c = emptying_leads c.rows_of_the_others_stay.ensures

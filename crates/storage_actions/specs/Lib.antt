@@ -1,3 +1,0 @@
-pub mod Actions
-pub mod Leads
-pub mod Laws

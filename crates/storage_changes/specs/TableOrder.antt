@@ -1,0 +1,34 @@
+-- The table in the order of its names: which of its rows come behind a name, and which of them is the first.
+-- Assembler Services Reference, CPOOL.
+use Rattle.std.specs.Prelude.{◌≡◌, ℕ, Bool, true, false, Option, Some, None, List, [], ◌∷◌, filter}
+use Rattle.vsm_model.specs.CellPools.{CellPools}
+use Rattle.cell_pool.specs.Pools.{Pool}
+use Rattle.cell_pool.specs.Order.{is_before, is_behind}
+use Rattle.storage_changes.specs.NamedPools.{AreNamed}
+use Rattle.storage_changes.specs.PoolTable.{cell_pool_of, cell_pools_in}
+
+-- the rows whose names come behind one that is given, or all of them where none is given
+abbrev pub rows_behind : CellPools → Option (List ℕ) → CellPools
+rows_behind table behind = filter (λ row. is_behind behind row.0) table
+
+-- no cell pool's name comes behind
+abbrev pub NoneIsBehind : (ℕ → Option Pool) → Option (List ℕ) → Type 0
+NoneIsBehind pools behind = (id : ℕ) (p : Pool) → pools id ≡ Some p → is_behind behind p.name ≡ false
+
+-- The name of the cell pool comes behind, and no name that does comes before it.
+pub record IsFirstBehind (pools : ℕ → Option Pool) (low : Option (List ℕ)) (p : Pool) : Type 0 where
+  pub behind : is_behind low p.name ≡ true
+  pub first : (id : ℕ) (q : Pool) → pools id ≡ Some q → is_behind low q.name ≡ true → is_before q.name p.name ≡ false
+
+-- Where none is given all rows come behind; where no cell pool's name does, none does; and else the row of the first
+-- cell pool that does comes in front of those behind its name.
+pub record ComesInOrder (pools : ℕ → Option Pool) (behind : Option (List ℕ)) : Type 0 where
+  pub all : rows_behind (cell_pools_in pools) None ≡ cell_pools_in pools
+  pub none : NoneIsBehind pools behind → rows_behind (cell_pools_in pools) behind ≡ []
+  pub next : (id : ℕ) (p : Pool) → pools id ≡ Some p → IsFirstBehind pools behind p
+      → rows_behind (cell_pools_in pools) behind
+      ≡ (p.name, cell_pool_of p) ∷ rows_behind (cell_pools_in pools) (Some p.name)
+
+-- So the rows are read one after the other, in the order of their names.
+abbrev pub RowsComeInOrder : Type 0
+RowsComeInOrder = (pools : ℕ → Option Pool) (behind : Option (List ℕ)) → AreNamed pools → ComesInOrder pools behind

@@ -1,9 +1,0 @@
-use Rattle.storage_laws.proofs.Returns.{release_gives_taken_storage_back}
-use Rattle.storage_laws.proofs.Wholes.{whole_release_empties_the_subpool}
-use Rattle.storage_laws.proofs.laws.given_back.Goals as goal
-
-pub returns-clause-area : goal.returns-clause-area
-returns-clause-area c = release_gives_taken_storage_back
-
-pub returns-clause-whole : goal.returns-clause-whole
-returns-clause-whole c = whole_release_empties_the_subpool

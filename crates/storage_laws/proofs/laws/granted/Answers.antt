@@ -1,8 +1,0 @@
-use Rattle.storage_laws.proofs.Grants.{obtain_grants_free_storage, answer_four_sets_register_15_alone}
-use Rattle.storage_laws.proofs.laws.granted.Goals as goal
-
-pub returns-clause-granted : goal.returns-clause-granted
-returns-clause-granted c = obtain_grants_free_storage
-
-pub returns-clause-four : goal.returns-clause-four
-returns-clause-four c = answer_four_sets_register_15_alone

@@ -1,0 +1,77 @@
+-- The storage and the changes of a history beside each other, by counts.
+use Rattle.std.specs.Prelude.{◌≡◌, ℕ, ◌+◌, ◌<◌, ◌≤◌, List, [], ◌∷◌, length, IsSome}
+use Rattle.vsm_elements.specs.Store.{Store, at}
+use Rattle.vsm_elements.specs.Chain.{IsChain}
+use Rattle.subpool_storage.specs.SubpoolStorage
+use Rattle.storage_changes.specs.State.{StorageState}
+use Rattle.storage_changes.specs.Changes.{Change as Meaning, Fit}
+use Rattle.storage_exchange.specs.declared.storage.Parts.{Parts}
+use Rattle.storage_exchange.specs.Storage.{hold, state_of, Stand, IsFrameless}
+use Rattle.storage_exchange.specs.Exchange.{HavePlaces}
+use Rattle.storage_swap.specs.declared.change.Change.{Change}
+use Rattle.storage_swap.specs.Swap.{means, change_holds, Ready, Swaps, Discards}
+use Rattle.storage_swap.specs.declared.steps.Steps.{Steps}
+
+-- how often all these changes together hold an element
+abbrev pub all_hold : Store → List Change → ℕ → ℕ
+all_hold s [] i = 0
+all_hold s (c ∷ cs) i = change_holds s c i + all_hold s cs i
+
+-- how many frames they have together
+abbrev pub all_frames : List Change → ℕ
+all_frames [] = 0
+all_frames (c ∷ cs) = length c.frames + all_frames cs
+
+-- a change's chains and its parked subpools stand, and its frames can stand in the tables
+pub record ChangeStands (p : Parts) (c : Change) : Type 0 where
+  pub records : IsChain p.elements c.records
+  pub blanks : IsChain p.elements c.blanks
+  pub parked : SubpoolStorage.Stands p.elements c.parked
+  pub places : HavePlaces p c.frames
+
+abbrev pub AllStand : Parts → List Change → Type 0
+AllStand p [] = Unit {0}
+AllStand p (c ∷ cs) = ChangeStands p c × AllStand p cs
+
+-- The storage and the changes stand, no element is held twice by all of them together, an unassigned page has no frame,
+-- and the frames of all changes are within those that are out.
+pub record AreApart (p : Parts) (cs : List Change) : Type 0 where
+  pub storage : Stand p
+  pub changes : AllStand p cs
+  pub once : (i : ℕ) → hold p i + all_hold p.elements cs i ≤ 1
+  pub frameless : IsFrameless p
+  pub out : all_frames cs ≤ p.region.out
+
+-- Besides, each live element is held by one of them, and each frame that is out is a change's: nothing is lost.
+pub record AreWhole (p : Parts) (cs : List Change) : Type 0 where
+  pub apart : AreApart p cs
+  pub all : (i : ℕ) → IsSome (at p.elements i) → 0 < hold p i + all_hold p.elements cs i
+  pub all_out : all_frames cs ≡ p.region.out
+
+-- The change is beside the storage, and its records fit where they are applied.
+pub record CanSwap (p : Parts) (c : Change) : Type 0 where
+  pub ready : Ready p c
+  pub fits : Fit (state_of p) (means p.elements c)
+
+-- the same of the storage as the state of a history
+
+abbrev pub shown : Steps → StorageState
+shown s = state_of s.storage
+
+abbrev pub meaning : Steps → Change → Meaning
+meaning s c = means s.storage.elements c
+
+abbrev pub StepsApart : Steps → List Change → Type 0
+StepsApart s cs = AreApart s.storage cs
+
+abbrev pub StepsWhole : Steps → List Change → Type 0
+StepsWhole s cs = AreWhole s.storage cs
+
+abbrev pub CanStep : Steps → Change → Type 0
+CanStep s c = CanSwap s.storage c
+
+abbrev pub StepSwaps : Steps → Change → Steps → Change → Type 0
+StepSwaps s c t d = Swaps s.storage c t.storage d
+
+abbrev pub StepDiscards : Steps → Change → Steps → Type 0
+StepDiscards s c t = Discards s.storage c t.storage

@@ -1,3 +1,0 @@
-pub mod Attaching
-pub mod Ending
-pub mod Laws

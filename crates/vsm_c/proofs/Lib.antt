@@ -1,0 +1,5 @@
+pub mod Searches
+pub mod Served
+pub mod Outcomes
+pub mod OneAnswer
+pub mod CutLines

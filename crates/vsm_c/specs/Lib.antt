@@ -1,0 +1,5 @@
+pub mod Codes
+pub mod Wanted
+pub mod Texts
+pub mod Told
+pub mod Fronts

@@ -1,0 +1,27 @@
+-- What is made for a statement.
+use Rattle.std.proofs.Common.{◌+◌, ◌*◌, List, [], ◌∷◌, subst, sym}
+use Rattle.storage_core.proofs.Making.{makes_more, makes_still, none_made, none_follow, none_swapped, none_discarded}
+use Rattle.storage_core.specs.Memory.{Makes, MakesNone}
+use Rattle.step_history.specs.Walk.{DiscardsAll}
+use Rattle.macro_statements.specs.Requests.{Act}
+use Rattle.vsm_machine.specs.declared.machine.Machine.{Machine}
+use Rattle.vsm_machine.specs.declared.machine.MachineChange.{MachineChange}
+use Rattle.vsm_machine.specs.declared.plans.Planned.{Planned}
+use Rattle.vsm_machine.specs.Changes.{shown, Swaps, Discards}
+use Rattle.vsm_machine.specs.Planned.{elements_needed, fresh_pages, weight_asked, CanCarryOut}
+use Rattle.vsm_machine.specs.Supplies.{MakesFor}
+
+-- discarded changes make nothing
+discards_make : (cs : List MachineChange) (s t : Machine) → DiscardsAll Discards cs s t → MakesNone s.storage.parts t.storage.parts
+discards_make [] s t e = let P : Machine → Type 0 = λ u. MakesNone s.storage.parts u.storage.parts in subst P (sym e) (none_made s.storage.parts)
+discards_make (c ∷ cs) s t (m, all, one) =
+    none_follow s.storage.parts m.storage.parts t.storage.parts (discards_make cs s m all) (none_discarded m.storage.parts t.storage.parts c.storage one.storage)
+
+-- what was made for the change of a plan is all, once it's exchanged and others are discarded
+pub makes_in_all : (m r t u : Machine) (x : Act) (p : Planned) (c d : MachineChange) (cs : List MachineChange) → CanCarryOut (shown m) x p
+    → Makes m.storage.parts r.storage.parts (elements_needed (shown m).storage p.plan) (fresh_pages p.plan).len
+    → Swaps r c t d → DiscardsAll Discards cs t u → MakesFor m x p u
+makes_in_all m r t u x p c d cs can made swaps all =
+    makes_still m.storage.parts r.storage.parts u.storage.parts (32 + 8 * weight_asked (shown m) x) (fresh_pages p.plan).len
+    (makes_more m.storage.parts r.storage.parts (elements_needed (shown m).storage p.plan) (32 + 8 * weight_asked (shown m) x) (fresh_pages p.plan).len can.light made)
+    (none_follow r.storage.parts t.storage.parts u.storage.parts (none_swapped r.storage.parts t.storage.parts c.storage d.storage swaps.storage) (discards_make cs t u all))
