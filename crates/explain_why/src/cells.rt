@@ -1,11 +1,13 @@
 //! Cell pools by their names, and why requests for their cells are answered as they are, told.
 ghost use Rattle.std.specs.Prelude.{IfSome, IsSome};
 ghost use Rattle.storage_map.specs.Cells.{cell_pool};
+ghost use Rattle.explain_why.specs.Told.{PutsOneOf};
+ghost use Rattle.explain_why.specs.Words.{extent_words, no_pool_words, not_in_use_words};
 
-use crate::releases::{put_seen, put_unseen, seen};
+use crate::releases::{area_of, put_seen};
 use place_reasons::{Piece, put_line};
 use std::io::Write;
-use storage_core::{Run, Storage};
+use storage_core::{Release, Run, Storage, Subpool};
 use storage_map::{
     CellId, CellSettings, Extent, cell_pool_name, cell_pool_settings, first_cell_extent,
     first_free_cell, next_cell_extent, next_cell_pool, next_free_cell,
@@ -87,23 +89,16 @@ fn first_overlap(storage: &Storage, area: Run) -> Option<(CellId, Run)>
     None
 }
 
-/// Puts the first cell pool with an extent that meets an area.
-pub(crate) fn put_overlap<W: Write>(
-    gathered: &mut Gathered,
-    writer: &mut W,
-    storage: &Storage,
-    area: Run,
-) {
-    let Some((id, extent)) = first_overlap(storage, area) else {
-        return;
-    };
-    let name = cell_pool_name(storage, id);
+/// Puts that a cell pool has an extent.
+fn put_extent<W: Write>(gathered: &mut Gathered, writer: &mut W, name: &str, extent: Run)
+    ensures { PutsOneOf extent_words (W.contents writer.old) (W.contents writer.new) gathered.old gathered.new }
+{
     put_line(
         gathered,
         writer,
         &[
             Piece::Text("cell pool "),
-            Piece::Text(name.as_str()),
+            Piece::Text(name),
             Piece::Text(" has an extent of "),
             Piece::Number(extent.len.saturating_mul(8)),
             Piece::Text(" bytes at "),
@@ -112,22 +107,40 @@ pub(crate) fn put_overlap<W: Write>(
     );
 }
 
-/// Puts that there is no cell pool of the name, or whose its subpool is that the current task doesn't see.
-pub(crate) fn put_no_pool<W: Write>(
+/// Puts the first cell pool with an extent that meets the area of a release; the area itself where none does.
+pub(crate) fn put_overlap<W: Write>(
     gathered: &mut Gathered,
     writer: &mut W,
     storage: &Storage,
-    name: &str,
-) {
-    let Some(id) = find_pool(storage, name) else {
-        return put_line(
-            gathered,
-            writer,
-            &[Piece::Text("there is no cell pool "), Piece::Text(name)],
-        );
-    };
-    let subpool = cell_pool_settings(storage, id).subpool;
-    let number = u32::from(subpool.number);
+    r: Release,
+)
+    ensures { PutsOneOf extent_words (W.contents writer.old) (W.contents writer.new) gathered.old gathered.new }
+{
+    let area = area_of(r);
+    match first_overlap(storage, area) {
+        Some((id, extent)) => {
+            let name = cell_pool_name(storage, id);
+            put_extent(gathered, writer, name.as_str(), extent);
+        }
+        None => put_extent(gathered, writer, "", area),
+    }
+}
+
+/// Puts that there is no cell pool of the name.
+fn put_missing<W: Write>(gathered: &mut Gathered, writer: &mut W, name: &str)
+    ensures { PutsOneOf no_pool_words (W.contents writer.old) (W.contents writer.new) gathered.old gathered.new }
+{
+    put_line(
+        gathered,
+        writer,
+        &[Piece::Text("there is no cell pool "), Piece::Text(name)],
+    );
+}
+
+/// Puts in which subpool a cell pool lies.
+fn put_where<W: Write>(gathered: &mut Gathered, writer: &mut W, name: &str, subpool: Subpool)
+    ensures { PutsOneOf no_pool_words (W.contents writer.old) (W.contents writer.new) gathered.old gathered.new }
+{
     put_line(
         gathered,
         writer,
@@ -135,14 +148,29 @@ pub(crate) fn put_no_pool<W: Write>(
             Piece::Text("cell pool "),
             Piece::Text(name),
             Piece::Text(" lies in subpool "),
-            Piece::Number(number),
+            Piece::Number(u32::from(subpool.number)),
             Piece::Text(" of task "),
             Piece::Number(u32::from(subpool.owner)),
         ],
     );
-    match seen(storage, number) {
-        Some(_) => put_seen(gathered, writer, storage, number),
-        None => put_unseen(gathered, writer, storage, number),
+}
+
+/// Puts that there is no cell pool of the name, or in which subpool it lies and which one the current task sees.
+pub(crate) fn put_no_pool<W: Write>(
+    gathered: &mut Gathered,
+    writer: &mut W,
+    storage: &Storage,
+    name: &str,
+)
+    ensures { PutsOneOf no_pool_words (W.contents writer.old) (W.contents writer.new) gathered.old gathered.new }
+{
+    match find_pool(storage, name) {
+        Some(id) => {
+            let subpool = cell_pool_settings(storage, id).subpool;
+            put_where(gathered, writer, name, subpool);
+            put_seen(gathered, writer, storage, u32::from(subpool.number));
+        }
+        None => put_missing(gathered, writer, name),
     }
 }
 
@@ -163,6 +191,39 @@ fn is_free_cell(storage: &Storage, id: CellId, cell: u32) -> bool
     false
 }
 
+/// Whether a cell of the cell pool of a name is free.
+fn is_free_in(storage: &Storage, name: &str, cell: u32) -> bool {
+    match find_pool(storage, name) {
+        Some(id) => is_free_cell(storage, id, cell),
+        None => false,
+    }
+}
+
+/// Puts that a cell is free.
+fn put_free_cell<W: Write>(gathered: &mut Gathered, writer: &mut W, cell: u32)
+    ensures { PutsOneOf not_in_use_words (W.contents writer.old) (W.contents writer.new) gathered.old gathered.new }
+{
+    put_line(
+        gathered,
+        writer,
+        &[Piece::Address(cell), Piece::Text(" is free already")],
+    );
+}
+
+/// Puts that an address isn't that of a cell.
+fn put_not_a_cell<W: Write>(gathered: &mut Gathered, writer: &mut W, cell: u32)
+    ensures { PutsOneOf not_in_use_words (W.contents writer.old) (W.contents writer.new) gathered.old gathered.new }
+{
+    put_line(
+        gathered,
+        writer,
+        &[
+            Piece::Address(cell),
+            Piece::Text(" isn't the address of one of its cells"),
+        ],
+    );
+}
+
 /// Puts why an address isn't that of a cell in use.
 pub(crate) fn put_not_in_use<W: Write>(
     gathered: &mut Gathered,
@@ -170,15 +231,12 @@ pub(crate) fn put_not_in_use<W: Write>(
     storage: &Storage,
     name: &str,
     cell: u32,
-) {
-    let free = match find_pool(storage, name) {
-        Some(id) => is_free_cell(storage, id, cell),
-        None => false,
-    };
-    let text = if free {
-        " is free already"
+)
+    ensures { PutsOneOf not_in_use_words (W.contents writer.old) (W.contents writer.new) gathered.old gathered.new }
+{
+    if is_free_in(storage, name, cell) {
+        put_free_cell(gathered, writer, cell)
     } else {
-        " isn't the address of one of its cells"
-    };
-    put_line(gathered, writer, &[Piece::Address(cell), Piece::Text(text)]);
+        put_not_a_cell(gathered, writer, cell)
+    }
 }

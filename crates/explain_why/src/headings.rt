@@ -1,9 +1,12 @@
 //! What a statement asks for, told with the numbers of its values.
+ghost use Rattle.place_reasons.specs.Told.{PutsSome};
+
 use macro_reader::FaultKind;
 use place_reasons::{Piece, put_pieces};
 use std::io::Write;
 use storage_core::{
-    Boundary, Build, Lengths, Location, Obtain, Passed, Release, Residence, Service, Settings,
+    Attach, Boundary, Build, Lengths, Location, Obtain, Passed, Release, Residence, Service,
+    Settings,
 };
 use text_output::Gathered;
 
@@ -21,7 +24,9 @@ fn side_text(settings: Settings, location: Location) -> &'static str {
 }
 
 /// Puts a length in decimal and in hexadecimal digits.
-fn put_length<W: Write>(gathered: &mut Gathered, writer: &mut W, length: u32) {
+fn put_length<W: Write>(gathered: &mut Gathered, writer: &mut W, length: u32)
+    ensures { PutsSome (W.contents writer.old) (W.contents writer.new) gathered.old gathered.new }
+{
     put_pieces(
         gathered,
         writer,
@@ -34,9 +39,11 @@ fn put_length<W: Write>(gathered: &mut Gathered, writer: &mut W, length: u32) {
     );
 }
 
-/// Puts what an obtain asks for.
-fn put_obtain<W: Write>(gathered: &mut Gathered, writer: &mut W, settings: Settings, o: Obtain) {
-    match o.lengths {
+/// Puts the lengths of an obtain.
+fn put_lengths<W: Write>(gathered: &mut Gathered, writer: &mut W, lengths: Lengths)
+    ensures { PutsSome (W.contents writer.old) (W.contents writer.new) gathered.old gathered.new }
+{
+    match lengths {
         Lengths::Fixed(length) => put_length(gathered, writer, length),
         Lengths::Variable { maximum, minimum } => {
             put_length(gathered, writer, maximum);
@@ -45,6 +52,13 @@ fn put_obtain<W: Write>(gathered: &mut Gathered, writer: &mut W, settings: Setti
             gathered.put(writer, b" at least");
         }
     }
+}
+
+/// Puts what an obtain asks for.
+fn put_obtain<W: Write>(gathered: &mut Gathered, writer: &mut W, settings: Settings, o: Obtain)
+    ensures { PutsSome (W.contents writer.old) (W.contents writer.new) gathered.old gathered.new }
+{
+    put_lengths(gathered, writer, o.lengths);
     let boundary = match o.boundary {
         Boundary::Doubleword => ", on a doubleword, ",
         Boundary::Page => ", on a page, ",
@@ -62,7 +76,9 @@ fn put_obtain<W: Write>(gathered: &mut Gathered, writer: &mut W, settings: Setti
 }
 
 /// Puts what a release gives back.
-fn put_release<W: Write>(gathered: &mut Gathered, writer: &mut W, r: Release) {
+fn put_release<W: Write>(gathered: &mut Gathered, writer: &mut W, r: Release)
+    ensures { PutsSome (W.contents writer.old) (W.contents writer.new) gathered.old gathered.new }
+{
     gathered.put(writer, b"release of ");
     put_length(gathered, writer, r.length);
     put_pieces(
@@ -85,7 +101,9 @@ fn put_build<W: Write>(
     settings: Settings,
     name: &str,
     b: Build,
-) {
+)
+    ensures { PutsSome (W.contents writer.old) (W.contents writer.new) gathered.old gathered.new }
+{
     put_pieces(
         gathered,
         writer,
@@ -105,7 +123,9 @@ fn put_build<W: Write>(
 }
 
 /// Puts subpools that a new task is given or shares.
-fn put_passed<W: Write>(gathered: &mut Gathered, writer: &mut W, word: &str, passed: Passed) {
+fn put_passed<W: Write>(gathered: &mut Gathered, writer: &mut W, word: &str, passed: Passed)
+    ensures { PutsSome (W.contents writer.old) (W.contents writer.new) gathered.old gathered.new }
+{
     match passed {
         Passed::Nothing => (),
         Passed::Number(number) => put_pieces(
@@ -129,8 +149,20 @@ fn put_passed<W: Write>(gathered: &mut Gathered, writer: &mut W, word: &str, pas
     }
 }
 
+/// Puts what a new task is given and shares.
+fn put_attach<W: Write>(gathered: &mut Gathered, writer: &mut W, a: Attach)
+    ensures { PutsSome (W.contents writer.old) (W.contents writer.new) gathered.old gathered.new }
+{
+    gathered.put(writer, b"a new task");
+    put_passed(gathered, writer, ", given ", a.given);
+    put_passed(gathered, writer, ", sharing ", a.shared);
+    gathered.put(writer, b"\n");
+}
+
 /// Puts how many bytes are stored, and where.
-fn put_store<W: Write>(gathered: &mut Gathered, writer: &mut W, address: u32, bytes: &[u8]) {
+fn put_store<W: Write>(gathered: &mut Gathered, writer: &mut W, address: u32, bytes: &[u8])
+    ensures { PutsSome (W.contents writer.old) (W.contents writer.new) gathered.old gathered.new }
+{
     put_pieces(
         gathered,
         writer,
@@ -144,7 +176,9 @@ fn put_store<W: Write>(gathered: &mut Gathered, writer: &mut W, address: u32, by
 }
 
 /// Puts which cell comes back, and to which cell pool.
-fn put_free<W: Write>(gathered: &mut Gathered, writer: &mut W, name: &str, cell: u32) {
+fn put_free<W: Write>(gathered: &mut Gathered, writer: &mut W, name: &str, cell: u32)
+    ensures { PutsSome (W.contents writer.old) (W.contents writer.new) gathered.old gathered.new }
+{
     put_pieces(
         gathered,
         writer,
@@ -164,7 +198,9 @@ pub(crate) fn put_heading<W: Write>(
     writer: &mut W,
     settings: Settings,
     service: &Service<'_>,
-) {
+)
+    ensures { PutsSome (W.contents writer.old) (W.contents writer.new) gathered.old gathered.new }
+{
     match service {
         Service::Obtain(o) => put_obtain(gathered, writer, settings, *o),
         Service::Release(r) => put_release(gathered, writer, *r),
@@ -174,12 +210,7 @@ pub(crate) fn put_heading<W: Write>(
             "release of the whole subpool ",
             *number,
         ),
-        Service::Attach(a) => {
-            gathered.put(writer, b"a new task");
-            put_passed(gathered, writer, ", given ", a.given);
-            put_passed(gathered, writer, ", sharing ", a.shared);
-            gathered.put(writer, b"\n");
-        }
+        Service::Attach(a) => put_attach(gathered, writer, *a),
         Service::Detach { task } => put_number(gathered, writer, "the end of task ", *task),
         Service::EndTask => gathered.put(writer, b"the end of the current task\n"),
         Service::Run { task } => put_number(gathered, writer, "the turn of task ", *task),
@@ -194,7 +225,9 @@ pub(crate) fn put_heading<W: Write>(
 }
 
 /// Puts words, a number and a line feed.
-pub(crate) fn put_number<W: Write>(gathered: &mut Gathered, writer: &mut W, words: &str, n: u32) {
+pub(crate) fn put_number<W: Write>(gathered: &mut Gathered, writer: &mut W, words: &str, n: u32)
+    ensures { PutsSome (W.contents writer.old) (W.contents writer.new) gathered.old gathered.new }
+{
     put_pieces(
         gathered,
         writer,
@@ -203,7 +236,9 @@ pub(crate) fn put_number<W: Write>(gathered: &mut Gathered, writer: &mut W, word
 }
 
 /// Puts words, a name and a line feed.
-fn put_named<'x, W: Write>(gathered: &mut Gathered, writer: &mut W, words: &'x str, name: &'x str) {
+fn put_named<'x, W: Write>(gathered: &mut Gathered, writer: &mut W, words: &'x str, name: &'x str)
+    ensures { PutsSome (W.contents writer.old) (W.contents writer.new) gathered.old gathered.new }
+{
     put_pieces(
         gathered,
         writer,
@@ -228,10 +263,8 @@ fn fault_text(kind: FaultKind) -> &'static str {
 }
 
 /// Puts what is wrong with a statement: it asks for nothing.
-pub(crate) fn put_fault_heading<W: Write>(
-    gathered: &mut Gathered,
-    writer: &mut W,
-    kind: FaultKind,
-) {
+pub(crate) fn put_fault_heading<W: Write>(gathered: &mut Gathered, writer: &mut W, kind: FaultKind)
+    ensures { PutsSome (W.contents writer.old) (W.contents writer.new) gathered.old gathered.new }
+{
     gathered.put(writer, fault_text(kind).as_bytes());
 }

@@ -2,11 +2,14 @@
 #![tactic(auto)]
 
 mod ahead;
+mod areas;
 mod causes;
 mod cells;
 mod faults;
 mod headings;
 mod lines;
+mod pages;
+mod refusals;
 mod releases;
 mod tasks;
 

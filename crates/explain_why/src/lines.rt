@@ -1,6 +1,9 @@
 //! Why a line of a script is answered as it is.
 ghost use Rattle.std.specs.Prelude.{◌≡◌, ◌≤◌, IfOk, IfSome, length};
 ghost use Rattle.script_steps.specs.Script.{NoFeed};
+ghost use Rattle.bench_core.specs.Stands.{bench_of, settings_in};
+ghost use Rattle.place_reasons.specs.Told.{PutsSome};
+ghost use Rattle.explain_why.specs.Told.{TellsAhead};
 
 use crate::ahead::{Ahead, Asked, read_ahead};
 use crate::causes::put_reasons;
@@ -111,20 +114,11 @@ fn answer(session: Session, script: &[u8], at: usize) -> Result<Option<Response>
     Ok(None)
 }
 
-/// Puts what a statement asks for, and why it's answered as it is.
-fn put_why<W: Write>(
-    gathered: &mut Gathered,
-    writer: &mut W,
-    bench: &Bench,
-    line: u32,
-    place: &Place,
-) {
-    put_pieces(
-        gathered,
-        writer,
-        &[Piece::Text("line "), Piece::Number(place.first)],
-    );
-    if line != place.first {
+/// Puts that a line goes on with a statement, where it isn't the first.
+fn put_goes_on<W: Write>(gathered: &mut Gathered, writer: &mut W, first: u32, line: u32)
+    ensures { PutsSome (W.contents writer.old) (W.contents writer.new) gathered.old gathered.new }
+{
+    if line != first {
         put_pieces(
             gathered,
             writer,
@@ -135,7 +129,33 @@ fn put_why<W: Write>(
             ],
         );
     }
+}
+
+/// Puts the number of a statement's first line.
+fn put_first<W: Write>(gathered: &mut Gathered, writer: &mut W, first: u32, line: u32)
+    ensures { PutsSome (W.contents writer.old) (W.contents writer.new) gathered.old gathered.new }
+{
+    put_pieces(
+        gathered,
+        writer,
+        &[Piece::Text("line "), Piece::Number(first)],
+    );
+    put_goes_on(gathered, writer, first, line);
     gathered.put(writer, b": ");
+}
+
+/// Puts what a statement asks for, and why it's answered as it is.
+fn put_why<W: Write>(
+    gathered: &mut Gathered,
+    writer: &mut W,
+    bench: &Bench,
+    line: u32,
+    place: &Place,
+)
+    ensures { TellsAhead (settings_in bench.now) (bench_of bench.now).present place.now.ahead.asked
+        (W.contents writer.old) (W.contents writer.new) gathered.old gathered.new }
+{
+    put_first(gathered, writer, place.first, line);
     match &place.ahead.asked {
         Asked::Request(request) => put_reasons(gathered, writer, bench, request),
         Asked::Fault(kind) => put_fault_heading(gathered, writer, *kind),

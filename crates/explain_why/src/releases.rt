@@ -1,7 +1,8 @@
-//! Why an area can't be released, told.
+//! Which subpool a task sees, and why an area can't be released, told.
 ghost use Rattle.place_reasons.specs.Told.{PutsSome};
+ghost use Rattle.explain_why.specs.Told.{PutsOneOf};
+ghost use Rattle.explain_why.specs.Words.{foreign_words, free_words, seen_words, unseen_words};
 
-use crate::cells::put_overlap;
 use place_reasons::{Piece, first_free, first_page_beside, first_page_of_another, put_line};
 use std::io::Write;
 use storage_core::{Release, Run, Settings, Storage, Subpool};
@@ -29,7 +30,7 @@ pub(crate) fn seen_or_own(storage: &Storage, number: u32) -> Subpool {
 }
 
 /// The doublewords of a release.
-fn area_of(r: Release) -> Run {
+pub(crate) fn area_of(r: Release) -> Run {
     Run {
         start: r.address / 8,
         len: r.length.div_ceil(8),
@@ -59,6 +60,39 @@ fn region_end(settings: Settings, page: u32) -> Option<u32> {
     None
 }
 
+/// Puts that a byte lies in a page of another subpool.
+fn put_in_another<W: Write>(gathered: &mut Gathered, writer: &mut W, address: u32, other: Subpool)
+    ensures { PutsOneOf foreign_words (W.contents writer.old) (W.contents writer.new) gathered.old gathered.new }
+{
+    put_line(
+        gathered,
+        writer,
+        &[
+            Piece::Text("the byte at "),
+            Piece::Address(address),
+            Piece::Text(" lies in a page of subpool "),
+            Piece::Number(u32::from(other.number)),
+            Piece::Text(" of task "),
+            Piece::Number(u32::from(other.owner)),
+        ],
+    );
+}
+
+/// Puts that a byte lies in no region.
+fn put_outside<W: Write>(gathered: &mut Gathered, writer: &mut W, address: u32)
+    ensures { PutsOneOf foreign_words (W.contents writer.old) (W.contents writer.new) gathered.old gathered.new }
+{
+    put_line(
+        gathered,
+        writer,
+        &[
+            Piece::Text("the byte at "),
+            Piece::Address(address),
+            Piece::Text(" lies outside both regions"),
+        ],
+    );
+}
+
 /// Puts which byte of the area lies in a page of another subpool, or in no region.
 fn put_foreign<W: Write>(
     gathered: &mut Gathered,
@@ -66,36 +100,19 @@ fn put_foreign<W: Write>(
     storage: &Storage,
     subpool: Subpool,
     r: Release,
-) {
+)
+    ensures { PutsOneOf foreign_words (W.contents writer.old) (W.contents writer.new) gathered.old gathered.new }
+{
     let pages = pages_of(area_of(r));
     if let Some((page, other)) = first_page_of_another(storage, subpool, pages) {
         let address = page.saturating_mul(4096).max(r.address);
-        return put_line(
-            gathered,
-            writer,
-            &[
-                Piece::Text("the byte at "),
-                Piece::Address(address),
-                Piece::Text(" lies in a page of subpool "),
-                Piece::Number(u32::from(other.number)),
-                Piece::Text(" of task "),
-                Piece::Number(u32::from(other.owner)),
-            ],
-        );
+        return put_in_another(gathered, writer, address, other);
     }
     let outside = match region_end(storage.settings(), pages.start) {
         Some(end) => end.saturating_mul(4096),
         None => r.address,
     };
-    put_line(
-        gathered,
-        writer,
-        &[
-            Piece::Text("the byte at "),
-            Piece::Address(outside),
-            Piece::Text(" lies outside both regions"),
-        ],
-    );
+    put_outside(gathered, writer, outside);
 }
 
 /// Puts why a release isn't of the subpool that is named.
@@ -104,7 +121,9 @@ pub(crate) fn put_not_in_subpool<W: Write>(
     writer: &mut W,
     storage: &Storage,
     r: Release,
-) {
+)
+    ensures { PutsOneOf foreign_words (W.contents writer.old) (W.contents writer.new) gathered.old gathered.new }
+{
     match seen(storage, r.number) {
         Some(subpool) => put_foreign(gathered, writer, storage, subpool, r),
         None => put_unseen(gathered, writer, storage, r.number),
@@ -118,7 +137,7 @@ pub(crate) fn put_unseen<W: Write>(
     storage: &Storage,
     number: u32,
 )
-    ensures { PutsSome (W.contents writer.old) (W.contents writer.new) gathered.old gathered.new }
+    ensures { PutsOneOf unseen_words (W.contents writer.old) (W.contents writer.new) gathered.old gathered.new }
 {
     put_line(
         gathered,
@@ -132,18 +151,16 @@ pub(crate) fn put_unseen<W: Write>(
     );
 }
 
-/// Puts which subpool the current task sees at a number.
-pub(crate) fn put_seen<W: Write>(
+/// Puts whose the subpool is that the current task sees at a number, or is to have there.
+pub(crate) fn put_owned<W: Write>(
     gathered: &mut Gathered,
     writer: &mut W,
     storage: &Storage,
     number: u32,
 )
-    ensures { PutsSome (W.contents writer.old) (W.contents writer.new) gathered.old gathered.new }
+    ensures { PutsOneOf seen_words (W.contents writer.old) (W.contents writer.new) gathered.old gathered.new }
 {
-    let Some(subpool) = seen(storage, number) else {
-        return put_unseen(gathered, writer, storage, number);
-    };
+    let owner = seen_or_own(storage, number).owner;
     put_line(
         gathered,
         writer,
@@ -153,7 +170,55 @@ pub(crate) fn put_seen<W: Write>(
             Piece::Text(" sees subpool "),
             Piece::Number(number),
             Piece::Text(" of task "),
+            Piece::Number(u32::from(owner)),
+        ],
+    );
+}
+
+/// Puts which subpool the current task sees at a number.
+pub(crate) fn put_seen<W: Write>(
+    gathered: &mut Gathered,
+    writer: &mut W,
+    storage: &Storage,
+    number: u32,
+)
+    ensures { PutsSome (W.contents writer.old) (W.contents writer.new) gathered.old gathered.new }
+{
+    match seen(storage, number) {
+        Some(_) => put_owned(gathered, writer, storage, number),
+        None => put_unseen(gathered, writer, storage, number),
+    }
+}
+
+/// Puts that a doubleword is free in a subpool.
+fn put_free_in<W: Write>(gathered: &mut Gathered, writer: &mut W, doubleword: u32, subpool: Subpool)
+    ensures { PutsOneOf free_words (W.contents writer.old) (W.contents writer.new) gathered.old gathered.new }
+{
+    put_line(
+        gathered,
+        writer,
+        &[
+            Piece::Text("the doubleword at "),
+            Piece::Address(doubleword.saturating_mul(8)),
+            Piece::Text(" is free already, in a page of subpool "),
+            Piece::Number(u32::from(subpool.number)),
+            Piece::Text(" of task "),
             Piece::Number(u32::from(subpool.owner)),
+        ],
+    );
+}
+
+/// Puts that the page of a doubleword isn't assigned.
+fn put_nobodys<W: Write>(gathered: &mut Gathered, writer: &mut W, doubleword: u32)
+    ensures { PutsOneOf free_words (W.contents writer.old) (W.contents writer.new) gathered.old gathered.new }
+{
+    put_line(
+        gathered,
+        writer,
+        &[
+            Piece::Text("the doubleword at "),
+            Piece::Address(doubleword.saturating_mul(8)),
+            Piece::Text(" lies in a page that isn't assigned"),
         ],
     );
 }
@@ -164,45 +229,15 @@ pub(crate) fn put_free<W: Write>(
     writer: &mut W,
     storage: &Storage,
     r: Release,
-) {
-    let Some(subpool) = seen(storage, r.number) else {
-        return put_unseen(gathered, writer, storage, r.number);
-    };
+)
+    ensures { PutsOneOf free_words (W.contents writer.old) (W.contents writer.new) gathered.old gathered.new }
+{
+    let subpool = seen_or_own(storage, r.number);
     let area = area_of(r);
     let beside = first_page_beside(storage, subpool, pages_of(area));
     let unassigned = beside.saturating_mul(512).max(area.start);
     match first_free(storage, subpool, area) {
-        Some(free) if free < unassigned => put_line(
-            gathered,
-            writer,
-            &[
-                Piece::Text("the doubleword at "),
-                Piece::Address(free.saturating_mul(8)),
-                Piece::Text(" is free already, in a page of subpool "),
-                Piece::Number(u32::from(subpool.number)),
-                Piece::Text(" of task "),
-                Piece::Number(u32::from(subpool.owner)),
-            ],
-        ),
-        _ => put_line(
-            gathered,
-            writer,
-            &[
-                Piece::Text("the doubleword at "),
-                Piece::Address(unassigned.saturating_mul(8)),
-                Piece::Text(" lies in a page that isn't assigned"),
-            ],
-        ),
+        Some(free) if free < unassigned => put_free_in(gathered, writer, free, subpool),
+        _ => put_nobodys(gathered, writer, unassigned),
     }
-}
-
-/// Puts which extent of a cell pool the area meets.
-pub(crate) fn put_cells<W: Write>(
-    gathered: &mut Gathered,
-    writer: &mut W,
-    storage: &Storage,
-    r: Release,
-) {
-    let area = area_of(r);
-    put_overlap(gathered, writer, storage, area);
 }

@@ -1,4 +1,10 @@
 //! Why a request on tasks is answered as it is, told.
+ghost use Rattle.vsm_model.specs.Tasks.{attach_causes, detach_causes, end_task_causes};
+ghost use Rattle.storage_core.specs.Meaning.{state_of};
+ghost use Rattle.explain_why.specs.Told.{PutsOneOf, TellsCause};
+ghost use Rattle.explain_why.specs.Words.{attach_words, end_task_words, no_list_words, no_task_words, not_parent_words};
+ghost use Rattle.explain_why.specs.Words.{subtask_words, task_count_words, task_words};
+
 use crate::releases::put_seen;
 use place_reasons::{Piece, put_line};
 use std::io::Write;
@@ -23,32 +29,77 @@ fn parent_of(storage: &Storage, task: u32) -> Option<u8> {
     storage.parent(task as u8)
 }
 
-/// Puts that there is no such task, or which one is its parent.
+/// Puts that there is no such task.
+pub(crate) fn put_no_task<W: Write>(gathered: &mut Gathered, writer: &mut W, task: u32)
+    ensures { PutsOneOf no_task_words (W.contents writer.old) (W.contents writer.new) gathered.old gathered.new }
+{
+    put_line(
+        gathered,
+        writer,
+        &[Piece::Text("there is no task "), Piece::Number(task)],
+    );
+}
+
+/// Puts that task 1 has no parent.
+fn put_no_parent<W: Write>(gathered: &mut Gathered, writer: &mut W)
+    ensures { PutsOneOf not_parent_words (W.contents writer.old) (W.contents writer.new) gathered.old gathered.new }
+{
+    put_line(gathered, writer, &[Piece::Text("task 1 has no parent")]);
+}
+
+/// Puts which task is the parent of a task, and which one the current.
+fn put_its_parent<W: Write>(
+    gathered: &mut Gathered,
+    writer: &mut W,
+    task: u32,
+    parent: u8,
+    current: u8,
+)
+    ensures { PutsOneOf not_parent_words (W.contents writer.old) (W.contents writer.new) gathered.old gathered.new }
+{
+    put_line(
+        gathered,
+        writer,
+        &[
+            Piece::Text("the parent of task "),
+            Piece::Number(task),
+            Piece::Text(" is task "),
+            Piece::Number(u32::from(parent)),
+            Piece::Text("; the current task is "),
+            Piece::Number(u32::from(current)),
+        ],
+    );
+}
+
+/// Puts which task is the parent of a task.
 pub(crate) fn put_parent<W: Write>(
     gathered: &mut Gathered,
     writer: &mut W,
     storage: &Storage,
     task: u32,
-) {
+)
+    ensures { PutsOneOf not_parent_words (W.contents writer.old) (W.contents writer.new) gathered.old gathered.new }
+{
     match parent_of(storage, task) {
-        None => put_line(
-            gathered,
-            writer,
-            &[Piece::Text("there is no task "), Piece::Number(task)],
-        ),
-        Some(0) => put_line(gathered, writer, &[Piece::Text("task 1 has no parent")]),
-        Some(parent) => put_line(
-            gathered,
-            writer,
-            &[
-                Piece::Text("the parent of task "),
-                Piece::Number(task),
-                Piece::Text(" is task "),
-                Piece::Number(u32::from(parent)),
-                Piece::Text("; the current task is "),
-                Piece::Number(u32::from(storage.current())),
-            ],
-        ),
+        None | Some(0) => put_no_parent(gathered, writer),
+        Some(parent) => put_its_parent(gathered, writer, task, parent, storage.current()),
+    }
+}
+
+/// Puts why a task can't be ended by another.
+pub(crate) fn put_detach<W: Write>(
+    gathered: &mut Gathered,
+    writer: &mut W,
+    storage: &Storage,
+    task: u32,
+    cause: Cause,
+)
+    ensures { TellsCause (detach_causes (state_of storage.now) task) (task_words cause) cause
+        (W.contents writer.old) (W.contents writer.new) gathered.old gathered.new }
+{
+    match cause {
+        Cause::NoTask => put_no_task(gathered, writer, task),
+        _ => put_parent(gathered, writer, storage, task),
     }
 }
 
@@ -64,53 +115,89 @@ fn first_child(storage: &Storage) -> Option<u8> {
     None
 }
 
-/// Puts whether the current task has a subtask, or which one is its parent.
-pub(crate) fn put_children<W: Write>(gathered: &mut Gathered, writer: &mut W, storage: &Storage) {
-    let current = u32::from(storage.current());
-    let Some(child) = first_child(storage) else {
-        return put_parent(gathered, writer, storage, current);
-    };
+/// Puts which subtask the current task has.
+fn put_subtask<W: Write>(gathered: &mut Gathered, writer: &mut W, current: u8, subtask: u8)
+    ensures { PutsOneOf subtask_words (W.contents writer.old) (W.contents writer.new) gathered.old gathered.new }
+{
     put_line(
         gathered,
         writer,
         &[
             Piece::Text("task "),
-            Piece::Number(current),
+            Piece::Number(u32::from(current)),
             Piece::Text(" has a subtask: task "),
-            Piece::Number(u32::from(child)),
+            Piece::Number(u32::from(subtask)),
         ],
     );
 }
 
-/// Puts why a new task comes, or can't.
+/// Puts why the current task can't end.
+pub(crate) fn put_end<W: Write>(
+    gathered: &mut Gathered,
+    writer: &mut W,
+    storage: &Storage,
+    cause: Cause,
+)
+    ensures { TellsCause (end_task_causes (state_of storage.now)) (end_task_words cause) cause
+        (W.contents writer.old) (W.contents writer.new) gathered.old gathered.new }
+{
+    let current = storage.current();
+    match cause {
+        Cause::HasSubtask => {
+            let subtask = first_child(storage).unwrap_or(0);
+            put_subtask(gathered, writer, current, subtask);
+        }
+        _ => put_parent(gathered, writer, storage, u32::from(current)),
+    }
+}
+
+/// Puts how many tasks are there.
+pub(crate) fn put_task_count<W: Write>(gathered: &mut Gathered, writer: &mut W, storage: &Storage)
+    ensures { PutsOneOf task_count_words (W.contents writer.old) (W.contents writer.new) gathered.old gathered.new }
+{
+    put_line(
+        gathered,
+        writer,
+        &[
+            Piece::Number(count_tasks(storage)),
+            Piece::Text(" of 64 tasks are there"),
+        ],
+    );
+}
+
+/// Puts that a byte of a list isn't there.
+fn put_no_list<W: Write>(gathered: &mut Gathered, writer: &mut W)
+    ensures { PutsOneOf no_list_words (W.contents writer.old) (W.contents writer.new) gathered.old gathered.new }
+{
+    put_line(
+        gathered,
+        writer,
+        &[Piece::Text("a byte of a list isn't assigned")],
+    );
+}
+
+/// Puts the numbers of the subpools that are given and shared.
+fn put_lists<W: Write>(gathered: &mut Gathered, writer: &mut W, storage: &Storage, a: Attach) {
+    let mut named = [false; 128];
+    put_numbers(gathered, writer, storage, "given", a.given, &mut named);
+    put_numbers(gathered, writer, storage, "shared", a.shared, &mut named);
+}
+
+/// Puts why there can't be a new task.
 pub(crate) fn put_attach<W: Write>(
     gathered: &mut Gathered,
     writer: &mut W,
     storage: &Storage,
     a: Attach,
-    cause: Option<Cause>,
-) {
+    cause: Cause,
+)
+    ensures { TellsCause (attach_causes (state_of storage.now) a) (attach_words cause) cause
+        (W.contents writer.old) (W.contents writer.new) gathered.old gathered.new }
+{
     match cause {
-        Some(Cause::TooManyTasks) | None => put_line(
-            gathered,
-            writer,
-            &[
-                Piece::Number(count_tasks(storage)),
-                Piece::Text(" of 64 tasks are there"),
-            ],
-        ),
-        Some(Cause::NotAssigned) => {
-            put_line(
-                gathered,
-                writer,
-                &[Piece::Text("a byte of a list isn't assigned")],
-            )
-        }
-        _ => {
-            let mut named = [false; 128];
-            put_numbers(gathered, writer, storage, "given", a.given, &mut named);
-            put_numbers(gathered, writer, storage, "shared", a.shared, &mut named);
-        }
+        Cause::TooManyTasks => put_task_count(gathered, writer, storage),
+        Cause::NotAssigned => put_no_list(gathered, writer),
+        _ => put_lists(gathered, writer, storage, a),
     }
 }
 

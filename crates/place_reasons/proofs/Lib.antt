@@ -1,3 +1,4 @@
 -- Lemmas on the place of an area, and on what is told of it.
 pub mod Endings
 pub mod NoPlace
+pub mod Within

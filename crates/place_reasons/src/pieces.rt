@@ -1,5 +1,9 @@
 //! Lines of text, put piece by piece.
+ghost use Rattle.std.specs.Prelude.{◌≡◌, ℕ, Some, slice_get};
+ghost use Rattle.text_output.specs.Writing.{Puts};
+ghost use Rattle.place_reasons.specs.Pieces.{piece_text, pieces_text, PutsWithin};
 ghost use Rattle.place_reasons.specs.Told.{PutsSome};
+ghost use Rattle.place_reasons.specs.declared.pieces.Piece.{Piece};
 
 use std::io::Write;
 use text_output::{Gathered, put_decimal, put_hexadecimal};
@@ -18,7 +22,8 @@ pub enum Piece<'a> {
 
 /// Puts a piece.
 fn put_piece<W: Write>(gathered: &mut Gathered, writer: &mut W, piece: Piece<'_>)
-    ensures { PutsSome (W.contents writer.old) (W.contents writer.new) gathered.old gathered.new }
+    ensures { Puts (W.contents writer.old) (W.contents writer.new) gathered.old gathered.new
+        (piece_text piece.entry) }
 {
     match piece {
         Piece::Text(text) => gathered.put(writer, text.as_bytes()),
@@ -30,7 +35,9 @@ fn put_piece<W: Write>(gathered: &mut Gathered, writer: &mut W, piece: Piece<'_>
 
 /// Puts pieces, one behind the other.
 pub fn put_pieces<W: Write>(gathered: &mut Gathered, writer: &mut W, pieces: &[Piece<'_>])
-    ensures { PutsSome (W.contents writer.old) (W.contents writer.new) gathered.old gathered.new }
+    ensures text { Puts (W.contents writer.old) (W.contents writer.new) gathered.old gathered.new
+        (pieces_text pieces.now) }
+    ensures some { PutsSome (W.contents writer.old) (W.contents writer.new) gathered.old gathered.new }
 {
     for piece in pieces {
         put_piece(gathered, writer, *piece);
@@ -39,7 +46,9 @@ pub fn put_pieces<W: Write>(gathered: &mut Gathered, writer: &mut W, pieces: &[P
 
 /// Puts a line of pieces, behind two blanks.
 pub fn put_line<W: Write>(gathered: &mut Gathered, writer: &mut W, pieces: &[Piece<'_>])
-    ensures { PutsSome (W.contents writer.old) (W.contents writer.new) gathered.old gathered.new }
+    ensures some { PutsSome (W.contents writer.old) (W.contents writer.new) gathered.old gathered.new }
+    ensures each { (i : ℕ) (piece : Piece) → slice_get pieces.now i ≡ Some piece
+        → PutsWithin (W.contents writer.old) (W.contents writer.new) gathered.old gathered.new (piece_text piece) }
 {
     gathered.put(writer, b"  ");
     put_pieces(gathered, writer, pieces);

@@ -1,13 +1,16 @@
-use Rattle.std.specs.Prelude.{codes}
-use Rattle.place_reasons.proofs.Endings.{some_both}
+use Rattle.place_reasons.specs.Pieces.{line_text}
+use Rattle.place_reasons.proofs.Within.{line_whole, line_within}
 use Rattle.place_reasons.proofs.pieces.put_line.Goals as goal
 
-pub returns : goal.returns
-returns g c =
-    let old = g.W.Write.contents c.args.writer.now in
-    let first = g.W.Write.contents c.put.new.writer in
-    let second = g.W.Write.contents c.put_pieces.new.writer in
-    let new = g.W.Write.contents c.put-2.new.writer in
-    some_both old second new c.args.gathered.now c.put_pieces.new.gathered c.put-2.new.self
-    (some_both old first second c.args.gathered.now c.put.new.self c.put_pieces.new.gathered (codes "  ", c.put.ensures.puts) c.put_pieces.ensures)
-    (codes "\n", c.put-2.ensures.puts)
+pub returns-clause-some : goal.returns-clause-some
+returns-clause-some g c = (
+  line_text c.args.pieces.now,
+  line_whole (g.W.Write.contents c.args.writer.now) (g.W.Write.contents c.put.new.writer) (g.W.Write.contents c.put_pieces.new.writer) (g.W.Write.contents c.put-2.new.writer)
+      c.args.gathered.now c.put.new.self c.put_pieces.new.gathered c.put-2.new.self c.args.pieces.now c.put.ensures.puts c.put_pieces.ensures.text c.put-2.ensures.puts,
+)
+
+pub returns-clause-each : goal.returns-clause-each
+returns-clause-each g c =
+    line_within (g.W.Write.contents c.args.writer.now) (g.W.Write.contents c.put-2.new.writer) c.args.gathered.now c.put-2.new.self c.args.pieces.now
+    (line_whole (g.W.Write.contents c.args.writer.now) (g.W.Write.contents c.put.new.writer) (g.W.Write.contents c.put_pieces.new.writer) (g.W.Write.contents c.put-2.new.writer)
+    c.args.gathered.now c.put.new.self c.put_pieces.new.gathered c.put-2.new.self c.args.pieces.now c.put.ensures.puts c.put_pieces.ensures.text c.put-2.ensures.puts)

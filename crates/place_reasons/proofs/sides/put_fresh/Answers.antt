@@ -11,4 +11,4 @@ returns-in-Some-clause-some g c =
 pub returns-in-None-clause-some : goal.returns-in-None-clause-some
 returns-in-None-clause-some g c =
     some_both (g.W.Write.contents c.args.writer.now) (g.W.Write.contents c.put_wanted.new.writer) (g.W.Write.contents c.put_pieces.new.writer)
-    c.args.gathered.now c.put_wanted.new.gathered c.put_pieces.new.gathered c.put_wanted.ensures c.put_pieces.ensures
+    c.args.gathered.now c.put_wanted.new.gathered c.put_pieces.new.gathered c.put_wanted.ensures c.put_pieces.ensures.some

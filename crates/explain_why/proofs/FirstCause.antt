@@ -1,0 +1,68 @@
+-- What is told of the cause that the bench finds.
+use Rattle.std.proofs.Common.{◌≡◌, ◌⊎◌, inl, inr, ℕ, Bool, true, false, List, Option, Some, None, length, nat_lt, refl, sym, subst, ◌∙◌}
+use Rattle.std.specs.Prelude.{Ok}
+use Rattle.vsm_model.specs.declared.causes.Cause.{Cause}
+use Rattle.vsm_model.specs.declared.limits.Settings.{Settings}
+use Rattle.vsm_model.specs.Causes.{first_cause}
+use Rattle.vsm_model.specs.Names.{NamedState, is_one_too_many}
+use Rattle.vsm_model.specs.Services.{Service}
+use Rattle.vsm_model.specs.Step.{causes}
+use Rattle.macro_statements.specs.Requests.{Act, Asked, act, peek, map_asked, back, forward}
+use Rattle.vsm_machine.specs.Causes.{is_conditional_get}
+use Rattle.vsm_machine.specs.Machine.{name_asked, service_asked}
+use Rattle.text_output.specs.declared.writing.Gathered.{Gathered}
+use Rattle.bench_core.specs.Causes.{IsFirstCause}
+use Rattle.place_reasons.specs.Told.{PutsSome}
+use Rattle.explain_why.specs.Told.{PutsOneOf, TellsCause, TellsFirstCause, TellsRequest}
+use Rattle.explain_why.specs.Words.{cause_words}
+use Rattle.explain_why.proofs.OneOf.{then_one}
+
+same_service : (o : Option Service) (x y : Service) → o ≡ Some x → o ≡ Some y → x ≡ y
+same_service o x y e f = (let g : ◌≡◌ {A = Option Service} (Some x) (Some y) = sym e ∙ f in cc)
+
+same_cause : (o : Option Cause) (x y : Cause) → o ≡ Some x → o ≡ Some y → x ≡ y
+same_cause o x y e f = (let g : ◌≡◌ {A = Option Cause} (Some x) (Some y) = sym e ∙ f in cc)
+
+none_is_some : {X : Type 0} (o : Option X) (x : X) → o ≡ None → o ≡ Some x → ⊥
+none_is_some {X} o x e f = (let g : ◌≡◌ {A = Option X} None (Some x) = sym e ∙ f in cc)
+
+module _ (settings : Settings) (m : NamedState) (x : Act) where
+  abbrev first_of : Service → Option Cause
+  first_of service = first_cause (causes settings (is_one_too_many m.names (name_asked x)) m.storage service)
+
+  -- a name that isn't defined
+  pub unknown_told : (old new : Option (List ℕ)) (a b : Gathered) → service_asked m x ≡ None → TellsFirstCause settings m x old new a b
+  unknown_told old new a b none service cause asked plain first has = absurd (none_is_some (service_asked m x) service none asked)
+
+  -- no cause
+  pub none_told : (old new : Option (List ℕ)) (a b : Gathered) → IsFirstCause settings m x (Ok None) → TellsFirstCause settings m x old new a b
+  none_told old new a b (its, is, none) service cause asked plain first has =
+      let same = same_service (service_asked m x) its service is asked in
+      absurd (none_is_some (first_of service) cause
+      (subst (λ y. first_of y ≡ None) same (none (inr (subst (λ y. is_conditional_get y ≡ false) (sym same) plain)))) first)
+
+  -- its first cause, behind some text
+  pub cause_told : (its : Service) (c : Cause) (old now new : Option (List ℕ)) (a b d : Gathered) → service_asked m x ≡ Some its
+      → IsFirstCause settings m x (Ok (Some c)) → PutsSome old now a b
+      → ((full : Bool) → TellsCause (causes settings full m.storage its) (cause_words its c) c now new b d) → TellsFirstCause settings m x old new a d
+  cause_told its c old now new a b d is (found, found_is, holds) some told service cause asked plain first has =
+      let same = same_service (service_asked m x) its service is asked in
+      let also = same_service (service_asked m x) found its found_is is in
+      let full = is_one_too_many m.names (name_asked x) in
+      let here = subst (λ y. first_of y ≡ Some c) also (holds (inl refl)) in
+      let cause_is = same_cause (first_of its) c cause here (subst (λ y. first_of y ≡ Some cause) (sym same) first) in
+      subst (λ y. PutsOneOf (cause_words y cause) old new a d) same
+      (subst (λ k. PutsOneOf (cause_words its k) old new a d) cause_is
+      (then_one (cause_words its c) old now new a b d some
+      (told full here (subst (λ k. nat_lt 0 (length (cause_words its k)) ≡ true) (sym cause_is)
+      (subst (λ y. nat_lt 0 (length (cause_words y cause)) ≡ true) (sym same) has)))))
+
+-- the same behind some text
+pub told_behind : (settings : Settings) (m : NamedState) (x : Asked) (old now new : Option (List ℕ)) (a b d : Gathered) → PutsSome old now a b
+    → TellsRequest settings m x now new b d → TellsRequest settings m x old new a d
+told_behind settings m (act x) old now new a b d some told =
+    λ valid service cause asked plain first has. then_one (cause_words service cause) old now new a b d some (told valid service cause asked plain first has)
+told_behind settings m (peek address len) old now new a b d some told = told
+told_behind settings m map_asked old now new a b d some told = told
+told_behind settings m (back n) old now new a b d some told = told
+told_behind settings m (forward n) old now new a b d some told = told

@@ -1,0 +1,56 @@
+-- What stands in a line of pieces.
+use Rattle.std.proofs.Common.{◌≡◌, ℕ, ◌+◌, ◌<◌, zero, suc, take, get_or, length, arith, List, [], ◌∷◌, ◌++◌, Option, Some, None, sym, ap, subst, ◌∙◌, append_assoc}
+use Rattle.std.specs.Prelude.{codes, slice_get}
+use Rattle.std.proofs.Math.Seq.{take-suc}
+use Rattle.std.proofs.lemmas.Grind.{flat_map-append}
+use Rattle.std.proofs.lemmas.List.{append-nil}
+use Rattle.text_output.specs.Writing.{Puts}
+use Rattle.text_output.specs.declared.writing.Gathered.{Gathered}
+use Rattle.text_output.proofs.Gathering.{puts_both}
+use Rattle.place_reasons.specs.declared.pieces.Piece.{Piece}
+use Rattle.place_reasons.specs.Pieces.{piece_text, pieces_text, line_text, PutsWithin}
+
+pieces_within : (ps : List Piece) (i : ℕ) (p : Piece) → slice_get ps i ≡ Some p
+    → (front : List ℕ) × (behind : List ℕ) × (pieces_text ps ≡ front ++ (piece_text p ++ behind))
+pieces_within [] i p e = absurd (let f : ◌≡◌ {A = Option Piece} None (Some p) = e in cc)
+pieces_within (q ∷ ps) zero p e =
+    let same : q ≡ p = (let f : ◌≡◌ {A = Option Piece} (Some q) (Some p) = e in cc) in
+    ([], pieces_text ps, ap (λ x. piece_text x ++ pieces_text ps) same)
+pieces_within (q ∷ ps) (suc i) p e =
+    let its = pieces_within ps i p e in (
+      piece_text q ++ its.0,
+      its.1,
+      ap (λ (x : List ℕ). piece_text q ++ x) its.2 ∙ sym (append_assoc (piece_text q) its.0 (piece_text p ++ its.1)),
+    )
+
+pub line_within : (old new : Option (List ℕ)) (a b : Gathered) (ps : List Piece) → Puts old new a b (line_text ps)
+    → (i : ℕ) (p : Piece) → slice_get ps i ≡ Some p → PutsWithin old new a b (piece_text p)
+line_within old new a b ps h i p e =
+    let its = pieces_within ps i p e in
+    let t = piece_text p in
+    let nl = codes "\n" in (
+      codes "  " ++ its.0,
+      its.1 ++ nl,
+      subst (Puts old new a b)
+          (ap (λ (x : List ℕ). codes "  " ++ (x ++ nl)) its.2
+          ∙ ap (λ (x : List ℕ). codes "  " ++ x) (append_assoc its.0 (t ++ its.1) nl ∙ ap (λ (x : List ℕ). its.0 ++ x) (append_assoc t its.1 nl))
+          ∙ sym (append_assoc (codes "  ") its.0 (t ++ (its.1 ++ nl)))) h,
+    )
+
+-- two blanks, the pieces and a line feed are the line
+pub line_whole : (old first second new : Option (List ℕ)) (a b c d : Gathered) (ps : List Piece) → Puts old first a b (codes "  ")
+    → Puts first second b c (pieces_text ps) → Puts second new c d (codes "\n") → Puts old new a d (line_text ps)
+line_whole old first second new a b c d ps h k l =
+    puts_both old first new a b d (codes "  ") (pieces_text ps ++ codes "\n") h
+    (puts_both first second new b c d (pieces_text ps) (codes "\n") k l)
+
+-- one piece more is put
+pub next_put : (old now new : Option (List ℕ)) (a b c : Gathered) (ps : List Piece) (i : ℕ) (d : Piece) → i < length ps
+    → Puts old now a b (pieces_text (take i ps)) → Puts now new b c (piece_text (get_or ps i d)) → Puts old new a c (pieces_text (take (i + 1) ps))
+next_put old now new a b c ps i d within h k =
+    let x = get_or ps i d in
+    let next : i + 1 ≡ suc i = omega arith in
+    subst (Puts old new a c)
+    (sym (ap (λ (n : ℕ). pieces_text (take n ps)) next ∙ ap pieces_text (take-suc ps i d within) ∙ flat_map-append piece_text (take i ps) (x ∷ [])
+    ∙ ap (λ (y : List ℕ). pieces_text (take i ps) ++ y) (append-nil (piece_text x))))
+    (puts_both old now new a b c (pieces_text (take i ps)) (piece_text x) h k)
