@@ -1,6 +1,6 @@
 -- What is told of the cause that the bench finds.
 use Rattle.std.proofs.Common.{◌≡◌, ◌⊎◌, inl, inr, ℕ, Bool, true, false, List, Option, Some, None, length, nat_lt, refl, sym, subst, ◌∙◌}
-use Rattle.std.specs.Prelude.{Ok}
+use Rattle.std.specs.Prelude.{Ok, IfSome}
 use Rattle.vsm_model.specs.declared.causes.Cause.{Cause}
 use Rattle.vsm_model.specs.declared.limits.Settings.{Settings}
 use Rattle.vsm_model.specs.Causes.{first_cause}
@@ -10,6 +10,8 @@ use Rattle.vsm_model.specs.Step.{causes}
 use Rattle.macro_statements.specs.Requests.{Act, Asked, act, peek, map_asked, back, forward}
 use Rattle.vsm_machine.specs.Causes.{is_conditional_get}
 use Rattle.vsm_machine.specs.Machine.{name_asked, service_asked}
+use Rattle.storage_core.specs.Meaning.{settings_of, state_of}
+use Rattle.storage_core.specs.declared.storage.Storage.{Storage}
 use Rattle.text_output.specs.declared.writing.Gathered.{Gathered}
 use Rattle.bench_core.specs.Causes.{IsFirstCause}
 use Rattle.place_reasons.specs.Told.{PutsSome}
@@ -56,6 +58,16 @@ module _ (settings : Settings) (m : NamedState) (x : Act) where
       (then_one (cause_words its c) old now new a b d some
       (told full here (subst (λ k. nat_lt 0 (length (cause_words its k)) ≡ true) (sym cause_is)
       (subst (λ y. nat_lt 0 (length (cause_words y cause)) ≡ true) (sym same) has)))))
+
+-- what was found
+pub found_told : (s : Storage) (settings : Settings) (m : NamedState) (x : Act) (its : Service) (found : Option Cause) (old now new : Option (List ℕ)) (a b d : Gathered)
+    → settings_of s ≡ settings → state_of s ≡ m.storage → service_asked m x ≡ Some its → IsFirstCause settings m x (Ok found) → PutsSome old now a b
+    → IfSome found (λ c. (full : Bool) → TellsCause (causes (settings_of s) full (state_of s) its) (cause_words its c) c now new b d) → TellsFirstCause settings m x old new a d
+found_told s settings m x its None old now new a b d under stands is found some told = none_told settings m x old new a d found
+found_told s settings m x its (Some c) old now new a b d under stands is found some told =
+    cause_told settings m x its c old now new a b d is found some
+    (λ full. subst (λ t. TellsCause (causes settings full t its) (cause_words its c) c now new b d) stands
+    (subst (λ t. TellsCause (causes t full (state_of s) its) (cause_words its c) c now new b d) under (told full)))
 
 -- the same behind some text
 pub told_behind : (settings : Settings) (m : NamedState) (x : Asked) (old now new : Option (List ℕ)) (a b d : Gathered) → PutsSome old now a b

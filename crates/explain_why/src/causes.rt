@@ -1,7 +1,12 @@
 //! Why a statement is answered as it is: its first cause, or the place of its area, with the numbers that decide.
+ghost use Rattle.std.specs.Prelude.{Bool, IfSome};
+ghost use Rattle.vsm_model.specs.Meaning.{service_in};
+ghost use Rattle.vsm_model.specs.Step.{causes};
+ghost use Rattle.storage_core.specs.Meaning.{settings_of, state_of};
 ghost use Rattle.macro_statements.specs.Requests.{act_in, asked_in, IsValidAct};
 ghost use Rattle.bench_core.specs.Stands.{bench_of, settings_in};
-ghost use Rattle.explain_why.specs.Told.{TellsFirstCause, TellsRequest};
+ghost use Rattle.explain_why.specs.Told.{TellsCause, TellsFirstCause, TellsRequest};
+ghost use Rattle.explain_why.specs.Words.{cause_words};
 
 use crate::areas::{put_area, put_first_extent, put_no_cell};
 use crate::cells::{find_pool, put_no_pool};
@@ -14,7 +19,7 @@ use bench_core::Bench;
 use macro_reader::{Request, Statement, Value};
 use place_reasons::{Piece, put_line};
 use std::io::Write;
-use storage_core::{Service, Storage};
+use storage_core::{Cause, Service, Storage};
 use storage_map::{first_free_cell, next_free_cell};
 use text_output::Gathered;
 
@@ -107,9 +112,27 @@ fn put_statement<W: Write>(
     };
     put_heading(gathered, writer, bench.settings(), &service);
     match bench.cause_of(statement) {
-        Ok(Some(cause)) => put_refusal(gathered, writer, bench.storage(), &service, cause),
-        Ok(None) => put_no_cause(gathered, writer, bench.storage(), &service),
+        Ok(cause) => put_cause(gathered, writer, bench.storage(), &service, cause),
         Err(_) => (),
+    }
+}
+
+/// Puts the first cause of a service, or why it has none.
+fn put_cause<W: Write>(
+    gathered: &mut Gathered,
+    writer: &mut W,
+    storage: &Storage,
+    service: &Service<'_>,
+    cause: Option<Cause>,
+)
+    ensures { IfSome cause (λ its. (full : Bool) → TellsCause
+        (causes (settings_of storage.now) full (state_of storage.now) (service_in service.now))
+        (cause_words (service_in service.now) its) its
+        (W.contents writer.old) (W.contents writer.new) gathered.old gathered.new) }
+{
+    match cause {
+        Some(cause) => put_refusal(gathered, writer, storage, service, cause),
+        None => put_no_cause(gathered, writer, storage, service),
     }
 }
 
