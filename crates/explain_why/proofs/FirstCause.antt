@@ -15,9 +15,10 @@ use Rattle.storage_core.specs.declared.storage.Storage.{Storage}
 use Rattle.text_output.specs.declared.writing.Gathered.{Gathered}
 use Rattle.bench_core.specs.Causes.{IsFirstCause}
 use Rattle.place_reasons.specs.Told.{PutsSome}
-use Rattle.explain_why.specs.Told.{PutsOneOf, TellsCause, TellsFirstCause, TellsRequest}
-use Rattle.explain_why.specs.Words.{cause_words}
-use Rattle.explain_why.proofs.OneOf.{then_one}
+use Rattle.cause_reasons.specs.Told.{PutsOneOf, TellsCause}
+use Rattle.explain_why.specs.Told.{TellsFirstCause, TellsRequest}
+use Rattle.cause_reasons.specs.Words.{cause_words}
+use Rattle.cause_reasons.proofs.OneOf.{then_one}
 
 same_service : (o : Option Service) (x y : Service) → o ≡ Some x → o ≡ Some y → x ≡ y
 same_service o x y e f = (let g : ◌≡◌ {A = Option Service} (Some x) (Some y) = sym e ∙ f in cc)

@@ -1,4 +1,2 @@
--- Lemmas on what is told of causes.
+-- Lemmas on what is told of first causes.
 pub mod FirstCause
-pub mod LastCause
-pub mod OneOf

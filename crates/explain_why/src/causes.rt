@@ -5,17 +5,17 @@ ghost use Rattle.vsm_model.specs.Step.{causes};
 ghost use Rattle.storage_core.specs.Meaning.{settings_of, state_of};
 ghost use Rattle.macro_statements.specs.Requests.{act_in, asked_in, IsValidAct};
 ghost use Rattle.bench_core.specs.Stands.{bench_of, settings_in};
-ghost use Rattle.explain_why.specs.Told.{TellsCause, TellsFirstCause, TellsRequest};
-ghost use Rattle.explain_why.specs.Words.{cause_words};
+ghost use Rattle.cause_reasons.specs.Told.{TellsCause};
+ghost use Rattle.cause_reasons.specs.Words.{cause_words};
+ghost use Rattle.explain_why.specs.Told.{TellsFirstCause, TellsRequest};
 
-use crate::areas::{put_area, put_first_extent, put_no_cell};
-use crate::cells::{find_pool, put_no_pool};
 use crate::headings::{put_heading, put_number};
-use crate::pages::{put_bytes, put_pages};
 use crate::refusals::put_refusal;
-use crate::releases::put_seen;
-use crate::tasks::{put_parent, put_task_count};
 use bench_core::Bench;
+use cause_reasons::{
+    find_pool, put_area, put_bytes, put_first_extent, put_no_cell, put_no_pool, put_pages,
+    put_parent, put_seen, put_task_count,
+};
 use macro_reader::{Request, Statement, Value};
 use place_reasons::{Piece, put_line};
 use std::io::Write;

@@ -2,16 +2,11 @@
 #![tactic(auto)]
 
 mod ahead;
-mod areas;
 mod causes;
-mod cells;
 mod faults;
 mod headings;
 mod lines;
-mod pages;
 mod refusals;
-mod releases;
-mod tasks;
 
 pub use bench_core::NewFault;
 pub use faults::WhyFault;

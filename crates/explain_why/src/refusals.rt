@@ -6,17 +6,17 @@ ghost use Rattle.vsm_model.specs.Obtaining.{obtain_causes};
 ghost use Rattle.vsm_model.specs.Releasing.{release_causes, whole_causes};
 ghost use Rattle.vsm_model.specs.Step.{causes};
 ghost use Rattle.storage_core.specs.Meaning.{settings_of, state_of};
-ghost use Rattle.explain_why.specs.Told.{PutsOneOf, TellsCause};
-ghost use Rattle.explain_why.specs.Words.{bad_cells_words, build_words, cause_words, get_words, left_out_words};
-ghost use Rattle.explain_why.specs.Words.{lengths_words, misaligned_words, names_full_words, obtain_words, pool_words};
-ghost use Rattle.explain_why.specs.Words.{pool_exists_words, pools_full_words, release_words, too_high_words};
-ghost use Rattle.explain_why.specs.Words.{empty_words, whole_words, zero_words};
+ghost use Rattle.cause_reasons.specs.Told.{PutsOneOf, TellsCause};
+ghost use Rattle.cause_reasons.specs.Words.{bad_cells_words, build_words, cause_words, get_words, left_out_words};
+ghost use Rattle.cause_reasons.specs.Words.{lengths_words, misaligned_words, names_full_words, obtain_words};
+ghost use Rattle.cause_reasons.specs.Words.{pool_words, pool_exists_words, pools_full_words, release_words};
+ghost use Rattle.cause_reasons.specs.Words.{too_high_words, empty_words, whole_words, zero_words};
 
-use crate::areas::{put_area, put_first_extent, put_no_cell};
-use crate::cells::{count_pools, put_no_pool, put_not_in_use, put_overlap};
-use crate::pages::put_not_there;
-use crate::releases::{put_free, put_not_in_subpool, put_owned, put_unseen};
-use crate::tasks::{put_attach, put_detach, put_end, put_no_task};
+use cause_reasons::{
+    count_pools, put_area, put_attach, put_detach, put_end, put_first_extent, put_free,
+    put_no_cell, put_no_pool, put_no_task, put_not_in_subpool, put_not_in_use, put_not_there,
+    put_overlap, put_owned, put_unseen,
+};
 use place_reasons::{Piece, put_line};
 use std::io::Write;
 use storage_core::{Build, Cause, Get, Lengths, Obtain, Release, Service, Storage};

@@ -1,4 +1,4 @@
-use Rattle.explain_why.proofs.OneOf.{want_told}
+use Rattle.cause_reasons.proofs.OneOf.{want_told}
 use Rattle.explain_why.proofs.refusals.put_obtain.Goals as goal
 
 pub returns-in_default : goal.returns-in_default

@@ -3,8 +3,8 @@ use Rattle.std.specs.Option.{option_map}
 use Rattle.vsm_model.specs.Meaning.{service_in}
 use Rattle.vsm_model.specs.Step.{causes}
 use Rattle.storage_core.specs.Meaning.{settings_of, state_of}
-use Rattle.explain_why.specs.Told.{TellsCause}
-use Rattle.explain_why.specs.Words.{cause_words}
+use Rattle.cause_reasons.specs.Told.{TellsCause}
+use Rattle.cause_reasons.specs.Words.{cause_words}
 use Rattle.explain_why.proofs.refusals.put_refusal.Goals as goal
 
 pub returns-in-Build : goal.returns-in-Build

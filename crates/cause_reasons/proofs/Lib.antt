@@ -1,0 +1,3 @@
+-- Lemmas on the words of causes.
+pub mod LastCause
+pub mod OneOf

@@ -1,0 +1,14 @@
+use Rattle.std.proofs.Common.{refl}
+use Rattle.cause_reasons.specs.Words.{no_cell_words}
+use Rattle.cause_reasons.proofs.OneOf.{one_then}
+use Rattle.cause_reasons.proofs.areas.put_no_cell.Goals as goal
+
+pub returns-then-conditional : goal.returns-then-conditional
+returns-then-conditional g c =
+    one_then no_cell_words (g.W.Write.contents c.args.writer.now) (g.W.Write.contents c.put_line.new.writer) (g.W.Write.contents c.put_line-then-conditional.new.writer)
+    c.args.gathered.now c.put_line.new.gathered c.put_line-then-conditional.new.gathered (0, _, refl, c.put_line.ensures.each 0 _ refl) c.put_line-then-conditional.ensures.some
+
+pub returns : goal.returns
+returns g c =
+    one_then no_cell_words (g.W.Write.contents c.args.writer.now) (g.W.Write.contents c.put_line.new.writer) (g.W.Write.contents c.put_further_extent.new.writer)
+    c.args.gathered.now c.put_line.new.gathered c.put_further_extent.new.gathered (0, _, refl, c.put_line.ensures.each 0 _ refl) c.put_further_extent.ensures

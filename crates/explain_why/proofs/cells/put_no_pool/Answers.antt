@@ -1,8 +1,0 @@
-use Rattle.explain_why.specs.Words.{no_pool_words}
-use Rattle.explain_why.proofs.OneOf.{one_then}
-use Rattle.explain_why.proofs.cells.put_no_pool.Goals as goal
-
-pub returns-in-Some : goal.returns-in-Some
-returns-in-Some g c =
-    one_then no_pool_words (g.W.Write.contents c.args.writer.now) (g.W.Write.contents c.put_where.new.writer) (g.W.Write.contents c.put_seen.new.writer)
-    c.args.gathered.now c.put_where.new.gathered c.put_seen.new.gathered c.put_where.ensures c.put_seen.ensures
