@@ -19,8 +19,8 @@ import facts
 import manual
 from facts import Commit, Refusal
 
-# What of tools/ and page/ isn't put with the tools: tests, what bench.html is made from, and the library, which has places
-# of its own.
+# What of tools/ and page/ isn't put with the tools: tests, what bench.html is made from, and the library, which has
+# places of its own.
 NOT_INSTALLED = re.compile(r".*/(tests/|\.)|(page|tools)/check|tools/(c/|vsm_bench)|"
                            r"page/(bench|module|host|chromium|colours|expected|on_page|\w*trials)")
 # How the tools begin, and how a package wants them to.
@@ -168,8 +168,8 @@ def copyright_of(release: Release, licences: dict[str, bytes]) -> str:
     lines = ["Nilbozad", f"Copyright {year} The Nilbozad authors", "",
              "Licensed under either of the Apache License, Version 2.0 (LICENSE-APACHE; on Debian",
              "/usr/share/common-licenses/Apache-2.0), or the MIT licence (LICENSE-MIT), at your option.", "",
-             "vsm, vsm-explain and the library have code of these crates of the kit that they are built with. Their licences:",
-             ""]
+             "vsm, vsm-explain and the library have code of these crates of the kit that they are built with.",
+             "Their licences:", ""]
     text = (release.top / "LICENSE-MIT").read_text(encoding="utf-8")
     for name in sorted({it.partition("-LICENSE")[0] for it in licences}):
         own = [f"licenses/{it}" for it in sorted(licences) if it.startswith(f"{name}-LICENSE")]

@@ -92,8 +92,8 @@ def compare(what: str, got: object, wanted: object) -> None:
 
 def make_library(top: str) -> None:
     """Has tools/c/build make the library for C; what is made already stays."""
-    done = subprocess.run([os.path.join(top, "tools", "c", "build")], stdin=subprocess.DEVNULL, stdout=subprocess.DEVNULL,
-                          stderr=subprocess.PIPE, text=True)
+    done = subprocess.run([os.path.join(top, "tools", "c", "build")], stdin=subprocess.DEVNULL,
+                          stdout=subprocess.DEVNULL, stderr=subprocess.PIPE, text=True)
     if done.returncode:
         raise Failure(done.stderr.strip())
 
