@@ -109,8 +109,7 @@ impl Storage {
             ≤ live_count self.old.parts.elements + elements_needed (state_in_place self.old) (Attach plan)) }
         ensures made { IfOk result (λ _. MakesElements self.old.parts.elements self.new.parts.elements
             (elements_needed (state_in_place self.old) (Attach plan))) }
-        ensures made_frames { IfOk result (λ _. MakesFrames self.old.parts.region self.new.parts.region
-            0) }
+        ensures made_frames { IfOk result (λ _. MakesFrames self.old.parts.region self.new.parts.region 0) }
         ensures err { OnErr result (Stays self.old.parts self.new.parts) }
         ensures needless { elements_needed (state_in_place self.old) (Attach plan) ≤ self.old.parts.elements.spare
             → IsOk result }
@@ -133,8 +132,7 @@ impl Storage {
             ≤ live_count self.old.parts.elements + elements_needed (state_in_place self.old) (End plan)) }
         ensures made { IfOk result (λ _. MakesElements self.old.parts.elements self.new.parts.elements
             (elements_needed (state_in_place self.old) (End plan))) }
-        ensures made_frames { IfOk result (λ _. MakesFrames self.old.parts.region self.new.parts.region
-            0) }
+        ensures made_frames { IfOk result (λ _. MakesFrames self.old.parts.region self.new.parts.region 0) }
         ensures err { OnErr result (Stays self.old.parts self.new.parts) }
         ensures needless { elements_needed (state_in_place self.old) (End plan) ≤ self.old.parts.elements.spare
             → IsOk result }
@@ -157,8 +155,7 @@ impl Storage {
             ≤ live_count self.old.parts.elements + elements_needed (state_in_place self.old) (Delete plan)) }
         ensures made { IfOk result (λ _. MakesElements self.old.parts.elements self.new.parts.elements
             (elements_needed (state_in_place self.old) (Delete plan))) }
-        ensures made_frames { IfOk result (λ _. MakesFrames self.old.parts.region self.new.parts.region
-            0) }
+        ensures made_frames { IfOk result (λ _. MakesFrames self.old.parts.region self.new.parts.region 0) }
         ensures err { OnErr result (Stays self.old.parts self.new.parts) }
         ensures needless { elements_needed (state_in_place self.old) (Delete plan) ≤ self.old.parts.elements.spare
             → IsOk result }
