@@ -161,8 +161,7 @@ fn plan_pool(
         ++ register_records (state_of storage.now) ((15, 0) ∷ []) }
     ensures blanks { result.blanks ≡ place_blanks place }
     ensures fresh { result.fresh ≡ place_pages (doublewords (settings.primary * settings.size)) place }
-    ensures reply { result.reply
-        ≡ Obtained (place_address place) (8 * doublewords (settings.primary * settings.size)) }
+    ensures reply { result.reply ≡ Obtained (place_address place) (8 * doublewords (settings.primary * settings.size)) }
 {
     let count = extent_doublewords(settings.primary, settings.size);
     let mut records = ArrayVec::new();

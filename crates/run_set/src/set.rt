@@ -72,14 +72,11 @@ impl RunSet {
         requires absent { NoneIn (λ n. holds elements.old self.old n) run }
         requires room { 0 < elements.old.spare }
         ensures set { IsRunSet elements.new self.new }
-        ensures numbers { (n : ℕ) → holds elements.new self.new n
-            ≡ (inside n run || holds elements.old self.old n) }
+        ensures numbers { (n : ℕ) → holds elements.new self.new n ≡ (inside n run || holds elements.old self.old n) }
         ensures runs { AreRunsOf (runs elements.new self.new) (λ n. holds elements.new self.new n) }
-        ensures owned { Leaves elements.old elements.new
-            (owned elements.old self.old) (owned elements.new self.new) }
+        ensures owned { Leaves elements.old elements.new (owned elements.old self.old) (owned elements.new self.new) }
         ensures spares { elements.old.spare ≤ elements.new.spare + 1 }
-        ensures exact { elements.new.spare + 1
-            ≡ elements.old.spare + joins (λ n. holds elements.old self.old n) run }
+        ensures exact { elements.new.spare + 1 ≡ elements.old.spare + joins (λ n. holds elements.old self.old n) run }
     {
         let sought = self.seek(elements, run.start);
         let place = sought.place;
@@ -119,11 +116,9 @@ impl RunSet {
         ensures numbers { (n : ℕ) → holds elements.new self.new n
             ≡ (not (inside n run) && holds elements.old self.old n) }
         ensures runs { AreRunsOf (runs elements.new self.new) (λ n. holds elements.new self.new n) }
-        ensures owned { Leaves elements.old elements.new
-            (owned elements.old self.old) (owned elements.new self.new) }
+        ensures owned { Leaves elements.old elements.new (owned elements.old self.old) (owned elements.new self.new) }
         ensures spares { elements.old.spare ≤ elements.new.spare + 1 }
-        ensures exact { elements.new.spare + joins (λ n. holds elements.old self.old n) run
-            ≡ elements.old.spare + 1 }
+        ensures exact { elements.new.spare + joins (λ n. holds elements.old self.old n) run ≡ elements.old.spare + 1 }
     {
         let sought = self.seek(elements, run.start);
         let place = sought.place;
@@ -228,10 +223,8 @@ impl RunSet {
         requires set { IsRunSet elements.now self.now }
         requires asked { (0 < len) × (len ≤ 2 ^ 29) × (0 < boundary) × (boundary ≤ 512) }
         requires region { region.start + region.len ≤ 2 ^ 29 }
-        ensures none { IfNone result ((a : ℕ)
-            → ¬ Fits (λ n. holds elements.now self.now n) region a len boundary) }
-        ensures least { IfSome result (λ a. IsLeastFit
-            (λ n. holds elements.now self.now n) region a len boundary) }
+        ensures none { IfNone result ((a : ℕ) → ¬ Fits (λ n. holds elements.now self.now n) region a len boundary) }
+        ensures least { IfSome result (λ a. IsLeastFit (λ n. holds elements.now self.now n) region a len boundary) }
     {
         let count = self.tree.count;
         let end = region.start + region.len;

@@ -103,8 +103,7 @@ fn find_place(
     requires subpool { subpool ≡ seen_or_own (model_of (state_of storage.now)) o.number }
     requires some { 0 < minimum o.lengths }
     requires ordered { minimum o.lengths ≤ maximum o.lengths }
-    ensures count { IfSome result (λ found.
-        longest settings (model_of (state_of storage.now)) o ≡ Some found.0) }
+    ensures count { IfSome result (λ found. longest settings (model_of (state_of storage.now)) o ≡ Some found.0) }
     ensures place { IfSome result (λ found. place_of (Some found.1)
         ≡ place_for settings (model_of (state_of storage.now)) o found.0) }
     ensures none { IfNone result (longest settings (model_of (state_of storage.now)) o ≡ None) }
@@ -143,11 +142,9 @@ pub(crate) fn find_area(
     requires valid { settings_valid settings ≡ true }
     ensures none { IfOk result (λ found.
         first_cause (obtain_causes settings names_full (model_of (state_of storage.now)) o) ≡ None) }
-    ensures subpool { IfOk result (λ found.
-        found.subpool ≡ seen_or_own (model_of (state_of storage.now)) o.number) }
+    ensures subpool { IfOk result (λ found. found.subpool ≡ seen_or_own (model_of (state_of storage.now)) o.number) }
     ensures is_new { IfOk result (λ found. found.is_new ≡ not (sees_one (model_of (state_of storage.now)) o.number)) }
-    ensures count { IfOk result (λ found.
-        longest settings (model_of (state_of storage.now)) o ≡ Some found.count) }
+    ensures count { IfOk result (λ found. longest settings (model_of (state_of storage.now)) o ≡ Some found.count) }
     ensures place { IfOk result (λ found. place_of (Some found.place)
         ≡ place_for settings (model_of (state_of storage.now)) o found.count) }
     ensures err { IfErr result (λ cause.

@@ -68,8 +68,7 @@ pub fn reasons(
     requires valid { settings_valid settings ≡ true }
     requires asked { (0 < count) × (count ≤ 2 ^ 29) × (0 < spacing) × (spacing ≤ 512) }
     ensures first { IsReason settings (model_of (state_of storage.now)) side subpool count spacing result.0 }
-    ensures second { IfSome result.1
-        (IsReason settings (model_of (state_of storage.now)) Below subpool count spacing) }
+    ensures second { IfSome result.1 (IsReason settings (model_of (state_of storage.now)) Below subpool count spacing) }
     ensures place { reasons_place result
         ≡ place (model_of (state_of storage.now)) (regions_for settings side) subpool count spacing }
 {

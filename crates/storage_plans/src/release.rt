@@ -179,8 +179,7 @@ fn find_given_back(storage: &Parts, settings: Settings, r: Release) -> Result<Gi
     requires valid { settings_valid settings ≡ true }
     ensures none { IfOk result (λ found.
         first_cause (release_causes settings (model_of (state_of storage.now)) r) ≡ None) }
-    ensures subpool { IfOk result (λ found.
-        found.subpool ≡ seen_or_own (model_of (state_of storage.now)) r.number) }
+    ensures subpool { IfOk result (λ found. found.subpool ≡ seen_or_own (model_of (state_of storage.now)) r.number) }
     ensures area { IfOk result (λ found. found.area ≡ run_of (r.address / 8) (doublewords r.length)) }
     ensures some { IfOk result (λ found. 0 < found.area.len) }
     ensures range { IfOk result (λ found. found.area.start + found.area.len ≤ 2 ^ 29) }

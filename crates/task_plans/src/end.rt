@@ -232,8 +232,7 @@ fn park_owned(
     requires none { parked_in storage.old builder.old ≡ no_subpools }
     ensures builds { Builds storage.old builder.old storage.new builder.new }
     ensures records { OnOk result (records_in storage.new builder.new ≡ records_in storage.old builder.old) }
-    ensures parked { OnOk result (parked_in storage.new builder.new
-        ≡ empties (parks_all (state_of storage.old) top)) }
+    ensures parked { OnOk result (parked_in storage.new builder.new ≡ empties (parks_all (state_of storage.old) top)) }
     ensures spare { OnOk result (storage.old.elements.spare
         ≤ storage.new.elements.spare + length (parks_all (state_of storage.old) top)) }
     ensures live { OnOk result (live_count storage.new.elements
