@@ -2,6 +2,7 @@ pub mod Frames
 pub mod Held
 pub mod Meaning
 pub mod Planned
+pub mod Fresh
 pub mod Stays
 pub mod Walks
 pub mod Weight
