@@ -6,7 +6,7 @@ ghost use Rattle.run_set.specs.Counts.{joins};
 ghost use Rattle.run_set.specs.Runs.{inside, AllIn, NoneIn, AreRunsOf, IsCover};
 ghost use Rattle.run_set.specs.Fits.{Fits, IsLeastFit, IsLongest};
 
-use crate::clip::clipped;
+use crate::clip::{PAGE, clipped};
 use crate::places::RunPlace;
 use crate::run::Cover;
 use run_tree::{Run, RunTree};
@@ -230,7 +230,7 @@ impl RunSet {
         let end = region.start + region.len;
         let mut place = self.tree.seek(elements, region.start);
         while place < count {
-            let at = self.tree.first_room(elements, place, len, boundary == 512);
+            let at = self.tree.first_room(elements, place, len, boundary == PAGE);
             if at == count {
                 return None;
             }
@@ -258,8 +258,8 @@ impl RunSet {
         if boundary == 1 {
             return self.longest_found(elements, 1, region);
         }
-        if boundary == 512 {
-            return self.longest_found(elements, 512, region);
+        if boundary == PAGE {
+            return self.longest_found(elements, PAGE, region);
         }
         self.longest_walked(elements, boundary, region)
     }

@@ -12,6 +12,7 @@ ghost use Rattle.storage_plans.specs.Places.{StandsSound, place_of};
 
 use crate::places::{AreaPlace, area_place, longest_place};
 use storage_exchange::Parts;
+use vsm_model::geometry::{LAST_SUBPOOL, PAGE_DOUBLEWORDS};
 use vsm_model::{Boundary, Cause, Lengths, Location, Obtain, Residence, Settings, Subpool};
 
 /// An area that was found for a request.
@@ -34,7 +35,7 @@ pub fn check_number(number: u32) -> Result<u8, Cause>
     ensures refused { OnErr result (127 < number) }
 {
     match number {
-        0..=127 => Ok(number as u8),
+        0..=LAST_SUBPOOL => Ok(number as u8),
         131 | 132 => Err(Cause::UnsupportedSubpool),
         _ => Err(Cause::SubpoolNotAllowed),
     }
@@ -58,7 +59,7 @@ pub(crate) fn spacing_of(boundary: Boundary) -> u32
 {
     match boundary {
         Boundary::Doubleword => 1,
-        Boundary::Page => 512,
+        Boundary::Page => PAGE_DOUBLEWORDS,
     }
 }
 

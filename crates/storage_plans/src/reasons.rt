@@ -13,8 +13,9 @@ ghost use Rattle.storage_plans.specs.Reasons.{IsReason, reasons_place};
 
 use crate::areas::{minimum_of, side_of, spacing_of};
 use crate::places::longest_place;
-use crate::searches::{PAGE_DOUBLEWORDS, least_area, least_pages, longest_area, longest_pages};
+use crate::searches::{least_area, least_pages, longest_area, longest_pages};
 use storage_exchange::Parts;
+use vsm_model::geometry::PAGE_DOUBLEWORDS;
 use vsm_model::{Obtain, Residence, Settings, Subpool};
 
 /// What one side of the line has for an area.
