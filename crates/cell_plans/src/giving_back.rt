@@ -34,7 +34,7 @@ fn push_between(
     to: u32,
     free: bool,
 )
-    requires { array_vec_len records.old < 17 }
+    requires { array_vec_len records.old < 8 }
     ensures records { records.new.items ≡ records.old.items ++ area_records subpool from (to - from) free }
     ensures few { array_vec_len records.new ≤ array_vec_len records.old + 1 }
 {
@@ -52,7 +52,7 @@ fn push_between(
 
 // The pages, which are the subpool's, leave it and become unassigned.
 fn push_returned(records: &mut ArrayVec<Record, PLAN_RECORDS>, subpool: Subpool, run: Run)
-    requires few { array_vec_len records.old + 2 ≤ 17 }
+    requires few { array_vec_len records.old + 2 ≤ 8 }
     requires some { 0 < run.len }
     ensures records { records.new.items ≡ records.old.items ++ returned_records subpool run.start run.len }
 {

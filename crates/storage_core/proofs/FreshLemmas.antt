@@ -15,7 +15,7 @@ use Rattle.storage_exchange.specs.declared.storage.Parts.{Parts}
 use Rattle.storage_swap.proofs.FrameLemmas.{nowhere}
 use Rattle.storage_core.specs.declared.storage.Storage.{Storage}
 use Rattle.storage_core.specs.declared.plans.Plan.{Plan}
-use Rattle.storage_core.specs.declared.plans.Plan.TheVariants.{Storage as OfStorage, Attach, End, Build, Delete}
+use Rattle.storage_core.specs.declared.plans.Plan.TheVariants.{Storage as OfStorage, Store, Attach, End, Build, Delete}
 use Rattle.storage_core.specs.Meaning.{state_in_place}
 use Rattle.storage_core.specs.Planned.{Assigns, AssignsOnly, CanBeReserved, IsIdFor, change_for, fresh_pages}
 use Rattle.storage_core.specs.Fresh.{AreNewlyAssigned}
@@ -24,6 +24,7 @@ use Rattle.storage_core.specs.Fresh.{AreNewlyAssigned}
 pub zero_is_free : (s : Storage) (plan : Plan) → IsIdFor (state_in_place s) plan 0
 unfolding at
 zero_is_free s (OfStorage plan) = tt
+zero_is_free s (Store plan) = tt
 zero_is_free s (Attach plan) = tt
 zero_is_free s (End plan) = tt
 zero_is_free s (Delete plan) = tt
@@ -38,6 +39,7 @@ zero_is_free s (Build plan) = (omega (arith), go ((state_in_place s).subpools.ce
 -- the pages of a plan are unassigned
 unassigned : (m : StorageState) (plan : Plan) → CanBeReserved m plan → (page : ℕ) → inside page (fresh_pages plan) ≡ true → m.unassigned page ≡ true
 unassigned m (OfStorage plan) can page in-run = can.unassigned page in-run
+unassigned m (Store plan) can page in-run = absurd (true≢false (sym in-run ∙ nowhere page))
 unassigned m (Attach plan) can page in-run = absurd (true≢false (sym in-run ∙ nowhere page))
 unassigned m (End plan) can page in-run = absurd (true≢false (sym in-run ∙ nowhere page))
 unassigned m (Build plan) can page in-run = can.unassigned page in-run

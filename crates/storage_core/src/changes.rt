@@ -29,11 +29,12 @@ impl Storage {
     /// table for each page that comes to be assigned. The storage stays as it is, whatever the answer.
     ///
     /// It takes at most 25 elements and its plan's blank ones, and 8 for each extent that leaves with a whole subpool
-    /// that is emptied. That of a new task takes 32 at most, and 4 for each number that it is given or shares; that of
-    /// tasks that end 32, and 8 for each task, subpool, extent and row of sight that leaves; that of a cell pool that
-    /// comes 30, and those of its cells and of their marks; and that of one that goes 32, and 8 for it and for each of
-    /// its extents. These are its records, its blank elements and what it has parked: an element for each empty
-    /// subpool, or the elements of a cell pool that comes. It has just as many frames as pages come to be assigned.
+    /// that is emptied. That of a store takes 17 at most; that of a new task 32, and 4 for each number that it is given
+    /// or shares; that of tasks that end 32, and 8 for each task, subpool, extent and row of sight that leaves; that of
+    /// a cell pool that comes 30, and those of its cells and of their marks; and that of one that goes 32, and 8 for it
+    /// and for each of its extents. These are its records, its blank elements and what it has parked: an element for
+    /// each empty subpool, or the elements of a cell pool that comes. It has just as many frames as pages come to be
+    /// assigned.
     ///
     /// `AllocError` where memory is refused: that can be only where fewer elements or frames are spare, or a table
     /// isn't there. What was made before that stays, as spare elements and frames. For a change at most a block of
@@ -59,6 +60,7 @@ impl Storage {
     {
         match plan {
             Plan::Storage(plan) => self.reserve_storage(plan),
+            Plan::Store(plan) => self.reserve_store(plan),
             Plan::Attach(plan) => self.reserve_attach(plan),
             Plan::End(plan) => self.reserve_end(plan),
             Plan::Build(plan) => self.reserve_building(plan),
