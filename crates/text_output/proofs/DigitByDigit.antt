@@ -1,8 +1,11 @@
 -- Numbers digit by digit.
-use Rattle.std.proofs.Common.{◌≡◌, ℕ, zero, suc, ◌+◌, ◌-◌, ◌/◌, ◌%◌, ◌^◌, ◌<◌, ◌≤◌, ◌⊎◌, inl, inr, true, false, cond, List, [], ◌∷◌, ◌++◌, length, take, drop, set, min, replicate, subst, sym, ◌∙◌, ap, refl, arith, append_assoc}
+use Rattle.std.proofs.Common.{◌≡◌, ℕ, zero, suc, ◌+◌, ◌-◌, ◌*◌, ◌/◌, ◌%◌, ◌^◌, ◌<◌, ◌≤◌, ◌⊎◌, inl, inr, true, false, cond, List, [], ◌∷◌, ◌++◌, length, take, drop, set, get_or, min, replicate, subst, sym, ◌∙◌, ap, refl, arith, append_assoc}
 use Rattle.std.proofs.lemmas.Bool.{cases_lt, eq-eqb, ne_eqb}
-use Rattle.std.proofs.lemmas.List.{append-nil, length-append, drop-set, replicate-append-replicate}
+use Rattle.std.proofs.lemmas.Fmt.{hex_byte}
+use Rattle.std.proofs.lemmas.Grind.{flat_map-append}
+use Rattle.std.proofs.lemmas.List.{append-nil, length-append, length-set, drop-set, take_more, take_more_set, replicate-append-replicate}
 use Rattle.std.specs.Fmt.{digits, digits_onto, digit_glyph, padded_integral, format_spec, char_count}
+use Rattle.std.specs.List.{flat_map}
 use Rattle.vsm_model.specs.Texts.{hexadecimal}
 
 abbrev spell : ℕ → ℕ → List ℕ → List ℕ
@@ -168,3 +171,28 @@ zeros_in_front width n small =
     let both : width - length ds ≡ width - 8 + (min width 8 - length ds) = omega (arith, few) in
     with_zeros width ds ∙ split_zeros (width - length ds) (width - 8) (min width 8 - length ds) ds both
     ∙ ap (λ x. zeros (width - 8) ++ x) (sym (with_zeros (min width 8) ds))
+
+-- two places more are written
+two_more : (places : List ℕ) (i a b : ℕ) → 2 * i + 1 < length places → take (2 * (i + 1)) (set (set places (2 * i) a) (2 * i + 1) b) ≡ take (2 * i) places ++ a ∷ b ∷ []
+two_more places i a b room =
+    let next : 2 * (i + 1) ≡ 2 * i + 1 + 1 = omega arith in
+    let once = set places (2 * i) a in
+    let long : length once ≡ length places = length-set places (2 * i) a in
+    ap (λ k. take k (set once (2 * i + 1) b)) next ∙ take_more_set once (2 * i + 1) b (omega (arith, room, long))
+    ∙ ap (λ x. x ++ b ∷ []) (take_more_set places (2 * i) a (omega (arith, room)))
+    ∙ append_assoc (take (2 * i) places) (a ∷ []) (b ∷ [])
+
+-- the digits of one byte more
+bytes_more : (bytes : List ℕ) (i d : ℕ) → i < length bytes
+    → flat_map (hexadecimal 2) (take (i + 1) bytes) ≡ flat_map (hexadecimal 2) (take i bytes) ++ hexadecimal 2 (get_or bytes i d)
+bytes_more bytes i d within =
+    ap (flat_map (hexadecimal 2)) (take_more bytes i d within) ∙ flat_map-append (hexadecimal 2) (take i bytes) (get_or bytes i d ∷ [])
+    ∙ ap (λ x. flat_map (hexadecimal 2) (take i bytes) ++ x) (append-nil (hexadecimal 2 (get_or bytes i d)))
+
+-- The two digits of a byte are written behind those of the bytes before it.
+pub byte_written : (places bytes : List ℕ) (i d n a b : ℕ) → i < length bytes → 2 * i + 1 < length places → n ≡ get_or bytes i d → n < 256
+    → a ≡ digit_glyph true (n / 16) → b ≡ digit_glyph true (n % 16) → take (2 * i) places ≡ flat_map (hexadecimal 2) (take i bytes)
+    → take (2 * (i + 1)) (set (set places (2 * i) a) (2 * i + 1) b) ≡ flat_map (hexadecimal 2) (take (i + 1) bytes)
+byte_written places bytes i d n a b within room is small high low front =
+    let shown : a ∷ b ∷ [] ≡ hexadecimal 2 (get_or bytes i d) = (λ j. high j ∷ low j ∷ []) ∙ sym (hex_byte true n small) ∙ ap (hexadecimal 2) is in
+    two_more places i a b room ∙ (λ j. front j ++ shown j) ∙ sym (bytes_more bytes i d within)
