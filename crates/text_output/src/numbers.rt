@@ -1,12 +1,12 @@
 //! Numbers of output, digit by digit.
-ghost use Rattle.std.specs.Prelude.{◌≡◌, ◌<◌, ◌≤◌, ◌*◌, decimal, drop, take, length, true};
+ghost use Rattle.std.specs.Prelude.{◌≡◌, ◌<◌, ◌≤◌, ◌*◌, ◌++◌, codes, decimal, drop, take, length, true};
 ghost use Rattle.std.specs.Fmt.{digit_glyph};
 ghost use Rattle.std.specs.List.{flat_map};
 ghost use Rattle.vsm_model.specs.Texts.{hexadecimal, padded_decimal};
 ghost use Rattle.text_output.specs.Writing.{Puts};
 
 use crate::writing::Gathered;
-use itoa::Buffer;
+use itoa::{Buffer, write_digits};
 use std::io::Write;
 
 /// Puts a number in decimal digits.
@@ -22,10 +22,19 @@ pub fn put_padded_decimal<W: Write>(gathered: &mut Gathered, writer: &mut W, wid
     requires { width ≤ 7 }
     ensures { Puts (W.contents writer.old) (W.contents writer.new) gathered.old gathered.new (padded_decimal width n) }
 {
-    let mut buffer = Buffer::new();
-    let digits = buffer.format(n).as_bytes();
-    gathered.put(writer, &b"0000000"[..width.saturating_sub(digits.len())]);
-    gathered.put(writer, digits);
+    let mut places = *b"0000000000";
+    let first = write_digits(u64::from(n), &mut places, 10);
+    gathered.put(writer, &places[first.min(10 - width)..]);
+}
+
+/// Puts the number of a line: decimal digits, with leading zeros to seven, and a blank.
+pub fn put_line_number<W: Write>(gathered: &mut Gathered, writer: &mut W, n: u32)
+    ensures { Puts (W.contents writer.old) (W.contents writer.new) gathered.old gathered.new
+        (padded_decimal 7 n ++ codes " ") }
+{
+    let mut places = *b"0000000000 ";
+    let first = write_digits(u64::from(n), &mut places, 10);
+    gathered.put(writer, &places[first.min(3)..]);
 }
 
 /// One upper case hexadecimal digit.

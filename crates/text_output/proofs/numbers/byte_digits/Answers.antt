@@ -1,4 +1,4 @@
-use Rattle.std.proofs.Common.{◌≡◌, ◌+◌, ◌*◌, ◌<◌, length, arith}
+use Rattle.std.proofs.Common.{arith}
 use Rattle.text_output.proofs.DigitByDigit.{byte_written}
 use Rattle.text_output.proofs.numbers.byte_digits.Goals as goal
 
