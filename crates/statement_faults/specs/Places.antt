@@ -48,7 +48,8 @@ FieldBytesAreThere =
 -- A line of a script: without a carriage return in front of its line feed.
 abbrev pub line_in : List ℕ → SourceLine → List ℕ
 line_in script line =
-    if nat_lt line.end (length script) then strip_carriage_return (take (line.end - line.start) (drop line.start script))
+    if nat_lt line.end (length script)
+    then strip_carriage_return (take (line.end - line.start) (drop line.start script))
     else take (line.end - line.start) (drop line.start script)
 
 -- Columns 1 to 71 of it,
@@ -84,7 +85,7 @@ is_of_operand fault.Value = true
 is_of_operand fault.LeftOut = true
 
 -- A statement over these lines, whose continuation breaks no rule, has this fault of an operand: then the caret is that
--- of the first operand with which it has the fault, and stands at the place of that operand's first byte, if it has one.
+-- of the first operand with which it has the fault, and stands at the place of its first byte, if it has one.
 abbrev pub MarksOperand : List ℕ → List (List ℕ) → FaultKind → Caret → Type 0
 MarksOperand card cards kind caret =
     (j : Joined) → with_lines (begun card) cards ≡ Some j → statement_with card j.text ≡ Err kind
