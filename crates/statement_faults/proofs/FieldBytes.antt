@@ -8,8 +8,7 @@ use Rattle.macro_operands.specs.declared.rows.Behind.TheVariants as behind
 use Rattle.macro_statements.specs.Statements.{from_operation, from_operands, operands_in, behind_of, operation_of, is_misplaced}
 use Rattle.macro_reader.specs.Columns.{is_blank}
 use Rattle.macro_reader.specs.Continuation.{Joined, no_field, begun, with_part, with_line, with_lines, ends_with_comma}
-use Rattle.statement_faults.specs.Places.{in_row, added, added_by, places_of, byte_at, FieldBytesAreThere}
-use Rattle.statement_faults.specs.declared.gathered.TextPlace.{TextPlace}
+use Rattle.statement_faults.specs.Places.{in_row, added, added_by, byte_at, FieldBytesAreThere}
 
 -- bytes one after another
 row_reads : (all : List (List ℕ)) (line c : ℕ) (t rest : List ℕ) → drop c (get_or all line []) ≡ t ++ rest → map (byte_at all) (in_row line (c + 1) (length t)) ≡ t

@@ -1,5 +1,5 @@
 -- Where the bytes of a field stand, as its lines come one after another.
-use Rattle.std.proofs.Common.{◌≡◌, ℕ, zero, suc, ◌+◌, Bool, true, false, not, ◌&&◌, ◌==◌, if◌then◌else◌, get_or, take, drop, List, [], ◌∷◌, ◌++◌, length, Option, Some, None, refl, sym, ap, ◌∙◌, append_assoc, arith, add-zero, ◌-◌}
+use Rattle.std.proofs.Common.{◌≡◌, ℕ, zero, suc, ◌+◌, Bool, true, false, not, ◌&&◌, ◌==◌, if◌then◌else◌, get_or, take, drop, List, [], ◌∷◌, ◌++◌, length, Option, Some, None, sym, ap, ◌∙◌, append_assoc, arith, add-zero, ◌-◌}
 use Rattle.std.proofs.lemmas.List.{append-nil}
 use Rattle.macro_reader.specs.Columns.{is_blank}
 use Rattle.macro_reader.specs.Continuation.{Joined, no_field, begun, ends_with_comma, with_part, with_line, with_lines}

@@ -1,6 +1,6 @@
 -- Where the bytes of an operand field stand in the lines of its statement, by the grammar's own words for the field.
 use Rattle.std.specs.Prelude.{◌≡◌, ℕ, zero, suc, ◌+◌, ◌-◌, ◌<◌, Bool, true, false, if◌then◌else◌, nat_lt, List, [], ◌∷◌}
-use Rattle.std.specs.Prelude.{◌++◌, length, map, take, drop, slice_index, slice_index_or, Option, Some, None, Err}
+use Rattle.std.specs.Prelude.{◌++◌, length, map, take, drop, slice_index, slice_index_or, Some, None, Err}
 use Rattle.std.specs.List.{slice_get}
 use Rattle.std.specs.Str.Lines.{strip_carriage_return}
 use Rattle.macro_operands.specs.declared.faults.FaultKind.{FaultKind}
