@@ -9,7 +9,7 @@ ghost use Rattle.cell_plans.specs.CellPlans.{pool_given_back, extents_of_pool, C
 ghost use Rattle.cell_plans.specs.Emptied.{area_given_back, freed};
 
 use crate::areas::{FirstExtents, area_at};
-use crate::emptied::{PAGE_DOUBLEWORDS, emptied};
+use crate::emptied::emptied;
 use arrayvec::ArrayVec;
 use cell_pool::CellId;
 use run_set::Run;
@@ -19,6 +19,7 @@ use storage_exchange::Parts;
 use storage_plans::PLAN_RECORDS;
 use storage_swap::ChangeBuilder;
 use vsm_model::Subpool;
+use vsm_model::geometry::PAGE_DOUBLEWORDS;
 
 /// The most extents of a cell pool that goes: with more, its blank elements would be more than there are ids of 32
 /// bits.

@@ -14,16 +14,13 @@ ghost use Rattle.storage_plans.specs.Plans.{IsPlanned};
 use crate::areas::{FoundArea, find_area};
 use crate::places::AreaPlace;
 use crate::plan::{NO_PAGES, PLAN_RECORDS, StoragePlan, answer_cause, push_area, push_register};
-use crate::searches::PAGE_DOUBLEWORDS;
 use arrayvec::ArrayVec;
 use descriptor_queue::Page;
 use run_set::Run;
 use storage_changes::{ExtentRecord, OwnRecord, PagesRecord, Record};
 use storage_exchange::Parts;
+use vsm_model::geometry::{PAGE_BYTES, PAGE_DOUBLEWORDS};
 use vsm_model::{Cause, Lengths, Obtain, Reply, Settings, Subpool};
-
-/// The bytes of a page.
-const PAGE_BYTES: u32 = 4096;
 
 /// One more record where the subpool is new: it's made.
 pub fn push_own(records: &mut ArrayVec<Record, PLAN_RECORDS>, subpool: Subpool, is_new: bool)

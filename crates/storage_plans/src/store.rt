@@ -14,13 +14,11 @@ use crate::plan::{NO_PAGES, PLAN_RECORDS, StoragePlan};
 use arrayvec::ArrayVec;
 use storage_changes::Record;
 use storage_exchange::Parts;
+use vsm_model::geometry::PAGE_BYTES;
 use vsm_model::{Cause, Reply};
 
 /// The most bytes of one store.
 pub const STORE_MOST: usize = 256;
-
-/// The bytes of a page.
-const PAGE_BYTES: usize = 4_096;
 
 // Whether each of so many bytes from the address on lies in an assigned page. They lie in two pages at most: that of
 // the first and that of the last one.
@@ -33,8 +31,9 @@ fn are_assigned(storage: &Parts, address: u32, count: usize) -> bool
         return true;
     }
     let address = address as usize;
-    let first = address / PAGE_BYTES;
-    let last = (address + count - 1) / PAGE_BYTES;
+    let page_bytes = PAGE_BYTES as usize;
+    let first = address / page_bytes;
+    let last = (address + count - 1) / page_bytes;
     storage.region.assigned(first as u32) && storage.region.assigned(last as u32)
 }
 
