@@ -19,7 +19,8 @@ import facts
 import manual
 from facts import Commit, Refusal
 
-# What of tools/ and page/ is for the repository alone: tests, what bench.html is made from, and the library for C.
+# What of tools/ and page/ isn't put with the tools: tests, what bench.html is made from, and the library, which has
+# places of its own.
 NOT_INSTALLED = re.compile(r".*/(tests/|\.)|(page|tools)/check|tools/(c/|vsm_bench)|"
                            r"page/(bench|module|host|chromium|colours|expected|on_page|\w*trials)")
 # How the tools begin, and how a package wants them to.
@@ -29,12 +30,17 @@ DOCS = ("STATEMENTS.md", "MESSAGES.md", "EXPLAIN.md", "PROTOCOL.md", "ZOS.md", "
 # The proved programs, by the crates that build them.
 PROGRAMS = {"vsm": "vsm", "vsm-explain": "vsm_explain_program"}
 COMMANDS = ("list", "why", "report", "who")
+# The library: where tools/c/build leaves it, and its files in a release.
+LIBRARY = Path("crates") / "vsm_c" / "out"
+ARCHIVE, SHARED = "lib/libvsm.a", "lib/nilbozad/libvsm.so"
+WITH_LIBRARY = {"tools/c/vsm.h": "include/vsm.h", "tools/c/example.c": "share/doc/nilbozad/examples/example.c",
+                "tools/vsm_bench.py": "lib/python3/dist-packages/vsm_bench.py"}
 DESCRIPTION = """\
 Description: bench for the virtual storage of z/OS
  It carries out scripts of storage macros (STORAGE, GETMAIN, FREEMAIN, CPOOL,
  ATTACH, DETACH) over a simulated private region, and answers each with its
  return code and address or its completion code. It steps back and forward
- over what it did, exactly; that is proved.
+ over what it did, exactly; that is proved. It has a library for C and Python.
 """
 
 
@@ -112,6 +118,14 @@ def put_programs(release: Release, root: Path) -> None:
     put(share / "VERSION", f"nilbozad {release.version} ({release.kit})\n")
 
 
+def put_library(release: Release, root: Path) -> None:
+    for name in (ARCHIVE, SHARED):
+        copy(release.top / LIBRARY / Path(name).name, root / name)
+    facts.output_of("strip", "--strip-unneeded", str(root / SHARED))
+    for file, name in WITH_LIBRARY.items():
+        copy(release.top / file, root / name)
+
+
 def put_manual(release: Release, root: Path, helps: dict[str, str], commands: list[str]) -> None:
     date = time.strftime("%B %-d, %Y", time.gmtime(release.commit.seconds))
     docs = {name: (release.top / "docs" / name).read_text(encoding="utf-8") for name in DOCS}
@@ -154,7 +168,8 @@ def copyright_of(release: Release, licences: dict[str, bytes]) -> str:
     lines = ["Nilbozad", f"Copyright {year} The Nilbozad authors", "",
              "Licensed under either of the Apache License, Version 2.0 (LICENSE-APACHE; on Debian",
              "/usr/share/common-licenses/Apache-2.0), or the MIT licence (LICENSE-MIT), at your option.", "",
-             "The programs vsm and vsm-explain have code of these crates of the kit that it is built with. Their licences:", ""]
+             "vsm, vsm-explain and the library have code of these crates of the kit that they are built with.",
+             "Their licences:", ""]
     text = (release.top / "LICENSE-MIT").read_text(encoding="utf-8")
     for name in sorted({it.partition("-LICENSE")[0] for it in licences}):
         own = [f"licenses/{it}" for it in sorted(licences) if it.startswith(f"{name}-LICENSE")]
@@ -200,7 +215,7 @@ def tarball(release: Release, root: Path, file: Path) -> None:
         copy(release.top / name, root / name)
     for name in ("PROVED", "CHANGELOG.md"):
         (root / "share/doc/nilbozad" / name).replace(root / name)
-    put(root / "README", read_me(release, least_libc(root / "bin")))
+    put(root / "README", read_me(release, least_libc(root)))
     settle(root, release.commit.seconds)
 
     def plain(info: tarfile.TarInfo) -> tarfile.TarInfo:
@@ -215,9 +230,9 @@ def tarball(release: Release, root: Path, file: Path) -> None:
                 archive.add(path, name, recursive=False, filter=plain)
 
 
-def least_libc(folder: Path) -> str:
-    """The oldest version of glibc that has all that the programs call."""
-    data = b"".join((folder / name).read_bytes() for name in PROGRAMS)
+def least_libc(root: Path) -> str:
+    """The oldest version of glibc that has all that the programs and the library call."""
+    data = b"".join((root / name).read_bytes() for name in (*(f"bin/{it}" for it in PROGRAMS), SHARED))
     major, minor = max(tuple(map(int, it.split(b"."))) for it in re.findall(rb"GLIBC_(\d+\.\d+)", data))
     return f"{major}.{minor}"
 
@@ -230,16 +245,18 @@ def read_me(release: Release, libc: str) -> str:
     man -l share/man/man1/vsm.1.gz                          tells of the program
     man -l share/man/man5/vsm-statements.5.gz               what can stand in a script
     man -l share/man/man7/vsm-messages.7.gz                 what is printed
+    cc -Iinclude share/doc/nilbozad/examples/example.c -Llib -lvsm
+    PYTHONPATH=lib/python3/dist-packages python3 -c 'import vsm_bench; help(vsm_bench)'
 
-Copied to /usr/local, bin/ and share/ are found by the shell, by man and by completions. vsm and vsm-explain need
-x86-64 Linux and glibc {libc} or newer; the other programs of bin/ need Python 3.11. PROVED says what was proved,
-CHANGELOG.md what has changed.
+Copied to /usr/local, bin/, include/, lib/ and share/ are found by the shell, by cc, by man and by completions. vsm,
+vsm-explain and the library need x86-64 Linux and glibc {libc} or newer; the other programs of bin/ need Python 3.11.
+PROVED says what was proved, CHANGELOG.md what has changed.
 """
 
 
 def control(release: Release, root: Path) -> str:
     size = sum(it.lstat().st_size for it in root.rglob("*") if it.is_file()) // 1024 + 1
-    needs = f"libc6 (>= {least_libc(root / 'usr' / 'bin')})" + (", python3 (>= 3.11)" if release.tools else "")
+    needs = f"libc6 (>= {least_libc(root / 'usr')})" + (", python3 (>= 3.11)" if release.tools else "")
     return (f"Package: nilbozad\nVersion: {release.version}\nArchitecture: amd64\n"
             f"Maintainer: {release.commit.author}\nInstalled-Size: {size}\nDepends: {needs}\n"
             f"Section: devel\nPriority: optional\n{DESCRIPTION}")
@@ -280,6 +297,17 @@ def statement_head(release: Release) -> list[str]:
             f"Kit        {release.kit}", f"Gate       {release.gate}"]
 
 
+def what_was_built(release: Release, root: Path) -> list[str]:
+    """The proved programs and the proved archive with their sums, and what of them is in the release."""
+    programs = [line for name in PROGRAMS for line in (
+        f"Program    {name} as it was built, SHA-256 {facts.sha256(built(release.top, name))}",
+        f"           bin/{name}, the same without its symbols, {facts.sha256(root / 'bin' / name)}")]
+    return [*programs,
+            f"Library    libvsm_c.a as it was built, SHA-256 {facts.sha256(release.top / LIBRARY / 'libvsm_c.a')}",
+            f"           {ARCHIVE}, its file vsm_c.o and the handles, {facts.sha256(root / ARCHIVE)}",
+            f"           {SHARED}, these to be loaded, {facts.sha256(root / SHARED)}"]
+
+
 def made(release: Release, room: Path) -> list[Path]:
     """Makes all files in a folder, and gives those that dist/ is to have."""
     helps = {**{name: help_of(built(release.top, name)) for name in PROGRAMS},
@@ -290,10 +318,8 @@ def made(release: Release, room: Path) -> list[Path]:
     root, usr, out = room / "tree", room / "debian" / "usr", room / "out"
     out.mkdir()
     put_programs(release, root)
-    programs = [line for name in PROGRAMS for line in (
-        f"Program    {name} as it was built, SHA-256 {facts.sha256(built(release.top, name))}",
-        f"           bin/{name}, the same without its symbols, {facts.sha256(root / 'bin' / name)}")]
-    statement = facts.proved(release.top, release.files, statement_head(release), programs)
+    put_library(release, root)
+    statement = facts.proved(release.top, release.files, statement_head(release), what_was_built(release, root))
     put_manual(release, root, helps, commands)
     put_docs(release, root, statement)
     shutil.copytree(root, usr, symlinks=True)

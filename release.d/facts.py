@@ -85,13 +85,13 @@ def gate_line(file: str | None) -> str:
 
 
 def crates_of(top: Path) -> tuple[list[str], list[str]]:
-    """The crates below the programs and themselves, and the kit's that they use."""
+    """The crates below the programs and the library and themselves, and the kit's that they use."""
     uses: dict[str, list[str]] = {}
     for line in (top / "crates.txt").read_text(encoding="utf-8").split("\n"):
         name, colon, rest = line.partition("#")[0].partition(":")
         if colon:
             uses[name.split()[0]] = rest.split()
-    found = ["vsm", "vsm_explain_program"]
+    found = ["vsm", "vsm_explain_program", "vsm_c"]
     left = list(found)
     while left:
         for name in uses.get(left.pop(), []):
@@ -115,8 +115,8 @@ def contracts_in(text: str) -> tuple[int, int]:
     return functions, clauses
 
 
-def proved(top: Path, files: list[str], head: list[str], programs: list[str]) -> str:
-    """The text of PROVED: what it's of, what is counted in the sources, and the programs."""
+def proved(top: Path, files: list[str], head: list[str], built: list[str]) -> str:
+    """The text of PROVED: what it's of, what is counted in the sources, and what was built."""
     crates, _ = crates_of(top)
     sources = [it for it in files if re.fullmatch(r"crates/\w+/src/.*\.rt", it)]
     texts = {it: (top / it).read_text(encoding="utf-8") for it in sources}
@@ -127,13 +127,14 @@ def proved(top: Path, files: list[str], head: list[str], programs: list[str]) ->
     lessons = sum(bool(re.fullmatch(r"examples/.*\.vsm", it)) for it in files)
     lines = [*head,
              f"Contracts  {sum(a for a, _ in counts)} functions with {sum(b for _, b in counts)} clauses, "
-             f"in {len(crates)} crates: all that vsm and vsm-explain stand on",
+             f"in {len(crates)} crates: all that vsm, vsm-explain and the library stand on",
              f"Edits      {edits} wrong bodies, each of which the prover has to refuse",
              f"Tests      {tests} test functions, {rows} worked scripts in tests/rows, {lessons} lessons",
-             *programs, "",
+             *built, "",
              "Gate is the last line of the gate's output, or 'not told' where ./release wasn't given that.",
              "'Proved' says no more than the contracts do: README.md of the repository has what can be relied on,",
-             "what was only tested, and what is trusted. The other programs and the pages are tested and not proved."]
+             "what was only tested, and what is trusted. The other programs, the pages, and what the library has beside",
+             "the proved code (its handles, and the module for Python) are tested and not proved."]
     return "\n".join(lines) + "\n"
 
 

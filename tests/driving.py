@@ -1,4 +1,4 @@
-"""For the tests beside this module: programs that are driven while they run, and copies of the repository."""
+"""For the tests beside this module: programs that are driven while they run, copies of the repository, the library."""
 import os
 import pty
 import select
@@ -88,6 +88,14 @@ def ended(child: subprocess.Popen, given: bytes, seconds: float) -> tuple[bytes,
 def compare(what: str, got: object, wanted: object) -> None:
     if got != wanted:
         raise Failure(f"{what}: wanted {wanted!r}, got {got!r}")
+
+
+def make_library(top: str) -> None:
+    """Has tools/c/build make the library for C; what is made already stays."""
+    done = subprocess.run([os.path.join(top, "tools", "c", "build")], stdin=subprocess.DEVNULL,
+                          stdout=subprocess.DEVNULL, stderr=subprocess.PIPE, text=True)
+    if done.returncode:
+        raise Failure(done.stderr.strip())
 
 
 def copy_listed(top: str, to: str) -> None:

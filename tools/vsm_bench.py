@@ -1,4 +1,4 @@
-"""The bench in Python, by ctypes over the library libvsm.so (docs/TOOLS.md says how it's made).
+"""The bench in Python, by ctypes over the library libvsm.so (TOOLS.md says how to get that).
 
     from vsm_bench import Bench
 
@@ -6,8 +6,8 @@
         print(bench.line(" STORAGE OBTAIN,LENGTH=8"))
 
 The library is the one that is named, else that of the environment's VSM_LIBRARY, else libvsm.so beside this
-file, in lib/ of the folder above it or the one above that, or where the system looks for libraries. Benches are
-to be used by one thread at a time.
+file, where tools/c/build leaves it, where a release has it, or where the system looks for libraries. Benches are to
+be used by one thread at a time.
 """
 from __future__ import annotations
 
@@ -71,7 +71,7 @@ CALLS = {
 
 def load(path: str | os.PathLike[str] | None = None) -> ctypes.CDLL:
     """The library, with the types of its calls."""
-    places = [HERE, HERE.parent / "lib", HERE.parent.parent.parent / "lib"]
+    places = [HERE, HERE.parent / "crates" / "vsm_c" / "out", HERE.parent.parent / "nilbozad"]
     found = next((str(place / NAME) for place in places if (place / NAME).is_file()), NAME)
     library = ctypes.CDLL(os.fspath(path or os.environ.get("VSM_LIBRARY") or found))
     for name, types in CALLS.items():

@@ -1,7 +1,7 @@
 /* Does what vsm does without words: reads a script from standard input line by line, writes each to a bench, and
    prints what it is answered. The four settings can be given, as 64 64 24 1024.
 
-   cc -o example example.c libvsm.so -Wl,-rpath,'$ORIGIN' */
+   cc -o example example.c -lvsm */
 #include <stdio.h>
 #include <stdlib.h>
 #include <string.h>

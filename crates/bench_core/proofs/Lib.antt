@@ -2,5 +2,6 @@ pub mod Trails
 pub mod Moves
 pub mod Applied
 pub mod Accepted
+pub mod Supplied
 pub mod NameLines
 pub mod WholeMap

@@ -17,6 +17,7 @@ use name_table::NameTable;
 use operand_texts::Value;
 use std::alloc::Global;
 use step_history::{History, Reversible, TooFar, TooFarAhead};
+use storage_changes::laws::fresh_pages_are_newly_assigned;
 use storage_swap::laws::first_is_first;
 use vsm_machine::{
     Machine, NewFault, Planned, Refusal, Reply, Settings, Storage, look_up, plan_of, reserve,
@@ -109,6 +110,7 @@ impl Bench {
         ensures made { IfOk result (λ _. (x : Act) → CanCarryOut (shown self.old.machine) x planned
             → MakesFor self.old.machine x planned self.new.machine) }
     {
+        fresh_pages_are_newly_assigned();
         let reply = planned.plan.reply();
         self.history.reserve_place()?;
         let mut change = match reserve(&mut self.machine, planned) {

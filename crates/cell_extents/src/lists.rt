@@ -58,8 +58,7 @@ pub fn insert(list: &mut Chain, elements: &mut Elements, k: u32, words: [u32; 7]
     ensures count { list.new.count ≡ list.old.count + 1 }
     ensures items { items_of (links elements.new list.new)
         ≡ take k (items_of (links elements.old list.old)) ++ words ∷ drop k (items_of (links elements.old list.old)) }
-    ensures owned { Leaves elements.old elements.new
-        (owned elements.old list.old) (owned elements.new list.new) }
+    ensures owned { Leaves elements.old elements.new (owned elements.old list.old) (owned elements.new list.new) }
     ensures spares { elements.new.spare + 1 ≡ elements.old.spare }
 {
     let behind = before(*list, elements, k);
@@ -94,8 +93,7 @@ pub fn append_cells(list: &mut Chain, elements: &mut Elements, size: u32, start:
     ensures chain { IsChain elements.new list.new }
     ensures items { items_of (links elements.new list.new)
         ≡ items_of (links elements.old list.old) ++ cell_items size start count }
-    ensures owned { Leaves elements.old elements.new
-        (owned elements.old list.old) (owned elements.new list.new) }
+    ensures owned { Leaves elements.old elements.new (owned elements.old list.old) (owned elements.new list.new) }
     ensures spares { elements.new.spare + count ≡ elements.old.spare }
 {
     let end = list.count;
@@ -117,8 +115,7 @@ pub fn take_out(list: &mut Chain, elements: &mut Elements, k: u32) -> [u32; 7]
     ensures count { list.new.count + 1 ≡ list.old.count }
     ensures items { items_of (links elements.new list.new)
         ≡ take k (items_of (links elements.old list.old)) ++ drop (k + 1) (items_of (links elements.old list.old)) }
-    ensures owned { Leaves elements.old elements.new
-        (owned elements.old list.old) (owned elements.new list.new) }
+    ensures owned { Leaves elements.old elements.new (owned elements.old list.old) (owned elements.new list.new) }
     ensures spares { elements.new.spare ≡ elements.old.spare + 1 }
 {
     let behind = before(*list, elements, k);
@@ -136,8 +133,7 @@ pub fn remove(list: &mut Chain, elements: &mut Elements, k: u32, count: u32)
     ensures count { list.new.count + count ≡ list.old.count }
     ensures items { items_of (links elements.new list.new)
         ≡ take k (items_of (links elements.old list.old)) ++ drop (k + count) (items_of (links elements.old list.old)) }
-    ensures owned { Leaves elements.old elements.new
-        (owned elements.old list.old) (owned elements.new list.new) }
+    ensures owned { Leaves elements.old elements.new (owned elements.old list.old) (owned elements.new list.new) }
     ensures spares { elements.new.spare ≡ elements.old.spare + count }
 {
     let behind = before(*list, elements, k);

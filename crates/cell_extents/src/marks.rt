@@ -143,8 +143,7 @@ pub fn insert_marks(list: &mut Chain, elements: &mut Elements, k: u32, items: u3
     ensures items { items_of (links elements.new list.new)
         ≡ take k (items_of (links elements.old list.old))
         ++ (set_items items ++ drop k (items_of (links elements.old list.old))) }
-    ensures owned { Leaves elements.old elements.new
-        (owned elements.old list.old) (owned elements.new list.new) }
+    ensures owned { Leaves elements.old elements.new (owned elements.old list.old) (owned elements.new list.new) }
     ensures spares { elements.new.spare + items ≡ elements.old.spare }
 {
     let behind = before(*list, elements, k);

@@ -32,16 +32,8 @@ use storage_plans::obtain::{address_of, needs_of, push_own, push_place};
 use storage_plans::places::{AreaPlace, area_place};
 use storage_plans::plan::{PLAN_RECORDS, push_register};
 use subpool_storage::laws::cell_pools_are_named;
+use vsm_model::geometry::{MOST_CELL_BYTES, MOST_CELL_POOLS, MOST_CELLS};
 use vsm_model::{Build, Cause, Reply, Settings, Subpool};
-
-/// The most cell pools at one time.
-const CELL_POOLS: u32 = 256;
-
-/// The most bytes of a cell.
-const CELL_BYTES: u32 = 4096;
-
-/// The most cells of an extent.
-const EXTENT_CELLS: u32 = 4096;
 
 /// A cell pool that comes, with its first extent. Nothing is changed yet.
 #[derive(Drop)]
@@ -76,7 +68,7 @@ fn header_of(text: Option<&str>) -> Option<Header>
 fn are_cells(size: u32, count: u32) -> bool
     ensures { result ≡ are_cells size count }
 {
-    size % 4 == 0 && 4 <= size && size <= CELL_BYTES && 1 <= count && count <= EXTENT_CELLS
+    size % 4 == 0 && 4 <= size && size <= MOST_CELL_BYTES && 1 <= count && count <= MOST_CELLS
 }
 
 // Whether the cell pool can have cells of its size, and extents of its numbers of them.
@@ -133,7 +125,7 @@ fn check_build(storage: &Parts, name: &Name, b: Build) -> Result<u8, Cause>
     if is_built(storage, name) {
         return Err(Cause::CellPoolExists);
     }
-    if pool_count(storage) >= CELL_POOLS {
+    if pool_count(storage) >= MOST_CELL_POOLS {
         return Err(Cause::TooManyCellPools);
     }
     Ok(number)
@@ -161,8 +153,7 @@ fn plan_pool(
         ++ register_records (state_of storage.now) ((15, 0) ∷ []) }
     ensures blanks { result.blanks ≡ place_blanks place }
     ensures fresh { result.fresh ≡ place_pages (doublewords (settings.primary * settings.size)) place }
-    ensures reply { result.reply
-        ≡ Obtained (place_address place) (8 * doublewords (settings.primary * settings.size)) }
+    ensures reply { result.reply ≡ Obtained (place_address place) (8 * doublewords (settings.primary * settings.size)) }
 {
     let count = extent_doublewords(settings.primary, settings.size);
     let mut records = ArrayVec::new();

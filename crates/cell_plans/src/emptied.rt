@@ -15,9 +15,7 @@ use free_queue::laws::queues_stand;
 use run_set::Run;
 use storage_exchange::Parts;
 use vsm_model::Subpool;
-
-/// The doublewords of a page.
-pub(crate) const PAGE_DOUBLEWORDS: u32 = 512;
+use vsm_model::geometry::PAGE_DOUBLEWORDS;
 
 // Whether the area has the doubleword.
 fn has(area: Run, doubleword: u32) -> bool

@@ -35,7 +35,7 @@ fn push_handed_out(
     cell: u32,
     register: Option<u8>,
 )
-    requires { array_vec_len records.old ≤ 8 }
+    requires { array_vec_len records.old ≤ 4 }
     ensures { records.new.items ≡ records.old.items ++ cell_records (state_of storage.now) pool cell register }
 {
     records.push(Record::Cell(CellRecord {

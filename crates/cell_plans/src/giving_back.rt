@@ -9,7 +9,7 @@ ghost use Rattle.cell_plans.specs.CellPlans.{pool_given_back, extents_of_pool, C
 ghost use Rattle.cell_plans.specs.Emptied.{area_given_back, freed};
 
 use crate::areas::{FirstExtents, area_at};
-use crate::emptied::{PAGE_DOUBLEWORDS, emptied};
+use crate::emptied::emptied;
 use arrayvec::ArrayVec;
 use cell_pool::CellId;
 use run_set::Run;
@@ -19,6 +19,7 @@ use storage_exchange::Parts;
 use storage_plans::PLAN_RECORDS;
 use storage_swap::ChangeBuilder;
 use vsm_model::Subpool;
+use vsm_model::geometry::PAGE_DOUBLEWORDS;
 
 /// The most extents of a cell pool that goes: with more, its blank elements would be more than there are ids of 32
 /// bits.
@@ -33,7 +34,7 @@ fn push_between(
     to: u32,
     free: bool,
 )
-    requires { array_vec_len records.old < 17 }
+    requires { array_vec_len records.old < 8 }
     ensures records { records.new.items ≡ records.old.items ++ area_records subpool from (to - from) free }
     ensures few { array_vec_len records.new ≤ array_vec_len records.old + 1 }
 {
@@ -51,7 +52,7 @@ fn push_between(
 
 // The pages, which are the subpool's, leave it and become unassigned.
 fn push_returned(records: &mut ArrayVec<Record, PLAN_RECORDS>, subpool: Subpool, run: Run)
-    requires few { array_vec_len records.old + 2 ≤ 17 }
+    requires few { array_vec_len records.old + 2 ≤ 8 }
     requires some { 0 < run.len }
     ensures records { records.new.items ≡ records.old.items ++ returned_records subpool run.start run.len }
 {

@@ -42,8 +42,7 @@ impl CellPools {
             ≡ option_map (at_id id without_first) (pool elements.old self.old n) }
         ensures ids { (i : ℕ) → by_id elements.new self.new i
             ≡ option_map (at_id id without_first) (by_id elements.old self.old i) }
-        ensures owned { Leaves elements.old elements.new
-            (owned elements.old self.old) (owned elements.new self.new) }
+        ensures owned { Leaves elements.old elements.new (owned elements.old self.old) (owned elements.new self.new) }
         ensures spares { elements.new.spare ≡ elements.old.spare + 1 }
     {
         let mut row = self.row(elements, id);
@@ -69,8 +68,7 @@ impl CellPools {
             ≡ option_map (at_id id (with_first cell)) (pool elements.old self.old n) }
         ensures ids { (i : ℕ) → by_id elements.new self.new i
             ≡ option_map (at_id id (with_first cell)) (by_id elements.old self.old i) }
-        ensures owned { Leaves elements.old elements.new
-            (owned elements.old self.old) (owned elements.new self.new) }
+        ensures owned { Leaves elements.old elements.new (owned elements.old self.old) (owned elements.new self.new) }
         ensures spares { elements.new.spare + 1 ≡ elements.old.spare }
     {
         let mut row = self.row(elements, id);
@@ -98,8 +96,7 @@ impl CellPools {
             ≡ option_map (at_id id (extended start count)) (pool elements.old self.old n) }
         ensures ids { (i : ℕ) → by_id elements.new self.new i
             ≡ option_map (at_id id (extended start count)) (by_id elements.old self.old i) }
-        ensures owned { Leaves elements.old elements.new
-            (owned elements.old self.old) (owned elements.new self.new) }
+        ensures owned { Leaves elements.old elements.new (owned elements.old self.old) (owned elements.new self.new) }
         ensures spares { elements.new.spare + count + mark_items count + 1 ≡ elements.old.spare }
     {
         let mut row = self.row(elements, id);
@@ -134,8 +131,7 @@ impl CellPools {
             ≡ option_map (at_id id (retracted result.count)) (pool elements.old self.old n) }
         ensures ids { (i : ℕ) → by_id elements.new self.new i
             ≡ option_map (at_id id (retracted result.count)) (by_id elements.old self.old i) }
-        ensures owned { Leaves elements.old elements.new
-            (owned elements.old self.old) (owned elements.new self.new) }
+        ensures owned { Leaves elements.old elements.new (owned elements.old self.old) (owned elements.new self.new) }
         ensures spares { elements.new.spare ≡ elements.old.spare + result.count + mark_items result.count + 1 }
     {
         let mut row = self.row(elements, id);

@@ -24,8 +24,7 @@ impl CellPools {
             ≡ option_map (handed_on subpool to) (pool elements.old self.now n) }
         ensures ids { (i : ℕ) → by_id elements.new self.now i
             ≡ option_map (handed_on subpool to) (by_id elements.old self.now i) }
-        ensures owned { Leaves elements.old elements.new
-            (owned elements.old self.now) (owned elements.new self.now) }
+        ensures owned { Leaves elements.old elements.new (owned elements.old self.now) (owned elements.new self.now) }
         ensures spares { elements.new.spare ≡ elements.old.spare }
     {
         let count = self.table.count(elements);
@@ -128,8 +127,7 @@ impl CellPools {
         ensures parked { IsParked elements.new result }
         ensures names { (n : List ℕ) → pool elements.new self.new n
             ≡ all_but (is_of id) (pool elements.old self.old n) }
-        ensures ids { (i : ℕ) → by_id elements.new self.new i
-            ≡ all_but (is_of id) (by_id elements.old self.old i) }
+        ensures ids { (i : ℕ) → by_id elements.new self.new i ≡ all_but (is_of id) (by_id elements.old self.old i) }
         ensures names_out { (n : List ℕ) → parked_pool elements.new result n
             ≡ only (is_of id) (pool elements.old self.old n) }
         ensures ids_out { (i : ℕ) → parked_by_id elements.new result i
@@ -158,8 +156,7 @@ impl CellPools {
         requires others { IsCellPools elements.old others.old }
         requires here { IsParked elements.old here }
         requires there { IsParked elements.old there }
-        requires names { (n : List ℕ) → IsSome (parked_pool elements.old here n)
-            → pool elements.old self.old n ≡ None }
+        requires names { (n : List ℕ) → IsSome (parked_pool elements.old here n) → pool elements.old self.old n ≡ None }
         requires names_back { (n : List ℕ) → IsSome (parked_pool elements.old there n)
             → pool elements.old others.old n ≡ None }
         requires apart { Apart (parked_owned elements.old here) (owned elements.old self.old) }

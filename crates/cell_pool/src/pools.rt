@@ -128,8 +128,7 @@ impl CellPools {
               cells = [];
             })
             else by_id elements.old self.old i) }
-        ensures owned { Leaves elements.old elements.new
-            (owned elements.old self.old) (owned elements.new self.new) }
+        ensures owned { Leaves elements.old elements.new (owned elements.old self.old) (owned elements.new self.new) }
         ensures spares { elements.new.spare + 6 ≡ elements.old.spare }
     {
         let CellSettings {
@@ -159,8 +158,7 @@ impl CellPools {
         ensures parked { IsParked elements.new result }
         ensures names { (n : List ℕ) → pool elements.new self.new n
             ≡ all_but (is_of id) (pool elements.old self.old n) }
-        ensures ids { (i : ℕ) → by_id elements.new self.new i
-            ≡ all_but (is_of id) (by_id elements.old self.old i) }
+        ensures ids { (i : ℕ) → by_id elements.new self.new i ≡ all_but (is_of id) (by_id elements.old self.old i) }
         ensures names_out { (n : List ℕ) → parked_pool elements.new result n
             ≡ only (is_of id) (pool elements.old self.old n) }
         ensures ids_out { (i : ℕ) → parked_by_id elements.new result i

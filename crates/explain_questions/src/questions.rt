@@ -9,6 +9,7 @@ use clap::ArgMatches;
 use operand_texts::Name;
 use operand_texts::numbers::number_of;
 use operand_texts::words::{is_name, upper_name};
+use vsm_model::geometry::LAST_SUBPOOL;
 use vsm_model::{Settings, Subpool};
 
 /// The greatest number of a line.
@@ -17,14 +18,11 @@ const LAST_LINE: u32 = 1_048_576;
 /// The most bytes that are asked for at once.
 const MOST_BYTES: u32 = 256;
 
-/// The greatest number of a task.
+/// The greatest number that is taken for a task; a storage has fewer.
 const LAST_TASK: u32 = 255;
 
 /// The greatest number of a register.
 const LAST_REGISTER: u32 = 15;
-
-/// The greatest number of a subpool.
-const LAST_SUBPOOL: u32 = 127;
 
 /// What is asked for that lines change.
 #[derive(Clone, Copy, Debug, PartialEq, Eq)]

@@ -64,11 +64,9 @@ impl FreeQueue {
         requires taken { NoneFree elements.old self.old area }
         requires room { 0 < elements.old.spare }
         ensures queue { IsFreeQueue elements.new self.new }
-        ensures set { (d : ℕ) → is_free elements.new self.new d
-            ≡ (inside d area || is_free elements.old self.old d) }
+        ensures set { (d : ℕ) → is_free elements.new self.new d ≡ (inside d area || is_free elements.old self.old d) }
         ensures areas { AreRunsOf (areas elements.new self.new) (λ d. is_free elements.new self.new d) }
-        ensures owned { Leaves elements.old elements.new
-            (owned elements.old self.old) (owned elements.new self.new) }
+        ensures owned { Leaves elements.old elements.new (owned elements.old self.old) (owned elements.new self.new) }
         ensures spares { elements.old.spare ≤ elements.new.spare + 1 }
         ensures exact { elements.new.spare + 1
             ≡ elements.old.spare + joins (λ d. is_free elements.old self.old d) area }
@@ -90,8 +88,7 @@ impl FreeQueue {
         ensures set { (d : ℕ) → is_free elements.new self.new d
             ≡ (not (inside d area) && is_free elements.old self.old d) }
         ensures areas { AreRunsOf (areas elements.new self.new) (λ d. is_free elements.new self.new d) }
-        ensures owned { Leaves elements.old elements.new
-            (owned elements.old self.old) (owned elements.new self.new) }
+        ensures owned { Leaves elements.old elements.new (owned elements.old self.old) (owned elements.new self.new) }
         ensures spares { elements.old.spare ≤ elements.new.spare + 1 }
         ensures exact { elements.new.spare + joins (λ d. is_free elements.old self.old d) area
             ≡ elements.old.spare + 1 }
@@ -119,10 +116,8 @@ impl FreeQueue {
         requires queue { IsFreeQueue elements.now self.now }
         requires asked { (0 < len) × (len ≤ 2 ^ 29) × (0 < boundary) × (boundary ≤ 512) }
         requires region { region.start + region.len ≤ 2 ^ 29 }
-        ensures none { IfNone result ((a : ℕ)
-            → ¬ Fits (λ d. is_free elements.now self.now d) region a len boundary) }
-        ensures least { IfSome result (λ a. IsLeastFit
-            (λ d. is_free elements.now self.now d) region a len boundary) }
+        ensures none { IfNone result ((a : ℕ) → ¬ Fits (λ d. is_free elements.now self.now d) region a len boundary) }
+        ensures least { IfSome result (λ a. IsLeastFit (λ d. is_free elements.now self.now d) region a len boundary) }
     {
         self.set.least_fit(elements, len, boundary, region)
     }

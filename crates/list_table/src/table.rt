@@ -126,8 +126,7 @@ impl ListTable {
         ensures entries { entries elements.new self.new
             ≡ record { id = result; words = words; items = [] } ∷ entries elements.old self.old }
         ensures front { IsPlace elements.new self.new 0 0 }
-        ensures owned { Leaves elements.old elements.new
-            (owned elements.old self.old) (owned elements.new self.new) }
+        ensures owned { Leaves elements.old elements.new (owned elements.old self.old) (owned elements.new self.new) }
         ensures spares { elements.new.spare + 1 ≡ elements.old.spare }
     {
         let words = row_words(words, Chain::new());

@@ -2,11 +2,7 @@
 ghost use Rattle.std.specs.Prelude.{◌≡◌, ◌<◌, ◌≤◌};
 
 use storage_core::{ExtentPlace, FreeAreaPlace, Residence, Run, Storage, Subpool};
-
-/// Pages and doublewords from here on lie above the 16 MB line.
-const LINE_PAGE: u32 = 4_096;
-
-const LINE_DOUBLEWORD: u32 = 512 * LINE_PAGE;
+use vsm_model::geometry::LINE_DOUBLEWORD;
 
 /// How many free areas there are, of how many doublewords, and the most that one has.
 #[derive(Clone, Copy)]

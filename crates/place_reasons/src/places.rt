@@ -8,6 +8,7 @@ ghost use Rattle.storage_core.specs.Meaning.{settings_of, state_of};
 ghost use Rattle.place_reasons.specs.Places.{asks_for_place, sides_place};
 
 use storage_core::{Lengths, Obtain, SideReason, Storage};
+use vsm_model::geometry::{LAST_SUBPOOL, PAGE_DOUBLEWORDS};
 
 /// What each side of the line that is looked at has for an area: above the line first, where it may be there.
 #[derive(Clone, Copy, Debug, PartialEq, Eq)]
@@ -50,7 +51,7 @@ fn least_sides(storage: &Storage, o: Obtain) -> Sides
 
 /// The most doublewords that have a place on a side.
 fn most_on(reason: SideReason) -> u32 {
-    let fresh = reason.longest_run.saturating_mul(512);
+    let fresh = reason.longest_run.saturating_mul(PAGE_DOUBLEWORDS);
     reason.longest_inside.max(fresh)
 }
 
@@ -105,7 +106,7 @@ fn asks_for_place(o: Obtain) -> bool
     ensures { result ≡ asks_for_place o }
 {
     let least = least_length(o.lengths);
-    o.number <= 127 && least != 0 && least <= o.lengths.maximum()
+    o.number <= LAST_SUBPOOL && least != 0 && least <= o.lengths.maximum()
 }
 
 /// What a request finds on the sides of the line; `None` where it doesn't come to look for a place, since its number

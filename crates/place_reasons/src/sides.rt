@@ -12,6 +12,7 @@ use crate::places::Sides;
 use std::io::Write;
 use storage_core::{Residence, SideReason, Storage, Subpool};
 use text_output::{Gathered, put_hexadecimal};
+use vsm_model::geometry::{PAGE_BYTES, PAGE_DOUBLEWORDS};
 
 /// How a side is called.
 fn side_word(side: Residence) -> &'static str {
@@ -108,7 +109,7 @@ fn put_run<W: Write>(gathered: &mut Gathered, writer: &mut W, page: u32)
         writer,
         b"the lowest unassigned pages that are as many in a row begin at ",
     );
-    put_hexadecimal(gathered, writer, 8, 4096u32.saturating_mul(page));
+    put_hexadecimal(gathered, writer, 8, PAGE_BYTES.saturating_mul(page));
     gathered.put(writer, b"\n");
 }
 
@@ -118,7 +119,12 @@ fn put_fresh<W: Write>(gathered: &mut Gathered, writer: &mut W, count: u32, reas
     ensures place { IfSome reason.fresh (λ page. PutsEnding (W.contents writer.old) (W.contents writer.new)
         gathered.old gathered.new (found_text (Fresh page))) }
 {
-    put_wanted(gathered, writer, reason.side, count.div_ceil(512));
+    put_wanted(
+        gathered,
+        writer,
+        reason.side,
+        count.div_ceil(PAGE_DOUBLEWORDS),
+    );
     match reason.fresh {
         Some(page) => put_run(gathered, writer, page),
         None => put_pieces(

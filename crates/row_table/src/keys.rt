@@ -8,12 +8,15 @@ ghost use Rattle.row_table.specs.Keys.{key_of, six, seven, row_in_item};
 use crate::row::Row;
 use item_tree::Item;
 
+// How many numbers there are for the first of the two.
+const NUMBERS: u32 = 256;
+
 // The key of these two numbers.
 pub(crate) fn key_of(first: u32, second: u32) -> u64
     ensures key { result ≡ key_of first second }
     ensures range { result < 2 ^ 63 }
 {
-    u64::from(second) * 256 + u64::from(first)
+    u64::from(second) * u64::from(NUMBERS) + u64::from(first)
 }
 
 // The row that an item is.
@@ -34,8 +37,8 @@ pub(crate) fn row_words(words: [u32; 6]) -> [u32; 7]
 {
     let key = words[0];
     [
-        key % 256,
-        key / 256,
+        key % NUMBERS,
+        key / NUMBERS,
         words[1],
         words[2],
         words[3],
@@ -51,7 +54,7 @@ pub(crate) fn item_words(words: [u32; 7]) -> [u32; 6]
     ensures back { seven result ≡ words }
     ensures key { word result 0 ≡ key_of (word words 0) (word words 1) }
 {
-    let key = words[1] * 256 + words[0];
+    let key = words[1] * NUMBERS + words[0];
     [key, words[2], words[3], words[4], words[5], words[6]]
 }
 

@@ -86,8 +86,7 @@ impl RowTable {
         ensures rows { (a b : ℕ) → row elements.new self.new a b
             ≡ (if is_under a b words then Some (record { id = result; words = words })
             else row elements.old self.old a b) }
-        ensures owned { Leaves elements.old elements.new
-            (owned elements.old self.old) (owned elements.new self.new) }
+        ensures owned { Leaves elements.old elements.new (owned elements.old self.old) (owned elements.new self.new) }
         ensures spares { elements.new.spare + 1 ≡ elements.old.spare }
     {
         let id = elements.take(Element::BLANK);
@@ -103,8 +102,7 @@ impl RowTable {
         ensures rows { (a b : ℕ) → row elements.new self.now a b
             ≡ (if is_under a b words then Some (record { id = id; words = words })
             else row elements.old self.now a b) }
-        ensures owned { Leaves elements.old elements.new
-            (owned elements.old self.now) (owned elements.new self.now) }
+        ensures owned { Leaves elements.old elements.new (owned elements.old self.now) (owned elements.new self.now) }
         ensures spares { elements.new.spare ≡ elements.old.spare }
     {
         let item = self.tree.get(elements, id);
@@ -124,8 +122,7 @@ impl RowTable {
             ≡ (if is_under a b words
             then option_map (λ r. record { id = r.id; words = words }) (row elements.old self.old first second)
             else if same_key first second a b then None else row elements.old self.old a b) }
-        ensures owned { Leaves elements.old elements.new
-            (owned elements.old self.old) (owned elements.new self.new) }
+        ensures owned { Leaves elements.old elements.new (owned elements.old self.old) (owned elements.new self.new) }
         ensures spares { elements.new.spare ≡ elements.old.spare }
     {
         let row = self.take_out(elements, first, second);
@@ -202,8 +199,7 @@ impl RowTable {
         ensures some { IfSome result (λ r. rows elements.old self.old ≡ r ∷ rows elements.new self.new) }
         ensures fewer { (id : ℕ) → among id (owned elements.new self.new) ≡ true
             → among id (owned elements.old self.old) ≡ true }
-        ensures owned { Leaves elements.old elements.new
-            (owned elements.old self.old) (owned elements.new self.new) }
+        ensures owned { Leaves elements.old elements.new (owned elements.old self.old) (owned elements.new self.new) }
     {
         match self.tree.find_from(elements, 0) {
             Some(first) => {

@@ -3,7 +3,7 @@ ghost use Rattle.run_set.specs.Kept.{runs_of, IsKept};
 ghost use Rattle.run_tree.specs.Searches.{run_at};
 ghost use Rattle.run_set.specs.Best.{IsBest};
 
-use crate::clip::clipped;
+use crate::clip::{PAGE, clipped};
 use crate::places::RunPlace;
 use crate::set::RunSet;
 use run_tree::Run;
@@ -41,7 +41,7 @@ impl RunSet {
             + (run_at (runs_of elements.now self.now.tree) i).len ≤ region.start + region.len) }
         ensures { IsBest (runs_of elements.now self.now.tree) region boundary from to result }
     {
-        self.tree.most_room(elements, from, to, boundary == 512)
+        self.tree.most_room(elements, from, to, boundary == PAGE)
     }
 
     // The longest, found by descents.

@@ -6,7 +6,7 @@ ghost use Rattle.run_set.specs.Counts.{joins};
 ghost use Rattle.run_set.specs.Runs.{inside, AllIn, NoneIn, AreRunsOf, IsCover};
 ghost use Rattle.run_set.specs.Fits.{Fits, IsLeastFit, IsLongest};
 
-use crate::clip::clipped;
+use crate::clip::{PAGE, clipped};
 use crate::places::RunPlace;
 use crate::run::Cover;
 use run_tree::{Run, RunTree};
@@ -72,14 +72,11 @@ impl RunSet {
         requires absent { NoneIn (λ n. holds elements.old self.old n) run }
         requires room { 0 < elements.old.spare }
         ensures set { IsRunSet elements.new self.new }
-        ensures numbers { (n : ℕ) → holds elements.new self.new n
-            ≡ (inside n run || holds elements.old self.old n) }
+        ensures numbers { (n : ℕ) → holds elements.new self.new n ≡ (inside n run || holds elements.old self.old n) }
         ensures runs { AreRunsOf (runs elements.new self.new) (λ n. holds elements.new self.new n) }
-        ensures owned { Leaves elements.old elements.new
-            (owned elements.old self.old) (owned elements.new self.new) }
+        ensures owned { Leaves elements.old elements.new (owned elements.old self.old) (owned elements.new self.new) }
         ensures spares { elements.old.spare ≤ elements.new.spare + 1 }
-        ensures exact { elements.new.spare + 1
-            ≡ elements.old.spare + joins (λ n. holds elements.old self.old n) run }
+        ensures exact { elements.new.spare + 1 ≡ elements.old.spare + joins (λ n. holds elements.old self.old n) run }
     {
         let sought = self.seek(elements, run.start);
         let place = sought.place;
@@ -119,11 +116,9 @@ impl RunSet {
         ensures numbers { (n : ℕ) → holds elements.new self.new n
             ≡ (not (inside n run) && holds elements.old self.old n) }
         ensures runs { AreRunsOf (runs elements.new self.new) (λ n. holds elements.new self.new n) }
-        ensures owned { Leaves elements.old elements.new
-            (owned elements.old self.old) (owned elements.new self.new) }
+        ensures owned { Leaves elements.old elements.new (owned elements.old self.old) (owned elements.new self.new) }
         ensures spares { elements.old.spare ≤ elements.new.spare + 1 }
-        ensures exact { elements.new.spare + joins (λ n. holds elements.old self.old n) run
-            ≡ elements.old.spare + 1 }
+        ensures exact { elements.new.spare + joins (λ n. holds elements.old self.old n) run ≡ elements.old.spare + 1 }
     {
         let sought = self.seek(elements, run.start);
         let place = sought.place;
@@ -228,16 +223,14 @@ impl RunSet {
         requires set { IsRunSet elements.now self.now }
         requires asked { (0 < len) × (len ≤ 2 ^ 29) × (0 < boundary) × (boundary ≤ 512) }
         requires region { region.start + region.len ≤ 2 ^ 29 }
-        ensures none { IfNone result ((a : ℕ)
-            → ¬ Fits (λ n. holds elements.now self.now n) region a len boundary) }
-        ensures least { IfSome result (λ a. IsLeastFit
-            (λ n. holds elements.now self.now n) region a len boundary) }
+        ensures none { IfNone result ((a : ℕ) → ¬ Fits (λ n. holds elements.now self.now n) region a len boundary) }
+        ensures least { IfSome result (λ a. IsLeastFit (λ n. holds elements.now self.now n) region a len boundary) }
     {
         let count = self.tree.count;
         let end = region.start + region.len;
         let mut place = self.tree.seek(elements, region.start);
         while place < count {
-            let at = self.tree.first_room(elements, place, len, boundary == 512);
+            let at = self.tree.first_room(elements, place, len, boundary == PAGE);
             if at == count {
                 return None;
             }
@@ -265,8 +258,8 @@ impl RunSet {
         if boundary == 1 {
             return self.longest_found(elements, 1, region);
         }
-        if boundary == 512 {
-            return self.longest_found(elements, 512, region);
+        if boundary == PAGE {
+            return self.longest_found(elements, PAGE, region);
         }
         self.longest_walked(elements, boundary, region)
     }

@@ -22,13 +22,16 @@ pub(crate) struct Rooms {
     pub(crate) paged: u32,
 }
 
+// How many numbers a page has.
+const PAGE: u64 = 512;
+
 // What a run has from its first number on a page.
 pub(crate) fn paged_room(run: Run) -> u32
     ensures { result ≡ paged run }
 {
     let start = u64::from(run.start);
     let end = start + u64::from(run.len);
-    let page = (start + 511) / 512 * 512;
+    let page = (start + PAGE - 1) / PAGE * PAGE;
     end.saturating_sub(page) as u32
 }
 

@@ -162,8 +162,7 @@ impl RunTree {
         ensures tree { IsTree elements.new self.new }
         ensures runs { runs elements.new self.new
             ≡ take k (runs elements.old self.old) ++ run ∷ drop k (runs elements.old self.old) }
-        ensures owned { Leaves elements.old elements.new
-            (owned elements.old self.old) (owned elements.new self.new) }
+        ensures owned { Leaves elements.old elements.new (owned elements.old self.old) (owned elements.new self.new) }
         ensures spares { elements.new.spare + 1 ≡ elements.old.spare }
     {
         let id = elements.take(Element::BLANK);

@@ -9,7 +9,7 @@ use Rattle.vsm_elements.specs.declared.chain.Chain.{Chain}
 use Rattle.subpool_storage.specs.Extents.{extents}
 use Rattle.subpool_storage.specs.Subpools.{Subpools}
 use Rattle.storage_changes.specs.declared.record.Record.{Record}
-use Rattle.storage_changes.specs.Changes.{Change as Meaning, unassigned_records, change_from}
+use Rattle.storage_changes.specs.Changes.{Change as Meaning, unassigned_records, change_from, change_of, no_pages}
 use Rattle.storage_exchange.specs.declared.storage.Parts.{Parts}
 use Rattle.storage_swap.specs.declared.change.Change.{Change}
 use Rattle.raw_region.specs.Pages.{Pages}
@@ -36,8 +36,8 @@ reserved_count p t d c made =
     let same_blanks : c.blanks.count ≡ d.blanks = ap (λ (x : Meaning). x.blanks) made.meaning in
     omega (arith, records-length t.elements c.records, same_records, same_blanks)
 
--- of a change with at most 17 records of its own
-few_from : (m : Subpools) (emptied : Option Subpool) (records : List Record) (blanks : ℕ) (fresh : Run) → length records ≤ 17 →
+-- of a change with at most 8 records of its own
+few_from : (m : Subpools) (emptied : Option Subpool) (records : List Record) (blanks : ℕ) (fresh : Run) → length records ≤ 8 →
     length (change_from m emptied records blanks fresh).records + (change_from m emptied records blanks fresh).blanks ≤ 25 + blanks + 8 * extents_leaving m emptied
 few_from m None records blanks fresh few = let h : length records + blanks ≤ 25 + blanks + 8 * 0 = omega (arith, few) in h
 few_from m (Some p) records blanks fresh few =
@@ -47,14 +47,19 @@ few_from m (Some p) records blanks fresh few =
     h
 
 pub few_answered : {E : Type 0} (p t : Parts) (m : Subpools) (emptied : Option Subpool) (records : List Record) (blanks : ℕ) (fresh : Run) (r : Result Change E) →
-    IfOk r (λ c. Reserves p (change_from m emptied records blanks fresh) c t) → length records ≤ 17 →
+    IfOk r (λ c. Reserves p (change_from m emptied records blanks fresh) c t) → length records ≤ 8 →
     IfOk r (λ c. c.records.count + c.blanks.count ≤ 25 + blanks + 8 * extents_leaving m emptied)
 few_answered p t m emptied records blanks fresh (Ok c) made few =
     omega (arith, few_from m emptied records blanks fresh few, reserved_count p t (change_from m emptied records blanks fresh) c made)
 few_answered p t m emptied records blanks fresh (Err e) made few = made
 
+-- of one of records alone
+pub few_records : {E : Type 0} (p t : Parts) (records : List Record) (r : Result Change E) → IfOk r (λ c. Reserves p (change_of records 0 no_pages) c t) → length records ≤ 17 → IfOk r (λ c. c.records.count + c.blanks.count ≤ 17)
+few_records p t records (Ok c) made few = omega (arith, few, reserved_count p t (change_of records 0 no_pages) c made)
+few_records p t records (Err e) made few = made
+
 -- and with what it has parked
-pub needed_for : (m : Subpools) (emptied : Option Subpool) (n blanks : ℕ) → n ≤ 17 → elements_for m emptied n blanks ≤ 25 + blanks + 8 * extents_leaving m emptied
+pub needed_for : (m : Subpools) (emptied : Option Subpool) (n blanks : ℕ) → n ≤ 8 → elements_for m emptied n blanks ≤ 25 + blanks + 8 * extents_leaving m emptied
 needed_for m None n blanks few = let h : n + blanks ≤ 25 + blanks + 8 * 0 = omega (arith, few) in h
 needed_for m (Some p) n blanks few = omega (arith, few)
 

@@ -13,7 +13,7 @@ use Rattle.storage_changes.proofs.AssignedPages.{assigned-brought}
 use Rattle.storage_swap.proofs.ReserveLemmas.{meant-frames}
 use Rattle.cell_plans.specs.CellPlans.{deleting_change}
 use Rattle.storage_core.specs.declared.plans.Plan.{Plan}
-use Rattle.storage_core.specs.declared.plans.Plan.TheVariants.{Storage, Attach, End, Build, Delete}
+use Rattle.storage_core.specs.declared.plans.Plan.TheVariants.{Storage, Store, Attach, End, Build, Delete}
 use Rattle.storage_core.specs.Frames.{AssignsItsFrames}
 use Rattle.storage_core.specs.Planned.{Assigns, AssignsOnly, IsAccepted, change_for, fresh_pages}
 
@@ -27,6 +27,7 @@ frames_for : (m : StorageState) (id : ℕ) (plan : Plan) (a : ℕ) → IsSome ((
 frames_for m id (Storage plan) a some =
     let P : Option ℕ → Type 0 = λ o. IsSome o in
     some_inside plan.fresh a (subst P (meant-frames m.subpools plan.records.items plan.blanks plan.fresh plan.emptied a) some)
+frames_for m id (Store plan) a some = some_inside no_pages a some
 frames_for m id (Attach plan) a some = some_inside no_pages a some
 frames_for m id (End plan) a some = some_inside no_pages a some
 frames_for m id (Build plan) a some = some_inside plan.fresh a some

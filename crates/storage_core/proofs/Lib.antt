@@ -13,3 +13,4 @@ mod Owners
 mod TaskCounts
 mod CellPoolCounts
 pub mod Making
+pub mod FreshLemmas

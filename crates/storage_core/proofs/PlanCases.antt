@@ -5,6 +5,7 @@ use mathlib.Core.Logic.{∥∥₁_elim, ∥∥₁_map}
 use Rattle.vsm_model.specs.declared.causes.Cause.{Cause}
 use Rattle.vsm_model.specs.declared.limits.Settings.{Settings}
 use Rattle.vsm_model.specs.declared.replies.Reply.{Reply}
+use Rattle.vsm_model.specs.declared.replies.Reply.TheVariants.{Stored}
 use Rattle.vsm_model.specs.Services.{Service}
 use Rattle.vsm_model.specs.State.{State}
 use Rattle.vsm_model.specs.Standing as outcome
@@ -15,6 +16,8 @@ use Rattle.storage_changes.specs.Changes.{Change}
 use Rattle.storage_changes.specs.Meaning.{model_of}
 use Rattle.storage_plans.specs.declared.plan.StoragePlan.{StoragePlan}
 use Rattle.storage_plans.specs.Plans.{CarriesOut, IsPlanned as IsStoragePlanned}
+use Rattle.storage_plans.specs.declared.store.StorePlan.{StorePlan}
+use Rattle.storage_plans.specs.StorePlans.{IsStorePlanned}
 use Rattle.storage_plans.proofs.Assigning.{none_assigned}
 use Rattle.task_plans.specs.declared.attach.AttachPlan.{AttachPlan}
 use Rattle.task_plans.specs.declared.end.EndPlan.{EndPlan}
@@ -23,7 +26,7 @@ use Rattle.cell_pool.specs.Pools.{mark_items}
 use Rattle.cell_plans.specs.declared.build.BuildPlan.{BuildPlan}
 use Rattle.cell_plans.specs.declared.delete.DeletePlan.{DeletePlan}
 use Rattle.cell_plans.specs.CellPlans.{IsBuildPlanned, IsCellPlanned, IsDeletePlanned}
-use Rattle.storage_core.specs.declared.plans.Plan.TheVariants.{Storage, Attach, End, Build, Delete}
+use Rattle.storage_core.specs.declared.plans.Plan.TheVariants.{Storage, Store, Attach, End, Build, Delete}
 use Rattle.storage_core.specs.Weight.{weight, cells_weight}
 use Rattle.storage_core.proofs.FramesBrought.{only_by}
 use Rattle.storage_core.specs.Planned.{Assigns, CanCarryOut, HasRecords, IsAccepted, IsPlanned, change_for, extents_leaving, reply_of, storage_elements}
@@ -73,6 +76,23 @@ module _ (settings : Settings) (names_full : Bool) (m : StorageState) (x : Servi
   pub storage_err : (r : Result StoragePlan Cause) (cause : Cause) → r ≡ Err cause → IsStoragePlanned settings names_full m x r
       → IsPlanned settings names_full m x (Err cause)
   storage_err r cause is h = subst (IsStoragePlanned settings names_full m x) is h
+
+  pub store_ok : (r : Result StorePlan Cause) (plan : StorePlan) → r ≡ Ok plan → IsStorePlanned settings names_full m x r
+      → IsPlanned settings names_full m x (Ok (Store plan))
+  store_ok r plan is h =
+      let planned : IsStorePlanned settings names_full m x (Ok plan) = subst (IsStorePlanned settings names_full m x) is h in
+      record {
+        accepts = accepts_by (change_for m 0 (Store plan)) Stored planned.0;
+        accepted = λ id _. planned.0;
+        can = planned.1;
+        light = omega arith;
+        assigned = λ id. none_assigned _;
+        only = λ id _. only_by settings names_full m x id (Store plan) Stored planned.0;
+      }
+
+  pub store_err : (r : Result StorePlan Cause) (cause : Cause) → r ≡ Err cause → IsStorePlanned settings names_full m x r
+      → IsPlanned settings names_full m x (Err cause)
+  store_err r cause is h = subst (IsStorePlanned settings names_full m x) is h
 
   pub attach_ok : (r : Result AttachPlan Cause) (plan : AttachPlan) → r ≡ Ok plan → IsAttachPlanned settings names_full m x r
       → IsPlanned settings names_full m x (Ok (Attach plan))

@@ -2,6 +2,8 @@ pub mod Frames
 pub mod Held
 pub mod Meaning
 pub mod Planned
+pub mod Reserved
+pub mod Fresh
 pub mod Stays
 pub mod Walks
 pub mod Weight

@@ -6,7 +6,7 @@ use Rattle.run_set.specs.Runs.{Run}
 use Rattle.vsm_model.specs.declared.causes.Cause.{Cause}
 use Rattle.vsm_model.specs.declared.limits.Settings.{Settings}
 use Rattle.vsm_model.specs.declared.replies.Reply.{Reply}
-use Rattle.vsm_model.specs.declared.replies.Reply.TheVariants.{Attached, Returned}
+use Rattle.vsm_model.specs.declared.replies.Reply.TheVariants.{Attached, Returned, Stored}
 use Rattle.vsm_model.specs.Services.{Service, obtain, release, whole, attach, detach, end_task, run, store, build, get}
 use Rattle.vsm_model.specs.Services.{free, delete}
 use Rattle.vsm_model.specs.Standing as outcome
@@ -21,6 +21,7 @@ use Rattle.storage_changes.specs.Changes.{Change, no_pages}
 use Rattle.storage_changes.specs.Meaning.{model_of}
 use Rattle.storage_plans.specs.declared.plan.StoragePlan.{StoragePlan}
 use Rattle.storage_plans.specs.Plans.{change_in}
+use Rattle.storage_plans.specs.StorePlans.{store_change, CanBeStored}
 pub use Rattle.storage_plans.specs.Plans.{Assigns, AssignsOnly}
 use Rattle.change_laws.specs.Ending.{ended_below, weight_ended}
 use Rattle.task_plans.specs.TaskPlans.{numbers, attach_change, end_change}
@@ -31,7 +32,7 @@ use Rattle.cell_plans.specs.CellPlans.{build_change, delete_change, extents_of_p
 pub use Rattle.cell_plans.specs.CellPlans.{HasRecords}
 use Rattle.storage_core.specs.Weight.{weight}
 use Rattle.storage_core.specs.declared.plans.Plan.{Plan}
-use Rattle.storage_core.specs.declared.plans.Plan.TheVariants.{Storage, Attach, End, Build, Delete}
+use Rattle.storage_core.specs.declared.plans.Plan.TheVariants.{Storage, Store, Attach, End, Build, Delete}
 
 -- An obtain, with a register of the sixteen where one is named; a release of an area or of a whole subpool; a store of
 -- at most 256 bytes; a service on tasks; or one on a cell pool, whose name has at most 63 bytes and whose header at
@@ -58,6 +59,7 @@ extents_leaving m (Some p) = length (extents m p)
 -- whether a change can be made of the plan
 abbrev pub CanBeReserved : StorageState → Plan → Type 0
 CanBeReserved m (Storage plan) = HasRecords m plan
+CanBeReserved m (Store plan) = CanBeStored m plan
 CanBeReserved m (Attach plan) = CanBeAttached m plan
 CanBeReserved m (End plan) = CanBeEnded m plan
 CanBeReserved m (Build plan) = CanBeBuilt m plan
@@ -66,6 +68,7 @@ CanBeReserved m (Delete plan) = CanBeDeleted m plan
 -- the reply of what was planned
 abbrev pub reply_of : Plan → Reply
 reply_of (Storage plan) = plan.reply
+reply_of (Store plan) = Stored
 reply_of (Attach plan) = Attached plan.task
 reply_of (End plan) = plan.reply
 reply_of (Build plan) = plan.reply
@@ -74,6 +77,7 @@ reply_of (Delete plan) = Returned 0
 -- a cell pool that comes can have this id: none has it
 abbrev pub IsIdFor : StorageState → Plan → ℕ → Type 0
 IsIdFor m (Storage plan) id = ⊤
+IsIdFor m (Store plan) id = ⊤
 IsIdFor m (Attach plan) id = ⊤
 IsIdFor m (End plan) id = ⊤
 IsIdFor m (Build plan) id = (id < 2 ^ 32) × (m.subpools.cells id ≡ None)
@@ -82,6 +86,7 @@ IsIdFor m (Delete plan) id = ⊤
 -- the change that carries it out, where a cell pool that comes has this id
 abbrev pub change_for : StorageState → ℕ → Plan → Change
 change_for m id (Storage plan) = change_in m plan
+change_for m id (Store plan) = store_change m plan
 change_for m id (Attach plan) = attach_change m plan
 change_for m id (End plan) = end_change m plan
 change_for m id (Build plan) = build_change plan id
@@ -90,6 +95,7 @@ change_for m id (Delete plan) = delete_change m plan
 -- the pages that come to be assigned
 abbrev pub fresh_pages : Plan → Run
 fresh_pages (Storage plan) = plan.fresh
+fresh_pages (Store plan) = no_pages
 fresh_pages (Attach plan) = no_pages
 fresh_pages (End plan) = no_pages
 fresh_pages (Build plan) = plan.fresh
@@ -104,12 +110,13 @@ pages_assigned plan = (fresh_pages plan).len
 abbrev pub storage_elements : StorageState → StoragePlan → ℕ
 storage_elements m plan = 25 + plan.blanks + 8 * extents_leaving m.subpools plan.emptied
 
--- The change of a plan takes at most so many elements, those that it has parked among them: of a new task 32, and 4
--- for each number that is given or shared; of tasks that end 32, and 8 for each task, subpool, extent and row of sight
--- that leaves; of a cell pool that comes 30, and those of its cells and of their marks; and of one that goes 32, and 8
--- for it and for each of its extents.
+-- The change of a plan takes at most so many elements, those that it has parked among them: of a store 17, one for each
+-- block that it touches; of a new task 32, and 4 for each number that is given or shared; of tasks that end 32, and 8
+-- for each task, subpool, extent and row of sight that leaves; of a cell pool that comes 30, and those of its cells and
+-- of their marks; and of one that goes 32, and 8 for it and for each of its extents.
 abbrev pub elements_needed : StorageState → Plan → ℕ
 elements_needed m (Storage plan) = storage_elements m plan
+elements_needed m (Store plan) = 17
 elements_needed m (Attach plan) =
     32 + 4 * (length (numbers m plan.attach.given) + length (numbers m plan.attach.shared))
 elements_needed m (End plan) = 32 + 8 * weight_ended m.subpools (ended_below m.tasks.parents plan.top)

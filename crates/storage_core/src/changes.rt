@@ -10,6 +10,7 @@ ghost use Rattle.storage_swap.specs.Swap.{means, Ready, Swaps, Discards};
 ghost use Rattle.storage_core.specs.Meaning.{state_in_place, settings_of};
 ghost use Rattle.storage_core.specs.Planned.{change_for, elements_needed, pages_assigned, storage_elements};
 ghost use Rattle.storage_core.specs.Planned.{CanBeReserved, HasRecords, IsIdFor, IsSpare, IsSpareFor};
+ghost use Rattle.storage_core.specs.Reserved.{IsReserved};
 ghost use Rattle.storage_core.specs.Stays.{Stays};
 ghost use Rattle.storage_core.specs.declared.plans.Plan.TheVariants.{Attach, Delete, End};
 ghost use Rattle.cell_plans.specs.CellPlans.{delete_change, CanBeDeleted};
@@ -28,11 +29,12 @@ impl Storage {
     /// table for each page that comes to be assigned. The storage stays as it is, whatever the answer.
     ///
     /// It takes at most 25 elements and its plan's blank ones, and 8 for each extent that leaves with a whole subpool
-    /// that is emptied. That of a new task takes 32 at most, and 4 for each number that it is given or shares; that of
-    /// tasks that end 32, and 8 for each task, subpool, extent and row of sight that leaves; that of a cell pool that
-    /// comes 30, and those of its cells and of their marks; and that of one that goes 32, and 8 for it and for each of
-    /// its extents. These are its records, its blank elements and what it has parked: an element for each empty
-    /// subpool, or the elements of a cell pool that comes. It has just as many frames as pages come to be assigned.
+    /// that is emptied. That of a store takes 17 at most; that of a new task 32, and 4 for each number that it is given
+    /// or shares; that of tasks that end 32, and 8 for each task, subpool, extent and row of sight that leaves; that of
+    /// a cell pool that comes 30, and those of its cells and of their marks; and that of one that goes 32, and 8 for it
+    /// and for each of its extents. These are its records, its blank elements and what it has parked: an element for
+    /// each empty subpool, or the elements of a cell pool that comes. It has just as many frames as pages come to be
+    /// assigned.
     ///
     /// `AllocError` where memory is refused: that can be only where fewer elements or frames are spare, or a table
     /// isn't there. What was made before that stays, as spare elements and frames. For a change at most a block of
@@ -58,6 +60,7 @@ impl Storage {
     {
         match plan {
             Plan::Storage(plan) => self.reserve_storage(plan),
+            Plan::Store(plan) => self.reserve_store(plan),
             Plan::Attach(plan) => self.reserve_attach(plan),
             Plan::End(plan) => self.reserve_end(plan),
             Plan::Build(plan) => self.reserve_building(plan),
@@ -68,23 +71,9 @@ impl Storage {
     // The change of a request for storage, or of a turn.
     fn reserve_storage(&mut self, plan: StoragePlan) -> Result<Change, AllocError>
         requires { HasRecords (state_in_place self.old) plan }
-        ensures ok { IfOk result (λ change. Reserves self.old.parts
-            (change_in (state_in_place self.old) plan) change self.new.parts) }
-        ensures frames { IfOk result (λ change. length change.frames ≡ plan.fresh.len) }
-        ensures few { IfOk result (λ change. change.records.count + change.blanks.count
-            ≤ storage_elements (state_in_place self.old) plan) }
-        ensures uses { IfOk result (λ _. self.old.parts.elements.spare
-            ≤ self.new.parts.elements.spare + storage_elements (state_in_place self.old) plan) }
-        ensures live { IfOk result (λ _. live_count self.new.parts.elements
-            ≤ live_count self.old.parts.elements + storage_elements (state_in_place self.old) plan) }
-        ensures made { IfOk result (λ _. MakesElements self.old.parts.elements self.new.parts.elements
-            (storage_elements (state_in_place self.old) plan)) }
-        ensures made_frames { IfOk result (λ _. MakesFrames self.old.parts.region self.new.parts.region
-            plan.fresh.len) }
-        ensures err { OnErr result (Stays self.old.parts self.new.parts) }
-        ensures needless { IsSpareFor self.old.parts (storage_elements (state_in_place self.old) plan) plan.fresh
-            → IsOk result }
-        ensures settings { settings_of self.new ≡ settings_of self.old }
+        ensures { IsReserved self.old (change_in (state_in_place self.old) plan)
+            (storage_elements (state_in_place self.old) plan) plan.fresh.len
+            (IsSpareFor self.old.parts (storage_elements (state_in_place self.old) plan) plan.fresh) self.new result }
     {
         Change::reserve(
             &mut self.parts,
@@ -98,23 +87,9 @@ impl Storage {
     // The change of a new task.
     fn reserve_attach(&mut self, plan: AttachPlan) -> Result<Change, AllocError>
         requires { CanBeAttached (state_in_place self.old) plan }
-        ensures ok { IfOk result (λ change. Reserves self.old.parts
-            (attach_change (state_in_place self.old) plan) change self.new.parts) }
-        ensures frames { IfOk result (λ change. length change.frames ≡ 0) }
-        ensures few { IfOk result (λ change. change.records.count + change.blanks.count
-            ≤ elements_needed (state_in_place self.old) (Attach plan)) }
-        ensures uses { IfOk result (λ _. self.old.parts.elements.spare
-            ≤ self.new.parts.elements.spare + elements_needed (state_in_place self.old) (Attach plan)) }
-        ensures live { IfOk result (λ _. live_count self.new.parts.elements
-            ≤ live_count self.old.parts.elements + elements_needed (state_in_place self.old) (Attach plan)) }
-        ensures made { IfOk result (λ _. MakesElements self.old.parts.elements self.new.parts.elements
-            (elements_needed (state_in_place self.old) (Attach plan))) }
-        ensures made_frames { IfOk result (λ _. MakesFrames self.old.parts.region self.new.parts.region
-            0) }
-        ensures err { OnErr result (Stays self.old.parts self.new.parts) }
-        ensures needless { elements_needed (state_in_place self.old) (Attach plan) ≤ self.old.parts.elements.spare
-            → IsOk result }
-        ensures settings { settings_of self.new ≡ settings_of self.old }
+        ensures { IsReserved self.old (attach_change (state_in_place self.old) plan)
+            (elements_needed (state_in_place self.old) (Attach plan)) 0
+            (elements_needed (state_in_place self.old) (Attach plan) ≤ self.old.parts.elements.spare) self.new result }
     {
         plan.reserve(&mut self.parts)
     }
@@ -122,23 +97,9 @@ impl Storage {
     // The change of tasks that end.
     fn reserve_end(&mut self, plan: EndPlan) -> Result<Change, AllocError>
         requires { CanBeEnded (state_in_place self.old) plan }
-        ensures ok { IfOk result (λ change. Reserves self.old.parts
-            (end_change (state_in_place self.old) plan) change self.new.parts) }
-        ensures frames { IfOk result (λ change. length change.frames ≡ 0) }
-        ensures few { IfOk result (λ change. change.records.count + change.blanks.count
-            ≤ elements_needed (state_in_place self.old) (End plan)) }
-        ensures uses { IfOk result (λ _. self.old.parts.elements.spare
-            ≤ self.new.parts.elements.spare + elements_needed (state_in_place self.old) (End plan)) }
-        ensures live { IfOk result (λ _. live_count self.new.parts.elements
-            ≤ live_count self.old.parts.elements + elements_needed (state_in_place self.old) (End plan)) }
-        ensures made { IfOk result (λ _. MakesElements self.old.parts.elements self.new.parts.elements
-            (elements_needed (state_in_place self.old) (End plan))) }
-        ensures made_frames { IfOk result (λ _. MakesFrames self.old.parts.region self.new.parts.region
-            0) }
-        ensures err { OnErr result (Stays self.old.parts self.new.parts) }
-        ensures needless { elements_needed (state_in_place self.old) (End plan) ≤ self.old.parts.elements.spare
-            → IsOk result }
-        ensures settings { settings_of self.new ≡ settings_of self.old }
+        ensures { IsReserved self.old (end_change (state_in_place self.old) plan)
+            (elements_needed (state_in_place self.old) (End plan)) 0
+            (elements_needed (state_in_place self.old) (End plan) ≤ self.old.parts.elements.spare) self.new result }
     {
         plan.reserve(&mut self.parts)
     }
@@ -146,23 +107,9 @@ impl Storage {
     // The change of a cell pool that goes.
     fn reserve_delete(&mut self, plan: DeletePlan) -> Result<Change, AllocError>
         requires { CanBeDeleted (state_in_place self.old) plan }
-        ensures ok { IfOk result (λ change. Reserves self.old.parts
-            (delete_change (state_in_place self.old) plan) change self.new.parts) }
-        ensures frames { IfOk result (λ change. length change.frames ≡ 0) }
-        ensures few { IfOk result (λ change. change.records.count + change.blanks.count
-            ≤ elements_needed (state_in_place self.old) (Delete plan)) }
-        ensures uses { IfOk result (λ _. self.old.parts.elements.spare
-            ≤ self.new.parts.elements.spare + elements_needed (state_in_place self.old) (Delete plan)) }
-        ensures live { IfOk result (λ _. live_count self.new.parts.elements
-            ≤ live_count self.old.parts.elements + elements_needed (state_in_place self.old) (Delete plan)) }
-        ensures made { IfOk result (λ _. MakesElements self.old.parts.elements self.new.parts.elements
-            (elements_needed (state_in_place self.old) (Delete plan))) }
-        ensures made_frames { IfOk result (λ _. MakesFrames self.old.parts.region self.new.parts.region
-            0) }
-        ensures err { OnErr result (Stays self.old.parts self.new.parts) }
-        ensures needless { elements_needed (state_in_place self.old) (Delete plan) ≤ self.old.parts.elements.spare
-            → IsOk result }
-        ensures settings { settings_of self.new ≡ settings_of self.old }
+        ensures { IsReserved self.old (delete_change (state_in_place self.old) plan)
+            (elements_needed (state_in_place self.old) (Delete plan)) 0
+            (elements_needed (state_in_place self.old) (Delete plan) ≤ self.old.parts.elements.spare) self.new result }
     {
         plan.reserve(&mut self.parts)
     }

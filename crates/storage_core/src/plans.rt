@@ -5,6 +5,7 @@ ghost use Rattle.vsm_model.specs.Meaning.{service_in};
 ghost use Rattle.vsm_model.specs.Services.{Service as Asked, obtain, release, whole, run, store, build, get, free};
 ghost use Rattle.storage_changes.specs.State.{StorageState};
 ghost use Rattle.storage_plans.specs.Plans.{IsPlanned as IsStoragePlanned};
+ghost use Rattle.storage_plans.specs.StorePlans.{IsStorePlanned};
 ghost use Rattle.task_plans.specs.TaskPlans.{IsAttachPlanned, IsEndPlanned};
 ghost use Rattle.cell_plans.specs.CellPlans.{IsBuildPlanned, IsCellPlanned, IsDeletePlanned};
 ghost use Rattle.storage_core.specs.Meaning.{state_in_place, settings_of};
@@ -13,15 +14,17 @@ ghost use Rattle.storage_core.specs.Weight.{weight};
 
 use crate::storage::Storage;
 use cell_plans::{BuildPlan, DeletePlan, plan_build, plan_delete, plan_free, plan_get};
-use storage_plans::{StoragePlan, plan_obtain, plan_release, plan_store, plan_whole};
+use storage_plans::{StoragePlan, StorePlan, plan_obtain, plan_release, plan_store, plan_whole};
 use task_plans::{AttachPlan, EndPlan, plan_attach, plan_detach, plan_end_task, plan_run};
 use vsm_model::{Build, Cause, Get, Obtain, Release, Reply, Service};
 
 /// What an accepted request will do. It was found by reading alone, and nothing is changed yet.
 #[derive(Drop)]
 pub enum Plan {
-    /// Storage that is obtained, released or stored into, a cell that is handed out or given back, or a turn.
+    /// Storage that is obtained or released, a cell that is handed out or given back, or a turn.
     Storage(StoragePlan),
+    /// Bytes that are stored.
+    Store(StorePlan),
     /// A task that comes, with its subpools.
     Attach(AttachPlan),
     /// Tasks that end.
@@ -39,6 +42,7 @@ impl Plan {
     {
         match self {
             Plan::Storage(plan) => plan.reply,
+            Plan::Store(_) => Reply::Stored,
             Plan::Attach(plan) => Reply::Attached(plan.task),
             Plan::End(plan) => plan.reply,
             Plan::Build(plan) => plan.reply,
@@ -56,6 +60,17 @@ fn storage_planned(planned: Result<StoragePlan, Cause>) -> Result<Plan, Cause>
 {
     match planned {
         Ok(plan) => Ok(Plan::Storage(plan)),
+        Err(cause) => Err(cause),
+    }
+}
+
+// The plan of bytes that are stored.
+fn store_planned(planned: Result<StorePlan, Cause>) -> Result<Plan, Cause>
+    ensures { (settings : Settings) (names_full : Bool) (m : StorageState) (x : Asked)
+        → IsStorePlanned settings names_full m x planned → IsPlanned settings names_full m x result }
+{
+    match planned {
+        Ok(plan) => Ok(Plan::Store(plan)),
         Err(cause) => Err(cause),
     }
 }
@@ -181,7 +196,7 @@ impl Storage {
         ensures { (names_full : Bool)
             → IsPlanned (settings_of self.now) names_full (state_in_place self.now) (store address bytes.now) result }
     {
-        storage_planned(plan_store(&self.parts, address, bytes))
+        store_planned(plan_store(&self.parts, address, bytes))
     }
 
     #[inline(never)]

@@ -10,6 +10,7 @@ use crate::fields::put_area;
 use std::io::Write;
 use storage_core::{PoolPlace, Storage};
 use text_output::Gathered;
+use vsm_model::geometry::PAGE_BYTES;
 
 /// Puts a line for each extent of the subpool before the place, ascending.
 pub(crate) fn put_extents<W: Write>(
@@ -29,8 +30,8 @@ pub(crate) fn put_extents<W: Write>(
             gathered,
             writer,
             b"  EXTENT",
-            4096 * run.start,
-            4096 * run.len,
+            PAGE_BYTES * run.start,
+            PAGE_BYTES * run.len,
         );
         place = behind;
     }

@@ -8,6 +8,7 @@ ghost use Rattle.storage_map.specs.Totals.{totals_of};
 use crate::counts::Totals;
 use change_laws::maps::totals_are_sums;
 use storage_core::{PoolPlace, Run, Storage};
+use vsm_model::geometry::{LINE_PAGE, PAGE_BYTES, PAGE_K};
 
 /// The pages of a subpool, or of all subpools, on each side of the 16 MB line.
 #[derive(Clone, Copy)]
@@ -23,7 +24,7 @@ fn with_run(pages: Pages, run: Run) -> Pages
     ensures low { result.low ≡ pages.low + pages_on_side true run }
     ensures high { result.high ≡ pages.high + pages_on_side false run }
 {
-    if run.start < 4096 {
+    if run.start < LINE_PAGE {
         Pages {
             low: pages.low + run.len,
             high: pages.high,
@@ -106,10 +107,10 @@ pub fn totals(storage: &Storage) -> Totals
     let free = 8 * u64::from(free);
     Totals {
         low_pages: pages.low,
-        low_size: settings.low_k / 4,
+        low_size: settings.low_k / PAGE_K,
         high_pages: pages.high,
-        high_size: settings.high_k / 4,
-        taken: 4096 * (u64::from(pages.low) + u64::from(pages.high)) - free,
+        high_size: settings.high_k / PAGE_K,
+        taken: PAGE_BYTES as u64 * (u64::from(pages.low) + u64::from(pages.high)) - free,
         free,
     }
 }

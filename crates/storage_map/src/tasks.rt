@@ -9,6 +9,7 @@ use crate::fields::{put_field, put_hex_field};
 use std::io::Write;
 use storage_core::Storage;
 use text_output::Gathered;
+use vsm_model::geometry::TASKS_END;
 
 /// Puts that the task is the current one, and nothing where it isn't.
 #[tactic(auto, using(text_output::proofs::Gathering::puts_none))]
@@ -93,7 +94,7 @@ pub(crate) fn put_tasks<W: Write>(gathered: &mut Gathered, writer: &mut W, stora
     ensures { Puts (W.contents writer.old) (W.contents writer.new) gathered.old gathered.new
         (flat_map (task_lines (state_of storage.now)) (numbers 1 65)) }
 {
-    for task in 1..65 {
+    for task in 1..TASKS_END {
         put_task(gathered, writer, storage, task);
     }
 }

@@ -1,11 +1,10 @@
 -- What a store needs of the storage, and what its plan comes to.
-use Rattle.std.proofs.Common.{◌≡◌, ℕ, suc, zero, ◌+◌, ◌-◌, ◌*◌, ◌<◌, ◌≤◌, ◌/◌, Bool, true, false, not, List, [], ◌∷◌, length, slice_index_or, Some, None, IsSome, is_some, if◌then◌else◌, sym, ◌∙◌, ap, arith, inl, inr}
+use Rattle.std.proofs.Common.{◌≡◌, ℕ, suc, zero, ◌+◌, ◌-◌, ◌*◌, ◌<◌, ◌≤◌, ◌/◌, Bool, true, false, not, List, [], ◌∷◌, length, slice_index_or, Some, None, Ok, IsSome, is_some, if◌then◌else◌, sym, ◌∙◌, ap, subst, arith, inl, inr}
 use Rattle.std.specs.List.{All}
 use Rattle.std.proofs.Math.Logic.{∥∥₁_map}
 use Rattle.std.proofs.lemmas.Bool.{cases_eq, cases_lt}
 use Rattle.vsm_model.specs.declared.causes.Cause.TheVariants.{NotAssigned}
 use Rattle.vsm_model.specs.declared.limits.Settings.{Settings}
-use Rattle.vsm_model.specs.declared.replies.Reply.{Reply}
 use Rattle.vsm_model.specs.declared.replies.Reply.TheVariants.{Stored}
 use Rattle.vsm_model.specs.Bytes.{are_there, with_bytes}
 use Rattle.vsm_model.specs.Services.{store}
@@ -22,16 +21,14 @@ use Rattle.storage_changes.specs.declared.record.Record.TheVariants.{Bytes}
 use Rattle.storage_changes.specs.State.{StorageState}
 use Rattle.storage_changes.specs.Meaning.{model_of, IsSound}
 use Rattle.storage_changes.specs.Turned.{read}
-use Rattle.change_laws.specs.StorageActions.{run_of, bytes_with, blocks_for, write_records}
-use Rattle.change_laws.proofs.Rows.{none_fresh}
+use Rattle.change_laws.specs.StorageActions.{bytes_with, blocks_for, write_records}
+use Rattle.change_laws.specs.Leads.{Leads}
 use Rattle.change_laws.proofs.Writing.{writing_leads}
 use Rattle.storage_exchange.specs.declared.storage.Parts.{Parts}
 use Rattle.storage_exchange.specs.Storage.{state_of, IsFrameless}
-use Rattle.storage_plans.specs.declared.plan.StoragePlan.{StoragePlan}
-use Rattle.storage_plans.specs.Plans.{CarriesOut}
+use Rattle.storage_plans.specs.declared.store.StorePlan.{StorePlan}
+use Rattle.storage_plans.specs.StorePlans.{store_change, IsStorePlanned}
 use Rattle.storage_plans.proofs.BytesRead.{byte_shown}
-use Rattle.storage_plans.proofs.Assigning.{none_assigned}
-use Rattle.storage_plans.proofs.Carried.{carries_out}
 
 -- the record of a block with the bytes of a store over it
 abbrev pub block_record : StorageState → ℕ → List ℕ → ℕ → Record
@@ -97,16 +94,28 @@ are_bytes (x ∷ xs) fits zero d below = fits 0
 are_bytes (x ∷ xs) fits (suc k) d below = are_bytes xs (λ i. fits (suc i)) k d (omega (arith, below))
 
 -- the plan of a store
-pub store_carried :
-    (settings : Settings) (names_full : Bool) (m : StorageState) (address : ℕ) (bytes : List ℕ) (plan : StoragePlan) → are_there (model_of m) address (length bytes) ≡ true
-    → All (λ byte. byte < 256) bytes → plan.emptied ≡ None → plan.records.items ≡ write_records m address bytes → plan.blanks ≡ 0 → plan.fresh ≡ run_of 0 0 → plan.reply ≡ Stored
-    → ∥ IsSound settings m ∥₁ → ∥ CarriesOut settings names_full m (store address bytes) plan ∥₁
-store_carried settings names_full m address bytes plan there are emptied records blanks fresh reply sound =
+stored_planned :
+    (settings : Settings) (names_full : Bool) (m : StorageState) (plan : StorePlan) → are_there (model_of m) plan.address (length plan.bytes.items) ≡ true
+    → All (λ byte. byte < 256) plan.bytes.items → ∥ IsSound settings m ∥₁ → IsStorePlanned settings names_full m (store plan.address plan.bytes.items) (Ok plan)
+stored_planned settings names_full m plan there are sound =
+    let address : ℕ = plan.address in
+    let bytes : List ℕ = plan.bytes.items in
     let after : State = with_bytes (model_of m) address bytes in
-    let outcome : Reply → Stepped = λ r. Accepted after r in
-    let accepted : step settings names_full (model_of m) (store address bytes) ≡ Accepted after Stored = store_accepted settings names_full (model_of m) address bytes there in
-    ∥∥₁_map sound (λ h.
-    carries_out settings names_full m (store address bytes) plan (write_records m address bytes) 0 (run_of 0 0) after emptied records blanks fresh (accepted ∙ ap outcome (sym reply))
-    (writing_leads settings m address bytes h there
-    (store_leaves_well_formed settings names_full (model_of m) after address bytes Stored are h.well_formed accepted))
-    (omega arith) (omega arith) (none_fresh m) (none_assigned _))
+    let outcome : State → Stepped = λ s. Accepted s Stored in
+    let accepted : step settings names_full (model_of m) (store address bytes) ≡ Accepted after Stored = store_accepted settings names_full (model_of m) address bytes there in (
+      ∥∥₁_map sound (λ h.
+          let its : Leads settings m (store_change m plan) after =
+          writing_leads settings m address bytes h there (store_leaves_well_formed settings names_full (model_of m) after address bytes Stored are h.well_formed accepted) in
+          record { accepted = accepted ∙ ap outcome (sym its.leads); fits = its.fits; sound = its.sound }),
+      record { there = there },
+    )
+
+-- which has these bytes
+pub store_planned :
+    (settings : Settings) (names_full : Bool) (m : StorageState) (plan : StorePlan) (bytes : List ℕ) → plan.bytes.items ≡ bytes → are_there (model_of m) plan.address (length bytes) ≡ true
+    → All (λ byte. byte < 256) bytes → ∥ IsSound settings m ∥₁ → IsStorePlanned settings names_full m (store plan.address bytes) (Ok plan)
+store_planned settings names_full m plan bytes its there are sound =
+    let P : List ℕ → Type 0 = λ b. are_there (model_of m) plan.address (length b) ≡ true in
+    let Q : List ℕ → Type 0 = λ b. All (λ byte. byte < 256) b in
+    let R : List ℕ → Type 0 = λ b. IsStorePlanned settings names_full m (store plan.address b) (Ok plan) in
+    subst R its (stored_planned settings names_full m plan (subst P (sym its) there) (subst Q (sym its) are) sound)

@@ -4,3 +4,4 @@ pub mod Reading
 pub mod Plans
 pub mod ObtainPlans
 pub mod Releases
+pub mod StorePlans

@@ -12,6 +12,7 @@ ghost use Rattle.storage_plans.specs.Places.{StandsSound, place_of};
 
 use crate::places::{AreaPlace, area_place, longest_place};
 use storage_exchange::Parts;
+use vsm_model::geometry::{LAST_SUBPOOL, PAGE_DOUBLEWORDS};
 use vsm_model::{Boundary, Cause, Lengths, Location, Obtain, Residence, Settings, Subpool};
 
 /// An area that was found for a request.
@@ -34,7 +35,7 @@ pub fn check_number(number: u32) -> Result<u8, Cause>
     ensures refused { OnErr result (127 < number) }
 {
     match number {
-        0..=127 => Ok(number as u8),
+        0..=LAST_SUBPOOL => Ok(number as u8),
         131 | 132 => Err(Cause::UnsupportedSubpool),
         _ => Err(Cause::SubpoolNotAllowed),
     }
@@ -58,7 +59,7 @@ pub(crate) fn spacing_of(boundary: Boundary) -> u32
 {
     match boundary {
         Boundary::Doubleword => 1,
-        Boundary::Page => 512,
+        Boundary::Page => PAGE_DOUBLEWORDS,
     }
 }
 
@@ -103,8 +104,7 @@ fn find_place(
     requires subpool { subpool ≡ seen_or_own (model_of (state_of storage.now)) o.number }
     requires some { 0 < minimum o.lengths }
     requires ordered { minimum o.lengths ≤ maximum o.lengths }
-    ensures count { IfSome result (λ found.
-        longest settings (model_of (state_of storage.now)) o ≡ Some found.0) }
+    ensures count { IfSome result (λ found. longest settings (model_of (state_of storage.now)) o ≡ Some found.0) }
     ensures place { IfSome result (λ found. place_of (Some found.1)
         ≡ place_for settings (model_of (state_of storage.now)) o found.0) }
     ensures none { IfNone result (longest settings (model_of (state_of storage.now)) o ≡ None) }
@@ -143,11 +143,9 @@ pub(crate) fn find_area(
     requires valid { settings_valid settings ≡ true }
     ensures none { IfOk result (λ found.
         first_cause (obtain_causes settings names_full (model_of (state_of storage.now)) o) ≡ None) }
-    ensures subpool { IfOk result (λ found.
-        found.subpool ≡ seen_or_own (model_of (state_of storage.now)) o.number) }
+    ensures subpool { IfOk result (λ found. found.subpool ≡ seen_or_own (model_of (state_of storage.now)) o.number) }
     ensures is_new { IfOk result (λ found. found.is_new ≡ not (sees_one (model_of (state_of storage.now)) o.number)) }
-    ensures count { IfOk result (λ found.
-        longest settings (model_of (state_of storage.now)) o ≡ Some found.count) }
+    ensures count { IfOk result (λ found. longest settings (model_of (state_of storage.now)) o ≡ Some found.count) }
     ensures place { IfOk result (λ found. place_of (Some found.place)
         ≡ place_for settings (model_of (state_of storage.now)) o found.count) }
     ensures err { IfErr result (λ cause.

@@ -18,5 +18,5 @@ pub use obtain::plan_obtain;
 pub use plan::{PLAN_RECORDS, StoragePlan};
 pub use reading::{current, load, register};
 pub use release::plan_release;
-pub use store::{STORE_MOST, plan_store};
+pub use store::{STORE_BLOCKS, STORE_MOST, StorePlan, block_records, plan_store};
 pub use whole::plan_whole;

@@ -14,20 +14,17 @@ ghost use Rattle.storage_plans.specs.Plans.{IsPlanned};
 use crate::areas::{FoundArea, find_area};
 use crate::places::AreaPlace;
 use crate::plan::{NO_PAGES, PLAN_RECORDS, StoragePlan, answer_cause, push_area, push_register};
-use crate::searches::PAGE_DOUBLEWORDS;
 use arrayvec::ArrayVec;
 use descriptor_queue::Page;
 use run_set::Run;
 use storage_changes::{ExtentRecord, OwnRecord, PagesRecord, Record};
 use storage_exchange::Parts;
+use vsm_model::geometry::{PAGE_BYTES, PAGE_DOUBLEWORDS};
 use vsm_model::{Cause, Lengths, Obtain, Reply, Settings, Subpool};
-
-/// The bytes of a page.
-const PAGE_BYTES: u32 = 4096;
 
 /// One more record where the subpool is new: it's made.
 pub fn push_own(records: &mut ArrayVec<Record, PLAN_RECORDS>, subpool: Subpool, is_new: bool)
-    requires { array_vec_len records.old < 17 }
+    requires { array_vec_len records.old < 8 }
     ensures records { records.new.items ≡ records.old.items ++ own_records subpool is_new }
     ensures few { array_vec_len records.new ≤ array_vec_len records.old + 1 }
 {
@@ -56,7 +53,7 @@ fn push_fresh(
     page: Page,
     count: u32,
 )
-    requires few { array_vec_len records.old ≤ 8 }
+    requires few { array_vec_len records.old ≤ 5 }
     requires range { (page < 2 ^ 20) × (0 < count) × (count < 2 ^ 29) }
     ensures records { records.new.items ≡ records.old.items ++ take_fresh_records subpool page count }
     ensures few { array_vec_len records.new ≤ array_vec_len records.old + 3 }
@@ -85,7 +82,7 @@ pub fn push_place(
     place: AreaPlace,
     count: u32,
 )
-    requires few { array_vec_len records.old ≤ 8 }
+    requires few { array_vec_len records.old ≤ 5 }
     requires range { (place_address place < 2 ^ 32) × (0 < count) × (count < 2 ^ 29) }
     ensures records { records.new.items ≡ records.old.items ++ place_records subpool count place }
     ensures few { array_vec_len records.new ≤ array_vec_len records.old + 3 }
@@ -111,7 +108,7 @@ fn push_reply(
     address: u32,
     length: u32,
 )
-    requires few { array_vec_len records.old ≤ 8 }
+    requires few { array_vec_len records.old ≤ 4 }
     ensures records { records.new.items
         ≡ records.old.items
         ++ register_records (state_of storage.now) (reply_registers o.lengths o.register address length) }

@@ -6,8 +6,9 @@ ghost use Rattle.storage_changes.specs.Meaning.{model_of};
 ghost use Rattle.storage_exchange.specs.Storage.{state_of};
 ghost use Rattle.storage_plans.specs.Places.{IsUpTo, StandsSound, place_of, region_on};
 
-use crate::searches::{PAGE_DOUBLEWORDS, least_area, least_pages, longest_area, longest_pages};
+use crate::searches::{least_area, least_pages, longest_area, longest_pages};
 use storage_exchange::Parts;
+use vsm_model::geometry::PAGE_DOUBLEWORDS;
 use vsm_model::{Residence, Settings, Subpool};
 
 /// A place for an area.

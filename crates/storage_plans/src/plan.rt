@@ -18,8 +18,8 @@ use storage_changes::{AreaRecord, Record, RegisterRecord};
 use storage_exchange::Parts;
 use vsm_model::{Cause, Reply, Subpool};
 
-/// The most records of a plan: the blocks of sixteen bytes that a store of 256 bytes can touch.
-pub const PLAN_RECORDS: usize = 17;
+/// The most records of a plan: those of an area in a new subpool, obtained by bounds.
+pub const PLAN_RECORDS: usize = 8;
 
 /// What an accepted request will do. It was found by reading alone, and nothing is changed yet.
 #[derive(Drop)]
@@ -47,7 +47,7 @@ pub(crate) fn push_area(
     area: Run,
     free: bool,
 )
-    requires { array_vec_len records.old < 17 }
+    requires { array_vec_len records.old < 8 }
     ensures records { records.new.items ≡ records.old.items ++ area_records subpool area.start area.len free }
     ensures few { array_vec_len records.new ≤ array_vec_len records.old + 1 }
 {
@@ -67,7 +67,7 @@ pub fn push_register(
     register: u8,
     word: u32,
 )
-    requires { array_vec_len records.old < 17 }
+    requires { array_vec_len records.old < 8 }
     ensures records { records.new.items
         ≡ records.old.items ++ Register (record { task = task; register = register; word = word }) ∷ [] }
     ensures few { array_vec_len records.new ≡ array_vec_len records.old + 1 }

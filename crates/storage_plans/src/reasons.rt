@@ -13,8 +13,9 @@ ghost use Rattle.storage_plans.specs.Reasons.{IsReason, reasons_place};
 
 use crate::areas::{minimum_of, side_of, spacing_of};
 use crate::places::longest_place;
-use crate::searches::{PAGE_DOUBLEWORDS, least_area, least_pages, longest_area, longest_pages};
+use crate::searches::{least_area, least_pages, longest_area, longest_pages};
 use storage_exchange::Parts;
+use vsm_model::geometry::PAGE_DOUBLEWORDS;
 use vsm_model::{Obtain, Residence, Settings, Subpool};
 
 /// What one side of the line has for an area.
@@ -68,8 +69,7 @@ pub fn reasons(
     requires valid { settings_valid settings ≡ true }
     requires asked { (0 < count) × (count ≤ 2 ^ 29) × (0 < spacing) × (spacing ≤ 512) }
     ensures first { IsReason settings (model_of (state_of storage.now)) side subpool count spacing result.0 }
-    ensures second { IfSome result.1
-        (IsReason settings (model_of (state_of storage.now)) Below subpool count spacing) }
+    ensures second { IfSome result.1 (IsReason settings (model_of (state_of storage.now)) Below subpool count spacing) }
     ensures place { reasons_place result
         ≡ place (model_of (state_of storage.now)) (regions_for settings side) subpool count spacing }
 {

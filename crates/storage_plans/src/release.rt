@@ -19,7 +19,7 @@ ghost use Rattle.storage_plans.specs.Releases.{area_causes, IsGivenBack};
 
 use crate::areas::check_number;
 use crate::plan::{NO_PAGES, PLAN_RECORDS, StoragePlan, answer_cause, push_area, push_register};
-use crate::searches::{PAGE_DOUBLEWORDS, pages_on};
+use crate::searches::pages_on;
 use arrayvec::ArrayVec;
 use cell_pool::laws::pools_are_one;
 use descriptor_queue::Page;
@@ -28,6 +28,7 @@ use storage_changes::tables::overlaps_are_met;
 use storage_changes::{ExtentRecord, PagesRecord, Record};
 use storage_exchange::Parts;
 use subpool_storage::laws::cell_pools_are_named;
+use vsm_model::geometry::PAGE_DOUBLEWORDS;
 use vsm_model::{Cause, Release, Reply, Residence, Settings, Subpool};
 
 /// What a release gives back.
@@ -179,8 +180,7 @@ fn find_given_back(storage: &Parts, settings: Settings, r: Release) -> Result<Gi
     requires valid { settings_valid settings ≡ true }
     ensures none { IfOk result (λ found.
         first_cause (release_causes settings (model_of (state_of storage.now)) r) ≡ None) }
-    ensures subpool { IfOk result (λ found.
-        found.subpool ≡ seen_or_own (model_of (state_of storage.now)) r.number) }
+    ensures subpool { IfOk result (λ found. found.subpool ≡ seen_or_own (model_of (state_of storage.now)) r.number) }
     ensures area { IfOk result (λ found. found.area ≡ run_of (r.address / 8) (doublewords r.length)) }
     ensures some { IfOk result (λ found. 0 < found.area.len) }
     ensures range { IfOk result (λ found. found.area.start + found.area.len ≤ 2 ^ 29) }
@@ -260,7 +260,7 @@ fn push_between(
     to: u32,
     free: bool,
 )
-    requires { array_vec_len records.old < 17 }
+    requires { array_vec_len records.old < 8 }
     ensures records { records.new.items ≡ records.old.items ++ area_records subpool from (to - from) free }
     ensures few { array_vec_len records.new ≤ array_vec_len records.old + 1 }
 {
@@ -273,7 +273,7 @@ fn push_between(
 
 // The pages, which are the subpool's, leave it and become unassigned.
 fn push_returned(records: &mut ArrayVec<Record, PLAN_RECORDS>, subpool: Subpool, run: Run)
-    requires few { array_vec_len records.old + 2 ≤ 17 }
+    requires few { array_vec_len records.old + 2 ≤ 8 }
     requires some { 0 < run.len }
     ensures records { records.new.items ≡ records.old.items ++ returned_records subpool run.start run.len }
     ensures few { array_vec_len records.new ≡ array_vec_len records.old + 2 }

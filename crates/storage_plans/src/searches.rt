@@ -9,10 +9,8 @@ ghost use Rattle.storage_plans.specs.Places.{IsUpTo, StandsSound, region_on};
 use descriptor_queue::Page;
 use run_set::Run;
 use storage_exchange::Parts;
+use vsm_model::geometry::{HIGH_PAGE, LOW_PAGE, PAGE_DOUBLEWORDS, PAGE_K};
 use vsm_model::{Residence, Settings, Subpool};
-
-/// The doublewords of a page.
-pub(crate) const PAGE_DOUBLEWORDS: u32 = 512;
 
 /// The pages of the region on one side of the line.
 pub(crate) fn pages_on(settings: Settings, side: Residence) -> Run
@@ -23,12 +21,12 @@ pub(crate) fn pages_on(settings: Settings, side: Residence) -> Run
 {
     match side {
         Residence::Below => Run {
-            start: 6,
-            len: settings.low_k / 4,
+            start: LOW_PAGE,
+            len: settings.low_k / PAGE_K,
         },
         Residence::Above => Run {
-            start: 32_768,
-            len: settings.high_k / 4,
+            start: HIGH_PAGE,
+            len: settings.high_k / PAGE_K,
         },
     }
 }

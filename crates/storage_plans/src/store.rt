@@ -1,5 +1,5 @@
 //! Plans of stores.
-ghost use Rattle.std.specs.Prelude.{◌≡◌, ◌<◌, ◌≤◌, true, Bool, IfOk, None, length};
+ghost use Rattle.std.specs.Prelude.{◌≡◌, ◌<◌, ◌≤◌, true, Bool, length};
 ghost use Rattle.vsm_model.specs.declared.limits.Settings.{Settings};
 ghost use Rattle.vsm_model.specs.Bytes.{are_there};
 ghost use Rattle.vsm_model.specs.Services.{store};
@@ -7,20 +7,28 @@ ghost use Rattle.storage_changes.specs.Meaning.{model_of};
 ghost use Rattle.change_laws.specs.StorageActions.{blocks_for, write_records};
 ghost use Rattle.storage_exchange.specs.Storage.{state_of, IsFrameless};
 ghost use Rattle.storage_plans.specs.Places.{StandsSound};
-ghost use Rattle.storage_plans.specs.Plans.{IsPlanned};
+ghost use Rattle.storage_plans.specs.StorePlans.{IsStorePlanned};
 
 use crate::blocks::{BLOCK_BYTES, block_with};
-use crate::plan::{NO_PAGES, PLAN_RECORDS, StoragePlan};
 use arrayvec::ArrayVec;
 use storage_changes::Record;
 use storage_exchange::Parts;
-use vsm_model::{Cause, Reply};
+use vsm_model::Cause;
+use vsm_model::geometry::PAGE_BYTES;
 
 /// The most bytes of one store.
 pub const STORE_MOST: usize = 256;
 
-/// The bytes of a page.
-const PAGE_BYTES: usize = 4_096;
+/// The most blocks of sixteen bytes that a store touches.
+pub const STORE_BLOCKS: usize = 17;
+
+/// Bytes that are stored. Nothing is changed yet.
+#[derive(Drop)]
+pub struct StorePlan {
+    /// The address of the first one.
+    pub address: u32,
+    pub bytes: ArrayVec<u8, STORE_MOST>,
+}
 
 // Whether each of so many bytes from the address on lies in an assigned page. They lie in two pages at most: that of
 // the first and that of the last one.
@@ -33,8 +41,9 @@ fn are_assigned(storage: &Parts, address: u32, count: usize) -> bool
         return true;
     }
     let address = address as usize;
-    let first = address / PAGE_BYTES;
-    let last = (address + count - 1) / PAGE_BYTES;
+    let page_bytes = PAGE_BYTES as usize;
+    let first = address / page_bytes;
+    let last = (address + count - 1) / page_bytes;
     storage.region.assigned(first as u32) && storage.region.assigned(last as u32)
 }
 
@@ -53,8 +62,9 @@ fn blocks_touched(address: u32, count: usize) -> u32
     (last + 1 - first) as u32
 }
 
-// The records of the blocks that the bytes from the address on touch.
-fn block_records(storage: &Parts, address: u32, bytes: &[u8]) -> ArrayVec<Record, PLAN_RECORDS>
+/// The records of a store: one for each block that the bytes from the address on touch. Each of the bytes has to lie in
+/// an assigned page.
+pub fn block_records(storage: &Parts, address: u32, bytes: &[u8]) -> ArrayVec<Record, STORE_BLOCKS>
     requires frameless { IsFrameless storage.now }
     requires room { length bytes.now ≤ 256 }
     requires there { are_there (model_of (state_of storage.now)) address (length bytes.now) ≡ true }
@@ -70,26 +80,33 @@ fn block_records(storage: &Parts, address: u32, bytes: &[u8]) -> ArrayVec<Record
     records
 }
 
+// The bytes as an array of its own.
+fn array_of(bytes: &[u8]) -> ArrayVec<u8, STORE_MOST>
+    requires { length bytes.now ≤ 256 }
+    ensures { result.items ≡ bytes.now }
+{
+    let mut array = ArrayVec::new();
+    let _ = array.try_extend_from_slice(bytes);
+    array
+}
+
 /// A plan for a store of at most 256 bytes at the address, in any subpool. It sets no register. Reads alone, and takes
-/// no memory.
+/// no memory. The records of its change are made where memory is taken (`block_records`), so that a plan has no room
+/// for them.
 ///
 /// Refused with `NotAssigned` where one of the bytes doesn't lie in an assigned page.
 #[inline(never)]
-pub fn plan_store(storage: &Parts, address: u32, bytes: &[u8]) -> Result<StoragePlan, Cause>
+pub fn plan_store(storage: &Parts, address: u32, bytes: &[u8]) -> Result<StorePlan, Cause>
     requires frameless { IsFrameless storage.now }
     requires room { length bytes.now ≤ 256 }
-    ensures planned { (settings : Settings) (names_full : Bool) → StandsSound settings storage.now
-        → IsPlanned settings names_full (state_of storage.now) (store address bytes.now) result }
-    ensures emptied { IfOk result (λ plan. plan.emptied ≡ None) }
+    ensures { (settings : Settings) (names_full : Bool) → StandsSound settings storage.now
+        → IsStorePlanned settings names_full (state_of storage.now) (store address bytes.now) result }
 {
     if !are_assigned(storage, address, bytes.len()) {
         return Err(Cause::NotAssigned);
     }
-    Ok(StoragePlan {
-        emptied: None,
-        records: block_records(storage, address, bytes),
-        blanks: 0,
-        fresh: NO_PAGES,
-        reply: Reply::Stored,
+    Ok(StorePlan {
+        address,
+        bytes: array_of(bytes),
     })
 }

@@ -17,12 +17,8 @@ use storage_exchange::Parts;
 use subpool_storage::SubpoolStorage;
 use task_tree::TaskTree;
 use vsm_elements::Elements;
+use vsm_model::geometry::{HIGH_PAGE, LOW_PAGE, PAGE_K};
 use vsm_model::{Settings, Subpool};
-
-// The first page of the region below the 16 MB line, X'00006000', and of the one above it, X'08000000'.
-const LOW: u32 = 6;
-
-const HIGH: u32 = 32_768;
 
 // Four for task 1, one for its subpool 0, and two for the runs of unassigned pages.
 const ELEMENTS: u32 = 7;
@@ -36,8 +32,8 @@ pub fn fresh(alloc: Global, settings: Settings) -> Result<Parts, AllocError>
     ensures { IfOk result (λ storage. IsFresh settings storage) }
 {
     let geometry = Geometry {
-        low_pages: settings.low_k / 4,
-        high_pages: settings.high_k / 4,
+        low_pages: settings.low_k / PAGE_K,
+        high_pages: settings.high_k / PAGE_K,
     };
     let region = Region::new(alloc, geometry)?;
     let mut elements = Elements::new(alloc);
@@ -82,13 +78,13 @@ fn all_pages(elements: &mut Elements, settings: Settings) -> Pages
 {
     let mut pages = Pages::new();
     let low = Run {
-        start: LOW,
-        len: settings.low_k / 4,
+        start: LOW_PAGE,
+        len: settings.low_k / PAGE_K,
     };
     pages.insert_run(elements, low);
     let high = Run {
-        start: HIGH,
-        len: settings.high_k / 4,
+        start: HIGH_PAGE,
+        len: settings.high_k / PAGE_K,
     };
     pages.insert_run(elements, high);
     pages

@@ -97,8 +97,7 @@ impl ChangeBuilder {
         ensures ok { IfOk result (λ change. Finishes storage.old self blanks storage.new change) }
         ensures err { IfErr result (λ _. Keeps storage.old storage.new (builder_holds storage.old self) (λ i. 0)) }
         ensures uses { IfOk result (λ _. storage.old.elements.spare ≤ storage.new.elements.spare + blanks) }
-        ensures live { IfOk result (λ _. live_count storage.new.elements
-            ≤ live_count storage.old.elements + blanks) }
+        ensures live { IfOk result (λ _. live_count storage.new.elements ≤ live_count storage.old.elements + blanks) }
         ensures made { IfOk result (λ _. MakesElements storage.old.elements storage.new.elements blanks) }
         ensures same_frames { IfOk result (λ _. storage.new.region ≡ storage.old.region) }
         ensures needless { blanks ≤ storage.old.elements.spare → IsOk result }

@@ -127,8 +127,7 @@ impl SubpoolSet {
         ensures pools { (n o : ℕ) → pool elements.new self.now n o
             ≡ pools_with (pool elements.old self.now) (number_of elements.old id) (owner_of elements.old id)
             (Some (record { id = id; queues = queues })) n o }
-        ensures owned { Leaves elements.old elements.new
-            (owned elements.old self.now) (owned elements.new self.now) }
+        ensures owned { Leaves elements.old elements.new (owned elements.old self.now) (owned elements.new self.now) }
         ensures queues { AreApart elements.old
             (pools_with (pool elements.old self.now) (number_of elements.old id) (owner_of elements.old id)
             (Some (record { id = id; queues = queues }))) (owned elements.old self.now)
@@ -156,8 +155,7 @@ impl SubpoolSet {
         ensures pools { (n o : ℕ) → pool elements.new self.new n o
             ≡ pools_with (pool elements.old self.old) number task
             (Some (record { id = result; queues = no_queues })) n o }
-        ensures owned { Leaves elements.old elements.new
-            (owned elements.old self.old) (owned elements.new self.new) }
+        ensures owned { Leaves elements.old elements.new (owned elements.old self.old) (owned elements.new self.new) }
         ensures queues { QueuesStand elements.old self.old → QueuesStand elements.new self.new }
         ensures spares { elements.new.spare + 1 ≡ elements.old.spare }
     {
@@ -183,8 +181,7 @@ impl SubpoolSet {
             ≡ sight_with (sight elements.old self.old) task (number_of elements.old id)
             (Some (owner_of elements.old id)) t n }
         ensures pools { (n o : ℕ) → pool elements.new self.new n o ≡ pool elements.old self.old n o }
-        ensures owned { Leaves elements.old elements.new
-            (owned elements.old self.old) (owned elements.new self.new) }
+        ensures owned { Leaves elements.old elements.new (owned elements.old self.old) (owned elements.new self.new) }
         ensures queues { QueuesStand elements.old self.old → QueuesStand elements.new self.new }
         ensures spares { elements.new.spare + 1 ≡ elements.old.spare }
     {
@@ -207,8 +204,7 @@ impl SubpoolSet {
         ensures sight { (t n : ℕ) → sight elements.new self.new t n
             ≡ sight_with (sight elements.old self.old) task number None t n }
         ensures pools { (n o : ℕ) → pool elements.new self.new n o ≡ pool elements.old self.old n o }
-        ensures owned { Leaves elements.old elements.new
-            (owned elements.old self.old) (owned elements.new self.new) }
+        ensures owned { Leaves elements.old elements.new (owned elements.old self.old) (owned elements.new self.new) }
         ensures queues { QueuesStand elements.old self.old → QueuesStand elements.new self.new }
         ensures spares { elements.new.spare ≡ elements.old.spare + 1 }
     {
@@ -226,8 +222,7 @@ impl SubpoolSet {
             ≡ sight_with (sight elements.old self.old) owner number None t n }
         ensures pools { (n o : ℕ) → pool elements.new self.new n o
             ≡ pools_with (pool elements.old self.old) number owner None n o }
-        ensures owned { Leaves elements.old elements.new
-            (owned elements.old self.old) (owned elements.new self.new) }
+        ensures owned { Leaves elements.old elements.new (owned elements.old self.old) (owned elements.new self.new) }
         ensures queues { QueuesStand elements.old self.old → QueuesStand elements.new self.new }
         ensures spares { elements.new.spare ≡ elements.old.spare + 1 }
     {
@@ -246,8 +241,7 @@ impl SubpoolSet {
             ≡ sight_given (sight elements.old self.old) (number_of elements.old id) (owner_of elements.old id) to t n }
         ensures pools { (n o : ℕ) → pool elements.new self.new n o
             ≡ pools_given (pool elements.old self.old) (number_of elements.old id) (owner_of elements.old id) to n o }
-        ensures owned { Leaves elements.old elements.new
-            (owned elements.old self.old) (owned elements.new self.new) }
+        ensures owned { Leaves elements.old elements.new (owned elements.old self.old) (owned elements.new self.new) }
         ensures queues { QueuesStand elements.old self.old → QueuesStand elements.new self.new }
         ensures spares { elements.new.spare ≡ elements.old.spare }
     {

@@ -24,8 +24,7 @@ pub(crate) fn rename_row(
     ensures rows { (a b : ℕ) → row elements.new rows.now a b
         ≡ (if same_key task number a b then renamed giver to (row elements.old rows.now task number)
         else row elements.old rows.now a b) }
-    ensures owned { Leaves elements.old elements.new
-        (owned elements.old rows.now) (owned elements.new rows.now) }
+    ensures owned { Leaves elements.old elements.new (owned elements.old rows.now) (owned elements.new rows.now) }
     ensures spares { elements.new.spare ≡ elements.old.spare }
 {
     if let Some(row) = rows.find(elements, task, u32::from(number)) {
@@ -45,8 +44,7 @@ pub(crate) fn rename_rows(rows: &RowTable, elements: &mut Elements, number: u8, 
     ensures rows { (a b : ℕ) → row elements.new rows.now a b
         ≡ (if b == number then renamed giver to (row elements.old rows.now a b)
         else row elements.old rows.now a b) }
-    ensures owned { Leaves elements.old elements.new
-        (owned elements.old rows.now) (owned elements.new rows.now) }
+    ensures owned { Leaves elements.old elements.new (owned elements.old rows.now) (owned elements.new rows.now) }
     ensures spares { elements.new.spare ≡ elements.old.spare }
 {
     for task in 1..65 {

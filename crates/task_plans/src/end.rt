@@ -37,6 +37,7 @@ use subpool_storage::SubpoolStorage;
 use subpool_storage::laws::{cell_pools_are_named, subpools_are_there};
 use task_tree::TreeFault;
 use task_tree::laws::trees_stand;
+use vsm_model::geometry::LAST_TASK;
 use vsm_model::{Cause, Reply, Subpool};
 
 /// A task that ends, with all below it. Nothing is changed yet.
@@ -66,7 +67,7 @@ pub fn plan_detach(storage: &Parts, task: u32) -> Result<EndPlan, Cause>
     ends_are_in_order();
     ending_leads();
     cell_pools_are_named();
-    if task > 64 {
+    if task > LAST_TASK {
         return Err(Cause::NoTask);
     }
     let task = task as u8;
@@ -232,8 +233,7 @@ fn park_owned(
     requires none { parked_in storage.old builder.old ≡ no_subpools }
     ensures builds { Builds storage.old builder.old storage.new builder.new }
     ensures records { OnOk result (records_in storage.new builder.new ≡ records_in storage.old builder.old) }
-    ensures parked { OnOk result (parked_in storage.new builder.new
-        ≡ empties (parks_all (state_of storage.old) top)) }
+    ensures parked { OnOk result (parked_in storage.new builder.new ≡ empties (parks_all (state_of storage.old) top)) }
     ensures spare { OnOk result (storage.old.elements.spare
         ≤ storage.new.elements.spare + length (parks_all (state_of storage.old) top)) }
     ensures live { OnOk result (live_count storage.new.elements

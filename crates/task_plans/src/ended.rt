@@ -13,12 +13,10 @@ use storage_changes::{Record, RegistersRecord, TaskRecord};
 use storage_exchange::Parts;
 use storage_swap::ChangeBuilder;
 use task_tree::laws::trees_stand;
+use vsm_model::geometry::TASKS_END;
 
 /// The most steps from a task of the 64 to the first.
 const MOST_STEPS: u8 = 63;
-
-/// Past the last task.
-const TASKS_END: u8 = 65;
 
 /// What stands for no task.
 const NOBODY: u8 = 255;

@@ -11,6 +11,7 @@ ghost use Rattle.task_plans.specs.TaskPlans.{numbers};
 use arrayvec::ArrayVec;
 use storage_exchange::Parts;
 use storage_plans::load;
+use vsm_model::geometry::SUBPOOL_NUMBERS;
 use vsm_model::{Cause, Passed};
 
 /// The most numbers of a list: its first byte counts them.
@@ -104,10 +105,10 @@ pub(crate) fn has_bad_number(given: &Numbers, shared: &Numbers) -> bool
     ensures { result ≡ is_bad_list (given.now.items ++ shared.now.items) }
 {
     let count = given.len() + shared.len();
-    let mut behind = [false; 128];
+    let mut behind = [false; SUBPOOL_NUMBERS];
     for k in 0..count {
         let number = number_at(given, shared, count - 1 - k) as usize;
-        if number == 0 || number > 127 {
+        if number == 0 || number >= SUBPOOL_NUMBERS {
             return true;
         }
         if behind[number] {

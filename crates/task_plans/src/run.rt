@@ -16,6 +16,7 @@ use run_set::Run;
 use storage_changes::{Record, TurnRecord};
 use storage_exchange::Parts;
 use storage_plans::StoragePlan;
+use vsm_model::geometry::LAST_TASK;
 use vsm_model::{Cause, Reply};
 
 // The plan of a turn to a task that is there.
@@ -47,7 +48,7 @@ pub fn plan_run(storage: &Parts, task: u32) -> Result<StoragePlan, Cause>
     ensures emptied { IfOk result (λ plan. plan.emptied ≡ None) }
 {
     turning_leads();
-    if task > 64 {
+    if task > LAST_TASK {
         return Err(Cause::NoTask);
     }
     let task = task as u8;

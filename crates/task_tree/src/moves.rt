@@ -78,8 +78,7 @@ pub(crate) fn add_task(rows: &mut RowTable, elements: &mut Elements, task: u32, 
     ensures rows { (a b : ℕ) → words_at (row elements.new rows.new) a b
         ≡ (if (a == task) && nat_lt b 4 then Some (zero_words task b parent)
         else words_at (row elements.old rows.old) a b) }
-    ensures owned { Leaves elements.old elements.new
-        (owned elements.old rows.old) (owned elements.new rows.new) }
+    ensures owned { Leaves elements.old elements.new (owned elements.old rows.old) (owned elements.new rows.new) }
     ensures spares { elements.new.spare + 4 ≡ elements.old.spare }
 {
     for quarter in 0..4 {

@@ -173,8 +173,7 @@ impl TaskTree {
     pub fn restore_tasks(&mut self, elements: &mut Elements, parked: ParkedTasks)
         requires tree { IsTaskTree elements.old self.old }
         requires parked { IsParkedTasks elements.old parked }
-        requires free { (t : ℕ) → IsSome (parked_parent elements.old parked t)
-            → parent elements.old self.old t ≡ None }
+        requires free { (t : ℕ) → IsSome (parked_parent elements.old parked t) → parent elements.old self.old t ≡ None }
         requires homes { (t p : ℕ) → parked_parent elements.old parked t ≡ Some p
             → IsSome (either_of (parked_parent elements.old parked p) (parent elements.old self.old p)) }
         requires apart { Apart (parked_owned elements.old parked) (owned elements.old self.old) }
@@ -208,8 +207,7 @@ impl TaskTree {
         ensures words { (t r : ℕ) → r < 16 → word elements.new self.new t r
             ≡ (if t == number then 0 else word elements.old self.old t r) }
         ensures current { current self.new ≡ current self.old }
-        ensures owned { Leaves elements.old elements.new
-            (owned elements.old self.old) (owned elements.new self.new) }
+        ensures owned { Leaves elements.old elements.new (owned elements.old self.old) (owned elements.new self.new) }
         ensures spares { elements.new.spare + 4 ≡ elements.old.spare }
     {
         add_task(
@@ -235,8 +233,7 @@ impl TaskTree {
         ensures words { (t r : ℕ) → r < 16 → word elements.new self.new t r
             ≡ (if t == task then 0 else word elements.old self.old t r) }
         ensures current { current self.new ≡ current self.old }
-        ensures owned { Leaves elements.old elements.new
-            (owned elements.old self.old) (owned elements.new self.new) }
+        ensures owned { Leaves elements.old elements.new (owned elements.old self.old) (owned elements.new self.new) }
         ensures spares { elements.new.spare ≡ elements.old.spare + 4 }
     {
         remove_task(&mut self.rows, elements, u32::from(task));
@@ -286,8 +283,7 @@ impl TaskTree {
         ensures parents { (t : ℕ) → parent elements.new self.now t ≡ parent elements.old self.now t }
         ensures words { (t k : ℕ) → k < 16 → word elements.new self.now t k
             ≡ (if (t == task) && (k == r) then value else word elements.old self.now t k) }
-        ensures owned { Leaves elements.old elements.new
-            (owned elements.old self.now) (owned elements.new self.now) }
+        ensures owned { Leaves elements.old elements.new (owned elements.old self.now) (owned elements.new self.now) }
         ensures spares { elements.new.spare ≡ elements.old.spare }
     {
         let quarter = r / 4;

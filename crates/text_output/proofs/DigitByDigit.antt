@@ -1,9 +1,12 @@
 -- Numbers digit by digit.
-use Rattle.std.proofs.Common.{◌≡◌, ℕ, zero, suc, ◌+◌, ◌-◌, ◌/◌, ◌%◌, ◌^◌, ◌<◌, ◌≤◌, ◌⊎◌, inl, inr, true, false, cond, List, [], ◌∷◌, ◌++◌, length, take, drop, set, min, replicate, subst, sym, ◌∙◌, ap, refl, arith, append_assoc}
+use Rattle.std.proofs.Common.{◌≡◌, ℕ, zero, suc, ◌+◌, ◌-◌, ◌*◌, ◌/◌, ◌%◌, ◌^◌, ◌<◌, ◌≤◌, ◌⊎◌, inl, inr, true, false, cond, List, [], ◌∷◌, ◌++◌, length, take, drop, set, get_or, min, replicate, subst, sym, ◌∙◌, ap, refl, arith, append_assoc}
 use Rattle.std.proofs.lemmas.Bool.{cases_lt, eq-eqb, ne_eqb}
-use Rattle.std.proofs.lemmas.List.{append-nil, length-append, drop-set, replicate-append-replicate}
-use Rattle.std.specs.Fmt.{digits, digits_onto, digit_glyph, padded_integral, format_spec, char_count}
-use Rattle.vsm_model.specs.Texts.{hexadecimal}
+use Rattle.std.proofs.lemmas.Fmt.{hex_byte}
+use Rattle.std.proofs.lemmas.Grind.{flat_map-append}
+use Rattle.std.proofs.lemmas.List.{append-nil, length-append, length-set, drop-set, take-append-drop, take_more, take_more_set, replicate-append-replicate, length-replicate}
+use Rattle.std.specs.Fmt.{decimal, digits, digits_onto, digit_glyph, padded_integral, format_spec, char_count}
+use Rattle.std.specs.List.{flat_map}
+use Rattle.vsm_model.specs.Texts.{hexadecimal, padded_decimal}
 
 abbrev spell : ℕ → ℕ → List ℕ → List ℕ
 spell k n acc = digits_onto k 16 true n acc
@@ -101,11 +104,51 @@ hexadecimal_more width n some small = elim (cases_lt n 16) [
   | inr large ↦ hexadecimal_large width n large (omega arith)
 ]
 
--- a front of zeros
-pub front_of_zeros : (n k : ℕ) → k ≤ n → take k (zeros n) ≡ zeros k
-front_of_zeros n zero h = refl
-front_of_zeros zero (suc k) h = absurd (omega arith)
-front_of_zeros (suc n) (suc k) h = ap (λ x. 48 ∷ x) (front_of_zeros n k (omega arith))
+split_zeros : (all front behind : ℕ) (ds : List ℕ) → all ≡ front + behind → zeros all ++ ds ≡ zeros front ++ (zeros behind ++ ds)
+split_zeros all front behind ds both =
+    ap (λ k. zeros k ++ ds) both ∙ ap (λ x. x ++ ds) (sym (replicate-append-replicate front behind 48)) ∙ append_assoc (zeros front) (zeros behind) ds
+
+drop_zeros : (m : ℕ) (text : List ℕ) → drop m (zeros m ++ text) ≡ text
+drop_zeros zero text = refl
+drop_zeros (suc m) text = drop_zeros m text
+
+take_zeros : (m : ℕ) (text : List ℕ) → take m (zeros m ++ text) ≡ zeros m
+take_zeros zero text = refl
+take_zeros (suc m) text = ap (λ x. 48 ∷ x) (take_zeros m text)
+
+-- digits that are written over the last of ten zeros
+over_zeros : (n first : ℕ) (places behind : List ℕ) → first + length (decimal n) ≡ 10 → drop first places ≡ decimal n ++ behind
+    → take first places ≡ take first (zeros 10 ++ behind) → places ≡ zeros first ++ (decimal n ++ behind)
+over_zeros n first places behind ends written before =
+    let ds = decimal n in
+    let split : zeros 10 ++ behind ≡ zeros first ++ (zeros (length ds) ++ behind) = split_zeros 10 first (length ds) behind (sym ends) in
+    let front : take first places ≡ zeros first = before ∙ ap (take first) split ∙ take_zeros first (zeros (length ds) ++ behind) in
+    sym (take-append-drop first places) ∙ (λ j. front j ++ written j)
+
+pub long_over_zeros : (n first : ℕ) (places behind : List ℕ) → first + length (decimal n) ≡ 10 → drop first places ≡ decimal n ++ behind
+    → take first places ≡ take first (zeros 10 ++ behind) → length places ≡ 10 + length behind
+long_over_zeros n first places behind ends written before =
+    let ds = decimal n in
+    let all = length-append (zeros first) (ds ++ behind) in
+    let more = length-append ds behind in
+    let few = length-replicate {A = ℕ} first 48 in
+    let same : length (zeros first ++ (ds ++ behind)) ≡ 10 + length behind = omega (arith, all, more, few, ends) in
+    ap length (over_zeros n first places behind ends written before) ∙ same
+
+-- With some of the zeros in front these are the padded number.
+pub padded_over_zeros : (width n first : ℕ) (places behind : List ℕ) → width ≤ 10 → first + length (decimal n) ≡ 10
+    → drop first places ≡ decimal n ++ behind → take first places ≡ take first (zeros 10 ++ behind)
+    → drop (min first (10 - width)) places ≡ padded_decimal width n ++ behind
+padded_over_zeros width n first places behind narrow ends written before =
+    let m = min first (10 - width) in
+    let ds = decimal n in
+    let all : first ≡ m + (first - m) = omega arith in
+    let left : first - m ≡ width - length ds = omega (arith, narrow, ends) in
+    ap (drop m) (over_zeros n first places behind ends written before ∙ split_zeros first m (first - m) (ds ++ behind) all)
+    ∙ drop_zeros m (zeros (first - m) ++ (ds ++ behind))
+    ∙ ap (λ k. zeros k ++ (ds ++ behind)) left
+    ∙ sym (append_assoc (zeros (width - length ds)) ds behind)
+    ∙ ap (λ x. x ++ behind) (sym (with_zeros width ds))
 
 -- While digits are left to be written there is a place in front of this one,
 pub room_in_front : (digits n place : ℕ) → digits ≤ place + 1 → n < 16 ^ (place + 1) → (1 < digits) ⊎ (16 ≤ n) → 1 ≤ place
@@ -156,10 +199,6 @@ spelled_in (suc k) (suc j) n h small = elim (cases_lt n 16) [
 few_digits : (n : ℕ) → n < 2 ^ 32 → length (digits 16 true n) ≤ 8
 few_digits n small = subst (λ ds. length ds ≤ 8) (spelled n) (spelled_in 63 7 n (omega arith) (omega (arith, small)))
 
-split_zeros : (all front behind : ℕ) (ds : List ℕ) → all ≡ front + behind → zeros all ++ ds ≡ zeros front ++ (zeros behind ++ ds)
-split_zeros all front behind ds both =
-    ap (λ k. zeros k ++ ds) both ∙ ap (λ x. x ++ ds) (sym (replicate-append-replicate front behind 48)) ∙ append_assoc (zeros front) (zeros behind) ds
-
 -- Zeros stand before eight digits where more are wanted.
 pub zeros_in_front : (width n : ℕ) → n < 2 ^ 32 → hexadecimal width n ≡ zeros (width - 8) ++ hexadecimal (min width 8) n
 zeros_in_front width n small =
@@ -168,3 +207,28 @@ zeros_in_front width n small =
     let both : width - length ds ≡ width - 8 + (min width 8 - length ds) = omega (arith, few) in
     with_zeros width ds ∙ split_zeros (width - length ds) (width - 8) (min width 8 - length ds) ds both
     ∙ ap (λ x. zeros (width - 8) ++ x) (sym (with_zeros (min width 8) ds))
+
+-- two places more are written
+two_more : (places : List ℕ) (i a b : ℕ) → 2 * i + 1 < length places → take (2 * (i + 1)) (set (set places (2 * i) a) (2 * i + 1) b) ≡ take (2 * i) places ++ a ∷ b ∷ []
+two_more places i a b room =
+    let next : 2 * (i + 1) ≡ 2 * i + 1 + 1 = omega arith in
+    let once = set places (2 * i) a in
+    let long : length once ≡ length places = length-set places (2 * i) a in
+    ap (λ k. take k (set once (2 * i + 1) b)) next ∙ take_more_set once (2 * i + 1) b (omega (arith, room, long))
+    ∙ ap (λ x. x ++ b ∷ []) (take_more_set places (2 * i) a (omega (arith, room)))
+    ∙ append_assoc (take (2 * i) places) (a ∷ []) (b ∷ [])
+
+-- the digits of one byte more
+bytes_more : (bytes : List ℕ) (i d : ℕ) → i < length bytes
+    → flat_map (hexadecimal 2) (take (i + 1) bytes) ≡ flat_map (hexadecimal 2) (take i bytes) ++ hexadecimal 2 (get_or bytes i d)
+bytes_more bytes i d within =
+    ap (flat_map (hexadecimal 2)) (take_more bytes i d within) ∙ flat_map-append (hexadecimal 2) (take i bytes) (get_or bytes i d ∷ [])
+    ∙ ap (λ x. flat_map (hexadecimal 2) (take i bytes) ++ x) (append-nil (hexadecimal 2 (get_or bytes i d)))
+
+-- The two digits of a byte are written behind those of the bytes before it.
+pub byte_written : (places bytes : List ℕ) (i d n a b : ℕ) → i < length bytes → 2 * i + 1 < length places → n ≡ get_or bytes i d → n < 256
+    → a ≡ digit_glyph true (n / 16) → b ≡ digit_glyph true (n % 16) → take (2 * i) places ≡ flat_map (hexadecimal 2) (take i bytes)
+    → take (2 * (i + 1)) (set (set places (2 * i) a) (2 * i + 1) b) ≡ flat_map (hexadecimal 2) (take (i + 1) bytes)
+byte_written places bytes i d n a b within room is small high low front =
+    let shown : a ∷ b ∷ [] ≡ hexadecimal 2 (get_or bytes i d) = (λ j. high j ∷ low j ∷ []) ∙ sym (hex_byte true n small) ∙ ap (hexadecimal 2) is in
+    two_more places i a b room ∙ (λ j. front j ++ shown j) ∙ sym (bytes_more bytes i d within)

@@ -4,5 +4,7 @@
 mod numbers;
 mod writing;
 
-pub use numbers::{put_byte, put_decimal, put_hexadecimal, put_padded_decimal};
+pub use numbers::{
+    put_byte, put_bytes, put_decimal, put_hexadecimal, put_line_number, put_padded_decimal,
+};
 pub use writing::{Gathered, WriteFault};

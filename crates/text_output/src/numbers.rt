@@ -1,11 +1,12 @@
 //! Numbers of output, digit by digit.
-ghost use Rattle.std.specs.Prelude.{◌≡◌, ◌<◌, ◌≤◌, decimal, drop, true};
+ghost use Rattle.std.specs.Prelude.{◌≡◌, ◌<◌, ◌≤◌, ◌*◌, ◌++◌, codes, decimal, drop, take, length, true};
 ghost use Rattle.std.specs.Fmt.{digit_glyph};
+ghost use Rattle.std.specs.List.{flat_map};
 ghost use Rattle.vsm_model.specs.Texts.{hexadecimal, padded_decimal};
 ghost use Rattle.text_output.specs.Writing.{Puts};
 
 use crate::writing::Gathered;
-use itoa::Buffer;
+use itoa::{Buffer, write_digits};
 use std::io::Write;
 
 /// Puts a number in decimal digits.
@@ -21,10 +22,19 @@ pub fn put_padded_decimal<W: Write>(gathered: &mut Gathered, writer: &mut W, wid
     requires { width ≤ 7 }
     ensures { Puts (W.contents writer.old) (W.contents writer.new) gathered.old gathered.new (padded_decimal width n) }
 {
-    let mut buffer = Buffer::new();
-    let digits = buffer.format(n).as_bytes();
-    gathered.put(writer, &b"0000000"[..width.saturating_sub(digits.len())]);
-    gathered.put(writer, digits);
+    let mut places = *b"0000000000";
+    let first = write_digits(u64::from(n), &mut places, 10);
+    gathered.put(writer, &places[first.min(10 - width)..]);
+}
+
+/// Puts the number of a line: decimal digits, with leading zeros to seven, and a blank.
+pub fn put_line_number<W: Write>(gathered: &mut Gathered, writer: &mut W, n: u32)
+    ensures { Puts (W.contents writer.old) (W.contents writer.new) gathered.old gathered.new
+        (padded_decimal 7 n ++ codes " ") }
+{
+    let mut places = *b"0000000000 ";
+    let first = write_digits(u64::from(n), &mut places, 10);
+    gathered.put(writer, &places[first.min(3)..]);
 }
 
 /// One upper case hexadecimal digit.
@@ -80,4 +90,40 @@ pub fn put_byte<W: Write>(gathered: &mut Gathered, writer: &mut W, byte: u8)
         writer,
         &[hexadecimal_digit(n / 16), hexadecimal_digit(n % 16)],
     );
+}
+
+/// Writes each of at most sixteen bytes in two upper case hexadecimal digits, from the first of 32 places on.
+fn byte_digits(places: &mut [u8; 32], bytes: &[u8])
+    requires { length bytes.now ≤ 16 }
+    ensures { take (2 * length bytes.now) places.new ≡ flat_map (hexadecimal 2) bytes.now }
+{
+    for i in 0..bytes.len() {
+        let n = u32::from(bytes[i]);
+        places[2 * i] = hexadecimal_digit(n / 16);
+        places[2 * i + 1] = hexadecimal_digit(n % 16);
+    }
+}
+
+/// Puts at most sixteen bytes, each in two upper case hexadecimal digits.
+fn put_few<W: Write>(gathered: &mut Gathered, writer: &mut W, bytes: &[u8])
+    requires { length bytes.now ≤ 16 }
+    ensures { Puts (W.contents writer.old) (W.contents writer.new) gathered.old gathered.new
+        (flat_map (hexadecimal 2) bytes.now) }
+{
+    let mut places = [0; 32];
+    byte_digits(&mut places, bytes);
+    gathered.put(writer, &places[..2 * bytes.len()]);
+}
+
+/// Puts each byte in two upper case hexadecimal digits.
+pub fn put_bytes<W: Write>(gathered: &mut Gathered, writer: &mut W, bytes: &[u8])
+    ensures { Puts (W.contents writer.old) (W.contents writer.new) gathered.old gathered.new
+        (flat_map (hexadecimal 2) bytes.now) }
+{
+    let mut rest = bytes;
+    while !rest.is_empty() {
+        let n = rest.len().min(16);
+        put_few(gathered, writer, &rest[..n]);
+        rest = &rest[n..];
+    }
 }

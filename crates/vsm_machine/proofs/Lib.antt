@@ -3,3 +3,4 @@ mod FirstCause
 mod BackLemmas
 mod FrameLemmas
 pub mod MakingLemmas
+pub use Rattle.storage_core.proofs.FreshLemmas

@@ -1,16 +1,21 @@
 -- Where there is memory for a statement already.
-use Rattle.std.specs.Prelude.{◌+◌, ◌*◌, ◌≤◌, ⊤, IfSome, Result, Ok, Err}
+use Rattle.std.specs.Prelude.{◌≡◌, ℕ, ◌+◌, ◌*◌, ◌≤◌, ⊤, IfSome, IsSome, Result, Ok, Err, List}
 use Rattle.vsm_model.specs.declared.replies.Reply.{Reply}
+use Rattle.vsm_model.specs.Names.{NamedState, word_of}
+use Rattle.vsm_model.specs.Standing.{Accepted}
 use Rattle.macro_statements.specs.Requests.{Act}
 use Rattle.name_table.specs.Table.{HasRoom}
+use Rattle.storage_core.specs.Fresh.{HasFramesFor}
 use Rattle.storage_core.specs.Memory.{Makes}
 use Rattle.storage_core.specs.Planned.{fresh_pages, IsSpareFor}
 use Rattle.vsm_machine.specs.declared.machine.Machine.{Machine}
 use Rattle.vsm_machine.specs.declared.plans.Planned.{Planned}
 use Rattle.vsm_machine.specs.declared.refusals.Refusal.{Refusal}
 use Rattle.vsm_machine.specs.declared.refusals.Refusal.TheVariants.{NoMemory}
-use Rattle.vsm_machine.specs.Changes.{shown}
-use Rattle.vsm_machine.specs.Planned.{defined_by, step_planned, weight_asked, IsPlanned}
+use Rattle.vsm_machine.specs.Changes.{plain_of, shown}
+use Rattle.vsm_machine.specs.Machine.{statement_step}
+use Rattle.vsm_machine.specs.Meaning.{settings_of}
+use Rattle.vsm_machine.specs.Planned.{defined_by, step_planned, weight_asked}
 
 -- There is room for the name that the plan defines, if it defines one, and a frame is spare, and a table there, for
 -- each page that comes to be assigned by it.
@@ -18,10 +23,20 @@ pub record NeedsNoMore (machine : Machine) (p : Planned) : Type 0 where
   pub named : IfSome (defined_by (step_planned p)) (HasRoom machine.names)
   pub pages : IsSpareFor machine.storage.parts 0 (fresh_pages p.plan)
 
--- As many elements are spare as the statement's weight asks for, and no plan of it needs more.
+-- For this state to come a frame is spare, and a table there, for each page that is newly assigned in it, and each name
+-- that is defined in it is in the table, or one more can come.
+pub record HasMemoryFor (machine : Machine) (n : NamedState) : Type 0 where
+  pub pages : HasFramesFor machine.storage.parts (plain_of machine).storage n.storage
+  pub names : (name : List ℕ) → IsSome (word_of n.names name) → HasRoom machine.names name
+
+-- As many elements are spare as the statement's weight asks for, and there is memory for the state to which the plain
+-- machine goes by it.
 pub record IsSupplied (machine : Machine) (x : Act) : Type 0 where
   pub elements : 32 + 8 * weight_asked (shown machine) x ≤ machine.storage.parts.elements.spare
-  pub plans : (p : Planned) → IsPlanned (shown machine) x (Ok p) → NeedsNoMore machine p
+  pub next :
+      (n : NamedState) (reply : Reply)
+      → statement_step (settings_of machine.storage) (plain_of machine) x ≡ Accepted n reply
+      → HasMemoryFor machine n
 
 -- a statement isn't refused for want of memory
 abbrev pub FindsMemory : Result Reply Refusal → Type 0

@@ -9,6 +9,7 @@ use Rattle.bench_core.specs.Stands.{bench_of, bench_at}
 use Rattle.bench_core.proofs.Accepted.{reserved_of, accepted_as, stays_readied, gives_of, failed_isnt_ok}
 use Rattle.bench_core.proofs.Applied.{can_swap, applied_fits, applied_apart, applied_whole, applied_settings, kept_bench, kept_directed, next, unchanged_bench, unchanged_fits}
 use Rattle.vsm_machine.proofs.MakingLemmas.{makes_in_all}
+use Rattle.bench_core.proofs.Supplied.{needs_no_more}
 use Rattle.bench_core.proofs.Moves.{discards_settings}
 use Rattle.bench_core.proofs.bench.Bench.carry_out.Goals as goal
 
@@ -159,7 +160,7 @@ returns-clause-keeps c = λ x planned.
 
 pub returns-in-Err-clause-needless : goal.returns-in-Err-clause-needless
 returns-in-Err-clause-needless c = λ x planned supplied.
-    let ok : IsOk c.reserve.result = c.reserve.ensures.needless (omega (arith, planned.light, supplied.elements)) (supplied.plans c.args.planned planned) in
+    let ok : IsOk c.reserve.result = c.reserve.ensures.needless (omega (arith, planned.light, supplied.elements)) (needs_no_more c.fresh_pages_are_newly_assigned.ensures c.args.self.now.machine x c.args.planned planned supplied) in
     failed_isnt_ok c.in-Err.field-0 c.reserve.result c.in-Err.is ok
 
 -- what is made

@@ -1,4 +1,4 @@
-use Rattle.std.proofs.Common.{arith}
+use Rattle.std.proofs.Common.{arith, rules}
 use Rattle.vsm_elements.specs.Store.{live_count}
 use Rattle.storage_core.specs.Meaning.{state_in_place}
 use Rattle.storage_core.proofs.Holding.{reserved_is_held}
@@ -15,34 +15,21 @@ invariant_of-self c =
           c.reserve.ensures.ok c.reserve.ensures.grown;
     }
 
-pub returns-clause-err : goal.returns-clause-err
-returns-clause-err c =
-    let s = c.args.self.now in
-    failed_stays s.parts c.reserve.new.storage s.held.stands c.reserve.result c.reserve.ensures.grown
-
-pub returns-clause-few : goal.returns-clause-few
-returns-clause-few c =
-    let s = c.args.self.now in
-    attach_few s.parts c.reserve.new.storage (state_in_place s) c.args.plan c.reserve.result c.reserve.ensures.ok
-
-pub returns-clause-uses : goal.returns-clause-uses
-returns-clause-uses c =
-    let s = c.args.self.now in
-    uses_within s.parts.elements.spare c.reserve.new.storage.elements.spare _ _ (attach-fits (state_in_place s) c.args.plan) c.reserve.result c.reserve.ensures.uses
-
-pub returns-clause-needless : goal.returns-clause-needless
-returns-clause-needless c = λ spare. c.reserve.ensures.needless (omega (arith, spare, attach-fits (state_in_place c.args.self.now) c.args.plan))
-
-pub returns-clause-live : goal.returns-clause-live
-returns-clause-live c =
-    let s = c.args.self.now in
-    uses_within (live_count c.reserve.new.storage.elements) (live_count s.parts.elements) _ _ (attach-fits (state_in_place s) c.args.plan) c.reserve.result c.reserve.ensures.live
-
-pub returns-clause-made : goal.returns-clause-made
-returns-clause-made c =
-    let s = c.args.self.now in
-    makes_within s.parts.elements c.reserve.new.storage.elements _ _ (attach-fits (state_in_place s) c.args.plan) c.reserve.result c.reserve.ensures.made
-
-pub returns-clause-made_frames : goal.returns-clause-made_frames
-returns-clause-made_frames c =
-    no_frame_made c.args.self.now.parts.region c.reserve.new.storage.region c.reserve.result c.reserve.ensures.same_frames
+pub returns : goal.returns
+returns c = record {
+  ok = c.reserve.ensures.ok;
+  frames = c.reserve.ensures.frames;
+  few = (let s = c.args.self.now in
+      attach_few s.parts c.reserve.new.storage (state_in_place s) c.args.plan c.reserve.result c.reserve.ensures.ok);
+  uses = (let s = c.args.self.now in
+      uses_within s.parts.elements.spare c.reserve.new.storage.elements.spare _ _ (attach-fits (state_in_place s) c.args.plan) c.reserve.result c.reserve.ensures.uses);
+  live = (let s = c.args.self.now in
+      uses_within (live_count c.reserve.new.storage.elements) (live_count s.parts.elements) _ _ (attach-fits (state_in_place s) c.args.plan) c.reserve.result c.reserve.ensures.live);
+  made = (let s = c.args.self.now in
+      makes_within s.parts.elements c.reserve.new.storage.elements _ _ (attach-fits (state_in_place s) c.args.plan) c.reserve.result c.reserve.ensures.made);
+  made_frames = no_frame_made c.args.self.now.parts.region c.reserve.new.storage.region c.reserve.result c.reserve.ensures.same_frames;
+  err = (let s = c.args.self.now in
+      failed_stays s.parts c.reserve.new.storage s.held.stands c.reserve.result c.reserve.ensures.grown);
+  needless = (λ spare. c.reserve.ensures.needless (omega (arith, spare, attach-fits (state_in_place c.args.self.now) c.args.plan)));
+  settings = search rules;
+}

@@ -1,3 +1,4 @@
+use Rattle.std.proofs.Common.{rules, arith}
 use Rattle.vsm_elements.specs.Store.{live_count}
 use Rattle.storage_swap.specs.Growth.{MakesElements, MakesFrames}
 use Rattle.storage_core.specs.Meaning.{state_in_place}
@@ -20,40 +21,34 @@ invariant_of-self c =
           c.reserve.ensures.ok c.reserve.ensures.grown;
     }
 
-pub returns-clause-err : goal.returns-clause-err
-returns-clause-err c =
-    let s = c.args.self.now in
-    failed_stays s.parts c.reserve.new.storage s.held.stands c.reserve.result c.reserve.ensures.grown
-
-pub returns-clause-few : goal.returns-clause-few
-returns-clause-few c =
-    let s = c.args.self.now in
-    let plan = c.args.plan in
-    few_answered s.parts c.reserve.new.storage (state_in_place s).subpools plan.emptied c.as_slice.result.now plan.blanks plan.fresh
-    c.reserve.result c.reserve.ensures.ok c.as_slice.ensures.fits
-
-pub returns-clause-uses : goal.returns-clause-uses
-returns-clause-uses c =
-    let s = c.args.self.now in
-    let plan = c.args.plan in
-    uses_within s.parts.elements.spare c.reserve.new.storage.elements.spare _ _
-    (needed_for (state_in_place s).subpools plan.emptied _ plan.blanks c.as_slice.ensures.fits) c.reserve.result c.reserve.ensures.uses
-
-pub returns-clause-live : goal.returns-clause-live
-returns-clause-live c =
-    let s = c.args.self.now in
-    let plan = c.args.plan in
-    uses_within (live_count c.reserve.new.storage.elements) (live_count s.parts.elements) _ _
-    (needed_for (state_in_place s).subpools plan.emptied _ plan.blanks c.as_slice.ensures.fits) c.reserve.result c.reserve.ensures.live
-
-pub returns-clause-made : goal.returns-clause-made
-returns-clause-made c =
-    let s = c.args.self.now in
-    let plan = c.args.plan in
-    let e = c.reserve.new.storage.elements in
-    if_made (MakesElements s.parts.elements e (storage_elements (state_in_place s) plan)) c.reserve.result
-    (made_within s.parts.elements e _ _ (needed_for (state_in_place s).subpools plan.emptied _ plan.blanks c.as_slice.ensures.fits) c.reserve.ensures.made)
-
-pub returns-clause-made_frames : goal.returns-clause-made_frames
-returns-clause-made_frames c =
-    if_made (MakesFrames c.args.self.now.parts.region c.reserve.new.storage.region c.args.plan.fresh.len) c.reserve.result c.reserve.ensures.made_frames
+pub returns : goal.returns
+returns c = record {
+  ok = search rules;
+  frames = c.reserve.ensures.frames;
+  few = (let s = c.args.self.now in
+      let plan = c.args.plan in
+      few_answered s.parts c.reserve.new.storage (state_in_place s).subpools plan.emptied c.as_slice.result.now plan.blanks plan.fresh
+      c.reserve.result c.reserve.ensures.ok c.as_slice.ensures.fits);
+  uses = (let s = c.args.self.now in
+      let plan = c.args.plan in
+      uses_within s.parts.elements.spare c.reserve.new.storage.elements.spare _ _
+      (needed_for (state_in_place s).subpools plan.emptied _ plan.blanks c.as_slice.ensures.fits) c.reserve.result c.reserve.ensures.uses);
+  live = (let s = c.args.self.now in
+      let plan = c.args.plan in
+      uses_within (live_count c.reserve.new.storage.elements) (live_count s.parts.elements) _ _
+      (needed_for (state_in_place s).subpools plan.emptied _ plan.blanks c.as_slice.ensures.fits) c.reserve.result c.reserve.ensures.live);
+  made = (let s = c.args.self.now in
+      let plan = c.args.plan in
+      let e = c.reserve.new.storage.elements in
+      if_made (MakesElements s.parts.elements e (storage_elements (state_in_place s) plan)) c.reserve.result
+      (made_within s.parts.elements e _ _ (needed_for (state_in_place s).subpools plan.emptied _ plan.blanks c.as_slice.ensures.fits) c.reserve.ensures.made));
+  made_frames = if_made (MakesFrames c.args.self.now.parts.region c.reserve.new.storage.region c.args.plan.fresh.len) c.reserve.result c.reserve.ensures.made_frames;
+  err = (let s = c.args.self.now in
+      failed_stays s.parts c.reserve.new.storage s.held.stands c.reserve.result c.reserve.ensures.grown);
+  needless = (λ spare.
+      let s = c.args.self.now in
+      let plan = c.args.plan in
+      let few = needed_for (state_in_place s).subpools plan.emptied _ plan.blanks c.as_slice.ensures.fits in
+      c.reserve.ensures.needless (omega (arith, few, spare.elements)) spare.frames spare.tables);
+  settings = search rules;
+}

@@ -1,0 +1,9 @@
+use Rattle.std.proofs.Common.{arith}
+use Rattle.text_output.proofs.DigitByDigit.{byte_written}
+use Rattle.text_output.proofs.numbers.byte_digits.Goals as goal
+
+pub loop-i-preserved : goal.loop-i-preserved
+loop-i-preserved c =
+    let l = c.loop-i in
+    byte_written l.places c.args.bytes.now l.i _ c.from-n.result _ _ c.loop-i-test.true (omega arith) c.from-n.ensures (omega arith)
+    c.hexadecimal_digit.ensures c.hexadecimal_digit-in-loop-i.ensures l.invariant
