@@ -1,4 +1,5 @@
 //! What a listing says around the answers: lines of the script, carets and warnings.
+ghost use Rattle.std.specs.Prelude.{◌≤◌, length};
 
 use script_steps::{FaultKind, fault_word};
 use statement_faults::carets::{Caret, caret_of};
@@ -169,7 +170,9 @@ pub(crate) fn add_statement(
     lines: &[SourceLine],
     last: Role,
     brought: Brought,
-) {
+)
+    requires { length lines.now ≤ 10 }
+{
     let fault = match brought {
         Brought::Fault(kind) => Some((caret_of(script, lines, kind), kind)),
         _ => None,

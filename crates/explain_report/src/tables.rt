@@ -9,6 +9,7 @@ use itoa::Buffer;
 use std::io::Write;
 use storage_core::{PoolPlace, Storage, Subpool};
 use text_output::{Gathered, put_decimal, put_hexadecimal};
+use vsm_model::geometry::PAGE_BYTES;
 
 const BLANKS: &[u8; 16] = b"                ";
 
@@ -39,15 +40,20 @@ fn fragmented(largest: u32, free: u32) -> u64 {
     100u64.saturating_sub(100 * u64::from(largest) / u64::from(free))
 }
 
+/// The bytes of so many pages.
+fn bytes_of(pages: u32) -> u64 {
+    u64::from(PAGE_BYTES) * u64::from(pages)
+}
+
 /// The most bytes that can be had at once, on a doubleword.
 fn could_get(share: &Share) -> u64 {
-    let fresh = 4096 * u64::from(share.unassigned);
+    let fresh = bytes_of(share.unassigned);
     fresh.max(8 * u64::from(share.largest))
 }
 
 /// Puts what a subpool has on one side of the line.
 fn put_share<W: Write>(gathered: &mut Gathered, writer: &mut W, share: &Share) {
-    let pages = 4096 * u64::from(share.pages);
+    let pages = bytes_of(share.pages);
     let free = 8 * u64::from(share.free.total);
     put_column(gathered, writer, 7, u64::from(share.pages));
     put_column(gathered, writer, 11, pages.saturating_sub(free));
@@ -183,14 +189,9 @@ fn put_unassigned<W: Write>(gathered: &mut Gathered, writer: &mut W, side: &[u8]
     put_decimal(gathered, writer, u64::from(runs.longest));
     put_counted(gathered, writer, runs.longest, b"PAGE");
     gathered.put(writer, b" (");
-    put_decimal(gathered, writer, 4096 * u64::from(runs.longest));
+    put_decimal(gathered, writer, bytes_of(runs.longest));
     gathered.put(writer, b" BYTES) AT");
-    put_where(
-        gathered,
-        writer,
-        runs.longest > 0,
-        4096 * u64::from(runs.at),
-    );
+    put_where(gathered, writer, runs.longest > 0, bytes_of(runs.at));
     gathered.put(writer, b"\n");
 }
 

@@ -10,11 +10,7 @@ ghost use Rattle.explain_report.specs.Tallies.{tally_of, with_runs, low_runs, hi
 use crate::tallies::{SideTallies, Tally};
 use change_laws::maps::totals_are_sums;
 use storage_core::{PoolPlace, Storage};
-
-/// The first page above the 16 MB line, and the first doubleword.
-const LINE_PAGE: u32 = 4096;
-
-const LINE_DOUBLEWORD: u32 = 2_097_152;
+use vsm_model::geometry::{LINE_DOUBLEWORD, LINE_PAGE};
 
 /// The extents of the subpool before the place, in pages.
 pub(crate) fn extents_of(storage: &Storage, subpool_place: PoolPlace) -> SideTallies

@@ -8,6 +8,7 @@ use crate::holdings::{Holding, holding_of};
 use arrayvec::ArrayVec;
 use operand_texts::Name;
 use script_steps::Bench;
+use vsm_model::geometry::PAGE_BYTES;
 use vsm_model::{Cause, Subpool};
 
 /// What is asked for.
@@ -97,7 +98,7 @@ fn read_holding(bench: &Bench, subpool: Subpool) -> Option<Holding>
 fn read_holder(bench: &Bench, address: u32) -> Option<Subpool>
     ensures { result ≡ (bench_of bench.now).present.storage.pages (address / 4096) }
 {
-    bench.storage().subpool_of_page(address / 4096)
+    bench.storage().subpool_of_page(address / PAGE_BYTES)
 }
 
 /// What is read of a bench as it is.

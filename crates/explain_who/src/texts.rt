@@ -6,6 +6,7 @@ use arrayvec::ArrayVec;
 use std::io::Write;
 use text_output::{Gathered, put_byte, put_decimal, put_hexadecimal};
 use vsm_model::Subpool;
+use vsm_model::geometry::PAGE_BYTES;
 
 /// The columns that a statement is given, at least.
 const COLUMNS: usize = 44;
@@ -96,7 +97,7 @@ fn put_holding<W: Write>(gathered: &mut Gathered, writer: &mut W, holding: Holdi
     }
     let pages = u64::from(holding.pages.total);
     let free = 8 * u64::from(holding.free.total);
-    let taken = (4096 * pages).saturating_sub(free);
+    let taken = (u64::from(PAGE_BYTES) * pages).saturating_sub(free);
     put_count(gathered, writer, pages, b"page");
     put_runs(gathered, writer, holding.pages, b"extent");
     gathered.put(writer, b", ");

@@ -11,7 +11,9 @@ use crate::responses::Response;
 use bench_core::{Bench, Refusal};
 use macro_reader::FaultKind;
 use std::io::Write;
-use text_output::{Gathered, put_byte, put_decimal, put_hexadecimal, put_padded_decimal};
+use text_output::{
+    Gathered, put_bytes, put_decimal, put_hexadecimal, put_line_number, put_padded_decimal,
+};
 use vsm_model::{Code, Reply};
 
 /// The word of a fault.
@@ -90,13 +92,12 @@ fn put_refusal<W: Write>(gathered: &mut Gathered, writer: &mut W, refusal: Refus
 }
 
 /// Puts `D=` and two hexadecimal digits for each byte.
-fn put_bytes<W: Write>(gathered: &mut Gathered, writer: &mut W, bytes: &[u8])
+#[tactic(auto, using(text_output::proofs::Gathering::puts_both))]
+fn put_shown<W: Write>(gathered: &mut Gathered, writer: &mut W, bytes: &[u8])
     ensures { Puts (W.contents writer.old) (W.contents writer.new) gathered.old gathered.new (shown_text bytes.now) }
 {
     gathered.put(writer, b"D=");
-    for byte in bytes {
-        put_byte(gathered, writer, *byte);
-    }
+    put_bytes(gathered, writer, bytes);
 }
 
 /// Puts a word and a number behind it.
@@ -117,7 +118,7 @@ pub fn put_response<W: Write>(gathered: &mut Gathered, writer: &mut W, response:
     match response {
         Response::Replied(reply) => put_reply(gathered, writer, *reply),
         Response::Refused(refusal) => put_refusal(gathered, writer, *refusal),
-        Response::Shown(bytes) => put_bytes(gathered, writer, bytes.as_slice()),
+        Response::Shown(bytes) => put_shown(gathered, writer, bytes.as_slice()),
         Response::Kept(n) => put_count(gathered, writer, b"KEPT=", *n),
         Response::TooFar(n) => put_count(gathered, writer, b"REFUSED KEPT=", *n),
         Response::TooFarAhead(n) => put_count(gathered, writer, b"REFUSED UNDONE=", *n),
@@ -140,8 +141,7 @@ pub fn put_numbered<W: Write>(
     ensures { Puts (W.contents writer.old) (W.contents writer.new) gathered.old gathered.new
         (numbered line (response_text response.now)) }
 {
-    put_padded_decimal(gathered, writer, 7, line);
-    gathered.put(writer, b" ");
+    put_line_number(gathered, writer, line);
     put_response(gathered, writer, response);
     gathered.put(writer, b"\n");
 }

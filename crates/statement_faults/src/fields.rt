@@ -1,43 +1,23 @@
 //! The operand field of a statement over its lines, and where each of its bytes stands.
-ghost use Rattle.std.specs.Prelude.{◌≡◌, ◌≤◌, ◌+◌, ◌<◌, ◌^◌, length};
-ghost use Rattle.macro_reader.specs.Continuation.{nesting_after};
+ghost use Rattle.std.specs.Prelude.{◌≡◌, ◌≤◌, ◌+◌, ◌-◌, ◌*◌, ◌<◌, ◌^◌, ◌==◌, ◌&&◌, ◌++◌, not, drop, length, Some, None};
+ghost use Rattle.std.specs.List.{slice_get};
+ghost use Rattle.std.specs.Result.{OnOk, OnErr};
+ghost use Rattle.arrayvec.specs.ArrayVec.{array_vec_len};
+ghost use Rattle.macro_statements.specs.Statements.{from_operands};
+ghost use Rattle.macro_reader.specs.Columns.{used, is_blank};
+ghost use Rattle.macro_reader.specs.Continuation.{nesting_after, ends_with_comma, no_field};
+ghost use Rattle.macro_reader.specs.Continuation.{begun, with_part, with_line};
+ghost use Rattle.statement_faults.specs.Places.{in_row, added, joined_of};
 
+use crate::gathered::{FIELD_BYTES, Field, TextPlace};
 use arrayvec::ArrayVec;
 use macro_statements::head_of;
 use operand_texts::nesting::{Nesting, field_len};
 
-/// The bytes of a field that ten lines have at most: 71 and 9 times 56.
-const FIELD_BYTES: usize = 575;
-
-/// Where a byte of a statement stands.
-#[derive(Clone, Copy, Debug, PartialEq, Eq)]
-pub struct TextPlace {
-    /// The line of the statement, from 0.
-    pub line: usize,
-    /// The column, from 1.
-    pub column: usize,
-}
-
-/// What one line has of a field.
-#[derive(Clone, Copy, Default)]
-struct Part {
-    /// How many bytes of the field stand on earlier lines.
-    front: usize,
-    /// The column of its first byte, from 1.
-    column: usize,
-}
-
-/// The operand field of a statement, as far as its lines have come.
-#[derive(Drop)]
-pub struct Field {
-    text: ArrayVec<u8, FIELD_BYTES>,
-    at: Nesting,
-    goes_on: bool,
-    parts: ArrayVec<Part, 10>,
-}
-
 /// Columns 1 to 71 of a line, filled with blanks.
-pub fn card_of(line: &[u8]) -> [u8; 71] {
+pub fn card_of(line: &[u8]) -> [u8; 71]
+    ensures { result ≡ used line.now }
+{
     let mut card = [b' '; 71];
     let n = line.len().min(71);
     card[..n].copy_from_slice(&line[..n]);
@@ -57,94 +37,156 @@ fn nesting_behind(start: Nesting, text: &[u8]) -> Nesting
     at
 }
 
-fn ends_with_comma(text: &[u8]) -> bool {
+fn ends_with_comma(text: &[u8]) -> bool
+    ensures { result ≡ ends_with_comma text.now }
+{
     !text.is_empty() && text[text.len() - 1] == b','
 }
 
+/// Whether a field ends in front of a byte that stands so.
+fn stops(at: Nesting, byte: u8) -> bool
+    ensures { result ≡ (not at.quoted && (byte == 32)) }
+{
+    !at.quoted && byte == b' '
+}
+
+fn is_blank(columns: &[u8]) -> bool
+    ensures { result ≡ is_blank columns.now }
+{
+    columns.iter().all(|byte| *byte == b' ')
+}
+
 /// The first column that isn't blank, from 1.
-fn first_filled(columns: &[u8]) -> Option<usize> {
+fn first_filled(columns: &[u8]) -> usize {
     for i in 0..columns.len() {
         if columns[i] != b' ' {
-            return Some(i + 1);
+            return i + 1;
         }
     }
-    None
+    columns.len()
+}
+
+/// Columns 16 to 71.
+fn part_of(card: &[u8]) -> &[u8]
+    requires { length card.now ≡ 71 }
+    ensures value { result.now ≡ drop 15 card.now }
+    ensures len { length result.now ≡ 56 }
+{
+    &card[15..]
+}
+
+/// Appends a line's part to the text of a field.
+fn append(text: &mut ArrayVec<u8, FIELD_BYTES>, part: &[u8])
+    requires { array_vec_len text.old + length part.now ≤ 575 }
+    ensures text { text.new.items ≡ text.old.items ++ part.now }
+    ensures len { array_vec_len text.new ≡ array_vec_len text.old + length part.now }
+{
+    let _ = text.try_extend_from_slice(part);
+}
+
+/// Appends so many places, one after another on a line from this column on.
+fn append_row(
+    places: &mut ArrayVec<TextPlace, FIELD_BYTES>,
+    line: usize,
+    column: usize,
+    count: usize,
+)
+    requires room { array_vec_len places.old + count ≤ 575 }
+    requires column { column ≤ 72 }
+    ensures places { places.new.items ≡ places.old.items ++ in_row line column count }
+    ensures len { array_vec_len places.new ≡ array_vec_len places.old + count }
+{
+    for i in 0..count {
+        places.push(TextPlace {
+            line,
+            column: column + i,
+        });
+    }
 }
 
 impl Field {
     /// The field's part on a first line.
-    pub fn begin(card: &[u8; 71]) -> Field {
+    pub fn begin(card: &[u8; 71]) -> Field
+        ensures joined { joined_of result ≡ begun card.now }
+        ensures places { result.places.items
+            ≡ added 0 (72 - length (from_operands card.now)) no_field (begun card.now) }
+        ensures lines { result.lines ≡ 0 }
+    {
         let mut field = Field {
             text: ArrayVec::new(),
             at: Nesting::outside(),
             goes_on: false,
-            parts: ArrayVec::new(),
+            places: ArrayVec::new(),
+            lines: 0,
         };
         let (head, rest) = head_of(card);
         if !head.misplaced && !rest.is_empty() {
-            field.take_part(rest, 72usize.saturating_sub(rest.len()));
+            field.take_part(rest, 0, 72 - rest.len());
         }
         field
     }
 
     /// The whole field so far.
-    pub fn text(&self) -> &[u8] {
+    pub fn text(&self) -> &[u8]
+        ensures value { result.now ≡ self.now.text.items }
+        ensures size { length result.now ≤ 575 }
+    {
         self.text.as_slice()
     }
 
     /// Takes what a line has of the field, which begins in this column.
-    fn take_part(&mut self, part: &[u8], column: usize)
-        requires { length part.now ≤ 71 }
+    fn take_part(&mut self, part: &[u8], line: usize, column: usize)
+        requires room { array_vec_len self.old.text + length part.now ≤ 71 + 56 * self.old.lines }
+        requires deep { self.old.at.depth + length part.now ≤ 71 + 56 * self.old.lines }
+        requires column { column ≤ 72 }
+        ensures joined { joined_of self.new ≡ with_part self.old.text.items self.old.at part.now }
+        ensures places { self.new.places.items
+            ≡ self.old.places.items ++ added line column (joined_of self.old) (joined_of self.new) }
+        ensures lines { self.new.lines ≡ self.old.lines }
     {
-        if self.at.depth > FIELD_BYTES {
-            return;
-        }
         let n = field_len(self.at, part);
         let at = nesting_behind(self.at, &part[..n]);
-        let front = self.text.len();
-        if self.text.try_extend_from_slice(&part[..n]).is_err() {
-            return;
-        }
-        let _ = self.parts.try_push(Part { front, column });
+        append(&mut self.text, &part[..n]);
+        append_row(&mut self.places, line, column, n);
         self.at = at;
         self.goes_on = n == part.len() || ends_with_comma(self.text.as_slice());
     }
 
     /// Takes one continuation line more; the column that breaks a rule of continuation, from 1, where one does.
-    pub fn take_line(&mut self, card: &[u8; 71]) -> Result<(), usize> {
-        if let Some(column) = first_filled(&card[..15]) {
-            return Err(column);
+    pub fn take_line(&mut self, card: &[u8; 71]) -> Result<(), usize>
+        requires fewer { self.old.lines ≤ 8 }
+        ensures joined { OnOk result (with_line (joined_of self.old) card.now ≡ Some (joined_of self.new)) }
+        ensures places { OnOk result (self.new.places.items
+            ≡ self.old.places.items ++ added (self.old.lines + 1) 16 (joined_of self.old) (joined_of self.new)) }
+        ensures lines { OnOk result (self.new.lines ≡ self.old.lines + 1) }
+        ensures broken { OnErr result (with_line (joined_of self.old) card.now ≡ None) }
+    {
+        if !is_blank(&card[..15]) {
+            return Err(first_filled(&card[..15]));
         }
+        self.lines += 1;
         if !self.goes_on {
-            return self.skip_line();
+            return Ok(());
         }
-        if !self.at.quoted && card[15] == b' ' {
+        if stops(self.at, card[15]) {
             if ends_with_comma(self.text.as_slice()) {
                 return Err(16);
             }
             self.goes_on = false;
-            return self.skip_line();
+            return Ok(());
         }
-        self.take_part(&card[15..], 16);
+        let line = self.lines;
+        self.take_part(part_of(card), line, 16);
         Ok(())
     }
 
-    /// Takes a line that has nothing of the field.
-    fn skip_line(&mut self) -> Result<(), usize> {
-        let front = self.text.len();
-        let _ = self.parts.try_push(Part { front, column: 16 });
-        Ok(())
-    }
-
-    /// Where a byte of the field stands, and the byte behind it where it's the field's last.
-    pub fn place(&self, byte: usize) -> Option<TextPlace> {
-        let mut found = None;
-        for (line, part) in self.parts.as_slice().iter().enumerate() {
-            if part.front <= byte {
-                let column = part.column.saturating_add(byte - part.front);
-                found = Some(TextPlace { line, column });
-            }
+    /// Where a byte of the field stands.
+    pub fn place(&self, byte: usize) -> Option<TextPlace>
+        ensures { result ≡ slice_get self.now.places.items byte }
+    {
+        match self.places.as_slice().get(byte) {
+            Some(place) => Some(*place),
+            None => None,
         }
-        found
     }
 }

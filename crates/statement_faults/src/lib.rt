@@ -3,9 +3,13 @@
 
 pub mod carets;
 pub mod fields;
+pub mod gathered;
 pub mod hints;
+mod laws;
 pub mod lines;
 pub mod operands;
 pub mod roles;
 pub mod warnings;
 pub mod words;
+
+pub use laws::field_bytes_are_there;

@@ -1,4 +1,7 @@
 //! The lines of a script.
+ghost use Rattle.std.specs.Prelude.{◌≡◌, ◌≤◌, length};
+ghost use Rattle.std.specs.Str.Lines.{strip_carriage_return};
+ghost use Rattle.statement_faults.specs.Places.{line_in};
 
 use arrayvec::ArrayVec;
 
@@ -13,18 +16,30 @@ pub struct SourceLine {
     pub end: usize,
 }
 
-impl SourceLine {
-    /// Its bytes, without a carriage return at their end; none where the script is another.
-    pub fn bytes<'a>(&self, script: &'a [u8]) -> &'a [u8] {
-        let SourceLine { start, end, .. } = *self;
-        if start > end || end > script.len() {
-            return &script[..0];
-        }
-        let line = &script[start..end];
-        if !line.is_empty() && line[line.len() - 1] == b'\r' {
-            return &line[..line.len() - 1];
-        }
+/// A line without a carriage return at its end.
+fn strip(line: &[u8]) -> &[u8]
+    ensures { result.now ≡ strip_carriage_return line.now }
+{
+    let n = line.len();
+    if n > 0 && line[n - 1] == b'\r' {
+        &line[..n - 1]
+    } else {
         line
+    }
+}
+
+impl SourceLine {
+    /// Its bytes, without a carriage return in front of its line feed; none where the script is another.
+    pub fn bytes<'a>(&self, script: &'a [u8]) -> &'a [u8]
+        ensures { result.now ≡ line_in script.now self.now }
+    {
+        let end = self.end.min(script.len());
+        let line = &script[self.start.min(end)..end];
+        if self.end < script.len() {
+            strip(line)
+        } else {
+            line
+        }
     }
 }
 
@@ -53,7 +68,9 @@ impl OpenLines {
     }
 
     /// The lines so far, in their order.
-    pub fn as_slice(&self) -> &[SourceLine] {
+    pub fn as_slice(&self) -> &[SourceLine]
+        ensures { length result.now ≤ 10 }
+    {
         self.lines.as_slice()
     }
 }

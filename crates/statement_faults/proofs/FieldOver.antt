@@ -1,0 +1,69 @@
+-- The field over a statement's lines, and the caret that is put by it.
+use Rattle.std.proofs.Common.{◌≡◌, ℕ, ◌+◌, ◌<◌, true, List, [], ◌∷◌, ◌++◌, length, map, take, drop, get_or, Option, Some, None, Err, refl, sym, ap, ◌∙◌, subst, arith, ◌-◌}
+use Rattle.std.specs.List.{slice_get}
+use Rattle.std.specs.Option.{IfSome}
+use Rattle.std.proofs.lemmas.List.{append-nil, map-append, map_more, take-append-drop, drop_more, length-map, length-take-le}
+use Rattle.macro_operands.specs.declared.faults.FaultKind.{FaultKind}
+use Rattle.macro_statements.specs.Statements.{statement_with, from_operands}
+use Rattle.macro_reader.specs.Continuation.{Joined, no_field, begun, with_line, with_lines}
+use Rattle.statement_faults.specs.Operands.{IsWrongOperand}
+use Rattle.statement_faults.specs.Places.{added, places_of, card_in, joined_of, IsFieldOver, is_of_operand}
+use Rattle.statement_faults.specs.declared.gathered.Field.{Field}
+use Rattle.statement_faults.specs.declared.gathered.TextPlace.{TextPlace}
+use Rattle.statement_faults.specs.declared.lines.SourceLine.{SourceLine}
+use Rattle.statement_faults.proofs.FieldPlaces.{joins_push, places_push, joins_broken}
+
+-- the first line alone
+pub over_first : (card : List ℕ) (f : Field) → joined_of f ≡ begun card → f.places.items ≡ added 0 (72 - length (from_operands card)) no_field (begun card)
+    → IsFieldOver card [] f
+over_first card f e h = record { joined = ap (λ (j : Joined). Some j) (sym e); places = h ∙ sym (append-nil _) }
+
+-- one line more
+pub over_more : (script card : List ℕ) (lines : List SourceLine) (i : ℕ) (d : SourceLine) (mine : List ℕ) (f g : Field) → i < length lines
+    → mine ≡ card_in script (get_or lines i d) → f.lines ≡ i → IsFieldOver card (map (card_in script) (take i lines)) f
+    → with_line (joined_of f) mine ≡ Some (joined_of g) → g.places.items ≡ f.places.items ++ added (f.lines + 1) 16 (joined_of f) (joined_of g)
+    → IsFieldOver card (map (card_in script) (take (i + 1) lines)) g
+over_more script card lines i d mine f g more read at h e places =
+    let cards = map (card_in script) (take i lines) in
+    let next : map (card_in script) (take (i + 1) lines) ≡ cards ++ mine ∷ [] = map_more (card_in script) lines i d more ∙ ap (λ m. cards ++ m ∷ []) (sym read) in
+    let size : length cards ≡ i = length-map (take i lines) (card_in script) ∙ length-take-le i lines (omega (arith, more)) in
+    let all : f.places.items ++ added (f.lines + 1) 16 (joined_of f) (joined_of g) ≡ places_of card cards ++ added (length cards + 1) 16 (joined_of f) (joined_of g) =
+    ap (λ t. t ++ added (f.lines + 1) 16 (joined_of f) (joined_of g)) h.places
+    ∙ ap (λ n. places_of card cards ++ added (n + 1) 16 (joined_of f) (joined_of g)) (at ∙ sym size) in
+    subst (λ cs. IsFieldOver card cs g) (sym next) (record {
+      joined = joins_push (begun card) (joined_of f) (joined_of g) cards mine h.joined e;
+      places = places ∙ all ∙ sym (places_push card (joined_of f) (joined_of g) cards mine h.joined e);
+    })
+
+-- and one that breaks a rule
+pub over_broken : (script card : List ℕ) (lines : List SourceLine) (i : ℕ) (d : SourceLine) (mine : List ℕ) (f : Field) → i < length lines
+    → mine ≡ card_in script (get_or lines i d) → IsFieldOver card (map (card_in script) (take i lines)) f → with_line (joined_of f) mine ≡ None
+    → with_lines (begun card) (map (card_in script) lines) ≡ None
+over_broken script card lines i d mine f more read h e =
+    let cards = map (card_in script) (take i lines) in
+    let behind = map (card_in script) (drop (i + 1) lines) in
+    let split : lines ≡ take i lines ++ get_or lines i d ∷ drop (i + 1) lines =
+    sym (take-append-drop i lines) ∙ ap (λ l. take i lines ++ l) (drop_more lines i d more) in
+    ap (λ l. with_lines (begun card) (map (card_in script) l)) split
+    ∙ ap (with_lines (begun card)) (map-append (card_in script) (take i lines) (get_or lines i d ∷ drop (i + 1) lines))
+    ∙ ap (λ m. with_lines (begun card) (cards ++ m ∷ behind)) (sym read)
+    ∙ joins_broken (begun card) (joined_of f) cards mine behind h.joined e
+
+same_joined : (j k : Joined) → Some j ≡ Some k → j ≡ k
+same_joined j k h = cc
+
+-- the caret of a fault of an operand
+pub marks : (card : List ℕ) (cards : List (List ℕ)) (kind : FaultKind) (f : Field) (broken : Option TextPlace) (text : List ℕ) (from to : ℕ) (place : TextPlace)
+    → (broken ≡ None → IsFieldOver card cards f) → IfSome broken (λ p. with_lines (begun card) cards ≡ None) → text ≡ f.text.items
+    → (statement_with card text ≡ Err kind → IsWrongOperand card text kind from to)
+    → (is_of_operand kind ≡ true → from < length f.text.items → slice_get f.places.items from ≡ Some place)
+    → (j : Joined) → with_lines (begun card) cards ≡ Some j → statement_with card j.text ≡ Err kind → is_of_operand kind ≡ true
+    → IsWrongOperand card j.text kind from to × (from < length j.text → slice_get (places_of card cards) from ≡ Some place)
+marks card cards kind f (Some p) text from to place whole breaks is wrong there j h e k = let bad : None ≡ Some j = sym breaks ∙ h in cc
+marks card cards kind f None text from to place whole breaks is wrong there j h e k =
+    let over = whole refl in
+    let same : j.text ≡ f.text.items = ap (λ (m : Joined). m.text) (same_joined j (joined_of f) (sym h ∙ over.joined)) in
+    let mine : text ≡ j.text = is ∙ sym same in (
+      subst (λ t. IsWrongOperand card t kind from to) mine (wrong (ap (λ t. statement_with card t) mine ∙ e)),
+      λ less. ap (λ ps. slice_get ps from) (sym over.places) ∙ there k (subst (λ t. from < length t) same less),
+    )
