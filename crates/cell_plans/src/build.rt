@@ -24,13 +24,13 @@ use cell_pool::{CellSettings, Header, Name};
 use change_laws::cells::building_leads;
 use run_set::Run;
 use service_laws::cells::cell_pools_stay_well_formed;
-use storage_changes::Record;
 use storage_changes::tables::{others_are_not_found, pools_are_found, rows_are_counted};
 use storage_exchange::Parts;
+use storage_plans::PlanRecords;
 use storage_plans::areas::{check_number, side_of, subpool_for};
 use storage_plans::obtain::{address_of, needs_of, push_own, push_place};
 use storage_plans::places::{AreaPlace, area_place};
-use storage_plans::plan::{PLAN_RECORDS, push_register};
+use storage_plans::plan::push_register;
 use subpool_storage::laws::cell_pools_are_named;
 use vsm_model::geometry::{MOST_CELL_BYTES, MOST_CELL_POOLS, MOST_CELLS};
 use vsm_model::{Build, Cause, Reply, Settings, Subpool};
@@ -45,7 +45,7 @@ pub struct BuildPlan {
     /// The address of its first cell.
     pub start: u32,
     /// The records of its change behind the one by which it comes, in the order in which they are exchanged.
-    pub records: ArrayVec<Record, PLAN_RECORDS>,
+    pub records: PlanRecords,
     /// How many blank elements the change needs, at most 5.
     pub blanks: u32,
     /// The pages of 4,096 bytes that come to be assigned; an empty run where there is none.

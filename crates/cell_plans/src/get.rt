@@ -20,16 +20,16 @@ use change_laws::cells::{extending_leads, handing_out_leads};
 use service_laws::cells::cell_pools_stay_well_formed;
 use storage_changes::{CellExtentRecord, CellRecord, Record};
 use storage_exchange::Parts;
-use storage_plans::StoragePlan;
 use storage_plans::obtain::{address_of, needs_of, push_place};
 use storage_plans::places::{AreaPlace, area_place};
-use storage_plans::plan::{NO_PAGES, PLAN_RECORDS, answer_four, push_register};
+use storage_plans::plan::{NO_PAGES, answer_four, push_register};
+use storage_plans::{PlanRecords, Planned, StoragePlan};
 use subpool_storage::laws::cell_pools_are_named;
 use vsm_model::{Cause, Get, Reply, Settings};
 
 // The cell is handed out: the return code 0, its address in register 1 and in the one that is named.
 fn push_handed_out(
-    records: &mut ArrayVec<Record, PLAN_RECORDS>,
+    records: &mut PlanRecords,
     storage: &Parts,
     pool: CellId,
     cell: u32,
@@ -131,7 +131,7 @@ pub fn plan_get(
     name: &str,
     g: Get,
     names_full: bool,
-) -> Result<StoragePlan, Cause>
+) -> Planned
     requires sound { StandsSound settings storage.now }
     requires valid { settings_valid settings ≡ true }
     requires name { length name.now ≤ 63 }

@@ -16,7 +16,7 @@ use run_set::Run;
 use std::alloc::AllocError;
 use storage_changes::{AreaRecord, ExtentRecord, PagesRecord, Record};
 use storage_exchange::Parts;
-use storage_plans::PLAN_RECORDS;
+use storage_plans::PlanRecords;
 use storage_swap::ChangeBuilder;
 use vsm_model::Subpool;
 use vsm_model::geometry::PAGE_DOUBLEWORDS;
@@ -27,13 +27,7 @@ const EXTENTS_MOST: u32 = (1 << 30) - 1;
 
 // One more record: the doublewords from one up to another, if there are any, become free storage of the subpool, or
 // taken.
-fn push_between(
-    records: &mut ArrayVec<Record, PLAN_RECORDS>,
-    subpool: Subpool,
-    from: u32,
-    to: u32,
-    free: bool,
-)
+fn push_between(records: &mut PlanRecords, subpool: Subpool, from: u32, to: u32, free: bool)
     requires { array_vec_len records.old < 8 }
     ensures records { records.new.items ≡ records.old.items ++ area_records subpool from (to - from) free }
     ensures few { array_vec_len records.new ≤ array_vec_len records.old + 1 }
@@ -51,7 +45,7 @@ fn push_between(
 }
 
 // The pages, which are the subpool's, leave it and become unassigned.
-fn push_returned(records: &mut ArrayVec<Record, PLAN_RECORDS>, subpool: Subpool, run: Run)
+fn push_returned(records: &mut PlanRecords, subpool: Subpool, run: Run)
     requires few { array_vec_len records.old + 2 ≤ 8 }
     requires some { 0 < run.len }
     ensures records { records.new.items ≡ records.old.items ++ returned_records subpool run.start run.len }
@@ -69,12 +63,7 @@ fn push_returned(records: &mut ArrayVec<Record, PLAN_RECORDS>, subpool: Subpool,
 
 // The area, in doublewords, is given back with the pages that it empties: what of either lies beside the other becomes
 // free, or taken.
-fn push_given_back(
-    records: &mut ArrayVec<Record, PLAN_RECORDS>,
-    subpool: Subpool,
-    area: Run,
-    pages: Run,
-)
+fn push_given_back(records: &mut PlanRecords, subpool: Subpool, area: Run, pages: Run)
     requires none { records.old.items ≡ [] }
     requires range { area.start + area.len ≤ 2 ^ 29 }
     requires high { pages.start + pages.len ≤ 2 ^ 20 }

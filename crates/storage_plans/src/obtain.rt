@@ -13,7 +13,9 @@ ghost use Rattle.storage_plans.specs.Plans.{IsPlanned};
 
 use crate::areas::{FoundArea, find_area};
 use crate::places::AreaPlace;
-use crate::plan::{NO_PAGES, PLAN_RECORDS, StoragePlan, answer_cause, push_area, push_register};
+use crate::plan::{
+    NO_PAGES, PlanRecords, Planned, StoragePlan, answer_cause, push_area, push_register,
+};
 use arrayvec::ArrayVec;
 use descriptor_queue::Page;
 use run_set::Run;
@@ -23,7 +25,7 @@ use vsm_model::geometry::{PAGE_BYTES, PAGE_DOUBLEWORDS};
 use vsm_model::{Cause, Lengths, Obtain, Reply, Settings, Subpool};
 
 /// One more record where the subpool is new: it's made.
-pub fn push_own(records: &mut ArrayVec<Record, PLAN_RECORDS>, subpool: Subpool, is_new: bool)
+pub fn push_own(records: &mut PlanRecords, subpool: Subpool, is_new: bool)
     requires { array_vec_len records.old < 8 }
     ensures records { records.new.items ≡ records.old.items ++ own_records subpool is_new }
     ensures few { array_vec_len records.new ≤ array_vec_len records.old + 1 }
@@ -47,12 +49,7 @@ fn pages_from(page: Page, count: u32) -> Run
 }
 
 // Up to three more records: an area of `count` doublewords is taken from the first byte of unassigned pages on.
-fn push_fresh(
-    records: &mut ArrayVec<Record, PLAN_RECORDS>,
-    subpool: Subpool,
-    page: Page,
-    count: u32,
-)
+fn push_fresh(records: &mut PlanRecords, subpool: Subpool, page: Page, count: u32)
     requires few { array_vec_len records.old ≤ 5 }
     requires range { (page < 2 ^ 20) × (0 < count) × (count < 2 ^ 29) }
     ensures records { records.new.items ≡ records.old.items ++ take_fresh_records subpool page count }
@@ -76,12 +73,7 @@ fn push_fresh(
 }
 
 /// Up to three more records: an area of `count` doublewords is taken at its place.
-pub fn push_place(
-    records: &mut ArrayVec<Record, PLAN_RECORDS>,
-    subpool: Subpool,
-    place: AreaPlace,
-    count: u32,
-)
+pub fn push_place(records: &mut PlanRecords, subpool: Subpool, place: AreaPlace, count: u32)
     requires few { array_vec_len records.old ≤ 5 }
     requires range { (place_address place < 2 ^ 32) × (0 < count) × (count < 2 ^ 29) }
     ensures records { records.new.items ≡ records.old.items ++ place_records subpool count place }
@@ -101,13 +93,7 @@ pub fn push_place(
 
 // Up to four more records: the return code 0, the address in register 1 and in the one that is named, and the length in
 // register 0 where it was asked for by bounds.
-fn push_reply(
-    records: &mut ArrayVec<Record, PLAN_RECORDS>,
-    storage: &Parts,
-    o: Obtain,
-    address: u32,
-    length: u32,
-)
+fn push_reply(records: &mut PlanRecords, storage: &Parts, o: Obtain, address: u32, length: u32)
     requires few { array_vec_len records.old ≤ 4 }
     ensures records { records.new.items
         ≡ records.old.items
@@ -183,12 +169,7 @@ fn plan_area(storage: &Parts, found: FoundArea, o: Obtain) -> StoragePlan
 /// `NoStorage` where not even the minimum has a place. A conditional form has in place of `NoStorage` a plan that sets
 /// register 15 to 4, and nothing else.
 #[inline(never)]
-pub fn plan_obtain(
-    storage: &Parts,
-    settings: Settings,
-    o: Obtain,
-    names_full: bool,
-) -> Result<StoragePlan, Cause>
+pub fn plan_obtain(storage: &Parts, settings: Settings, o: Obtain, names_full: bool) -> Planned
     requires sound { StandsSound settings storage.now }
     requires valid { settings_valid settings ≡ true }
     requires register { IfSome o.register (λ r. r < 16) }

@@ -21,14 +21,17 @@ use vsm_model::{Cause, Reply, Subpool};
 /// The most records of a plan: those of an area in a new subpool, obtained by bounds.
 pub const PLAN_RECORDS: usize = 8;
 
+/// The records of a plan, in the order in which they are exchanged.
+pub type PlanRecords = ArrayVec<Record, PLAN_RECORDS>;
+
 /// What an accepted request will do. It was found by reading alone, and nothing is changed yet.
 #[derive(Drop)]
 pub struct StoragePlan {
     /// The subpool whose pages and free storage go over into the change as they stand, before its records; `None` where
     /// there is none.
     pub emptied: Option<Subpool>,
-    /// The records of its change, in the order in which they are exchanged.
-    pub records: ArrayVec<Record, PLAN_RECORDS>,
+    /// The records of its change.
+    pub records: PlanRecords,
     /// How many blank elements the change needs: at most 5, or 4,121 for a further extent of a cell pool.
     pub blanks: u32,
     /// The pages of 4,096 bytes that come to be assigned; an empty run where there is none.
@@ -36,17 +39,15 @@ pub struct StoragePlan {
     pub reply: Reply,
 }
 
+/// What a request comes to: its plan, or the first cause that refuses it.
+pub type Planned = Result<StoragePlan, Cause>;
+
 /// The empty run.
 pub const NO_PAGES: Run = Run { start: 0, len: 0 };
 
 /// One more record: the doublewords of an area become free storage of the subpool, or taken. An area without a
 /// doubleword needs none.
-pub(crate) fn push_area(
-    records: &mut ArrayVec<Record, PLAN_RECORDS>,
-    subpool: Subpool,
-    area: Run,
-    free: bool,
-)
+pub(crate) fn push_area(records: &mut PlanRecords, subpool: Subpool, area: Run, free: bool)
     requires { array_vec_len records.old < 8 }
     ensures records { records.new.items ≡ records.old.items ++ area_records subpool area.start area.len free }
     ensures few { array_vec_len records.new ≤ array_vec_len records.old + 1 }
@@ -61,12 +62,7 @@ pub(crate) fn push_area(
 }
 
 /// One more record: a register of the task gets the word.
-pub fn push_register(
-    records: &mut ArrayVec<Record, PLAN_RECORDS>,
-    task: u8,
-    register: u8,
-    word: u32,
-)
+pub fn push_register(records: &mut PlanRecords, task: u8, register: u8, word: u32)
     requires { array_vec_len records.old < 8 }
     ensures records { records.new.items
         ≡ records.old.items ++ Register (record { task = task; register = register; word = word }) ∷ [] }
@@ -100,7 +96,7 @@ pub fn answer_four(storage: &Parts) -> StoragePlan
 
 /// What a request is answered of which this is the first cause: a plan that sets register 15 to 4, where it is
 /// conditional and the cause is one of those that such a form answers so; else the cause refuses it.
-pub fn answer_cause(storage: &Parts, cause: Cause, conditional: bool) -> Result<StoragePlan, Cause>
+pub fn answer_cause(storage: &Parts, cause: Cause, conditional: bool) -> Planned
     ensures emptied { IfOk result (λ plan. plan.emptied ≡ None) }
     ensures planned { (settings : Settings) (names_full : Bool) (x : Service)
         → ∥ IsSound settings (state_of storage.now) ∥₁

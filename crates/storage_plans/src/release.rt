@@ -18,7 +18,9 @@ ghost use Rattle.storage_plans.specs.Plans.{IsPlanned};
 ghost use Rattle.storage_plans.specs.Releases.{area_causes, IsGivenBack};
 
 use crate::areas::check_number;
-use crate::plan::{NO_PAGES, PLAN_RECORDS, StoragePlan, answer_cause, push_area, push_register};
+use crate::plan::{
+    NO_PAGES, PlanRecords, Planned, StoragePlan, answer_cause, push_area, push_register,
+};
 use crate::searches::pages_on;
 use arrayvec::ArrayVec;
 use cell_pool::laws::pools_are_one;
@@ -253,13 +255,7 @@ fn emptied(storage: &Parts, subpool: Subpool, area: Run) -> Run
 }
 
 // The doublewords from one up to another, if there are any, become free storage of the subpool, or taken.
-fn push_between(
-    records: &mut ArrayVec<Record, PLAN_RECORDS>,
-    subpool: Subpool,
-    from: u32,
-    to: u32,
-    free: bool,
-)
+fn push_between(records: &mut PlanRecords, subpool: Subpool, from: u32, to: u32, free: bool)
     requires { array_vec_len records.old < 8 }
     ensures records { records.new.items ≡ records.old.items ++ area_records subpool from (to - from) free }
     ensures few { array_vec_len records.new ≤ array_vec_len records.old + 1 }
@@ -272,7 +268,7 @@ fn push_between(
 }
 
 // The pages, which are the subpool's, leave it and become unassigned.
-fn push_returned(records: &mut ArrayVec<Record, PLAN_RECORDS>, subpool: Subpool, run: Run)
+fn push_returned(records: &mut PlanRecords, subpool: Subpool, run: Run)
     requires few { array_vec_len records.old + 2 ≤ 8 }
     requires some { 0 < run.len }
     ensures records { records.new.items ≡ records.old.items ++ returned_records subpool run.start run.len }
@@ -290,7 +286,7 @@ fn push_returned(records: &mut ArrayVec<Record, PLAN_RECORDS>, subpool: Subpool,
 }
 
 // The area is given back with the pages that it empties: what of either lies beside the other becomes free, or taken.
-fn push_given_back(records: &mut ArrayVec<Record, PLAN_RECORDS>, found: GivenBack, pages: Run)
+fn push_given_back(records: &mut PlanRecords, found: GivenBack, pages: Run)
     requires none { records.old.items ≡ [] }
     requires range { found.area.start + found.area.len ≤ 2 ^ 29 }
     requires high { pages.start + pages.len ≤ 2 ^ 20 }
@@ -344,7 +340,7 @@ fn give_back(storage: &Parts, found: GivenBack) -> StoragePlan
 /// common with an extent of a cell pool. A conditional form has in place of the last three a plan that sets register 15
 /// to 4, and nothing else.
 #[inline(never)]
-pub fn plan_release(storage: &Parts, settings: Settings, r: Release) -> Result<StoragePlan, Cause>
+pub fn plan_release(storage: &Parts, settings: Settings, r: Release) -> Planned
     requires sound { StandsSound settings storage.now }
     requires frameless { IsFrameless storage.now }
     requires valid { settings_valid settings ≡ true }
