@@ -34,7 +34,7 @@ use Rattle.cell_extents.specs.declared.settings.CellSettings.{CellSettings}
 use Rattle.cell_pool.specs.Pools.{Pool}
 use Rattle.storage_changes.specs.NamedPools.{AreNamed}
 use Rattle.storage_changes.specs.PoolTable.{cell_pool_of}
-use Rattle.subpool_storage.specs.Subpools.{is_there, built_pool, IsUnnamed}
+use Rattle.subpool_storage.specs.Subpools.{is_there, built_pool}
 use Rattle.storage_changes.specs.State.{StorageState}
 use Rattle.storage_changes.specs.Changes.{Change, change_of, change_building}
 use Rattle.storage_changes.specs.Meaning.{model_of, IsSound}
@@ -51,7 +51,7 @@ use Rattle.storage_plans.proofs.Assigning.{own_assigns, registers_keep}
 use Rattle.storage_plans.proofs.AskedLengths.{is_somewhere, number_allowed, skip}
 use Rattle.storage_plans.proofs.Carried.{no_registers, register_and}
 use Rattle.cell_plans.specs.declared.build.BuildPlan.{BuildPlan}
-use Rattle.cell_plans.specs.CellPlans.{IsBuildPlanned, CanBeBuilt, build_change}
+use Rattle.cell_plans.specs.CellPlans.{IsBuildPlanned, IsOpen, CanBeBuilt, build_change}
 use Rattle.cell_plans.proofs.ExtentPlaces.{are_unassigned, ends_in_storage, few_blanks, has_room, in_range, in_words}
 use Rattle.cell_plans.proofs.PoolCells.{cells_same}
 
@@ -114,16 +114,8 @@ first_few b e =
     let (some, few) = bytes_few b.size b.primary (and_parts (are_cells b.size b.primary) (are_cells b.size (secondary_count b)) e).0 in
     (omega (arith, few), omega (arith, some), omega (arith, few))
 
--- What a BUILD that has no cause but want of storage asks for.
-pub record IsOpen (settings : Settings) (m : StorageState) (name : List ℕ) (b : Build) : Type 0 where
-  pub valid : settings_valid settings ≡ true
-  pub allowed : b.number ≤ 127
-  pub cells : (are_cells b.size b.primary && are_cells b.size (secondary_count b)) ≡ true
-  pub unnamed : IsUnnamed m.subpools name
-  pub none : is_some (cell_pool_in (model_of m).cell_pools name) ≡ false
-  pub few : nat_le 256 (length (model_of m).cell_pools) ≡ false
-
-module _ (settings : Settings) (names_full : Bool) (m : StorageState) (name : List ℕ) (header : Option (List ℕ)) (b : Build) (can : IsOpen settings m name b) where
+module _ (settings : Settings) (names_full : Bool) (m : StorageState) (name : List ℕ) (header : Option (List ℕ)) (b : Build) (valid : settings_valid settings ≡ true)
+    (can : IsOpen m name b) where
   abbrev t : State
   t = model_of m
 
@@ -180,11 +172,11 @@ module _ (settings : Settings) (names_full : Bool) (m : StorageState) (name : Li
         ∙ ap (λ (u : State). with u stands (cell_pool_of (pool 0))) (made is_new new)
 
     pub place_in_words : (place_address x < 2 ^ 32) × (0 < count) × (count < 2 ^ 29)
-    place_in_words = in_words settings m own (side settings b.location) count can.valid some x at
+    place_in_words = in_words settings m own (side settings b.location) count valid some x at
 
     -- the extent ends in storage
     high : place_address x + b.primary * b.size ≤ 2 ^ 32
-    high = let end = ends_in_storage settings m own (side settings b.location) count can.valid some x at in omega (arith, end)
+    high = let end = ends_in_storage settings m own (side settings b.location) count valid some x at in omega (arith, end)
 
     module _ (sound : IsSound settings m) where
       can_own : (new : Bool) → new ≡ not (sees_one t b.number) → CanOwn m own new
@@ -214,7 +206,7 @@ module _ (settings : Settings) (names_full : Bool) (m : StorageState) (name : Li
             let to : Change → Type 0 = λ d. Leads settings m (change_building (pool id) d) after in
             subst to (same_change x)
             (leads settings m (pool id) is_new b.primary stands rows sound named absent low can.unnamed (can_own is_new new) (omega (arith, few)) (omega (arith, size)) refl refl
-            (has_room settings m own (side settings b.location) count can.valid some x at sound) (register_and 15 0 [] (omega arith) no_registers)
+            (has_room settings m own (side settings b.location) count valid some x at sound) (register_and 15 0 [] (omega arith) no_registers)
             (kept settings names_full t after name header b (Obtained (place_address x) (8 * count)) sound.well_formed accepted))
 
         carried : IsAccepted settings names_full m (build name header b) change (Obtained (place_address x) (8 * count))
@@ -262,9 +254,9 @@ module _ (settings : Settings) (names_full : Bool) (m : StorageState) (name : Li
             high = subst (λ (n : ℕ). n + plan.settings.primary * plan.settings.size ≤ 2 ^ 32) (sym is_start)
                 (subst (λ (g : CellSettings). place_address x + g.primary * g.size ≤ 2 ^ 32) (sym with_these) high);
             few = subst (λ (n : ℕ). n ≤ 5) (sym is_blanks) (few_blanks x);
-            range = subst (λ (r : Run). r.start + r.len ≤ 2 ^ 20) (sym fresh_is) (in_range settings m own (side settings b.location) count can.valid some x at);
+            range = subst (λ (r : Run). r.start + r.len ≤ 2 ^ 20) (sym fresh_is) (in_range settings m own (side settings b.location) count valid some x at);
             unassigned = subst (λ (r : Run). (page : ℕ) → inside page r ≡ true → m.unassigned page ≡ true) (sym fresh_is)
-                (are_unassigned settings m own (side settings b.location) count can.valid some x at sound);
+                (are_unassigned settings m own (side settings b.location) count valid some x at sound);
           }
 
       its_accepted : outcome.IsAccepted (step settings names_full t (build name header b))

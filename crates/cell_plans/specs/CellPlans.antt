@@ -1,12 +1,14 @@
 -- What the plans of cell pools come to on the plain machine. Assembler Services Reference, CPOOL; Assembler Services
 -- Guide, "Virtual storage management", "Using the CPOOL macro".
-use Rattle.std.specs.Prelude.{◌≡◌, ℕ, ◌+◌, ◌*◌, ◌/◌, ◌^◌, ◌<◌, ◌≤◌, Bool, true, if◌then◌else◌, All, IfSome, IsSome}
-use Rattle.std.specs.Prelude.{Option, Some, None, List, length, option_map, Result, Ok, Err, [], ◌∷◌, ◌++◌}
+use Rattle.std.specs.Prelude.{◌≡◌, ℕ, ◌+◌, ◌*◌, ◌/◌, ◌^◌, ◌<◌, ◌≤◌, Bool, true, false, ◌&&◌, nat_le}
+use Rattle.std.specs.Prelude.{if◌then◌else◌, All, IfSome, IsSome, is_some, option_map}
+use Rattle.std.specs.Prelude.{Option, Some, None, List, length, Result, Ok, Err, [], ◌∷◌, ◌++◌}
 use Rattle.run_set.specs.Runs.{inside}
 use Rattle.vsm_model.specs.declared.causes.Cause.{Cause}
 use Rattle.vsm_model.specs.declared.limits.Settings.{Settings}
 use Rattle.vsm_model.specs.declared.replies.Reply.TheVariants.{Returned}
-use Rattle.vsm_model.specs.Cells.{has_no_cell}
+use Rattle.vsm_model.specs.declared.services.Build.{Build}
+use Rattle.vsm_model.specs.Cells.{are_cells, has_no_cell, secondary_count}
 use Rattle.vsm_model.specs.CellPools.{CellPool, cell_pool_in}
 use Rattle.vsm_model.specs.Regions.{doublewords}
 use Rattle.vsm_model.specs.Services.{Service, build, get, delete}
@@ -14,7 +16,7 @@ use Rattle.vsm_model.specs.Standing as outcome
 use Rattle.vsm_model.specs.Standing.{Refused}
 use Rattle.vsm_model.specs.Step.{step}
 use Rattle.cell_pool.specs.Pools.{Pool}
-use Rattle.subpool_storage.specs.Subpools.{Subpools, is_there, built_pool}
+use Rattle.subpool_storage.specs.Subpools.{Subpools, IsUnnamed, is_there, built_pool}
 use Rattle.storage_changes.specs.declared.record.Record.{Record}
 use Rattle.storage_changes.specs.State.{StorageState}
 use Rattle.storage_changes.specs.Changes.{Change, change_of, change_building, no_pages}
@@ -64,6 +66,14 @@ IsCellPlanned settings names_full m x (Ok plan) =
     (∥ IsAccepted settings names_full m x (change_in m plan) plan.reply ∥₁) × HasRecords m plan × IsLight m x plan
     × Assigns m (change_in m plan) plan.fresh
 IsCellPlanned settings names_full m x (Err cause) = step settings names_full (model_of m) x ≡ Refused cause
+
+-- What a BUILD that has no cause but want of storage asks for.
+pub record IsOpen (m : StorageState) (name : List ℕ) (b : Build) : Type 0 where
+  pub allowed : b.number ≤ 127
+  pub cells : (are_cells b.size b.primary && are_cells b.size (secondary_count b)) ≡ true
+  pub unnamed : IsUnnamed m.subpools name
+  pub none : is_some (cell_pool_in (model_of m).cell_pools name) ≡ false
+  pub few : nat_le 256 (length (model_of m).cell_pools) ≡ false
 
 -- the cell pool that comes, under an id: the cells of its one extent are free
 abbrev pub new_pool : BuildPlan → ℕ → Pool
@@ -115,6 +125,11 @@ extents_of_pool (Some p) = length p.extents
 abbrev pub pool_given_back : Subpools → Option Pool → List Record
 pool_given_back m None = []
 pool_given_back m (Some p) = extents_given_back m p.settings.subpool p.settings.size p.extents
+
+-- how many elements it takes to give the extents of a cell pool back: one for each record, and the blank ones
+abbrev pub extents_need : StorageState → ℕ → ℕ
+extents_need m id =
+    length (pool_given_back m.subpools (m.subpools.cells id)) + (4 * extents_of_pool (m.subpools.cells id) + 1)
 
 -- The cell pool is there, with its extents in storage, each of which has a doubleword.
 pub record CanBeDeleted (m : StorageState) (plan : DeletePlan) : Type 0 where

@@ -1,6 +1,6 @@
 //! Plans of CPOOL BUILD.
 ghost use Rattle.std.specs.Prelude.{◌≡◌, ℕ, ◌*◌, ◌^◌, ◌<◌, ◌≤◌, ◌&&◌, ◌++◌, ◌∷◌, [], true, false, Bool, Option, Some};
-ghost use Rattle.std.specs.Prelude.{List, is_some, length, nat_le, option_map, IfSome, IfOk, IfErr, OnOk};
+ghost use Rattle.std.specs.Prelude.{List, is_some, length, option_map, IfSome, IfOk, IfErr, OnOk};
 ghost use Rattle.vsm_model.specs.declared.limits.Settings.{Settings};
 ghost use Rattle.vsm_model.specs.declared.replies.Reply.TheVariants.{Obtained};
 ghost use Rattle.vsm_model.specs.Causes.{first_cause};
@@ -14,7 +14,7 @@ ghost use Rattle.change_laws.specs.StorageActions.{own_records, register_records
 ghost use Rattle.storage_exchange.specs.Storage.{state_of, Stand};
 ghost use Rattle.storage_plans.specs.ObtainPlans.{place_address, place_blanks, place_pages, place_records};
 ghost use Rattle.storage_plans.specs.Places.{StandsSound};
-ghost use Rattle.cell_plans.specs.CellPlans.{IsBuildPlanned};
+ghost use Rattle.cell_plans.specs.CellPlans.{IsBuildPlanned, IsOpen};
 
 use crate::seen::name_of;
 use crate::sizes::extent_doublewords;
@@ -109,12 +109,7 @@ fn pool_count(storage: &Parts) -> u32
 fn check_build(storage: &Parts, name: &Name, b: Build) -> Result<u8, Cause>
     requires { Stand storage.now }
     ensures number { IfOk result (λ number. number ≡ b.number) }
-    ensures allowed { OnOk result (b.number ≤ 127) }
-    ensures cells { OnOk result ((are_cells b.size b.primary && are_cells b.size (secondary_count b)) ≡ true) }
-    ensures unnamed { OnOk result (IsUnnamed (state_of storage.now).subpools name.now.bytes) }
-    ensures none { OnOk result
-        (is_some (cell_pool_in (model_of (state_of storage.now)).cell_pools name.now.bytes) ≡ false) }
-    ensures few { OnOk result (nat_le 256 (length (model_of (state_of storage.now)).cell_pools) ≡ false) }
+    ensures is_open { OnOk result (IsOpen (state_of storage.now) name.now.bytes b) }
     ensures err { IfErr result (λ cause. (settings : Settings) (header : Option (List ℕ))
         → first_cause (build_causes settings (model_of (state_of storage.now)) name.now.bytes header b) ≡ Some cause) }
 {

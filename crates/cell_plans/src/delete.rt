@@ -11,7 +11,7 @@ ghost use Rattle.storage_swap.specs.Growth.{MakesElements};
 ghost use Rattle.storage_swap.specs.Reserve.{Grown, Reserves};
 ghost use Rattle.cell_plans.specs.CellPlans.{delete_change, CanBeDeleted, IsDeletePlanned};
 
-use crate::giving_back::push_extents;
+use crate::giving_back::{Count, push_extents};
 use crate::seen::find_seen;
 use cell_pool::CellId;
 use change_laws::cells::deleting_leads;
@@ -88,11 +88,7 @@ impl DeletePlan {
     }
 
     // The records of the change, in their order. Answers how many blank elements it has.
-    fn push_records(
-        self,
-        storage: &mut Parts,
-        builder: &mut ChangeBuilder,
-    ) -> Result<u32, AllocError>
+    fn push_records(self, storage: &mut Parts, builder: &mut ChangeBuilder) -> Count
         requires building { IsBuilding storage.old builder.old }
         requires can { CanBeDeleted (state_of storage.old) self }
         ensures builds { Builds storage.old builder.old storage.new builder.new }

@@ -1,16 +1,15 @@
 //! Plans of CPOOL GET.
-ghost use Rattle.std.specs.Prelude.{◌≡◌, ◌+◌, ◌*◌, ◌^◌, ◌<◌, ◌≤◌, ◌++◌, true, length, IfSome, None};
+ghost use Rattle.std.specs.Prelude.{◌≡◌, ◌^◌, ◌<◌, ◌≤◌, ◌++◌, true, length, IfSome, None};
 ghost use Rattle.arrayvec.specs.ArrayVec.{array_vec_len};
 ghost use Rattle.vsm_model.specs.declared.replies.Reply.TheVariants.{Cell};
-ghost use Rattle.vsm_model.specs.Regions.{doublewords, settings_valid};
+ghost use Rattle.vsm_model.specs.Regions.{settings_valid};
 ghost use Rattle.vsm_model.specs.Services.{get};
 ghost use Rattle.change_laws.specs.StorageActions.{run_of};
 ghost use Rattle.storage_exchange.specs.Storage.{state_of};
-ghost use Rattle.storage_plans.specs.ObtainPlans.{place_address, place_blanks, place_pages};
 ghost use Rattle.storage_plans.specs.Places.{StandsSound};
 ghost use Rattle.change_laws.specs.CellActions.{extent_blanks as blanks_for};
 ghost use Rattle.cell_plans.specs.CellPlans.{IsCellPlanned};
-ghost use Rattle.cell_plans.specs.Handing.{cell_records, further_records};
+ghost use Rattle.cell_plans.specs.Handing.{CanExtend, IsFurther, cell_records};
 
 use crate::seen::find_seen;
 use crate::sizes::extent_doublewords;
@@ -86,14 +85,8 @@ fn plan_further(
     place: AreaPlace,
     register: Option<u8>,
 ) -> StoragePlan
-    requires count { cells.secondary ≤ 2 ^ 12 }
-    requires size { (0 < cells.secondary * cells.size) × (cells.secondary * cells.size ≤ 2 ^ 24) }
-    requires place { place_address place < 2 ^ 32 }
-    ensures emptied { result.emptied ≡ None }
-    ensures records { result.records.items ≡ further_records (state_of storage.now) pool cells place register }
-    ensures blanks { result.blanks ≡ place_blanks place + blanks_for cells.secondary }
-    ensures fresh { result.fresh ≡ place_pages (doublewords (cells.secondary * cells.size)) place }
-    ensures reply { result.reply ≡ Cell (place_address place) }
+    requires { CanExtend cells place }
+    ensures { IsFurther (state_of storage.now) pool cells place register result }
 {
     let start = address_of(place);
     let count = extent_doublewords(cells.secondary, cells.size);

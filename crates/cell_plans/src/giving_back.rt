@@ -1,11 +1,11 @@
 //! The records by which the extents of a cell pool are given back.
-ghost use Rattle.std.specs.Prelude.{◌≡◌, ◌+◌, ◌*◌, ◌-◌, ◌^◌, ◌<◌, ◌≤◌, ◌++◌, [], length, IsOk, IfOk, OnOk};
+ghost use Rattle.std.specs.Prelude.{◌≡◌, ◌+◌, ◌-◌, ◌^◌, ◌<◌, ◌≤◌, ◌++◌, [], length, IsOk, IfOk, OnOk};
 ghost use Rattle.arrayvec.specs.ArrayVec.{array_vec_len};
 ghost use Rattle.change_laws.specs.StorageActions.{area_records, give_back_records, returned_records};
 ghost use Rattle.storage_exchange.specs.Storage.{state_of};
 ghost use Rattle.storage_swap.specs.Builder.{IsBuilding, Builds, Pushes};
 ghost use Rattle.cell_plans.specs.Areas.{first_areas};
-ghost use Rattle.cell_plans.specs.CellPlans.{pool_given_back, extents_of_pool, CanBeDeleted};
+ghost use Rattle.cell_plans.specs.CellPlans.{pool_given_back, extents_need, extents_of_pool, CanBeDeleted};
 ghost use Rattle.cell_plans.specs.Emptied.{area_given_back, freed};
 
 use crate::areas::{FirstExtents, area_at};
@@ -24,6 +24,9 @@ use vsm_model::geometry::PAGE_DOUBLEWORDS;
 /// The most extents of a cell pool that goes: with more, its blank elements would be more than there are ids of 32
 /// bits.
 const EXTENTS_MOST: u32 = (1 << 30) - 1;
+
+/// How many there are; or memory was refused.
+pub(crate) type Count = Result<u32, AllocError>;
 
 // One more record: the doublewords from one up to another, if there are any, become free storage of the subpool, or
 // taken.
@@ -136,11 +139,7 @@ fn spares_are_few(storage: &Parts)
 /// has.
 ///
 /// `AllocError` where memory is refused, or the cell pool has more than 2^30 - 1 extents.
-pub(crate) fn push_extents(
-    storage: &mut Parts,
-    builder: &mut ChangeBuilder,
-    pool: CellId,
-) -> Result<u32, AllocError>
+pub(crate) fn push_extents(storage: &mut Parts, builder: &mut ChangeBuilder, pool: CellId) -> Count
     requires building { IsBuilding storage.old builder.old }
     requires can { CanBeDeleted (state_of storage.old) (record { pool = pool }) }
     ensures builds { Builds storage.old builder.old storage.new builder.new }
@@ -148,9 +147,7 @@ pub(crate) fn push_extents(
         (pool_given_back m (m.cells pool)) storage.new builder.new) }
     ensures count { IfOk result (λ n. n ≡ extents_of_pool ((state_of storage.old).subpools.cells pool)) }
     ensures few { IfOk result (λ n. n < 2 ^ 30) }
-    ensures needless { let m = (state_of storage.old).subpools in
-        length (pool_given_back m (m.cells pool)) + (4 * extents_of_pool (m.cells pool) + 1)
-        ≤ storage.old.elements.spare → IsOk result }
+    ensures needless { extents_need (state_of storage.old) pool ≤ storage.old.elements.spare → IsOk result }
 {
     spares_are_few(storage);
     let pools = storage.subpools.cell_pools(&storage.elements);

@@ -15,8 +15,7 @@ use Rattle.vsm_model.specs.Regions.{among, within, regions_for, settings_valid, 
 use Rattle.vsm_model.specs.State.{State}
 use Rattle.vsm_model.specs.Subpools.{seen_or_own, sees_one, with_own, with_subpool}
 use Rattle.vsm_model.specs.Areas.{Place, Inside, Fresh, address_of, fits, is_free, spacing}
-use Rattle.vsm_model.specs.Causes.{first_cause}
-use Rattle.vsm_model.specs.Obtaining.{longest, obtain_causes, place_for, with_area}
+use Rattle.vsm_model.specs.Obtaining.{place_for, with_area}
 use Rattle.vsm_model.specs.Registers.{length_register, named_register, with_registers}
 use Rattle.vsm_model.specs.Services.{obtain}
 use Rattle.vsm_model.specs.Standing.{Accepted}
@@ -45,7 +44,7 @@ use Rattle.storage_plans.specs.declared.areas.FoundArea.{FoundArea}
 use Rattle.storage_plans.specs.declared.places.AreaPlace.{AreaPlace}
 use Rattle.storage_plans.specs.declared.places.AreaPlace.TheVariants as areas
 use Rattle.storage_plans.specs.declared.plan.StoragePlan.{StoragePlan}
-use Rattle.storage_plans.specs.ObtainPlans.{reply_registers, obtain_records, place_address, place_blanks, place_pages, place_records}
+use Rattle.storage_plans.specs.ObtainPlans.{IsFound, reply_registers, obtain_records, place_address, place_blanks, place_pages, place_records}
 use Rattle.storage_plans.specs.Places.{place_of}
 use Rattle.storage_plans.specs.Plans.{CarriesOut}
 use Rattle.storage_plans.proofs.Assigning.{own_assigns, registers_keep}
@@ -177,16 +176,9 @@ module _ (settings : Settings) (m : StorageState) (o : Obtain) where
       pages_unassigned (areas.Inside d) goes k own = none_fresh m k own
       pages_unassigned (areas.Fresh page) goes k own = fresh_unassigned page goes k own
 
--- What was found for a request.
-pub record IsFound (settings : Settings) (names_full : Bool) (m : StorageState) (o : Obtain) (found : FoundArea) : Type 0 where
-  pub valid : settings_valid settings ≡ true
-  pub none : first_cause (obtain_causes settings names_full (model_of m) o) ≡ None
-  pub subpool : found.subpool ≡ seen_or_own (model_of m) o.number
-  pub is_new : found.is_new ≡ not (sees_one (model_of m) o.number)
-  pub count : longest settings (model_of m) o ≡ Some found.count
-  pub place : place_of (Some found.place) ≡ place_for settings (model_of m) o found.count
-
-module _ (settings : Settings) (names_full : Bool) (m : StorageState) (o : Obtain) (found : FoundArea) (is : IsFound settings names_full m o found) where
+-- what was found for a request, at valid settings
+module _ (settings : Settings) (names_full : Bool) (m : StorageState) (o : Obtain) (found : FoundArea) (valid : settings_valid settings ≡ true)
+    (is : IsFound settings names_full m o found) where
   abbrev own : Subpool
   own = seen_or_own (model_of m) o.number
 
@@ -211,8 +203,8 @@ module _ (settings : Settings) (names_full : Bool) (m : StorageState) (o : Obtai
   -- the address and the length are words, and there is a doubleword
   pub in_words : (place_address found.place < 2 ^ 32) × (0 < found.count) × (found.count < 2 ^ 29)
   in_words =
-      let words = place_in_words settings (model_of m) own found.count (spacing o.boundary) goes is.valid some
-      (goes_at settings m o is.valid found.count some goes is.place) (is_somewhere found.place) in
+      let words = place_in_words settings (model_of m) own found.count (spacing o.boundary) goes valid some
+      (goes_at settings m o valid found.count some goes is.place) (is_somewhere found.place) in
       let length = words.1 in
       (words.0, some, omega (arith, length))
 
@@ -229,15 +221,15 @@ module _ (settings : Settings) (names_full : Bool) (m : StorageState) (o : Obtai
       plan.blanks ≡ place_blanks found.place → plan.fresh ≡ place_pages found.count found.place →
       plan.reply ≡ Obtained (place_address found.place) (8 * found.count) → CarriesOut settings names_full m (obtain o) plan
   obtain_carried_out sound register plan emptied records blanks fresh reply =
-      let its = goes_at settings m o is.valid found.count some goes is.place in
+      let its = goes_at settings m o valid found.count some goes is.place in
       let may = obtain_allowed settings names_full (model_of m) o is.none in
-      let formed = obtain_leaves_well_formed settings names_full (model_of m) after o (Obtained (place_address found.place) (8 * found.count)) is.valid (is_register o.register register)
+      let formed = obtain_leaves_well_formed settings names_full (model_of m) after o (Obtained (place_address found.place) (8 * found.count)) valid (is_register o.register register)
       sound.well_formed (accepted sound) in
-      let leads = leads_at settings m o is.valid found.count some sound found.place found.is_new rows its (can_own settings m o sound found.is_new is.is_new may.private)
+      let leads = leads_at settings m o valid found.count some sound found.place found.is_new rows its (can_own settings m o sound found.is_new is.is_new may.private)
       (are_registers o.lengths o.register (place_address found.place) (8 * found.count) register) formed in
       carries_out settings names_full m (obtain o) plan (own_records own found.is_new ++ place_records own found.count found.place ++ register_records m rows)
       (place_blanks found.place) (place_pages found.count found.place) after
       emptied (records ∙ ap (λ (p : Subpool). own_records p found.is_new ++ place_records p found.count found.place ++ register_records m rows) is.subpool) blanks fresh
       (accepted sound ∙ ap (λ r. Accepted after r) (sym reply)) leads (few_blanks found.place)
-      (pages_in_range settings m o is.valid found.count some found.place its) (pages_unassigned settings m o is.valid found.count some sound found.place its)
+      (pages_in_range settings m o valid found.count some found.place its) (pages_unassigned settings m o valid found.count some sound found.place its)
       (own_assigns _ own found.is_new found.count found.place (register_records m rows) (registers_keep m rows))

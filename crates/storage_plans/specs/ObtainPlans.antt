@@ -1,13 +1,18 @@
 -- The change of an obtain, by the place of its area. Assembler Services Guide, "Virtual storage management", "Explicit
 -- requests for virtual storage"; Assembler Services Reference, GETMAIN and STORAGE.
-use Rattle.std.specs.Prelude.{ℕ, ◌*◌, List, ◌∷◌, ◌++◌, Option, Some}
+use Rattle.std.specs.Prelude.{◌≡◌, ℕ, ◌*◌, Bool, not, List, ◌∷◌, ◌++◌, Option, Some, None}
 use Rattle.run_set.specs.Runs.{Run}
 use Rattle.vsm_model.specs.declared.Subpool.{Subpool}
+use Rattle.vsm_model.specs.declared.limits.Settings.{Settings}
 use Rattle.vsm_model.specs.declared.services.Lengths.{Lengths}
 use Rattle.vsm_model.specs.declared.services.Obtain.{Obtain}
 use Rattle.vsm_model.specs.Areas.{address_of}
+use Rattle.vsm_model.specs.Causes.{first_cause}
+use Rattle.vsm_model.specs.Obtaining.{longest, obtain_causes, place_for}
 use Rattle.vsm_model.specs.Regions.{pages_for}
 use Rattle.vsm_model.specs.Registers.{length_register, named_register}
+use Rattle.vsm_model.specs.Subpools.{seen_or_own, sees_one}
+use Rattle.storage_changes.specs.Meaning.{model_of}
 use Rattle.storage_changes.specs.declared.record.Record.{Record}
 use Rattle.storage_changes.specs.State.{StorageState}
 use Rattle.change_laws.specs.StorageActions.{own_records, take_records, take_fresh_records, register_records, run_of}
@@ -15,6 +20,16 @@ use Rattle.storage_plans.specs.declared.areas.FoundArea.{FoundArea}
 use Rattle.storage_plans.specs.declared.places.AreaPlace.{AreaPlace}
 use Rattle.storage_plans.specs.declared.places.AreaPlace.TheVariants.{Inside, Fresh}
 use Rattle.storage_plans.specs.Places.{place_of}
+
+-- What is found for a request that has no cause: its subpool, the most doublewords that it can be given, and where they
+-- go.
+pub record IsFound (settings : Settings) (names_full : Bool) (m : StorageState) (o : Obtain) (found : FoundArea)
+    : Type 0 where
+  pub none : first_cause (obtain_causes settings names_full (model_of m) o) ≡ None
+  pub subpool : found.subpool ≡ seen_or_own (model_of m) o.number
+  pub is_new : found.is_new ≡ not (sees_one (model_of m) o.number)
+  pub count : longest settings (model_of m) o ≡ Some found.count
+  pub place : place_of (Some found.place) ≡ place_for settings (model_of m) o found.count
 
 -- the address of the first byte of a place
 abbrev pub place_address : AreaPlace → ℕ

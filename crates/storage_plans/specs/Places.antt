@@ -1,11 +1,11 @@
 -- Where an area goes, in terms of the plain machine. Assembler Services Guide, "Virtual storage management", "Explicit
 -- requests for virtual storage"; Assembler Services Reference, STORAGE, LOC and BNDRY.
-use Rattle.std.specs.Prelude.{◌≡◌, ℕ, ◌<◌, Bool, nat_le, Option, Some, None}
+use Rattle.std.specs.Prelude.{◌≡◌, ℕ, ◌<◌, Bool, true, nat_le, Option, Some, None}
 use Rattle.vsm_model.specs.declared.limits.Residence.{Residence}
 use Rattle.vsm_model.specs.declared.limits.Residence.TheVariants.{Below, Above}
 use Rattle.vsm_model.specs.declared.limits.Settings.{Settings}
 use Rattle.vsm_model.specs.Areas.{Place, Inside, Fresh, Nowhere}
-use Rattle.vsm_model.specs.Regions.{Region, low_region, high_region}
+use Rattle.vsm_model.specs.Regions.{Region, low_region, high_region, settings_valid}
 use Rattle.storage_changes.specs.Meaning.{IsSound}
 use Rattle.storage_exchange.specs.declared.storage.Parts.{Parts}
 use Rattle.storage_exchange.specs.Storage.{state_of, Stand}
@@ -17,6 +17,11 @@ use Rattle.storage_plans.specs.declared.places.AreaPlace.TheVariants as areas
 pub record StandsSound (settings : Settings) (p : Parts) : Type 0 where
   pub stands : Stand p
   pub sound : ∥ IsSound settings (state_of p) ∥₁
+
+-- The same, and the settings are valid.
+pub record StandsAt (settings : Settings) (p : Parts) : Type 0 where
+  pub sound : StandsSound settings p
+  pub valid : settings_valid settings ≡ true
 
 -- the region on this side of the line
 abbrev pub region_on : Settings → Residence → Region

@@ -1,19 +1,27 @@
 -- What of a release depends on where its area lies. Assembler Services Guide, "Virtual storage management", "Subpool
 -- handling"; Assembler Services Reference, STORAGE, RELEASE, and FREEMAIN.
-use Rattle.std.specs.Prelude.{◌≡◌, ℕ, ◌*◌, None, List, [], ◌∷◌, ◌++◌}
+use Rattle.std.specs.Prelude.{◌≡◌, ℕ, ◌*◌, Option, None, List, [], ◌∷◌, ◌++◌}
+use Rattle.run_set.specs.Runs.{Run}
 use Rattle.vsm_model.specs.declared.Subpool.{Subpool}
+use Rattle.vsm_model.specs.declared.causes.Cause.{Cause}
 use Rattle.vsm_model.specs.declared.causes.Cause.TheVariants.{NotInSubpool, OverlapsFree, OverlapsCells}
 use Rattle.vsm_model.specs.declared.limits.Settings.{Settings}
 use Rattle.vsm_model.specs.declared.replies.Reply.TheVariants.{Returned}
-use Rattle.vsm_model.specs.Causes.{Causes}
-use Rattle.vsm_model.specs.Releasing.{is_foreign, is_not_taken, overlaps_cells}
+use Rattle.vsm_model.specs.declared.services.Release.{Release}
+use Rattle.vsm_model.specs.Causes.{Causes, first_cause}
+use Rattle.vsm_model.specs.Releasing.{is_foreign, is_not_taken, overlaps_cells, release_causes}
 use Rattle.vsm_model.specs.Search.{some_pass}
 use Rattle.vsm_model.specs.State.{State}
 use Rattle.storage_changes.specs.declared.record.Record.{Record}
 use Rattle.storage_changes.specs.State.{StorageState}
+use Rattle.storage_changes.specs.Meaning.{model_of}
 use Rattle.change_laws.specs.StorageActions.{emptied_pages, give_back_records, register_records, run_of}
 use Rattle.storage_plans.specs.declared.plan.StoragePlan.{StoragePlan}
 use Rattle.storage_plans.specs.declared.release.GivenBack.{GivenBack}
+
+-- the first cause that refuses a release
+abbrev pub release_cause : Settings → StorageState → Release → Option Cause
+release_cause settings m r = first_cause (release_causes settings (model_of m) r)
 
 -- the last of a release's causes, those of an area of so many doublewords from this one on
 abbrev pub area_causes : Settings → State → Subpool → ℕ → ℕ → Causes
@@ -22,6 +30,10 @@ area_causes settings s p d count =
     ∷ (some_pass (is_not_taken s p) d count, OverlapsFree)
     ∷ (overlaps_cells s (8 * d) (8 * count), OverlapsCells)
     ∷ []
+
+-- the first of these
+abbrev pub area_cause : Settings → StorageState → Subpool → Run → Option Cause
+area_cause settings m p area = first_cause (area_causes settings (model_of m) p area.start area.len)
 
 -- the records that give an area back with the pages that it empties, and set the return code
 abbrev pub given_back_records : StorageState → Subpool → ℕ → ℕ → List Record

@@ -1,14 +1,15 @@
 //! The area that a request for storage asks for, or why there is none.
-ghost use Rattle.std.specs.Prelude.{◌≡◌, ◌≤◌, ◌<◌, not, true, None, Some, IfOk, IfErr, IfNone, IfSome, OnOk, OnErr};
+ghost use Rattle.std.specs.Prelude.{◌≡◌, ◌≤◌, ◌<◌, not, None, Some, IfOk, IfErr, IfNone, IfSome, OnOk, OnErr};
 ghost use Rattle.vsm_model.specs.Areas.{spacing};
 ghost use Rattle.vsm_model.specs.Causes.{first_cause, number_causes};
 ghost use Rattle.vsm_model.specs.Obtaining.{longest, obtain_causes, place_for};
-ghost use Rattle.vsm_model.specs.Regions.{settings_valid, side};
+ghost use Rattle.vsm_model.specs.Regions.{side};
 ghost use Rattle.vsm_model.specs.Services.{maximum, minimum};
 ghost use Rattle.vsm_model.specs.Subpools.{seen_or_own, sees_one};
 ghost use Rattle.storage_changes.specs.Meaning.{model_of};
 ghost use Rattle.storage_exchange.specs.Storage.{state_of};
-ghost use Rattle.storage_plans.specs.Places.{StandsSound, place_of};
+ghost use Rattle.storage_plans.specs.ObtainPlans.{IsFound};
+ghost use Rattle.storage_plans.specs.Places.{StandsAt, StandsSound, place_of};
 
 use crate::places::{AreaPlace, area_place, longest_place};
 use storage_exchange::Parts;
@@ -26,6 +27,12 @@ pub(crate) struct FoundArea {
     pub(crate) count: u32,
     pub(crate) place: AreaPlace,
 }
+
+/// The area that a request gets, or the first cause that refuses it.
+pub(crate) type Found = Result<FoundArea, Cause>;
+
+// How many doublewords an area has, and where it goes.
+type Placed = (u32, AreaPlace);
 
 /// The subpool number, or the cause that refuses it.
 pub fn check_number(number: u32) -> Result<u8, Cause>
@@ -93,14 +100,8 @@ pub(crate) fn minimum_of(lengths: Lengths) -> u32
 
 // The most doublewords that the request can be given, between its rounded bounds, and where they go; `None` where not
 // even the fewest have a place. The maximum is tried first: a fixed length that has a place is looked for once.
-fn find_place(
-    storage: &Parts,
-    settings: Settings,
-    o: Obtain,
-    subpool: Subpool,
-) -> Option<(u32, AreaPlace)>
-    requires sound { StandsSound settings storage.now }
-    requires valid { settings_valid settings ≡ true }
+fn find_place(storage: &Parts, settings: Settings, o: Obtain, subpool: Subpool) -> Option<Placed>
+    requires stands { StandsAt settings storage.now }
     requires subpool { subpool ≡ seen_or_own (model_of (state_of storage.now)) o.number }
     requires some { 0 < minimum o.lengths }
     requires ordered { minimum o.lengths ≤ maximum o.lengths }
@@ -133,21 +134,9 @@ fn find_place(
 /// The causes, in order: a number above 127 (`UnsupportedSubpool` for 131 and 132, else `SubpoolNotAllowed`),
 /// `BadLength` for a minimum of zero bytes or one above the maximum, `TooManyNames`, and `NoStorage` where not even the
 /// minimum has a place.
-pub(crate) fn find_area(
-    storage: &Parts,
-    settings: Settings,
-    o: Obtain,
-    names_full: bool,
-) -> Result<FoundArea, Cause>
-    requires sound { StandsSound settings storage.now }
-    requires valid { settings_valid settings ≡ true }
-    ensures none { IfOk result (λ found.
-        first_cause (obtain_causes settings names_full (model_of (state_of storage.now)) o) ≡ None) }
-    ensures subpool { IfOk result (λ found. found.subpool ≡ seen_or_own (model_of (state_of storage.now)) o.number) }
-    ensures is_new { IfOk result (λ found. found.is_new ≡ not (sees_one (model_of (state_of storage.now)) o.number)) }
-    ensures count { IfOk result (λ found. longest settings (model_of (state_of storage.now)) o ≡ Some found.count) }
-    ensures place { IfOk result (λ found. place_of (Some found.place)
-        ≡ place_for settings (model_of (state_of storage.now)) o found.count) }
+pub(crate) fn find_area(storage: &Parts, settings: Settings, o: Obtain, names_full: bool) -> Found
+    requires stands { StandsAt settings storage.now }
+    ensures found { IfOk result (IsFound settings names_full (state_of storage.now) o) }
     ensures err { IfErr result (λ cause.
         first_cause (obtain_causes settings names_full (model_of (state_of storage.now)) o) ≡ Some cause) }
 {

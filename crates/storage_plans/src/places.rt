@@ -4,7 +4,7 @@ ghost use Rattle.vsm_model.specs.Areas.{is_nowhere, place, place_in};
 ghost use Rattle.vsm_model.specs.Regions.{regions_for, settings_valid};
 ghost use Rattle.storage_changes.specs.Meaning.{model_of};
 ghost use Rattle.storage_exchange.specs.Storage.{state_of};
-ghost use Rattle.storage_plans.specs.Places.{IsUpTo, StandsSound, place_of, region_on};
+ghost use Rattle.storage_plans.specs.Places.{IsUpTo, StandsAt, StandsSound, place_of, region_on};
 
 use crate::searches::{least_area, least_pages, longest_area, longest_pages};
 use storage_exchange::Parts;
@@ -29,8 +29,7 @@ fn place_on(
     count: u32,
     spacing: u32,
 ) -> Option<AreaPlace>
-    requires sound { StandsSound settings storage.now }
-    requires valid { settings_valid settings ≡ true }
+    requires stands { StandsAt settings storage.now }
     requires asked { (0 < count) × (count ≤ 2 ^ 29) × (0 < spacing) × (spacing ≤ 512) }
     ensures { place_of result
         ≡ place_in (model_of (state_of storage.now)) subpool count spacing (region_on settings side) }
@@ -80,8 +79,7 @@ fn longest_on(
     subpool: Subpool,
     spacing: u32,
 ) -> u32
-    requires sound { StandsSound settings storage.now }
-    requires valid { settings_valid settings ≡ true }
+    requires stands { StandsAt settings storage.now }
     requires asked { (0 < spacing) × (spacing ≤ 512) }
     ensures { IsUpTo (λ count. not (is_nowhere
         (place_in (model_of (state_of storage.now)) subpool count spacing (region_on settings side)))) result }
@@ -100,8 +98,7 @@ pub(crate) fn longest_place(
     subpool: Subpool,
     spacing: u32,
 ) -> u32
-    requires sound { StandsSound settings storage.now }
-    requires valid { settings_valid settings ≡ true }
+    requires stands { StandsAt settings storage.now }
     requires asked { (0 < spacing) × (spacing ≤ 512) }
     ensures { IsUpTo (λ count. not (is_nowhere
         (place (model_of (state_of storage.now)) (regions_for settings side) subpool count spacing))) result }

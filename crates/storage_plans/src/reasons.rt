@@ -8,7 +8,7 @@ ghost use Rattle.vsm_model.specs.Services.{maximum, minimum};
 ghost use Rattle.vsm_model.specs.Subpools.{seen_or_own};
 ghost use Rattle.storage_changes.specs.Meaning.{model_of};
 ghost use Rattle.storage_exchange.specs.Storage.{state_of};
-ghost use Rattle.storage_plans.specs.Places.{StandsSound};
+ghost use Rattle.storage_plans.specs.Places.{StandsAt, StandsSound};
 ghost use Rattle.storage_plans.specs.Reasons.{IsReason, reasons_place};
 
 use crate::areas::{minimum_of, side_of, spacing_of};
@@ -41,8 +41,7 @@ fn reason_on(
     count: u32,
     spacing: u32,
 ) -> SideReason
-    requires sound { StandsSound settings storage.now }
-    requires valid { settings_valid settings ≡ true }
+    requires stands { StandsAt settings storage.now }
     requires asked { (0 < count) × (count ≤ 2 ^ 29) × (0 < spacing) × (spacing ≤ 512) }
     ensures { IsReason settings (model_of (state_of storage.now)) side subpool count spacing result }
 {

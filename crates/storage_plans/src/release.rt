@@ -2,10 +2,9 @@
 ghost use Rattle.std.specs.Prelude.{◌≡◌, ◌+◌, ◌-◌, ◌*◌, ◌/◌, ◌^◌, ◌<◌, ◌≤◌, ◌&&◌, Bool, true, false, not, nat_le};
 ghost use Rattle.std.specs.Prelude.{None, Some, IfOk, IfErr, OnOk, IsTrue, [], ◌++◌};
 ghost use Rattle.arrayvec.specs.ArrayVec.{array_vec_len};
-ghost use Rattle.vsm_model.specs.Causes.{first_cause};
 ghost use Rattle.vsm_model.specs.Regions.{doublewords, in_a_region, pages_for, settings_valid};
 ghost use Rattle.vsm_model.specs.declared.causes.Cause.TheVariants.{OverlapsCells};
-ghost use Rattle.vsm_model.specs.Releasing.{overlaps_cells, release_causes};
+ghost use Rattle.vsm_model.specs.Releasing.{overlaps_cells};
 ghost use Rattle.vsm_model.specs.Search.{all_pass, some_pass, holds};
 ghost use Rattle.vsm_model.specs.Services.{release};
 ghost use Rattle.vsm_model.specs.Subpools.{same_subpool, seen_or_own};
@@ -13,9 +12,9 @@ ghost use Rattle.storage_changes.specs.Meaning.{model_of};
 ghost use Rattle.change_laws.specs.StorageActions.{area_records, emptied_pages, give_back_records, returned_records};
 ghost use Rattle.change_laws.specs.StorageActions.{run_of};
 ghost use Rattle.storage_exchange.specs.Storage.{state_of, Stand, IsFrameless};
-ghost use Rattle.storage_plans.specs.Places.{StandsSound};
+ghost use Rattle.storage_plans.specs.Places.{StandsAt, StandsSound};
 ghost use Rattle.storage_plans.specs.Plans.{IsPlanned};
-ghost use Rattle.storage_plans.specs.Releases.{area_causes, IsGivenBack};
+ghost use Rattle.storage_plans.specs.Releases.{IsGivenBack, area_cause, release_cause};
 
 use crate::areas::check_number;
 use crate::plan::{
@@ -127,16 +126,13 @@ fn has_others(storage: &Parts, settings: Settings, subpool: Subpool, pages: Run)
 
 // Whether the area is the subpool's and taken, or the first cause that refuses to give it back.
 fn check_area(storage: &Parts, settings: Settings, subpool: Subpool, area: Run) -> Result<(), Cause>
-    requires sound { StandsSound settings storage.now }
+    requires stands { StandsAt settings storage.now }
     requires frameless { IsFrameless storage.now }
-    requires valid { settings_valid settings ≡ true }
     requires some { 0 < area.len }
     requires range { area.start + area.len ≤ 2 ^ 30 }
-    ensures ok { OnOk result (first_cause
-        (area_causes settings (model_of (state_of storage.now)) subpool area.start area.len) ≡ None) }
+    ensures ok { OnOk result (area_cause settings (state_of storage.now) subpool area ≡ None) }
     ensures range { OnOk result (area.start + area.len ≤ 2 ^ 29) }
-    ensures err { IfErr result (λ cause. first_cause
-        (area_causes settings (model_of (state_of storage.now)) subpool area.start area.len) ≡ Some cause) }
+    ensures err { IfErr result (λ cause. area_cause settings (state_of storage.now) subpool area ≡ Some cause) }
 {
     let pages = pages_of(area);
     if !lies_in_a_region(settings, pages) {
@@ -177,17 +173,14 @@ fn check_cells(storage: &Parts, area: Run) -> Result<(), Cause>
 
 // What the release gives back, or the first cause that refuses it in any form.
 fn find_given_back(storage: &Parts, settings: Settings, r: Release) -> Result<GivenBack, Cause>
-    requires sound { StandsSound settings storage.now }
+    requires stands { StandsAt settings storage.now }
     requires frameless { IsFrameless storage.now }
-    requires valid { settings_valid settings ≡ true }
-    ensures none { IfOk result (λ found.
-        first_cause (release_causes settings (model_of (state_of storage.now)) r) ≡ None) }
+    ensures none { IfOk result (λ found. release_cause settings (state_of storage.now) r ≡ None) }
     ensures subpool { IfOk result (λ found. found.subpool ≡ seen_or_own (model_of (state_of storage.now)) r.number) }
     ensures area { IfOk result (λ found. found.area ≡ run_of (r.address / 8) (doublewords r.length)) }
     ensures some { IfOk result (λ found. 0 < found.area.len) }
     ensures range { IfOk result (λ found. found.area.start + found.area.len ≤ 2 ^ 29) }
-    ensures err { IfErr result (λ cause.
-        first_cause (release_causes settings (model_of (state_of storage.now)) r) ≡ Some cause) }
+    ensures err { IfErr result (λ cause. release_cause settings (state_of storage.now) r ≡ Some cause) }
 {
     let number = check_number(r.number)?;
     if r.length == 0 {

@@ -4,7 +4,7 @@ ghost use Rattle.vsm_model.specs.Areas.{least_fit, least_run};
 ghost use Rattle.vsm_model.specs.Regions.{settings_valid};
 ghost use Rattle.storage_changes.specs.Meaning.{model_of};
 ghost use Rattle.storage_exchange.specs.Storage.{state_of};
-ghost use Rattle.storage_plans.specs.Places.{IsUpTo, StandsSound, region_on};
+ghost use Rattle.storage_plans.specs.Places.{IsUpTo, StandsAt, region_on};
 
 use descriptor_queue::Page;
 use run_set::Run;
@@ -55,8 +55,7 @@ pub(crate) fn least_area(
     count: u32,
     spacing: u32,
 ) -> Option<u32>
-    requires sound { StandsSound settings storage.now }
-    requires valid { settings_valid settings ≡ true }
+    requires stands { StandsAt settings storage.now }
     requires asked { (0 < count) × (count ≤ 2 ^ 29) × (0 < spacing) × (spacing ≤ 512) }
     ensures { result ≡ least_fit (model_of (state_of storage.now)) (region_on settings side) subpool count spacing }
 {
@@ -73,8 +72,7 @@ pub(crate) fn least_pages(
     side: Residence,
     count: u32,
 ) -> Option<Page>
-    requires sound { StandsSound settings storage.now }
-    requires valid { settings_valid settings ≡ true }
+    requires stands { StandsAt settings storage.now }
     requires asked { (0 < count) × (count ≤ 2 ^ 20) }
     ensures { result ≡ least_run (model_of (state_of storage.now)) (region_on settings side) count }
 {
@@ -93,8 +91,7 @@ pub(crate) fn longest_area(
     subpool: Subpool,
     spacing: u32,
 ) -> u32
-    requires sound { StandsSound settings storage.now }
-    requires valid { settings_valid settings ≡ true }
+    requires stands { StandsAt settings storage.now }
     requires asked { (0 < spacing) × (spacing ≤ 512) }
     ensures { IsUpTo (λ count. is_some
         (least_fit (model_of (state_of storage.now)) (region_on settings side) subpool count spacing)) result }
@@ -108,8 +105,7 @@ pub(crate) fn longest_area(
 /// The greatest number of pages in a row of the region on that side of the line that are nobody's; 0 where there is
 /// none. Reads alone.
 pub(crate) fn longest_pages(storage: &Parts, settings: Settings, side: Residence) -> u32
-    requires sound { StandsSound settings storage.now }
-    requires valid { settings_valid settings ≡ true }
+    requires { StandsAt settings storage.now }
     ensures up_to { IsUpTo (λ count. is_some
         (least_run (model_of (state_of storage.now)) (region_on settings side) count)) result }
     ensures range { result ≤ 2 ^ 20 }

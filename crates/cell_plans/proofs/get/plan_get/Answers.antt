@@ -71,31 +71,8 @@ area_place-requires-clause-asked c =
     let count = c.extent_doublewords-count.ensures in
     (omega (arith, count, some), omega (arith, count, few), omega arith, omega arith)
 
-pub plan_further-requires-clause-count : goal.plan_further-requires-clause-count
-plan_further-requires-clause-count c =
-    let storage = c.args.storage.now in
-    let m = state_of storage in
-    let id = c.in_ok-id.id in
-    let pools = c.cell_pools-pools in
-    let cells = c.settings-cells in
-    let (p, there) = some_there (m.subpools.cells id) c.in_ok-id.ensures.there in
-    let are = fact_of (λ p. cells.result ≡ p.settings) (by_id storage.elements pools.result id) p (pools.ensures.pools id ∙ there) cells.ensures in
-    (cells_fit c.args.settings c.args.names_full m c.args.name.now c.args.g id p (c.in_ok-id.ensures.seen p there) cells.result are c.requires.sound.sound).0
-
-pub plan_further-requires-clause-size : goal.plan_further-requires-clause-size
-plan_further-requires-clause-size c =
-    let storage = c.args.storage.now in
-    let m = state_of storage in
-    let id = c.in_ok-id.id in
-    let pools = c.cell_pools-pools in
-    let cells = c.settings-cells in
-    let (p, there) = some_there (m.subpools.cells id) c.in_ok-id.ensures.there in
-    let are = fact_of (λ p. cells.result ≡ p.settings) (by_id storage.elements pools.result id) p (pools.ensures.pools id ∙ there) cells.ensures in
-    let fit = cells_fit c.args.settings c.args.names_full m c.args.name.now c.args.g id p (c.in_ok-id.ensures.seen p there) cells.result are c.requires.sound.sound in
-    (fit.1, fit.2)
-
-pub plan_further-requires-clause-place : goal.plan_further-requires-clause-place
-plan_further-requires-clause-place c =
+pub plan_further-requires : goal.plan_further-requires
+plan_further-requires c =
     let storage = c.args.storage.now in
     let m = state_of storage in
     let id = c.in_ok-id.id in
@@ -105,9 +82,14 @@ plan_further-requires-clause-place c =
     let (p, there) = some_there (m.subpools.cells id) c.in_ok-id.ensures.there in
     let are = fact_of (λ p. cells.result ≡ p.settings) (by_id storage.elements pools.result id) p (pools.ensures.pools id ∙ there) cells.ensures in
     let seen = c.in_ok-id.ensures.seen p there in
+    let fit = cells_fit c.args.settings c.args.names_full m c.args.name.now c.args.g id p seen cells.result are c.requires.sound.sound in
     let at = place_at c.args.settings c.args.names_full m c.args.name.now c.args.g id p seen cells.result are c.extent_doublewords-count.result c.extent_doublewords-count.ensures
     c.area_place.result c.area_place.ensures in
-    address_is_word c.args.settings c.args.names_full m c.args.name.now c.args.g id p seen c.requires.valid c.requires.sound.sound to.place (ap place_of (sym to.is) ∙ at)
+    record {
+      count = fit.0;
+      size = (fit.1, fit.2);
+      address = address_is_word c.args.settings c.args.names_full m c.args.name.now c.args.g id p seen c.requires.valid c.requires.sound.sound to.place (ap place_of (sym to.is) ∙ at);
+    }
 
 pub returns-in-Some-area_place : goal.returns-in-Some-area_place
 returns-in-Some-area_place c =

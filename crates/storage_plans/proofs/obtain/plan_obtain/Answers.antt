@@ -7,25 +7,12 @@ use Rattle.storage_plans.proofs.obtain.plan_obtain.Goals as goal
 
 pub plan_area-requires : goal.plan_area-requires
 plan_area-requires c =
-    in_words c.args.settings c.args.names_full (state_of c.args.storage.now) c.args.o c.in-Ok.found (record {
-      valid = c.requires.valid;
-      none = c.in-Ok.ensures.none;
-      subpool = c.in-Ok.ensures.subpool;
-      is_new = c.in-Ok.ensures.is_new;
-      count = c.in-Ok.ensures.count;
-      place = c.in-Ok.ensures.place;
-    })
+    in_words c.args.settings c.args.names_full (state_of c.args.storage.now) c.args.o c.in-Ok.found c.requires.valid c.in-Ok.ensures.found
 
 pub returns-in-Ok-clause-planned : goal.returns-in-Ok-clause-planned
 returns-in-Ok-clause-planned c =
-    ∥∥₁_map c.requires.sound.sound (λ h. obtain_carried_out c.args.settings c.args.names_full (state_of c.args.storage.now) c.args.o c.in-Ok.found (record {
-      valid = c.requires.valid;
-      none = c.in-Ok.ensures.none;
-      subpool = c.in-Ok.ensures.subpool;
-      is_new = c.in-Ok.ensures.is_new;
-      count = c.in-Ok.ensures.count;
-      place = c.in-Ok.ensures.place;
-    }) h c.requires.register c.plan_area.result c.plan_area.ensures.emptied c.plan_area.ensures.records c.plan_area.ensures.blanks c.plan_area.ensures.fresh c.plan_area.ensures.reply)
+    ∥∥₁_map c.requires.sound.sound (λ h. obtain_carried_out c.args.settings c.args.names_full (state_of c.args.storage.now) c.args.o c.in-Ok.found
+    c.requires.valid c.in-Ok.ensures.found h c.requires.register c.plan_area.result c.plan_area.ensures.emptied c.plan_area.ensures.records c.plan_area.ensures.blanks c.plan_area.ensures.fresh c.plan_area.ensures.reply)
 
 pub returns-in-Err-clause-planned : goal.returns-in-Err-clause-planned
 returns-in-Err-clause-planned c =

@@ -34,7 +34,7 @@ returns-then-not-has_pages-clause-err c =
     is_free_first c.args.settings (model_of m) c.args.subpool area.start area.len
     (sym (foreign_where area pages.result c.requires.some pages.ensures.start pages.ensures.end c.args.settings m c.args.subpool in_region)
     ∙ sym c.has_others.ensures ∙ c.if-has_others.false)
-    (is_missing area pages.result c.requires.some pages.ensures.start pages.ensures.end c.args.settings m c.args.subpool c.requires.sound.sound
+    (is_missing area pages.result c.requires.some pages.ensures.start pages.ensures.end c.args.settings m c.args.subpool c.requires.stands.sound.sound
     (sym c.has_pages.ensures ∙ c.if-not-has_pages.true))
 
 pub returns-in-None-clause-ok : goal.returns-in-None-clause-ok
@@ -47,8 +47,8 @@ returns-in-None-clause-ok c =
     on_ok_weaker c.check_cells.result
     (has_no_cause c.args.settings (model_of m) c.args.subpool area.start area.len
     (sym (foreign_where area pages.result c.requires.some pages.ensures.start pages.ensures.end c.args.settings m c.args.subpool in_region)
-    ∙ has_no_others area pages.result c.requires.some pages.ensures.start pages.ensures.end c.args.settings m c.args.subpool c.requires.sound.sound has)
-    (is_all_taken area pages.result c.requires.some pages.ensures.start pages.ensures.end c.args.settings m c.args.subpool c.requires.sound.sound has
+    ∙ has_no_others area pages.result c.requires.some pages.ensures.start pages.ensures.end c.args.settings m c.args.subpool c.requires.stands.sound.sound has)
+    (is_all_taken area pages.result c.requires.some pages.ensures.start pages.ensures.end c.args.settings m c.args.subpool c.requires.stands.sound.sound has
     c.covers.result c.in-None.is c.covers.ensures))
     c.check_cells.ensures.ok
 
@@ -61,8 +61,8 @@ returns-in-None-clause-err c =
     let has = sym c.has_pages.ensures ∙ c.if-not-has_pages.false in
     caused c.args.settings (model_of m) c.args.subpool area.start area.len c.check_cells.result
     (sym (foreign_where area pages.result c.requires.some pages.ensures.start pages.ensures.end c.args.settings m c.args.subpool in_region)
-    ∙ has_no_others area pages.result c.requires.some pages.ensures.start pages.ensures.end c.args.settings m c.args.subpool c.requires.sound.sound has)
-    (is_all_taken area pages.result c.requires.some pages.ensures.start pages.ensures.end c.args.settings m c.args.subpool c.requires.sound.sound has
+    ∙ has_no_others area pages.result c.requires.some pages.ensures.start pages.ensures.end c.args.settings m c.args.subpool c.requires.stands.sound.sound has)
+    (is_all_taken area pages.result c.requires.some pages.ensures.start pages.ensures.end c.args.settings m c.args.subpool c.requires.stands.sound.sound has
     c.covers.result c.in-None.is c.covers.ensures)
     c.check_cells.ensures.err
 
@@ -78,7 +78,7 @@ returns-in_default c =
       range = tt;
       err = is_free_first c.args.settings (model_of m) c.args.subpool area.start area.len
           (sym (foreign_where area pages.result c.requires.some pages.ensures.start pages.ensures.end c.args.settings m c.args.subpool in_region)
-          ∙ has_no_others area pages.result c.requires.some pages.ensures.start pages.ensures.end c.args.settings m c.args.subpool c.requires.sound.sound has)
-          (is_free_in area pages.result c.requires.some pages.ensures.start pages.ensures.end c.args.settings m c.args.subpool c.requires.sound.sound has
+          ∙ has_no_others area pages.result c.requires.some pages.ensures.start pages.ensures.end c.args.settings m c.args.subpool c.requires.stands.sound.sound has)
+          (is_free_in area pages.result c.requires.some pages.ensures.start pages.ensures.end c.args.settings m c.args.subpool c.requires.stands.sound.sound has
           c.covers.result c.in_default.not-None c.covers.ensures);
     }
