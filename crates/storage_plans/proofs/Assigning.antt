@@ -2,7 +2,7 @@
 use Rattle.std.specs.Prelude.{⊤}
 use Rattle.std.proofs.Common.{◌≡◌, ℕ, zero, suc, ◌+◌, ◌-◌, ◌*◌, Bool, true, false, List, [], ◌∷◌, ◌++◌, refl, ◌∙◌, arith}
 use Rattle.std.proofs.lemmas.Bool.{cond-true}
-use Rattle.run_set.specs.Runs.{Run, inside}
+use Rattle.run_set.specs.Runs.{inside}
 use Rattle.change_laws.proofs.Cases.{inside_in}
 use Rattle.vsm_model.specs.declared.Subpool.{Subpool}
 use Rattle.vsm_model.specs.Regions.{pages_for}

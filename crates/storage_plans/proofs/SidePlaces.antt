@@ -1,14 +1,14 @@
 -- What the sides of the line have for an area, and the place that comes of it.
-use Rattle.std.proofs.Common.{◌≡◌, ℕ, suc, ◌+◌, ◌-◌, ◌<◌, ◌≤◌, ◌↔◌, Bool, true, false, not, nat_le, Option, Some, None, [], ◌∷◌, inl, inr, true≢false, refl, sym, ap, subst, ◌∙◌, arith}
-use Rattle.std.proofs.lemmas.Bool.{cases_lt, lt-leb, le-leb, leb-true, false_from_ne_true}
+use Rattle.std.proofs.Common.{◌≡◌, ℕ, suc, ◌-◌, ◌<◌, ◌≤◌, ◌↔◌, Bool, true, false, not, nat_le, Option, Some, None, inl, inr, true≢false, refl, sym, ap, subst, ◌∙◌, arith}
+use Rattle.std.proofs.lemmas.Bool.{cases_lt, lt-leb, le-leb}
 use Rattle.vsm_model.specs.declared.Subpool.{Subpool}
 use Rattle.vsm_model.specs.declared.limits.Residence.{Residence}
 use Rattle.vsm_model.specs.declared.limits.Residence.TheVariants.{Below, Above}
 use Rattle.vsm_model.specs.declared.limits.Settings.{Settings}
 use Rattle.vsm_model.specs.declared.services.Obtain.{Obtain}
-use Rattle.vsm_model.specs.Search.{greatest, IsGreatestAmong}
-use Rattle.vsm_model.specs.Areas.{Place, Inside, Fresh, Nowhere, is_nowhere, least_fit, least_run, or_fresh, or_place, place, place_in}
-use Rattle.vsm_model.specs.Regions.{regions_for, low_region, high_region, pages_for, doublewords}
+use Rattle.vsm_model.specs.Search.{IsGreatestAmong}
+use Rattle.vsm_model.specs.Areas.{Place, Inside, Fresh, Nowhere, is_nowhere, least_fit, or_fresh, or_place, place, place_in}
+use Rattle.vsm_model.specs.Regions.{regions_for, low_region, high_region, doublewords}
 use Rattle.vsm_model.specs.Services.{minimum, maximum}
 use Rattle.vsm_model.specs.Obtaining.{longest, place_for}
 use Rattle.vsm_model.specs.State.{State}

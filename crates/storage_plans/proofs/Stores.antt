@@ -21,7 +21,7 @@ use Rattle.storage_changes.specs.declared.record.Record.TheVariants.{Bytes}
 use Rattle.storage_changes.specs.State.{StorageState}
 use Rattle.storage_changes.specs.Meaning.{model_of, IsSound}
 use Rattle.storage_changes.specs.Turned.{read}
-use Rattle.change_laws.specs.StorageActions.{bytes_with, blocks_for, write_records}
+use Rattle.change_laws.specs.StorageActions.{bytes_with, blocks_for}
 use Rattle.change_laws.specs.Leads.{Leads}
 use Rattle.change_laws.proofs.Writing.{writing_leads}
 use Rattle.storage_exchange.specs.declared.storage.Parts.{Parts}

@@ -1,5 +1,5 @@
 -- What the plan of a store comes to on the plain machine.
-use Rattle.std.specs.Prelude.{◌≡◌, ℕ, Bool, true, length, Result, Ok, Err}
+use Rattle.std.specs.Prelude.{◌≡◌, Bool, true, length, Result, Ok, Err}
 use Rattle.vsm_model.specs.declared.causes.Cause.{Cause}
 use Rattle.vsm_model.specs.declared.limits.Settings.{Settings}
 use Rattle.vsm_model.specs.declared.replies.Reply.TheVariants.{Stored}
