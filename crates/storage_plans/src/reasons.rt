@@ -2,14 +2,14 @@
 ghost use Rattle.std.specs.Prelude.{◌≡◌, ◌*◌, ◌^◌, ◌<◌, ◌≤◌, ◌↔◌, true, None, IfSome};
 ghost use Rattle.vsm_model.specs.declared.limits.Residence.TheVariants.{Below};
 ghost use Rattle.vsm_model.specs.Areas.{is_nowhere, place, spacing};
-ghost use Rattle.vsm_model.specs.Obtaining.{longest, place_for};
-ghost use Rattle.vsm_model.specs.Regions.{regions_for, settings_valid, side, doublewords};
+ghost use Rattle.vsm_model.specs.Obtaining.{longest};
+ghost use Rattle.vsm_model.specs.Regions.{regions_for, settings_valid};
 ghost use Rattle.vsm_model.specs.Services.{maximum, minimum};
 ghost use Rattle.vsm_model.specs.Subpools.{seen_or_own};
 ghost use Rattle.storage_changes.specs.Meaning.{model_of};
 ghost use Rattle.storage_exchange.specs.Storage.{state_of};
 ghost use Rattle.storage_plans.specs.Places.{StandsAt, StandsSound};
-ghost use Rattle.storage_plans.specs.Reasons.{IsReason, reasons_place};
+ghost use Rattle.storage_plans.specs.Reasons.{IsReason, least_place, reasons_place};
 
 use crate::areas::{minimum_of, side_of, spacing_of};
 use crate::places::longest_place;
@@ -31,6 +31,9 @@ pub struct SideReason {
     /// The most unassigned pages in a row.
     pub longest_run: u32,
 }
+
+/// What the sides that are looked at have: one of them, and the other one where there are two.
+pub type Sides = (SideReason, Option<SideReason>);
 
 /// What one side of the line has for an area of `count` doublewords of the subpool, on a boundary of `spacing`.
 fn reason_on(
@@ -63,7 +66,7 @@ pub fn reasons(
     subpool: Subpool,
     count: u32,
     spacing: u32,
-) -> (SideReason, Option<SideReason>)
+) -> Sides
     requires sound { StandsSound settings storage.now }
     requires valid { settings_valid settings ≡ true }
     requires asked { (0 < count) × (count ≤ 2 ^ 29) × (0 < spacing) × (spacing ≤ 512) }
@@ -84,19 +87,13 @@ pub fn reasons(
 
 /// Why a request for storage finds an area for its minimum, or none: there is none just where the request wants
 /// storage.
-pub fn obtain_reasons(
-    storage: &Parts,
-    settings: Settings,
-    o: Obtain,
-    subpool: Subpool,
-) -> (SideReason, Option<SideReason>)
+pub fn obtain_reasons(storage: &Parts, settings: Settings, o: Obtain, subpool: Subpool) -> Sides
     requires sound { StandsSound settings storage.now }
     requires valid { settings_valid settings ≡ true }
     requires subpool { subpool ≡ seen_or_own (model_of (state_of storage.now)) o.number }
     requires some { 0 < minimum o.lengths }
     requires ordered { minimum o.lengths ≤ maximum o.lengths }
-    ensures place { reasons_place result
-        ≡ place_for settings (model_of (state_of storage.now)) o (doublewords (minimum o.lengths)) }
+    ensures place { reasons_place result ≡ least_place settings (model_of (state_of storage.now)) o }
     ensures none { (is_nowhere (reasons_place result) ≡ true)
         ↔ (longest settings (model_of (state_of storage.now)) o ≡ None) }
 {
