@@ -20,20 +20,21 @@ from itertools import combinations
 from typing import Iterable, NoReturn, Optional
 
 from .command import Fault
-from .judge import MOST_TASKS, refuse
+from .judge import MOST_POOLS, MOST_TASKS, refuse
 from .maps import Map
 from .places import Key, Places
 
 Event = tuple[str, int]
 Order = dict[Event, set[Event]]     # for each event those that come before it
 RANKS = {kind: k for k, kind in enumerate(("done", "words", "first", "create", "temp", "make", "help"))}
-MOST_ORDERS = 2000
+FEW_ORDERS, MOST_ORDERS = 300, 700    # that are tried for one choice of makers, and for the ATTACHes alone
 
 
 @dataclass(frozen=True)
 class Maker:
     """Who makes a subpool's storage: a task that sees it then ("self"), one that only builds cell pools
-    ("build"), or a helper that a task attaches ("help")."""
+    ("build"), or a helper that a task attaches ("help"). The parent that gives
+    a subpool that stays empty makes it so ("gift")."""
     task: int
     how: str
 
@@ -71,6 +72,8 @@ class Family:
         self.temps = [task for task in self.parent
                       if 2 <= self.first[task] <= MOST_TASKS and self.parent.get(self.first[task]) != task]
         self.made = [key for key, it in self.subpools.items() if it.extents or self.is_unmade(key)]
+        # Cell pools that take the place of others go into the least pages first.
+        self.made.sort(key=lambda key: key not in own_work)
         self.at = {key: k for k, key in enumerate(self.made)}
         self.wordy = [task for task in self.parent if places.has_words(task)]
         self.early = {task: places.early(task) for task in self.wordy}
@@ -106,20 +109,45 @@ class Family:
         """All that can make a subpool's storage, the best first: those that set register 1 last of all, then
         those that set it later, then the parent that gives it, then cell pools alone, then helpers."""
         if not self.subpools[key].extents:
-            return [Maker(self.shortest[key][0], "build")]
+            above = self.parent[self.shortest[key][0]]
+            return [Maker(self.shortest[key][0], "build")] + ([Maker(above, "gift")] if above else [])
         able = list(dict.fromkeys(self.shortest[key] + self.viewers(key)))
         above = self.parent[self.shortest[key][0]]
         able = [task for task in able if self.first[task]]
         able.sort(key=lambda task: (task not in self.places.homes, self.first[task] > MOST_TASKS))
         if above and key[0]:
             able.append(above)
-        found = [Maker(task, "self") for task in able]
+        found = [Maker(task, "self") for task in able if not self.is_too_early(task, key)]
         if key in self.own_work:
             found.insert(len(found) if key[0] else 0, Maker(key[1], "build"))
         found += [Maker(task, "help") for task in able]
         if not found:
             refuse(self.source, self.subpools[key].line,
                    "it has areas, and no task whose register 1 isn't 0 sees it")
+        return found
+
+    def is_too_early(self, task: int, key: Key) -> bool:
+        """Whether a task has to make a subpool's storage before it attaches one that wants a page of it
+        unassigned, or one above that."""
+        chain = self.shortest[key]
+        path = chain if task in chain or task in self.subpools[key].sharers else [task] + chain
+        gates = {self.first[task]} if task not in self.temps else set()
+        if task in path[:-1]:
+            gates.add(path[path.index(task) + 1])
+        gates = {gate for gate in gates if self.parent.get(gate) == task}
+        return any(gates & self.line_of(wanting) for wanting in self.parent if self.is_wanted(wanting, key))
+
+    def is_wanted(self, task: int, key: Key) -> bool:
+        """Whether a task gets an address of a subpool's pages while they're unassigned."""
+        return key in self.early.get(task, ()) or (
+            task not in self.places.homes and self.places.key_at(self.first[task]) == key)
+
+    def line_of(self, task: int) -> set[int]:
+        """A task and all that it descends from."""
+        found = set()
+        while task:
+            found.add(task)
+            task = self.parent[task]
         return found
 
     def choose(self, makers: dict[Key, Maker]) -> None:
@@ -250,9 +278,10 @@ class Family:
                     before["first", task].add(("make", self.at[key]))
                 else:
                     before["make", self.at[key]].add(("first", task))
-        if self.places.is_full():
-            # A subpool that stays empty needs a page for a moment.
-            empty = {("make", k) for k, key in enumerate(self.made) if not self.subpools[key].extents}
+        if self.places.is_full() or len(self.map.cell_pools) == MOST_POOLS:
+            # A subpool that stays empty needs a page and a cell pool for a moment, where it isn't given.
+            empty = {("make", k) for k, key in enumerate(self.made) if not self.subpools[key].extents
+                     and self.makers[key].how == "build"}
             for k, key in enumerate(self.made):
                 if self.subpools[key].extents:
                     before["make", k] |= empty
@@ -271,10 +300,10 @@ class Family:
 
     # An order of all events.
 
-    def core(self, makers: dict[Key, Maker]) -> set[Event]:
+    def core(self, makers: dict[Key, Maker], orders: Optional[Orders] = None) -> set[Event]:
         """The events that wait for each other in circles, where so and so make storage."""
         self.choose(makers)
-        found = circles(arranged(*self.needs()))
+        found = circles(arranged(*self.needs(), orders))
         for task, keys in self.twice.items():
             found.add(("create", task))
             found.update(("make", self.at[key]) for key in keys if key in self.at)
@@ -289,7 +318,9 @@ class Family:
         core = self.core(makers)
         while core:
             stuck = [key for key in self.made if key not in settled and self.is_stuck(key, core)]
-            best = self.better(makers, len(core), [(key, it) for key in stuck for it in options[key]])
+            changes = [(key, it) for key in stuck for it in options[key]]
+            best = (self.better(makers, len(core), [it for it in changes if it[1].how != "help"])
+                    or self.better(makers, len(core), [it for it in changes if it[1].how == "help"]))
             if best is None:
                 if not stuck:
                     self.give_up()
@@ -327,10 +358,14 @@ class Family:
         """That some order of ATTACHes brings about who sees what, and which number is in register 1."""
         made, at = self.made, self.at
         self.made, self.at = [], {}
-        core = self.core({})
+        orders = Orders(MOST_ORDERS)
+        core = self.core({}, orders)
         if self.twice:
             task, keys = next(iter(self.twice.items()))
             refuse(self.source, self.line[task], "it would have to see two subpools %d at once" % keys[0][0])
+        if core and orders.tries > MOST_ORDERS:
+            raise Fault("this can't be made: none of %d orders of ATTACHes fits" % MOST_ORDERS,
+                        self.source, self.map.tasks[-1].line)
         if core:
             refuse(self.source, self.map.tasks[-1].line,
                    "each order of ATTACHes breaks what a subpool's sharers, its owner, "
@@ -372,7 +407,7 @@ def closure(before: Order, end: Event, done: set[Event]) -> set[Event]:
     return found - done
 
 
-def arranged(before: Order, free: list[list[Block]]) -> Order:
+def arranged(before: Order, free: list[list[Block]], orders: Optional[Orders] = None) -> Order:
     """The order with the blocks that come in any order put in one that fits the rest; with circles, where
     there's none."""
     if circles(before):
@@ -385,7 +420,7 @@ def arranged(before: Order, free: list[list[Block]]) -> Order:
             follow(found, one, [other])
     if circles(found):
         pairs = [pair for blocks in free for pair in combinations(blocks, 2)]
-        return Orders().find(before, pairs) or found
+        return (orders or Orders()).find(before, pairs) or found
     return found
 
 
@@ -393,15 +428,15 @@ class Orders:
     """The search for an order of blocks, pair by pair: what follows from those that are ordered is taken
     first."""
 
-    def __init__(self) -> None:
-        self.tries = 0
+    def __init__(self, most: int = FEW_ORDERS) -> None:
+        self.tries, self.most = 0, most
 
     def find(self, before: Order, pairs: list[tuple[Block, Block]]) -> Optional[Order]:
         """An order with all pairs in one order or the other."""
         found = {event: set(others) for event, others in before.items()}
         left = self.forced(found, pairs)
         self.tries += 1
-        if left is None or self.tries > MOST_ORDERS:
+        if left is None or self.tries > self.most:
             return None
         if not left:
             return found

@@ -77,6 +77,7 @@ class Loader:
         self.fillers: dict[int, int] = {}        # tasks that only fill a number, with their parents
         self.made: set[Key] = set()              # subpools whose storage is made
         self.pool_names = {pool.name for pool in shown.cell_pools}
+        self.built = 0                           # cell pools that are there
 
     def load(self) -> list[str]:
         events = self.family.plan()
@@ -313,7 +314,7 @@ class Loader:
         assert it is not None
         if it.extents:
             Pages(self, it).make()
-        else:
+        elif self.family.makers[key].how == "build":
             self.script.by(self.worker(key))
             name = self.spare_name()
             self.script.put("CPOOL BUILD,PCELLCT=1,CSIZE=8,CPID=%s,SP=%d,LOC=31" % (name, key[0]))
@@ -404,6 +405,10 @@ class Pages:
         for piece in cut(area):
             name = self.loader.spare_name(len(self.pieces))
             self.loader.pool_names.add(name)
+            self.loader.built += 1
+            if self.loader.built > MOST_POOLS:
+                raise Fault("this can't be made: it takes more than %d cell pools for a while" % MOST_POOLS,
+                            self.loader.source, self.it.line)
             self.pieces[piece] = name
             size = min(piece.length, PAGE)
             self.script.put("CPOOL BUILD,PCELLCT=%d,CSIZE=%d,CPID=%s,SP=%d,LOC=%d" % (
@@ -417,6 +422,7 @@ class Pages:
         for piece in [it for it in self.pieces if area.start <= it.start < area.end]:
             name = self.pieces.pop(piece)
             self.loader.pool_names.remove(name)
+            self.loader.built -= 1
             self.script.put("CPOOL DELETE,CPID=%s" % name)
 
     # Cell pools.
@@ -469,6 +475,7 @@ class Pages:
             self.script.put("CPOOL BUILD,PCELLCT=%d,SCELLCT=%d,CSIZE=%d,CPID=%s,SP=%d,LOC=%d%s" % (
                 pool.primary, pool.secondary, pool.size, pool.name, pool.subpool, pool.location, header))
             self.unused[pool.name] = pool.primary
+            self.loader.built += 1
         if end > extent.end:
             self.take(Area(extent.end, end - extent.end))
 

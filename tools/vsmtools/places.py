@@ -5,10 +5,10 @@ from bisect import bisect_right
 from dataclasses import dataclass
 from typing import Iterable, Optional
 
+from .judge import MOST_TASKS
 from .maps import HIGH_START, LOW_START, PAGE, Area, CellPool, Map
 
 Key = tuple[int, int]       # a subpool: its number and its owner
-MOST_TASKS = 64
 
 
 @dataclass
