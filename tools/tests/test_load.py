@@ -157,6 +157,16 @@ def test_256_cell_pools_of_tasks_that_only_build(vsm: str) -> None:
     comes_back(vsm, WIDE, answer, "256 cell pools")
 
 
+def test_cell_pools_of_task_1_that_take_more_for_a_while(vsm: str) -> None:
+    """Statements make this map; it's told that it can't be made, not that none do."""
+    script = "".join(" CPOOL BUILD,PCELLCT=1,CSIZE=1000,CPID=C%d\n" % k for k in range(256))
+    script += "".join(" CPOOL DELETE,CPID=C%d\n" % k for k in range(0, 256, 4))
+    script += "".join(" CPOOL BUILD,PCELLCT=1,CSIZE=4096,CPID=D%d\n" % k for k in range(64))
+    answer = bench.run(vsm, WIDE, (script + " MAP\n").encode()).answers[-1]
+    with pytest.raises(Fault, match="this can't be made: it takes more than 256 cell pools"):
+        comes_back(vsm, WIDE, answer, "256 cell pools")
+
+
 def test_words_that_only_cells_have(run: Callable, vsm: str) -> None:
     script = (" CPOOL BUILD,PCELLCT=3,CSIZE=4,CPID=C,LOC=31,SP=5\n CPOOL GET,CPID=C\n CPOOL GET,CPID=C,CELL=ODD\n"
               " CPOOL GET,CPID=C,CELL=(12)\n GETMAIN VRU,LV=(40000,8),SP=9,LOC=31\n STORAGE RELEASE,SP=9\n"
