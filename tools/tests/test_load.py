@@ -16,7 +16,7 @@ from vsmtools import bench, loading, maps
 from vsmtools.command import Fault
 
 TOOL = "vsm-load"
-SEEDS, EVERY, MANY_TASKS = 20, 500, 57
+SEEDS, EVERY = 20, 500
 CELLS = (TOP / "examples" / "cell-pools.out").read_text()
 
 
@@ -65,23 +65,106 @@ def walks():
 
 
 def test_maps_of_walks_come_back(vsm: str) -> None:
-    """All of them but some of those with so many tasks that none is left to help."""
-    module, made, left = walks(), 0, 0
+    module, made = walks(), 0
     for seed in range(SEEDS):
         script: list[str] = []
         for number, statement in enumerate(module.statements(random.Random(seed)), 1):
             script += [statement] + ([" MAP"] if number % EVERY == 0 else [])
         for answer in bench.run(vsm, module.OPTIONS, "\n".join(script).encode() + b"\n").answers:
-            if not answer.is_map:
-                continue
-            try:
+            if answer.is_map:
                 comes_back(vsm, module.OPTIONS, answer, "seed %d line %d" % (seed, answer.line))
                 made += 1
-            except Fault as fault:
-                tasks = sum(line.startswith(" TASK") for line in answer.rest)
-                assert "a further task is needed" in str(fault) and tasks >= MANY_TASKS, (seed, str(fault))
-                left += 1
-    assert made + left == SEEDS * 5000 // EVERY and left <= 6
+    assert made == SEEDS * 5000 // EVERY
+
+
+# Scripts that have as many tasks and cell pools as there can be.
+
+WIDE = ["--low", "640", "--high", "256", "--history", "16"]
+
+
+def family_attach(chance: random.Random, style: str, known: int, owns: float) -> list[str]:
+    """An ATTACH in a chain, a star, a bush or anywhere, with a gift and a share now and then."""
+    task = {"chain": known, "star": 1, "bush": chance.randint(max(1, known // 3), known // 2 + 1),
+            "mixed": chance.randint(1, known)}[style]
+    given, shared = chance.sample(range(1, 5), 2)
+    return [" RUN %d" % task, " ATTACH EP=A%s%s%s" % (
+        ",GSPV=%d" % given if chance.random() < owns else "", ",SHSPV=%d" % shared if chance.random() < 0.5 else "",
+        ",SZERO=NO" if chance.random() < owns else "")]
+
+
+def family_request(chance: random.Random) -> str:
+    """A request for storage or a cell."""
+    subpool, pool, name = chance.randint(0, 4), "C%d" % chance.randrange(300), "P%d" % chance.randrange(9)
+    side, length = chance.choice((24, 31)), chance.choice((8, 24, 400, 4096, 5000))
+    return chance.choice((
+        " STORAGE OBTAIN,LENGTH=%d,SP=%d,COND=YES,LOC=%d" % (length, subpool, side),
+        " STORAGE OBTAIN,LENGTH=%d,SP=%d,COND=YES,LOC=%d,ADDR=%s" % (length, subpool, side,
+                                                                     chance.choice((name, "(5)", "(9)"))),
+        " STORAGE RELEASE,LENGTH=8,ADDR=%s,SP=%d,COND=YES" % (chance.choice((name, "(5)", "(1)")), subpool),
+        " GETMAIN VRC,LV=(%d,8),SP=%d" % (chance.choice((16, 9000, 30000)), subpool),
+        " CPOOL BUILD,PCELLCT=%d,CSIZE=%d,CPID=%s,SP=%d,LOC=%d" % (
+            chance.choice((1, 3, 9)), chance.choice((4, 12, 100, 1000)), pool, subpool, side),
+        " CPOOL GET,CPID=%s%s" % (pool, chance.choice(("", ",CELL=(7)"))),
+        " CPOOL DELETE,CPID=%s" % pool))
+
+
+def family_script(seed: int) -> str:
+    """Tasks until there are 64, some of which end again, and what they request meanwhile."""
+    chance, known, lines = random.Random(seed), 1, []
+    style, owns = ("chain", "star", "bush", "mixed")[seed % 4], chance.choice((0.1, 0.4, 0.8))
+    works, ends = chance.choice((0.1, 0.3, 0.45)), chance.choice((0, 0, 0.01, 0.04))
+    for _ in range(400):
+        kind = chance.random()
+        if kind < 0.45:
+            lines += family_attach(chance, style, known, owns)
+            known = min(64, known + 1)
+        elif kind < 0.45 + works:
+            lines += [" RUN %d" % chance.randint(1, known)] + [family_request(chance) for _ in range(2)]
+        elif kind > 1 - ends:
+            lines += [" RUN %d" % chance.randint(1, known), chance.choice((" ENDTASK", " DETACH (1)"))]
+    return "".join(line + "\n" for line in lines)
+
+
+@pytest.mark.parametrize("seed", range(16))
+def test_maps_of_64_tasks_come_back(vsm: str, seed: int) -> None:
+    answer = bench.run(vsm, WIDE, (family_script(seed) + " MAP\n").encode()).answers[-1]
+    assert sum(line.startswith(" TASK") for line in answer.rest) >= 60
+    comes_back(vsm, WIDE, answer, "seed %d" % seed)
+
+
+@pytest.mark.parametrize("attach", [" RUN %d\n ATTACH GSPV=5,SHSPV=6,SZERO=NO\n",
+                                    " RUN 1\n ATTACH GSPV=5,SHSPV=6,SZERO=NO\n"])
+def test_storage_of_64_tasks_that_cannot_obtain(vsm: str, attach: str) -> None:
+    """A chain and a star: each task but the last ones has a task's number, or 0, in register 1, and areas in its
+    own subpool 5; no number is left for a task that would make them."""
+    script = ""
+    for task in range(1, 64):
+        step = attach % task if "%d" in attach else attach
+        script += step.split("\n")[0] + "\n STORAGE OBTAIN,LENGTH=40,SP=5\n" + step
+    answer = bench.run(vsm, WIDE, (script + " MAP\n").encode()).answers[-1]
+    assert " TASK 64 PARENT" in "\n".join(answer.rest) and not any(it.endswith("SP=5") for it in answer.rest)
+    comes_back(vsm, WIDE, answer, "64 tasks")
+
+
+def test_256_cell_pools_of_tasks_that_only_build(vsm: str) -> None:
+    """Each task has register 1 0; its cell pools have free storage before, between and behind them."""
+    script = "".join(" RUN 1\n ATTACH GSPV=5\n RUN %d\n" % task + "".join(
+        " CPOOL BUILD,PCELLCT=1,CSIZE=%d,CPID=C%d%s,SP=5\n" % (40 + 8 * k, task, "ABCDEF"[k]) for k in range(6))
+        + " CPOOL DELETE,CPID=C%dA\n CPOOL DELETE,CPID=C%dD\n" % (task, task) for task in range(2, 65))
+    script += " RUN 2\n" + "".join(" CPOOL BUILD,PCELLCT=9,CSIZE=500,CPID=D%d,SP=5\n" % k for k in range(4))
+    answer = bench.run(vsm, WIDE, (script + " MAP\n").encode()).answers[-1]
+    assert sum(line.startswith(" CELLPOOL") for line in answer.rest) == 256
+    comes_back(vsm, WIDE, answer, "256 cell pools")
+
+
+def test_cell_pools_of_task_1_that_take_more_for_a_while(vsm: str) -> None:
+    """Statements make this map; it's told that it can't be made, not that none do."""
+    script = "".join(" CPOOL BUILD,PCELLCT=1,CSIZE=1000,CPID=C%d\n" % k for k in range(256))
+    script += "".join(" CPOOL DELETE,CPID=C%d\n" % k for k in range(0, 256, 4))
+    script += "".join(" CPOOL BUILD,PCELLCT=1,CSIZE=4096,CPID=D%d\n" % k for k in range(64))
+    answer = bench.run(vsm, WIDE, (script + " MAP\n").encode()).answers[-1]
+    with pytest.raises(Fault, match="this can't be made: it takes more than 256 cell pools"):
+        comes_back(vsm, WIDE, answer, "256 cell pools")
 
 
 def test_words_that_only_cells_have(run: Callable, vsm: str) -> None:

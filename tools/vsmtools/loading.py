@@ -1,9 +1,9 @@
 """A script that makes the region which a map shows.
 
-In this order: the first task's words; the tasks, each with its words, by family's order; subpools that are
-empty; then all pages, as areas that fill them; the extents of cell pools, each where just its own storage is
-free; cells that are in use and free ones; the free areas; and last the end of the tasks that helped, and
-register 15.
+It takes family's events in turn: ATTACHes, the words of tasks, and the storage of subpools. All storage of a
+subpool is made at once: its pages, as areas that fill them, while all lower ones are taken; the extents of cell
+pools, each where just its own storage is free; cells that are in use and free ones; the free areas. Last come
+the end of the tasks that filled a number, and register 15.
 """
 from __future__ import annotations
 
@@ -11,16 +11,13 @@ import heapq
 from typing import Iterable, Optional
 
 from .command import Fault
-from .family import Event, Family, Helper, Key
+from .family import Event, Family
 from .judge import MOST_POOLS, MOST_TASKS, Judge, refuse
 from .lines import fold
-from .maps import HIGH_START, LOW_START, PAGE, Area, CellPool, Map
+from .maps import HIGH_START, LOW_START, PAGE, Area, CellPool, Map, Subpool
+from .places import Home, Key, Places, location, unassigned
 
 NO_LENGTH = 0xFFFFFFF8   # that has a place nowhere
-
-
-def location(address: int) -> int:
-    return 31 if address >= HIGH_START else 24
 
 
 def page_end(address: int) -> int:
@@ -71,45 +68,40 @@ class Loader:
     def __init__(self, shown: Map, source: str) -> None:
         self.map, self.source, self.script = shown, source, Script()
         Judge(shown, source).judge()
+        self.places = Places(shown)
         self.first = {task.number: task.registers[1] for task in shown.tasks}
-        self.own_work = {(it.number, it.owner) for it in shown.subpools
-                         if self.is_own_work((it.number, it.owner))}
-        self.homes = {task.number: home for task in shown.tasks
-                      if (home := self.home(task.number)) is not None}
-        self.family = Family(shown, source, self.own_work, set(self.homes))
-        self.direct = set(self.family.workers.values())
+        own_work = {(it.number, it.owner) for it in shown.subpools if it.extents and self.is_own_work(it)}
+        self.family = Family(shown, source, self.places, own_work)
         self.created: set[int] = set()
-        self.numbers: dict[int, int] = {}        # of helpers
+        self.numbers: dict[int, int] = {}        # of helpers that are there
         self.fillers: dict[int, int] = {}        # tasks that only fill a number, with their parents
-        self.made: set[Key] = {(0, 1)}
+        self.made: set[Key] = set()              # subpools whose storage is made
         self.pool_names = {pool.name for pool in shown.cell_pools}
+        self.built = 0                           # cell pools that are there
 
     def load(self) -> list[str]:
-        self.tasks()
-        self.empty_subpools()
-        Pages(self).make()
+        events = self.family.plan()
+        for k, event in enumerate(events):
+            kind, number = event
+            if kind in ("create", "temp", "help"):
+                self.attach(event, events[k + 1:])
+            elif kind == "done":
+                self.end_helper(number)
+            elif kind == "make":
+                self.make(self.family.made[number])
+            elif kind == "words":
+                self.words(number)
+            else:
+                self.first_word(number)
         self.end()
         return self.script.lines
 
-    def is_own_work(self, key: Key) -> bool:
-        """Whether the subpool has just cell pools as BUILD makes them, and its owner's register 1 is 0."""
-        it = self.map.subpool(*key)
-        assert it is not None
-        pools = [pool for pool in self.map.cell_pools if (pool.subpool, pool.owner) == key]
+    def is_own_work(self, it: Subpool) -> bool:
+        """Whether a subpool has just cell pools as BUILD makes them."""
+        pools = [pool for pool in self.map.cell_pools if (pool.subpool, pool.owner) == (it.number, it.owner)]
         extents = [pool.extents[0] for pool in pools]
-        return (not self.first[key[1]]
-                and all(len(pool.extents) == 1 and pool.free_cells == pool.cells for pool in pools)
+        return (all(len(pool.extents) == 1 and pool.free_cells == pool.cells for pool in pools)
                 and sum(area.length for area in extents + it.free) == sum(area.length for area in it.extents))
-
-    def home(self, task: int) -> Optional[int]:
-        """The number of the subpool that a task sees in which its register 1 is the address of no cell."""
-        area = Area(self.first[task], 8)
-        if area.start <= MOST_TASKS or area.start % 8 or any(
-                extent.start < area.end and area.start < extent.end
-                for pool in self.map.cell_pools for extent in pool.extents):
-            return None
-        return next((it.number for it in self.map.subpools if task in (it.owner, *it.sharers)
-                     and any(extent.start <= area.start < extent.end for extent in it.extents)), None)
 
     def spare_name(self, number: int = 0) -> str:
         """The name of a cell pool that the map doesn't have."""
@@ -117,41 +109,72 @@ class Loader:
             number += 1
         return "TEMP%d" % number
 
-    # Tasks and their words.
+    def unassigned(self, side: int) -> list[Area]:
+        """The runs of pages of a side of the line that no subpool has so far."""
+        return unassigned(self.map, (area for it in self.map.subpools if (it.number, it.owner) in self.made
+                                     for area in it.extents), side)
 
-    def tasks(self) -> None:
-        events = self.family.order()
-        attaching = {self.family.actor(event) for event in events}
-        self.words(1, 1 not in attaching, [(it.name, it.word) for it in self.map.names])
-        needed = [self.wanted_number(event) for event in events]
-        for k, event in enumerate(events):
-            self.attach(event, {number for number in needed[k + 1:] if number})
-            if event[0] == "create":
-                self.words(event[1], event[1] not in attaching)
-        for task in sorted(attaching):
-            if self.first[task] > MOST_TASKS and task not in self.direct:
-                self.addresses(task, [("(1)", self.first[task])])
+    # The words of tasks.
 
-    def wanted_number(self, event: Event) -> Optional[int]:
-        if event[0] == "help":
-            return None
-        return event[1] if event[0] == "create" else self.first[event[1]]
-
-    def words(self, task: int, is_all: bool, names: Iterable[tuple[str, int]] = ()) -> None:
-        """Gives a task its words of registers 0 and 2 to 12, and where that's all its word of register 1."""
-        words = next(it.registers for it in self.map.tasks if it.number == task)
+    def words(self, task: int) -> None:
+        """Gives a task its words of registers 0 and 2 to 12; task 1 those of names too."""
+        words = self.places.words[task]
+        self.script.by(task)
         if words[0]:
-            side = 24 if words[0] <= self.map.low_pages * PAGE else 31
-            self.script.by(task)
-            self.script.put("STORAGE OBTAIN,LENGTH=(%d,%d),LOC=%d" % (words[0], words[0], side))
-            self.script.release(Area(LOW_START if side == 24 else HIGH_START, words[0]), 0)
-        wanted = list(names) + [("(%d)" % k, words[k]) for k in range(2, 13) if words[k]]
-        if is_all and words[1] > MOST_TASKS and task not in self.direct:
-            wanted.append(("(1)", words[1]))
-        self.addresses(task, wanted)
+            self.script.put("STORAGE OBTAIN,LENGTH=(%d,%d),LOC=%d"
+                            % (words[0], words[0], self.places.window(words[0])[0]))
+            self.script.put("STORAGE RELEASE,LENGTH=%d,ADDR=(1)" % words[0])
+        names = [(it.name, it.word) for it in self.map.names] if task == 1 else []
+        self.addresses(task, names + [("(%d)" % k, words[k]) for k in range(2, 13) if words[k]])
+
+    def first_word(self, task: int) -> None:
+        """Gives register 1 of a task the address that stays there."""
+        home = self.places.homes.get(task)
+        if home is None:
+            self.addresses(task, [("(1)", self.first[task])])
+        elif home.pool is None:
+            self.area_word(task, self.first[task], home)
+        else:
+            self.cell_word(task, self.first[task], home.pool)
+
+    def taken_free(self, key: Optional[Key], side: int) -> list[Area]:
+        """Takes all free areas of a subpool on a side of the line, which the task that makes the requests
+        sees; the longest first, so that each goes where it fits just."""
+        it = self.map.subpool(*key) if key in self.made and key else None
+        found = [area for area in it.free if location(area.start) == side] if it else []
+        for area in sorted(found, key=lambda area: -area.length):
+            self.script.obtain(area.length, key[0] if key else 0, side)
+        return found
+
+    def area_word(self, task: int, word: int, home: Home) -> None:
+        """The address of a doubleword of a subpool that the task sees, or of its second half."""
+        side, number = location(word), home.key[0]
+        self.script.by(task)
+        free = self.taken_free(home.key, side)
+        self.script.release(Area(word - word % 8, 8), number)
+        if home.is_half:
+            self.cell_address("(1)", word, number)
+        else:
+            self.script.obtain(8, number, side)
+        for area in free:
+            for part in without(area, [word - 4] if home.is_half else []):
+                self.script.release(part, number)
+
+    def cell_word(self, task: int, word: int, pool: CellPool) -> None:
+        """The address of a cell: one that's in use is freed for a moment; for a free one, all before it are
+        had, and freed again, the last first."""
+        self.script.by(task)
+        free = pool.free_cells
+        had = free[:free.index(word) + 1] if word in free else [word]
+        if word not in free:
+            self.script.put("CPOOL FREE,CPID=%s,CELL=X'%X'" % (pool.name, word))
+        for _ in had:
+            self.script.put("CPOOL GET,CPID=%s" % pool.name)
+        for cell in reversed(had if word in free else []):
+            self.script.put("CPOOL FREE,CPID=%s,CELL=X'%X'" % (pool.name, cell))
 
     def addresses(self, task: int, wanted: list[tuple[str, int]]) -> None:
-        """Gives names and registers addresses, where no page is assigned; what is obtained for that goes
+        """Gives names and registers addresses whose pages are unassigned; what is obtained for that goes
         again.
 
         All up to the last one is filled, so that only the doubleword that's wanted is free.
@@ -159,41 +182,55 @@ class Loader:
         if not wanted:
             return
         self.script.by(task)
+        zero = next((it.number, it.owner) for it in self.map.subpools
+                    if it.number == 0 and task in (it.owner, *it.sharers))
+        free: list[Area] = []
         filled: list[Area] = []
-        for side, start in ((24, LOW_START), (31, HIGH_START)):
+        for side in (24, 31):
             ends = [page_end(word + 1) for _, word in wanted if location(word) == side]
             if ends:
-                filled.append(Area(start, max(ends) - start))
-                self.script.obtain(filled[-1].length, 0, side)
+                free += self.taken_free(zero, side)
+                filled += self.fill(side, max(ends))
         holes: list[int] = []
         for k, (place, word) in enumerate(wanted):
             self.script.release(Area(word - word % 8, 8), 0)
             if word % 8 == 0:
                 self.script.obtain(8, 0, location(word), ",ADDR=" + place)
                 continue
-            self.cell_address(place, word)
+            self.cell_address(place, word, 0)
             if k + 1 < len(wanted):
                 self.script.obtain(8, 0, location(word))
             else:
                 holes.append(word - 4)
-        for area in filled:
+        for area in filled + free:
             for part in without(area, holes):
                 self.script.release(part, 0)
 
-    def cell_address(self, place: str, word: int) -> None:
+    def fill(self, side: int, end: int) -> list[Area]:
+        """Takes all unassigned pages of a side of the line up to an address."""
+        found = [Area(run.start, min(run.end, end) - run.start)
+                 for run in self.unassigned(side) if run.start < end]
+        for area in found:
+            self.script.obtain(area.length, 0, side)
+        return found
+
+    def cell_address(self, place: str, word: int, number: int) -> None:
         """Gives a name or register an address between doublewords, which only the second of two cells has."""
         name = self.spare_name()
-        self.script.put("CPOOL BUILD,PCELLCT=2,CSIZE=4,CPID=%s,SP=0,LOC=%d" % (name, location(word)))
+        self.script.put("CPOOL BUILD,PCELLCT=2,CSIZE=4,CPID=%s,SP=%d,LOC=%d" % (name, number, location(word)))
         self.script.put("CPOOL GET,CPID=%s" % name)
         self.script.put("CPOOL GET,CPID=%s,CELL=%s" % (name, place))
         self.script.put("CPOOL DELETE,CPID=%s" % name)
 
-    def attach(self, event: Event, needed: set[int]) -> None:
+    # Tasks.
+
+    def attach(self, event: Event, later: list[Event]) -> None:
         """One event, with the tasks that fill the numbers below its own."""
         actor, number = self.family.actor(event), self.wanted_number(event)
         if number is None:
-            number = self.helper_number(actor, needed)
-            self.numbers[event[1]] = number
+            end = next(k for k, it in enumerate(later) if it == ("done", event[1]))
+            needed = {self.wanted_number(it) for it in later[:end]}
+            number = self.helper_number(actor, {it for it in needed if it})
         if number in self.fillers:
             self.end_filler(number)
         alive = self.alive()
@@ -206,8 +243,20 @@ class Loader:
         if event[0] == "temp":
             self.script.put("ATTACH EP=FILLER")
             self.fillers[number] = actor
+        elif event[0] == "help":
+            self.numbers[event[1]] = number
+            self.attach_with_subpools("HELPER", [], self.family.helpers[event[1]].serves, False)
         else:
-            self.attach_with_subpools(event, number)
+            self.created.add(number)
+            family = self.family
+            self.attach_with_subpools(
+                "T%d" % number, family.given(number),
+                [key for key, it in family.subpools.items() if number in it.sharers],
+                (0, number) in family.subpools)
+
+    def wanted_number(self, event: Event) -> Optional[int]:
+        kind, number = event
+        return number if kind == "create" else self.first[number] if kind == "temp" else None
 
     def alive(self) -> set[int]:
         return {1} | self.created | set(self.numbers.values()) | set(self.fillers)
@@ -228,67 +277,51 @@ class Loader:
         self.script.put("ENDTASK")
         self.script.task = self.fillers.pop(number)
 
-    def attach_with_subpools(self, event: Event, number: int) -> None:
+    def end_helper(self, k: int) -> None:
+        self.script.by(self.numbers.pop(k))
+        self.script.put("ENDTASK")
+        self.script.task = self.family.helpers[k].actor
+
+    def attach_with_subpools(self, name: str, gives: list[Key], shares: list[Key], is_apart: bool) -> None:
         """ATTACH of a task of the map or a helper, with the subpools that it gets and shares."""
-        family = self.family
-        if event[0] == "create":
-            gives = family.given(number)
-            shares = [key for key, it in family.subpools.items() if number in it.sharers]
-            self.created.add(number)
-            if (0, number) in family.subpools:
-                self.made.add((0, number))
-            words = ["EP=T%d" % number]
-            is_apart = (0, number) in family.subpools
-        else:
-            helper = family.helpers[event[1]]
-            gives, shares = [], helper.serves
-            words, is_apart = ["EP=HELPER"], False
-        self.made |= set(gives) | set(shares)
         lists = [sorted({key[0] for key in keys} - {0}) for keys in (gives, shares)]
         is_listed = any(len(numbers) > 1 for numbers in lists)
-        for keyword, numbers, at in zip(("GSP", "SHSP"), lists, (LOW_START, LOW_START + 128)):
+        places = [area.start for it in self.map.subpools if (it.number, it.owner) in self.made for area in it.extents]
+        at = places[0] if places else LOW_START
+        if is_listed and not places:
+            self.script.obtain(256, 0, 24)
+        words = ["EP=" + name]
+        for keyword, numbers, start in zip(("GSP", "SHSP"), lists, (at, at + 128)):
             if len(numbers) == 1:
                 words.append("%sV=%d" % (keyword, numbers[0]))
             elif numbers:
-                words.append("%sL=X'%X'" % (keyword, at))
-        if is_listed:
-            self.script.obtain(256, 0, 24)
-            for numbers, at in zip(lists, (LOW_START, LOW_START + 128)):
-                if len(numbers) > 1:
-                    text = bytes([len(numbers), *numbers]).hex().upper()
-                    self.script.put("POKE X'%X',X'%s'" % (at, text))
+                words.append("%sL=X'%X'" % (keyword, start))
+                self.script.put("POKE X'%X',X'%s'" % (start, bytes([len(numbers), *numbers]).hex().upper()))
         self.script.put("ATTACH " + ",".join(words + (["SZERO=NO"] if is_apart else [])))
-        if is_listed:
+        if is_listed and not places:
             self.script.release(Area(LOW_START, 256), 0)
-
-    def empty_subpools(self) -> None:
-        """Makes the subpools that no ATTACH has made."""
-        for number, owner in self.family.subpools:
-            if (number, owner) not in self.made:
-                self.script.by(owner)
-                self.script.put("CPOOL BUILD,PCELLCT=1,CSIZE=8,CPID=%s,SP=%d,LOC=24"
-                                % (self.spare_name(), number))
-                self.script.put("CPOOL DELETE,CPID=%s" % self.spare_name())
 
     def worker(self, key: Key) -> int:
         """The task that makes a subpool's storage."""
-        for k, helper in enumerate(self.family.helpers):
-            if key in helper.serves:
-                return self.numbers[k]
-        return self.family.workers.get(key, key[1])
+        maker = self.family.makers[key]
+        if maker.how != "help":
+            return maker.task
+        return next(self.numbers[k] for k, helper in enumerate(self.family.helpers) if key in helper.serves)
 
-    def direct_words(self) -> None:
-        """Register 1 of the tasks that made storage themselves, while all of it is taken."""
-        for task in sorted(self.direct):
-            self.script.by(task)
-            self.script.release(Area(self.first[task], 8), self.homes[task])
-            self.script.obtain(8, self.homes[task], location(self.first[task]))
+    def make(self, key: Key) -> None:
+        """Makes all storage of a subpool, or one that stays empty."""
+        it = self.map.subpool(*key)
+        assert it is not None
+        if it.extents:
+            Pages(self, it).make()
+        elif self.family.makers[key].how == "build":
+            self.script.by(self.worker(key))
+            name = self.spare_name()
+            self.script.put("CPOOL BUILD,PCELLCT=1,CSIZE=8,CPID=%s,SP=%d,LOC=31" % (name, key[0]))
+            self.script.put("CPOOL DELETE,CPID=%s" % name)
+        self.made.add(key)
 
     def end(self) -> None:
-        for k, number in self.numbers.items():
-            self.script.by(number)
-            self.script.put("ENDTASK")
-            self.script.task = self.family.helpers[k].actor
         for number in sorted(self.fillers):
             self.end_filler(number)
         for task in self.map.tasks:
@@ -299,105 +332,104 @@ class Loader:
 
 
 class Pages:
-    """Assigns the pages and makes what lies in them, once all tasks and subpools are there and no page is
-    assigned.
+    """Makes all storage of a subpool: its pages, and what lies in them.
 
-    A subpool's storage is first taken by areas. Where its owner may not obtain (`own_work`), it's taken by
-    cell pools that only BUILD and DELETE touch; these are cut where a free area or an extent of the map
-    begins.
+    All unassigned pages are first taken by areas, its own up to the last of them. Where its maker may not
+    obtain ("build"), they're taken by cell pools that only BUILD and DELETE touch; these are cut where a free
+    area or an extent of the map begins.
     """
 
-    def __init__(self, loader: Loader) -> None:
-        self.loader, self.map, self.script = loader, loader.map, loader.script
-        self.keys = [(it.number, it.owner) for it in self.map.subpools if it.extents]
+    def __init__(self, loader: Loader, it: Subpool) -> None:
+        self.loader, self.map, self.script, self.it = loader, loader.map, loader.script, it
+        self.key = (it.number, it.owner)
+        self.is_built = loader.family.makers[self.key].how == "build"
+        self.pools = [pool for pool in self.map.cell_pools if (pool.subpool, pool.owner) == self.key]
         self.gaps: list[Area] = []
-        self.pieces: dict[Key, dict[Area, str]] = {key: {} for key in self.keys}
-        self.unused = {pool.name: 0 for pool in self.map.cell_pools}
+        self.pieces: dict[Area, str] = {}
+        self.unused = {pool.name: 0 for pool in self.pools}
 
     def make(self) -> None:
-        if not self.keys:
-            return
-        self.gap_key = next((key for key in self.keys if key not in self.loader.own_work), self.keys[0])
+        self.script.by(self.loader.worker(self.key))
         self.fill()
         for pool, k in self.extents_in_order():
             self.make_extent(pool, k)
-        for pool in self.map.cell_pools:
+        for pool in self.pools:
             self.make_free_cells(pool)
-        self.loader.direct_words()
-        self.make_free()
+        for area in self.it.free + self.gaps:
+            self.give_back(area)
 
     # All pages.
 
     def fill(self) -> None:
-        runs = sorted((extent.start, extent, (it.number, it.owner)) for it in self.map.subpools
-                      for extent in it.extents)
-        for start, pages in ((LOW_START, self.map.low_pages), (HIGH_START, self.map.high_pages)):
-            at, end = start, start + pages * PAGE
-            for _, run, key in runs:
-                if start <= run.start < end:
-                    self.fill_gap(at, run.start)
-                    self.fill_run(key, run)
-                    at = run.end
-            if start == HIGH_START and self.is_high_full():
-                self.fill_gap(at, end)
+        for side in (24, 31):
+            runs = [run for run in self.it.extents if location(run.start) == side]
+            whole = self.loader.unassigned(side)
+            if side == 31 and self.is_high_full():
+                last = max((run.end for run in whole), default=0)
+            else:
+                last = max((run.end for run in runs), default=0)
+            for free in whole:
+                self.fill_unassigned(free, [run for run in runs if free.start <= run.start < free.end], last)
+
+    def fill_unassigned(self, free: Area, runs: list[Area], last: int) -> None:
+        """Takes a run of unassigned pages up to an address: of the subpool's own pages, and of the gaps between
+        these."""
+        at = free.start
+        for run in runs + [Area(min(free.end, last), 0)]:
+            if at < run.start:
+                self.gaps.append(Area(at, run.start - at))
+                self.take(self.gaps[-1])
+            self.fill_run(run)
+            at = run.end
 
     def is_high_full(self) -> bool:
         """Whether an extent lies below the line that goes there only where there's no place above."""
         return any(pool.location == 31 and extent.start < HIGH_START
-                   for pool in self.map.cell_pools for extent in pool.extents)
+                   for pool in self.pools for extent in pool.extents)
 
-    def fill_gap(self, start: int, end: int) -> None:
-        if start < end:
-            self.gaps.append(Area(start, end - start))
-            self.take(self.gap_key, self.gaps[-1])
-
-    def fill_run(self, key: Key, run: Area) -> None:
-        if key not in self.loader.own_work:
-            self.take(key, run)
+    def fill_run(self, run: Area) -> None:
+        if not self.is_built:
+            if run.length:
+                self.take(run)
             return
-        it = self.map.subpool(*key)
-        assert it is not None
-        areas = it.free + [extent for pool in self.pools(key) for extent in pool.extents]
+        areas = self.it.free + [extent for pool in self.pools for extent in pool.extents]
         for area in sorted(areas, key=lambda area: area.start):
             if run.start <= area.start < run.end:
-                self.take(key, area)
+                self.take(area)
 
-    def pools(self, key: Key) -> list[CellPool]:
-        return [pool for pool in self.map.cell_pools if (pool.subpool, pool.owner) == key]
-
-    def take(self, key: Key, area: Area) -> None:
+    def take(self, area: Area) -> None:
         """Takes an area that is just where the next one goes."""
-        self.script.by(self.loader.worker(key))
-        if key not in self.loader.own_work:
-            self.script.obtain(area.length, key[0], location(area.start))
+        if not self.is_built:
+            self.script.obtain(area.length, self.key[0], location(area.start))
             return
         for piece in cut(area):
-            name = self.loader.spare_name(sum(map(len, self.pieces.values())))
+            name = self.loader.spare_name(len(self.pieces))
             self.loader.pool_names.add(name)
-            if len(self.loader.pool_names) > MOST_POOLS:
+            self.loader.built += 1
+            if self.loader.built > MOST_POOLS:
                 raise Fault("this can't be made: it takes more than %d cell pools for a while" % MOST_POOLS,
-                            self.loader.source, self.map.bytes_line)
-            self.pieces[key][piece] = name
+                            self.loader.source, self.it.line)
+            self.pieces[piece] = name
             size = min(piece.length, PAGE)
             self.script.put("CPOOL BUILD,PCELLCT=%d,CSIZE=%d,CPID=%s,SP=%d,LOC=%d" % (
-                piece.length // size, size, name, key[0], location(piece.start)))
+                piece.length // size, size, name, self.key[0], location(piece.start)))
 
-    def give_back(self, key: Key, area: Area) -> None:
+    def give_back(self, area: Area) -> None:
         """Makes free what take took; of a page in which nothing else is taken that's the page."""
-        self.script.by(self.loader.worker(key))
-        if key not in self.loader.own_work:
-            self.script.release(area, key[0])
+        if not self.is_built:
+            self.script.release(area, self.key[0])
             return
-        for piece in [it for it in self.pieces[key] if area.start <= it.start < area.end]:
-            name = self.pieces[key].pop(piece)
+        for piece in [it for it in self.pieces if area.start <= it.start < area.end]:
+            name = self.pieces.pop(piece)
             self.loader.pool_names.remove(name)
+            self.loader.built -= 1
             self.script.put("CPOOL DELETE,CPID=%s" % name)
 
     # Cell pools.
 
     def extents_in_order(self) -> list[tuple[CellPool, int]]:
         """All extents, those of a pool in turn, and one of new pages before the others in its last page."""
-        nodes = [(pool, k) for pool in self.map.cell_pools for k in range(len(pool.extents))]
+        nodes = [(pool, k) for pool in self.pools for k in range(len(pool.extents))]
         waits = {(pool.name, k): k > 0 for pool, k in nodes}
         count = {place: int(wait) for place, wait in waits.items()}
         behind: dict[tuple[str, int], list[tuple[CellPool, int]]] = {place: [] for place in count}
@@ -411,7 +443,7 @@ class Pages:
                     if extent.end <= other.extents[j].start < page_end(extent.end):
                         behind[pool.name, k].append((other, j))
                         count[other.name, j] += 1
-        pools = {pool.name: pool for pool in self.map.cell_pools}
+        pools = {pool.name: pool for pool in self.pools}
         ready = [place for place in count if not count[place]]
         heapq.heapify(ready)
         found: list[tuple[CellPool, int]] = []
@@ -430,11 +462,11 @@ class Pages:
         return found
 
     def make_extent(self, pool: CellPool, k: int) -> None:
-        key, extent = (pool.subpool, pool.owner), pool.extents[k]
+        extent = pool.extents[k]
         if k:
             self.get(pool, self.unused[pool.name])
         end = page_end(extent.end) if has_whole_page(extent) else extent.end
-        self.give_back(key, Area(extent.start, end - extent.start))
+        self.give_back(Area(extent.start, end - extent.start))
         if k:
             self.get(pool, 1)
             self.unused[pool.name] = pool.secondary - 1
@@ -443,11 +475,11 @@ class Pages:
             self.script.put("CPOOL BUILD,PCELLCT=%d,SCELLCT=%d,CSIZE=%d,CPID=%s,SP=%d,LOC=%d%s" % (
                 pool.primary, pool.secondary, pool.size, pool.name, pool.subpool, pool.location, header))
             self.unused[pool.name] = pool.primary
+            self.loader.built += 1
         if end > extent.end:
-            self.take(key, Area(extent.end, end - extent.end))
+            self.take(Area(extent.end, end - extent.end))
 
     def get(self, pool: CellPool, times: int) -> None:
-        self.script.by(self.loader.worker((pool.subpool, pool.owner)))
         for _ in range(times):
             self.script.put("CPOOL GET,CPID=%s" % pool.name)
 
@@ -458,16 +490,8 @@ class Pages:
         while same < min(self.unused[pool.name], len(free)) and free[-1 - same] == last[-1 - same]:
             same += 1
         self.get(pool, self.unused[pool.name] - same)
-        self.script.by(self.loader.worker((pool.subpool, pool.owner)))
         for cell in reversed(free[:len(free) - same]):
             self.script.put("CPOOL FREE,CPID=%s,CELL=X'%X'" % (pool.name, cell))
-
-    def make_free(self) -> None:
-        for it in self.map.subpools:
-            for area in it.free:
-                self.give_back((it.number, it.owner), area)
-        for gap in self.gaps:
-            self.give_back(self.gap_key, gap)
 
 
 def cut(area: Area) -> list[Area]:
