@@ -4,19 +4,18 @@ ghost use Rattle.std.specs.Prelude.{◌<◌, [], ◌∷◌, IsOk, OnOk};
 ghost use Rattle.storage_changes.specs.declared.record.Record.TheVariants.{Register};
 ghost use Rattle.storage_swap.specs.Builder.{IsBuilding, Builds, Pushes};
 
-use std::alloc::AllocError;
+use crate::{Builder, Pushed};
 use storage_changes::{Record, RegisterRecord};
 use storage_exchange::Parts;
-use storage_swap::ChangeBuilder;
 
 /// One more record: a register of the task gets the word.
 pub(crate) fn push_register(
     storage: &mut Parts,
-    builder: &mut ChangeBuilder,
+    builder: &mut Builder,
     task: u8,
     register: u8,
     word: u32,
-) -> Result<(), AllocError>
+) -> Pushed
     requires { IsBuilding storage.old builder.old }
     ensures builds { Builds storage.old builder.old storage.new builder.new }
     ensures ok { OnOk result (Pushes storage.old builder.old
