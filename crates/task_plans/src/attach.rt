@@ -15,7 +15,7 @@ ghost use Rattle.task_plans.specs.TaskPlans.{attach_change, numbers, CanBeAttach
 use crate::Builder;
 use crate::numbers::{has_bad_number, numbers_of, numbers_or_none, some_is_anothers};
 use crate::passing::{push_gifts, push_shares, push_zero};
-use crate::registers::push_register;
+use crate::registers::set_register;
 use change_laws::tasks::attaching_leads;
 use std::alloc::AllocError;
 use storage_changes::{Record, TaskRecord};
@@ -125,8 +125,8 @@ impl AttachPlan {
         push_zero(storage, builder, self.task, self.attach.shares_zero)?;
         push_gifts(storage, builder, self.task, &given)?;
         push_shares(storage, builder, self.task, &shared)?;
-        push_register(storage, builder, current, 15, 0)?;
-        push_register(storage, builder, current, 1, u32::from(self.task))?;
+        builder.push(storage, set_register(current, 15, 0))?;
+        builder.push(storage, set_register(current, 1, u32::from(self.task)))?;
         Ok(7 + 2 * count)
     }
 }

@@ -21,11 +21,11 @@ ghost use Rattle.storage_swap.specs.Reserve.{Grown, Reserves};
 ghost use Rattle.change_laws.specs.Ending.{ended_below, owned_by_these, emptying_records, removed};
 ghost use Rattle.change_laws.specs.Ending.{released_records, removed_records, unseeing, unshared, unshared_records};
 ghost use Rattle.task_plans.specs.Parents.{AreParents};
-ghost use Rattle.task_plans.specs.TaskPlans.{end_change, owned_among, parked_onto, parks_all};
+ghost use Rattle.task_plans.specs.TaskPlans.{end_change, owned_among, owned_one, parks_all, ParksAll};
 ghost use Rattle.task_plans.specs.TaskPlans.{rest_records, unseeing_among, CanBeEnded, CanPark, IsEndPlanned};
 
 use crate::ended::{Parents, Tree, is_ended, push_ended, read_parents};
-use crate::registers::push_register;
+use crate::registers::set_register;
 use crate::{Builder, Pushed};
 use change_laws::tasks::{ending_leads, ends_are_in_order};
 use descriptor_queue::Extents;
@@ -215,7 +215,7 @@ impl EndPlan {
         push_removed(storage, builder, &tree)?;
         push_ended(storage, builder, &tree)?;
         match self.reply {
-            Reply::Returned(code) => push_register(storage, builder, self.next, 15, code),
+            Reply::Returned(code) => builder.push(storage, set_register(self.next, 15, code)),
             _ => Ok(()),
         }
     }
@@ -227,15 +227,8 @@ fn park_owned(storage: &mut Parts, builder: &mut Builder, tree: &Tree) -> Pushed
     requires tree { AreParents tree.now.parents.of (state_of storage.old).tasks.parents }
     requires none { parked_in storage.old builder.old ≡ no_subpools }
     ensures builds { Builds storage.old builder.old storage.new builder.new }
-    ensures records { OnOk result (records_in storage.new builder.new ≡ records_in storage.old builder.old) }
-    ensures parked { OnOk result (parked_in storage.new builder.new
-        ≡ empties (parks_all (state_of storage.old) tree.now.top)) }
-    ensures spare { OnOk result (storage.old.elements.spare
-        ≤ storage.new.elements.spare + length (parks_all (state_of storage.old) tree.now.top)) }
-    ensures live { OnOk result (live_count storage.new.elements
-        ≤ live_count storage.old.elements + length (parks_all (state_of storage.old) tree.now.top)) }
-    ensures made { OnOk result (MakesElements storage.old.elements storage.new.elements
-        (length (parks_all (state_of storage.old) tree.now.top))) }
+    ensures ok { OnOk result (ParksAll storage.old builder.old (parks_all (state_of storage.old) tree.now.top)
+        storage.new builder.new) }
     ensures needless { length (parks_all (state_of storage.old) tree.now.top) ≤ storage.old.elements.spare
         → IsOk result }
 {
@@ -252,20 +245,12 @@ fn park_owned(storage: &mut Parts, builder: &mut Builder, tree: &Tree) -> Pushed
 fn park_one(storage: &mut Parts, builder: &mut Builder, tree: &Tree, subpool: Subpool) -> Pushed
     requires building { IsBuilding storage.old builder.old }
     requires tree { AreParents tree.now.parents.of (state_of storage.old).tasks.parents }
-    requires can { CanPark (parked_in storage.old builder.old)
-        (owned_among (state_of storage.old) tree.now.top (subpool ∷ [])) }
+    requires can { CanPark (parked_in storage.old builder.old) (owned_one (state_of storage.old) tree.now.top subpool) }
     ensures builds { Builds storage.old builder.old storage.new builder.new }
-    ensures records { OnOk result (records_in storage.new builder.new ≡ records_in storage.old builder.old) }
-    ensures parked { OnOk result (parked_in storage.new builder.new ≡ parked_onto (parked_in storage.old builder.old)
-        (owned_among (state_of storage.old) tree.now.top (subpool ∷ []))) }
-    ensures spare { OnOk result (storage.old.elements.spare
-        ≤ storage.new.elements.spare + length (owned_among (state_of storage.old) tree.now.top (subpool ∷ []))) }
-    ensures live { OnOk result (live_count storage.new.elements
-        ≤ live_count storage.old.elements + length (owned_among (state_of storage.old) tree.now.top (subpool ∷ []))) }
-    ensures made { OnOk result (MakesElements storage.old.elements storage.new.elements
-        (length (owned_among (state_of storage.old) tree.now.top (subpool ∷ [])))) }
-    ensures needless { length (owned_among (state_of storage.old) tree.now.top (subpool ∷ []))
-        ≤ storage.old.elements.spare → IsOk result }
+    ensures ok { OnOk result (ParksAll storage.old builder.old (owned_one (state_of storage.old) tree.now.top subpool)
+        storage.new builder.new) }
+    ensures needless { length (owned_one (state_of storage.old) tree.now.top subpool) ≤ storage.old.elements.spare
+        → IsOk result }
 {
     if is_ended(storage, tree, subpool.owner) {
         return builder.park(storage, subpool);

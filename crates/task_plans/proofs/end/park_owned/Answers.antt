@@ -51,10 +51,10 @@ loop-subpool-preserved c =
     let w = c.loop-subpool.invariant in
     let added : StorageState → List Subpool = λ m. owned_among m top (x ∷ []) in
     parks_more top p c.args.builder.now t c.loop-subpool.builder c.loop-subpool.place w c.in-Some.next x c.in-Some.ensures.next (added (state_of t)) (ap added w.builds.keeps.shows) c.park_one.new.storage c.park_one.new.builder c.in-Some.ensures.place c.park_one.ensures.builds
-    c.in_ok-park_one.ensures.records c.in_ok-park_one.ensures.parked c.in_ok-park_one.ensures.spare c.in_ok-park_one.ensures.live c.in_ok-park_one.ensures.made
+    c.in_ok-park_one.ensures.ok.records c.in_ok-park_one.ensures.ok.parked c.in_ok-park_one.ensures.ok.spare c.in_ok-park_one.ensures.ok.live c.in_ok-park_one.ensures.ok.made
 
-pub returns-clause-parked : goal.returns-clause-parked
-returns-clause-parked c = (parks_done c.args.tree.now.top c.args.storage.now c.args.builder.now c.loop-subpool.storage c.loop-subpool.builder c.loop-subpool.place c.loop-subpool.invariant c.in_default.ensures.none c.requires.none).0
+pub returns-clause-ok : goal.returns-clause-ok
+returns-clause-ok c = parks_done c.args.tree.now.top c.args.storage.now c.args.builder.now c.loop-subpool.storage c.loop-subpool.builder c.loop-subpool.place c.loop-subpool.invariant c.in_default.ensures.none
 
 pub park_one-requires-clause-tree : goal.park_one-requires-clause-tree
 park_one-requires-clause-tree c = still c.args.tree.now.parents.of _ _ (c.loop-subpool.invariant.builds.keeps.shows) c.requires.tree
