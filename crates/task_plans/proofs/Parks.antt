@@ -1,5 +1,5 @@
 -- Empty subpools are parked under one name behind the other.
-use Rattle.std.proofs.Common.{◌≡◌, ℕ, suc, ◌+◌, ◌<◌, ◌≤◌, Bool, true, false, ◌&&◌, ◌==◌, Option, Some, None, List, [], ◌∷◌, ◌++◌, length, length-append, refl, sym, ap, ◌∙◌, subst, arith}
+use Rattle.std.proofs.Common.{◌≡◌, ℕ, suc, ◌+◌, ◌<◌, ◌≤◌, Bool, true, false, ◌&&◌, ◌==◌, Option, Some, None, Result, Ok, Err, OnOk, List, [], ◌∷◌, ◌++◌, length, length-append, refl, sym, ap, ◌∙◌, subst, arith}
 use Rattle.std.specs.Prelude.{filter, if◌then◌else◌}
 use Rattle.std.specs.List.{All, AllPairs}
 use Rattle.std.proofs.lemmas.Bool.{and_parts, both_ways, eqb-true, false_from_ne_true}
@@ -17,11 +17,11 @@ use Rattle.storage_changes.proofs.Cases.{cond-out, same-self}
 use Rattle.storage_exchange.specs.declared.storage.Parts.{Parts}
 use Rattle.storage_exchange.specs.Storage.{state_of}
 use Rattle.storage_swap.specs.declared.builder.ChangeBuilder.{ChangeBuilder}
-use Rattle.storage_swap.specs.Builder.{records_in, parked_in, IsBuilding, Builds}
+use Rattle.storage_swap.specs.Builder.{records_in, parked_in, IsBuilding, Builds, Parks}
 use Rattle.storage_swap.specs.Growth.{all_elements, MakesElements}
 use Rattle.storage_swap.proofs.BuilderLemmas.{builds-none, builds-follow, makes-follow}
 use Rattle.change_laws.specs.Ending.{ended_below}
-use Rattle.task_plans.specs.TaskPlans.{owned_among, parked_onto, parks_all, CanPark}
+use Rattle.task_plans.specs.TaskPlans.{owned_among, parked_onto, parks_all, CanPark, ParksAll}
 use Rattle.task_plans.proofs.Walks.{place_kept}
 
 -- in whatever order
@@ -86,6 +86,18 @@ filter-first f x xs = go (f x) where
   go true = refl
   go false = refl
 
+-- one is parked, or none
+pub parks_one : {E : Type 0} (s : Parts) (a : ChangeBuilder) (p : Subpool) (names : List Subpool) (t : Parts) (b : ChangeBuilder) → names ≡ p ∷ [] → (r : Result (Unit {0}) E) → OnOk r (Parks s a p t b) → OnOk r (ParksAll s a names t b)
+parks_one s a p names t b is (Ok x) h =
+    let P : List Subpool → Type 0 = λ ps. ParksAll s a ps t b in
+    subst P (sym is) (record { records = h.records; parked = h.parked; spare = omega (arith, h.spare); live = omega (arith, h.live); made = omega (arith, h.made) })
+parks_one s a p names t b is (Err e) h = tt
+
+pub parks_no : (s : Parts) (a : ChangeBuilder) (names : List Subpool) → names ≡ [] → ParksAll s a names s a
+parks_no s a names is =
+    let P : List Subpool → Type 0 = λ ps. ParksAll s a ps s a in
+    subst P (sym is) (record { records = refl; parked = refl; spare = omega arith; live = omega arith; made = omega arith })
+
 -- Of the subpools that tasks of the subtree own, those behind the place are yet to be parked.
 pub record ParksLead (top : ℕ) (s : Parts) (a : ChangeBuilder) (t : Parts) (b : ChangeBuilder) (place : PoolPlace) : Type 0 where
   pub builds : Builds s a t b
@@ -117,14 +129,14 @@ module _ (top : ℕ) (s : Parts) (a : ChangeBuilder) where
       }
 
   module _ (t : Parts) (b : ChangeBuilder) (place : PoolPlace) (w : ParksLead top s a t b place) where
-    pub parks_done : subpools_left t.elements t.subpools place ≡ [] → parked_in s a ≡ no_subpools
-        → (parked_in t b ≡ empties (parks_all (state_of s) top)) × (s.elements.spare ≤ t.elements.spare + length (parks_all (state_of s) top))
-        × (live_count t.elements ≤ live_count s.elements + length (parks_all (state_of s) top))
-    parks_done none began = (
-      ap (λ (xs : List Subpool). parked_onto (parked_in t b) (owned xs)) (sym none) ∙ w.parked ∙ ap (λ (m : Subpools). parked_onto m (parks_all (state_of s) top)) began ∙ onto_none (parks_all (state_of s) top),
-      omega (arith, w.spare, ap (λ (xs : List Subpool). length (owned xs)) none),
-      omega (arith, w.live, ap (λ (xs : List Subpool). length (owned xs)) none),
-    )
+    pub parks_done : subpools_left t.elements t.subpools place ≡ [] → ParksAll s a (parks_all (state_of s) top) t b
+    parks_done none = record {
+      records = w.records;
+      parked = ap (λ (xs : List Subpool). parked_onto (parked_in t b) (owned xs)) (sym none) ∙ w.parked;
+      spare = omega (arith, w.spare, ap (λ (xs : List Subpool). length (owned xs)) none);
+      live = omega (arith, w.live, ap (λ (xs : List Subpool). length (owned xs)) none);
+      made = w.made;
+    }
 
     -- the next one
     module _ (next : PoolPlace) (x : Subpool) (is : subpools_left t.elements t.subpools place ≡ x ∷ subpools_left t.elements t.subpools next) (added : List Subpool) (its : added ≡ owned (x ∷ [])) where

@@ -3,6 +3,7 @@
 use Rattle.std.specs.Prelude.{◌≡◌, ℕ, ◌+◌, ◌≤◌, Bool, true, ◌||◌, unwrap_or, None, IsSome, List, [], ◌∷◌, ◌++◌, filter}
 use Rattle.std.specs.Prelude.{length, Result, Ok, Err}
 use Rattle.std.specs.List.{flat_map}
+use Rattle.vsm_elements.specs.Store.{live_count}
 use Rattle.vsm_model.specs.declared.Subpool.{Subpool}
 use Rattle.vsm_model.specs.Search.{is_in}
 use Rattle.subpool_storage.specs.Subpools.{Subpools, with_own}
@@ -24,6 +25,10 @@ use Rattle.change_laws.specs.Attaching.{attach_records, attach_blanks, CanAttach
 use Rattle.change_laws.specs.Ending.{ended_below, owned_by_these, end_records, end_blanks, with_turn, CanEnd}
 use Rattle.change_laws.specs.Ending.{ended_records, removed_records, unshared_records, weight_ended}
 pub use Rattle.storage_plans.specs.Plans.{IsAccepted}
+use Rattle.storage_exchange.specs.declared.storage.Parts.{Parts}
+use Rattle.storage_swap.specs.declared.builder.ChangeBuilder.{ChangeBuilder}
+use Rattle.storage_swap.specs.Builder.{records_in, parked_in}
+use Rattle.storage_swap.specs.Growth.{MakesElements}
 use Rattle.task_plans.specs.declared.attach.AttachPlan.{AttachPlan}
 use Rattle.task_plans.specs.declared.end.EndPlan.{EndPlan}
 
@@ -56,6 +61,10 @@ end_change m plan =
 -- of these subpools, those that tasks of the subtree own
 abbrev pub owned_among : StorageState → ℕ → List Subpool → List Subpool
 owned_among m top ps = filter (λ p. is_in (ended_below m.tasks.parents top) p.owner) ps
+
+-- the subpool, where a task of the subtree owns it
+abbrev pub owned_one : StorageState → ℕ → Subpool → List Subpool
+owned_one m top p = owned_among m top (p ∷ [])
 
 -- the subpools under whose names the end of a subtree parks empty ones
 abbrev pub parks_all : StorageState → ℕ → List Subpool
@@ -93,6 +102,15 @@ CanPark m [] = Unit {0}
 CanPark m (p ∷ ps) =
     (1 ≤ p.owner) × (p.owner ≤ 64) × (p.number ≤ 127) × (m.sight p.owner p.number ≡ None)
     × CanPark (with_own m p true) ps
+
+-- Empty subpools of these names were parked, each in one element.
+pub record ParksAll (s : Parts) (a : ChangeBuilder) (names : List Subpool) (t : Parts) (b : ChangeBuilder)
+    : Type 0 where
+  pub records : records_in t b ≡ records_in s a
+  pub parked : parked_in t b ≡ parked_onto (parked_in s a) names
+  pub spare : s.elements.spare ≤ t.elements.spare + length names
+  pub live : live_count t.elements ≤ live_count s.elements + length names
+  pub made : MakesElements s.elements t.elements (length names)
 
 -- The bytes of both operands are there, and the task can come with what they name.
 pub record CanBeAttached (m : StorageState) (plan : AttachPlan) : Type 0 where

@@ -12,14 +12,15 @@ ghost use Rattle.storage_swap.specs.Growth.{MakesElements};
 ghost use Rattle.storage_swap.specs.Reserve.{Grown, Reserves};
 ghost use Rattle.task_plans.specs.TaskPlans.{attach_change, numbers, CanBeAttached, IsAttachPlanned};
 
+use crate::Builder;
 use crate::numbers::{has_bad_number, numbers_of, numbers_or_none, some_is_anothers};
 use crate::passing::{push_gifts, push_shares, push_zero};
-use crate::registers::push_register;
+use crate::registers::set_register;
 use change_laws::tasks::attaching_leads;
 use std::alloc::AllocError;
 use storage_changes::{Record, TaskRecord};
 use storage_exchange::Parts;
-use storage_swap::{Change, ChangeBuilder};
+use storage_swap::Change;
 use subpool_storage::laws::cell_pools_are_named;
 use vsm_model::{Attach, Cause};
 
@@ -90,7 +91,7 @@ impl AttachPlan {
             MakesElements storage.old.elements storage.new.elements (length d.records + d.blanks)) }
         ensures same_frames { IfOk result (λ _. storage.new.region ≡ storage.old.region) }
     {
-        let mut builder = ChangeBuilder::new();
+        let mut builder = Builder::new();
         match self.push_records(storage, &mut builder) {
             Ok(blanks) => builder.finish(storage, blanks),
             Err(refused) => {
@@ -101,11 +102,7 @@ impl AttachPlan {
     }
 
     // The records of the change, in their order. Answers how many blank elements it has.
-    fn push_records(
-        self,
-        storage: &mut Parts,
-        builder: &mut ChangeBuilder,
-    ) -> Result<u32, AllocError>
+    fn push_records(self, storage: &mut Parts, builder: &mut Builder) -> Result<u32, AllocError>
         requires building { IsBuilding storage.old builder.old }
         requires can { CanBeAttached (state_of storage.old) self }
         ensures builds { Builds storage.old builder.old storage.new builder.new }
@@ -128,8 +125,8 @@ impl AttachPlan {
         push_zero(storage, builder, self.task, self.attach.shares_zero)?;
         push_gifts(storage, builder, self.task, &given)?;
         push_shares(storage, builder, self.task, &shared)?;
-        push_register(storage, builder, current, 15, 0)?;
-        push_register(storage, builder, current, 1, u32::from(self.task))?;
+        builder.push(storage, set_register(current, 15, 0))?;
+        builder.push(storage, set_register(current, 1, u32::from(self.task)))?;
         Ok(7 + 2 * count)
     }
 }

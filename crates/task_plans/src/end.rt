@@ -21,17 +21,18 @@ ghost use Rattle.storage_swap.specs.Reserve.{Grown, Reserves};
 ghost use Rattle.change_laws.specs.Ending.{ended_below, owned_by_these, emptying_records, removed};
 ghost use Rattle.change_laws.specs.Ending.{released_records, removed_records, unseeing, unshared, unshared_records};
 ghost use Rattle.task_plans.specs.Parents.{AreParents};
-ghost use Rattle.task_plans.specs.TaskPlans.{end_change, owned_among, parked_onto, parks_all};
+ghost use Rattle.task_plans.specs.TaskPlans.{end_change, owned_among, owned_one, parks_all, ParksAll};
 ghost use Rattle.task_plans.specs.TaskPlans.{rest_records, unseeing_among, CanBeEnded, CanPark, IsEndPlanned};
 
-use crate::ended::{Parents, is_ended, push_ended, read_parents};
-use crate::registers::push_register;
+use crate::ended::{Parents, Tree, is_ended, push_ended, read_parents};
+use crate::registers::set_register;
+use crate::{Builder, Pushed};
 use change_laws::tasks::{ending_leads, ends_are_in_order};
 use descriptor_queue::Extents;
 use std::alloc::AllocError;
 use storage_changes::{OwnRecord, PagesRecord, QueuesRecord, Record, SharerRecord, TurnRecord};
 use storage_exchange::Parts;
-use storage_swap::{Change, ChangeBuilder};
+use storage_swap::Change;
 use subpool_set::PoolPlace;
 use subpool_storage::SubpoolStorage;
 use subpool_storage::laws::{cell_pools_are_named, subpools_are_there};
@@ -148,7 +149,7 @@ impl EndPlan {
             (length (parks_all (state_of storage.old) self.top) + (length d.records + d.blanks))) }
         ensures same_frames { IfOk result (λ _. storage.new.region ≡ storage.old.region) }
     {
-        let mut builder = ChangeBuilder::new();
+        let mut builder = Builder::new();
         match self.push_records(storage, &mut builder) {
             Ok(blanks) => builder.finish(storage, blanks),
             Err(refused) => {
@@ -160,11 +161,7 @@ impl EndPlan {
 
     // The records of the change, in their order, and the subpools that it parks. Answers how many blank elements it
     // has.
-    fn push_records(
-        self,
-        storage: &mut Parts,
-        builder: &mut ChangeBuilder,
-    ) -> Result<u32, AllocError>
+    fn push_records(self, storage: &mut Parts, builder: &mut Builder) -> Result<u32, AllocError>
         requires building { IsBuilding storage.old builder.old }
         requires empty { records_in storage.old builder.old ≡ [] }
         requires none { parked_in storage.old builder.old ≡ no_subpools }
@@ -188,8 +185,12 @@ impl EndPlan {
             + length (end_change (state_of storage.old) self).records ≤ storage.old.elements.spare → IsOk result }
     {
         let parents = read_parents(storage);
-        park_owned(storage, builder, &parents, self.top)?;
-        push_released(storage, builder, &parents, self.top)?;
+        let tree = Tree {
+            top: self.top,
+            parents,
+        };
+        park_owned(storage, builder, &tree)?;
+        push_released(storage, builder, &tree)?;
         builder.push(storage, Record::Turn(TurnRecord { task: self.next }))?;
         let blanks = builder.count();
         self.push_rest(storage, builder, &parents)?;
@@ -197,12 +198,7 @@ impl EndPlan {
     }
 
     // The records behind the turn.
-    fn push_rest(
-        self,
-        storage: &mut Parts,
-        builder: &mut ChangeBuilder,
-        parents: &Parents,
-    ) -> Result<(), AllocError>
+    fn push_rest(self, storage: &mut Parts, builder: &mut Builder, parents: &Parents) -> Pushed
         requires building { IsBuilding storage.old builder.old }
         requires tree { AreParents parents.now.of (state_of storage.old).tasks.parents }
         ensures builds { Builds storage.old builder.old storage.new builder.new }
@@ -211,71 +207,52 @@ impl EndPlan {
         ensures needless { length (rest_records (state_of storage.old) self) ≤ storage.old.elements.spare
             → IsOk result }
     {
-        push_unshared(storage, builder, parents, self.top)?;
-        push_removed(storage, builder, parents, self.top)?;
-        push_ended(storage, builder, parents, self.top)?;
+        let tree = Tree {
+            top: self.top,
+            parents: *parents,
+        };
+        push_unshared(storage, builder, &tree)?;
+        push_removed(storage, builder, &tree)?;
+        push_ended(storage, builder, &tree)?;
         match self.reply {
-            Reply::Returned(code) => push_register(storage, builder, self.next, 15, code),
+            Reply::Returned(code) => builder.push(storage, set_register(self.next, 15, code)),
             _ => Ok(()),
         }
     }
 }
 
 // An empty subpool is parked under the name of each that a task of the subtree owns.
-fn park_owned(
-    storage: &mut Parts,
-    builder: &mut ChangeBuilder,
-    parents: &Parents,
-    top: u8,
-) -> Result<(), AllocError>
+fn park_owned(storage: &mut Parts, builder: &mut Builder, tree: &Tree) -> Pushed
     requires building { IsBuilding storage.old builder.old }
-    requires tree { AreParents parents.now.of (state_of storage.old).tasks.parents }
+    requires tree { AreParents tree.now.parents.of (state_of storage.old).tasks.parents }
     requires none { parked_in storage.old builder.old ≡ no_subpools }
     ensures builds { Builds storage.old builder.old storage.new builder.new }
-    ensures records { OnOk result (records_in storage.new builder.new ≡ records_in storage.old builder.old) }
-    ensures parked { OnOk result (parked_in storage.new builder.new ≡ empties (parks_all (state_of storage.old) top)) }
-    ensures spare { OnOk result (storage.old.elements.spare
-        ≤ storage.new.elements.spare + length (parks_all (state_of storage.old) top)) }
-    ensures live { OnOk result (live_count storage.new.elements
-        ≤ live_count storage.old.elements + length (parks_all (state_of storage.old) top)) }
-    ensures made { OnOk result (MakesElements storage.old.elements storage.new.elements
-        (length (parks_all (state_of storage.old) top))) }
-    ensures needless { length (parks_all (state_of storage.old) top) ≤ storage.old.elements.spare → IsOk result }
+    ensures ok { OnOk result (ParksAll storage.old builder.old (parks_all (state_of storage.old) tree.now.top)
+        storage.new builder.new) }
+    ensures needless { length (parks_all (state_of storage.old) tree.now.top) ≤ storage.old.elements.spare
+        → IsOk result }
 {
     subpools_are_there();
     let mut place = SubpoolStorage::first_subpool_place();
     while let Some((subpool, next)) = storage.subpools.next_subpool(&storage.elements, place) {
-        park_one(storage, builder, parents, top, subpool)?;
+        park_one(storage, builder, tree, subpool)?;
         place = next;
     }
     Ok(())
 }
 
 // One is parked under this name, where a task of the subtree is the owner.
-fn park_one(
-    storage: &mut Parts,
-    builder: &mut ChangeBuilder,
-    parents: &Parents,
-    top: u8,
-    subpool: Subpool,
-) -> Result<(), AllocError>
+fn park_one(storage: &mut Parts, builder: &mut Builder, tree: &Tree, subpool: Subpool) -> Pushed
     requires building { IsBuilding storage.old builder.old }
-    requires tree { AreParents parents.now.of (state_of storage.old).tasks.parents }
-    requires can { CanPark (parked_in storage.old builder.old) (owned_among (state_of storage.old) top (subpool ∷ [])) }
+    requires tree { AreParents tree.now.parents.of (state_of storage.old).tasks.parents }
+    requires can { CanPark (parked_in storage.old builder.old) (owned_one (state_of storage.old) tree.now.top subpool) }
     ensures builds { Builds storage.old builder.old storage.new builder.new }
-    ensures records { OnOk result (records_in storage.new builder.new ≡ records_in storage.old builder.old) }
-    ensures parked { OnOk result (parked_in storage.new builder.new
-        ≡ parked_onto (parked_in storage.old builder.old) (owned_among (state_of storage.old) top (subpool ∷ []))) }
-    ensures spare { OnOk result (storage.old.elements.spare
-        ≤ storage.new.elements.spare + length (owned_among (state_of storage.old) top (subpool ∷ []))) }
-    ensures live { OnOk result (live_count storage.new.elements
-        ≤ live_count storage.old.elements + length (owned_among (state_of storage.old) top (subpool ∷ []))) }
-    ensures made { OnOk result (MakesElements storage.old.elements storage.new.elements
-        (length (owned_among (state_of storage.old) top (subpool ∷ [])))) }
-    ensures needless { length (owned_among (state_of storage.old) top (subpool ∷ []))
-        ≤ storage.old.elements.spare → IsOk result }
+    ensures ok { OnOk result (ParksAll storage.old builder.old (owned_one (state_of storage.old) tree.now.top subpool)
+        storage.new builder.new) }
+    ensures needless { length (owned_one (state_of storage.old) tree.now.top subpool) ≤ storage.old.elements.spare
+        → IsOk result }
 {
-    if is_ended(storage, parents, top, subpool.owner) {
+    if is_ended(storage, tree, subpool.owner) {
         return builder.park(storage, subpool);
     }
     Ok(())
@@ -283,47 +260,35 @@ fn park_one(
 
 // The storage of each subpool that a task of the subtree owns goes over into the change, and its pages become
 // unassigned.
-fn push_released(
-    storage: &mut Parts,
-    builder: &mut ChangeBuilder,
-    parents: &Parents,
-    top: u8,
-) -> Result<(), AllocError>
+fn push_released(storage: &mut Parts, builder: &mut Builder, tree: &Tree) -> Pushed
     requires building { IsBuilding storage.old builder.old }
-    requires tree { AreParents parents.now.of (state_of storage.old).tasks.parents }
+    requires tree { AreParents tree.now.parents.of (state_of storage.old).tasks.parents }
     ensures builds { Builds storage.old builder.old storage.new builder.new }
-    ensures ok { OnOk result (Pushes storage.old builder.old
-        (released_records (state_of storage.old).subpools (ended_below (state_of storage.old).tasks.parents top))
-        storage.new builder.new) }
+    ensures ok { OnOk result (Pushes storage.old builder.old (released_records (state_of storage.old).subpools
+        (ended_below (state_of storage.old).tasks.parents tree.now.top)) storage.new builder.new) }
     ensures needless { length (released_records (state_of storage.old).subpools
-        (ended_below (state_of storage.old).tasks.parents top)) ≤ storage.old.elements.spare → IsOk result }
+        (ended_below (state_of storage.old).tasks.parents tree.now.top)) ≤ storage.old.elements.spare → IsOk result }
 {
     let mut place = SubpoolStorage::first_subpool_place();
     while let Some((subpool, next)) = storage.subpools.next_subpool(&storage.elements, place) {
-        push_emptied(storage, builder, parents, top, subpool)?;
+        push_emptied(storage, builder, tree, subpool)?;
         place = next;
     }
     Ok(())
 }
 
 // So does that of one subpool, where a task of the subtree is the owner.
-fn push_emptied(
-    storage: &mut Parts,
-    builder: &mut ChangeBuilder,
-    parents: &Parents,
-    top: u8,
-    subpool: Subpool,
-) -> Result<(), AllocError>
+fn push_emptied(storage: &mut Parts, builder: &mut Builder, tree: &Tree, subpool: Subpool) -> Pushed
     requires building { IsBuilding storage.old builder.old }
-    requires tree { AreParents parents.now.of (state_of storage.old).tasks.parents }
+    requires tree { AreParents tree.now.parents.of (state_of storage.old).tasks.parents }
     ensures builds { Builds storage.old builder.old storage.new builder.new }
     ensures ok { OnOk result (Pushes storage.old builder.old
         (flat_map (emptying_records (state_of storage.old).subpools)
-        (owned_among (state_of storage.old) top (subpool ∷ []))) storage.new builder.new) }
+        (owned_among (state_of storage.old) tree.now.top (subpool ∷ []))) storage.new builder.new) }
     ensures needless { length (flat_map (emptying_records (state_of storage.old).subpools)
-        (owned_among (state_of storage.old) top (subpool ∷ []))) ≤ storage.old.elements.spare → IsOk result }
+        (owned_among (state_of storage.old) tree.now.top (subpool ∷ []))) ≤ storage.old.elements.spare → IsOk result }
 {
-    if is_ended(storage, parents, top, subpool.owner) {
+    if is_ended(storage, tree, subpool.owner) {
         builder.push(storage, Record::Queues(QueuesRecord { subpool }))?;
         return push_extents(storage, builder, subpool);
     }
@@ -331,11 +296,7 @@ fn push_emptied(
 }
 
 // The pages of each extent of the subpool become unassigned.
-fn push_extents(
-    storage: &mut Parts,
-    builder: &mut ChangeBuilder,
-    subpool: Subpool,
-) -> Result<(), AllocError>
+fn push_extents(storage: &mut Parts, builder: &mut Builder, subpool: Subpool) -> Pushed
     requires { IsBuilding storage.old builder.old }
     ensures builds { Builds storage.old builder.old storage.new builder.new }
     ensures ok { OnOk result (Pushes storage.old builder.old
@@ -357,24 +318,18 @@ fn push_extents(
 }
 
 // Tasks of the subtree see no subpool of others any more, nor others theirs.
-fn push_unshared(
-    storage: &mut Parts,
-    builder: &mut ChangeBuilder,
-    parents: &Parents,
-    top: u8,
-) -> Result<(), AllocError>
+fn push_unshared(storage: &mut Parts, builder: &mut Builder, tree: &Tree) -> Pushed
     requires building { IsBuilding storage.old builder.old }
-    requires tree { AreParents parents.now.of (state_of storage.old).tasks.parents }
+    requires tree { AreParents tree.now.parents.of (state_of storage.old).tasks.parents }
     ensures builds { Builds storage.old builder.old storage.new builder.new }
-    ensures ok { OnOk result (Pushes storage.old builder.old
-        (unshared_records (state_of storage.old).subpools (ended_below (state_of storage.old).tasks.parents top))
-        storage.new builder.new) }
+    ensures ok { OnOk result (Pushes storage.old builder.old (unshared_records (state_of storage.old).subpools
+        (ended_below (state_of storage.old).tasks.parents tree.now.top)) storage.new builder.new) }
     ensures needless { length (unshared_records (state_of storage.old).subpools
-        (ended_below (state_of storage.old).tasks.parents top)) ≤ storage.old.elements.spare → IsOk result }
+        (ended_below (state_of storage.old).tasks.parents tree.now.top)) ≤ storage.old.elements.spare → IsOk result }
 {
     let mut place = SubpoolStorage::first_subpool_place();
     while let Some((subpool, next)) = storage.subpools.next_subpool(&storage.elements, place) {
-        push_unseeing(storage, builder, parents, subpool, next, top)?;
+        push_unseeing(storage, builder, tree, subpool, next)?;
         place = next;
     }
     Ok(())
@@ -383,29 +338,29 @@ fn push_unshared(
 // Those who share the subpool and end, or all where its owner does, see it no more. The place is right behind it.
 fn push_unseeing(
     storage: &mut Parts,
-    builder: &mut ChangeBuilder,
-    parents: &Parents,
+    builder: &mut Builder,
+    tree: &Tree,
     subpool: Subpool,
     behind: PoolPlace,
-    top: u8,
-) -> Result<(), AllocError>
+) -> Pushed
     requires building { IsBuilding storage.old builder.old }
-    requires tree { AreParents parents.now.of (state_of storage.old).tasks.parents }
+    requires tree { AreParents tree.now.parents.of (state_of storage.old).tasks.parents }
     requires place { IsSubpoolPlace storage.old.elements storage.old.subpools behind }
     requires number { number_at behind ≡ subpool.number }
     ensures builds { Builds storage.old builder.old storage.new builder.new }
     ensures ok { OnOk result (Pushes storage.old builder.old
         (map (unshared subpool) (unseeing (state_of storage.old).subpools
-        (ended_below (state_of storage.old).tasks.parents top) subpool)) storage.new builder.new) }
+        (ended_below (state_of storage.old).tasks.parents tree.now.top) subpool)) storage.new builder.new) }
     ensures needless { length (map (unshared subpool) (unseeing (state_of storage.old).subpools
-        (ended_below (state_of storage.old).tasks.parents top) subpool)) ≤ storage.old.elements.spare → IsOk result }
+        (ended_below (state_of storage.old).tasks.parents tree.now.top) subpool)) ≤ storage.old.elements.spare
+        → IsOk result }
 {
     let mut place = SubpoolStorage::first_sharer_place(behind);
     while let Some((task, next)) = storage
         .subpools
         .next_sharer(&storage.elements, subpool, place)
     {
-        push_unseen(storage, builder, parents, subpool, top, task)?;
+        push_unseen(storage, builder, tree, subpool, task)?;
         place = next;
     }
     Ok(())
@@ -414,22 +369,22 @@ fn push_unseeing(
 // One who shares the subpool sees it no more, where it ends or its owner does.
 fn push_unseen(
     storage: &mut Parts,
-    builder: &mut ChangeBuilder,
-    parents: &Parents,
+    builder: &mut Builder,
+    tree: &Tree,
     subpool: Subpool,
-    top: u8,
     task: u8,
-) -> Result<(), AllocError>
+) -> Pushed
     requires building { IsBuilding storage.old builder.old }
-    requires tree { AreParents parents.now.of (state_of storage.old).tasks.parents }
+    requires tree { AreParents tree.now.parents.of (state_of storage.old).tasks.parents }
     ensures builds { Builds storage.old builder.old storage.new builder.new }
     ensures ok { OnOk result (Pushes storage.old builder.old
-        (map (unshared subpool) (unseeing_among (state_of storage.old) top subpool (task ∷ [])))
+        (map (unshared subpool) (unseeing_among (state_of storage.old) tree.now.top subpool (task ∷ [])))
         storage.new builder.new) }
-    ensures needless { length (map (unshared subpool) (unseeing_among (state_of storage.old) top subpool (task ∷ [])))
-        ≤ storage.old.elements.spare → IsOk result }
+    ensures needless { length (map (unshared subpool)
+        (unseeing_among (state_of storage.old) tree.now.top subpool (task ∷ []))) ≤ storage.old.elements.spare
+        → IsOk result }
 {
-    if is_ended(storage, parents, top, task) || is_ended(storage, parents, top, subpool.owner) {
+    if is_ended(storage, tree, task) || is_ended(storage, tree, subpool.owner) {
         let unseen = Record::Sharer(SharerRecord {
             subpool,
             task,
@@ -441,46 +396,34 @@ fn push_unseen(
 }
 
 // The subpools that tasks of the subtree own are gone.
-fn push_removed(
-    storage: &mut Parts,
-    builder: &mut ChangeBuilder,
-    parents: &Parents,
-    top: u8,
-) -> Result<(), AllocError>
+fn push_removed(storage: &mut Parts, builder: &mut Builder, tree: &Tree) -> Pushed
     requires building { IsBuilding storage.old builder.old }
-    requires tree { AreParents parents.now.of (state_of storage.old).tasks.parents }
+    requires tree { AreParents tree.now.parents.of (state_of storage.old).tasks.parents }
     ensures builds { Builds storage.old builder.old storage.new builder.new }
-    ensures ok { OnOk result (Pushes storage.old builder.old
-        (removed_records (state_of storage.old).subpools (ended_below (state_of storage.old).tasks.parents top))
-        storage.new builder.new) }
+    ensures ok { OnOk result (Pushes storage.old builder.old (removed_records (state_of storage.old).subpools
+        (ended_below (state_of storage.old).tasks.parents tree.now.top)) storage.new builder.new) }
     ensures needless { length (removed_records (state_of storage.old).subpools
-        (ended_below (state_of storage.old).tasks.parents top)) ≤ storage.old.elements.spare → IsOk result }
+        (ended_below (state_of storage.old).tasks.parents tree.now.top)) ≤ storage.old.elements.spare → IsOk result }
 {
     let mut place = SubpoolStorage::first_subpool_place();
     while let Some((subpool, next)) = storage.subpools.next_subpool(&storage.elements, place) {
-        push_gone(storage, builder, parents, top, subpool)?;
+        push_gone(storage, builder, tree, subpool)?;
         place = next;
     }
     Ok(())
 }
 
 // So is one, where a task of the subtree is the owner.
-fn push_gone(
-    storage: &mut Parts,
-    builder: &mut ChangeBuilder,
-    parents: &Parents,
-    top: u8,
-    subpool: Subpool,
-) -> Result<(), AllocError>
+fn push_gone(storage: &mut Parts, builder: &mut Builder, tree: &Tree, subpool: Subpool) -> Pushed
     requires building { IsBuilding storage.old builder.old }
-    requires tree { AreParents parents.now.of (state_of storage.old).tasks.parents }
+    requires tree { AreParents tree.now.parents.of (state_of storage.old).tasks.parents }
     ensures builds { Builds storage.old builder.old storage.new builder.new }
     ensures ok { OnOk result (Pushes storage.old builder.old
-        (map removed (owned_among (state_of storage.old) top (subpool ∷ []))) storage.new builder.new) }
-    ensures needless { length (map removed (owned_among (state_of storage.old) top (subpool ∷ [])))
+        (map removed (owned_among (state_of storage.old) tree.now.top (subpool ∷ []))) storage.new builder.new) }
+    ensures needless { length (map removed (owned_among (state_of storage.old) tree.now.top (subpool ∷ [])))
         ≤ storage.old.elements.spare → IsOk result }
 {
-    if is_ended(storage, parents, top, subpool.owner) {
+    if is_ended(storage, tree, subpool.owner) {
         let gone = Record::Own(OwnRecord {
             subpool,
             present: false,

@@ -8,10 +8,9 @@ ghost use Rattle.change_laws.specs.Ending.{cleared_quarter, is_below_by, ended_b
 ghost use Rattle.std.specs.List.{flat_map};
 ghost use Rattle.task_plans.specs.Parents.{AreParents};
 
-use std::alloc::AllocError;
+use crate::{Builder, Pushed};
 use storage_changes::{Record, RegistersRecord, TaskRecord};
 use storage_exchange::Parts;
-use storage_swap::ChangeBuilder;
 use task_tree::laws::trees_stand;
 use vsm_model::geometry::TASKS_END;
 
@@ -25,6 +24,13 @@ const NOBODY: u8 = 255;
 #[derive(Clone, Copy)]
 pub(crate) struct Parents {
     of: [u8; 65],
+}
+
+/// A tree of tasks that ends: the task at its top, and the parents of all tasks.
+#[derive(Clone, Copy)]
+pub(crate) struct Tree {
+    pub(crate) top: u8,
+    pub(crate) parents: Parents,
 }
 
 /// The parents of all tasks.
@@ -55,48 +61,43 @@ fn parent_in(storage: &Parts, parents: &Parents, task: u8) -> Option<u8>
 }
 
 // Whether the task is just so many steps below the other.
-fn is_below_by(storage: &Parts, parents: &Parents, top: u8, steps: u8, task: u8) -> bool
-    requires { AreParents parents.now.of (state_of storage.now).tasks.parents }
-    ensures { result ≡ is_below_by (state_of storage.now).tasks.parents top steps task }
+fn is_below_by(storage: &Parts, tree: &Tree, steps: u8, task: u8) -> bool
+    requires { AreParents tree.now.parents.of (state_of storage.now).tasks.parents }
+    ensures { result ≡ is_below_by (state_of storage.now).tasks.parents tree.now.top steps task }
 {
     let mut above = task;
     for _ in 0..steps {
-        match parent_in(storage, parents, above) {
+        match parent_in(storage, &tree.parents, above) {
             Some(parent) => above = parent,
             None => return false,
         }
     }
-    above == top
+    above == tree.top
 }
 
 /// Whether the task is among those of the subtree.
-pub(crate) fn is_ended(storage: &Parts, parents: &Parents, top: u8, task: u8) -> bool
-    requires { AreParents parents.now.of (state_of storage.now).tasks.parents }
-    ensures { result ≡ is_in (ended_below (state_of storage.now).tasks.parents top) task }
+pub(crate) fn is_ended(storage: &Parts, tree: &Tree, task: u8) -> bool
+    requires { AreParents tree.now.parents.of (state_of storage.now).tasks.parents }
+    ensures { result ≡ is_in (ended_below (state_of storage.now).tasks.parents tree.now.top) task }
 {
     if task == 0 || task >= TASKS_END {
         return false;
     }
     let mut above = task;
     for _ in 0..MOST_STEPS {
-        if above == top {
+        if above == tree.top {
             return true;
         }
-        match parent_in(storage, parents, above) {
+        match parent_in(storage, &tree.parents, above) {
             Some(parent) => above = parent,
             None => return false,
         }
     }
-    above == top
+    above == tree.top
 }
 
 // Four registers of a task become zeros: a quarter of its sixteen.
-fn push_quarter(
-    storage: &mut Parts,
-    builder: &mut ChangeBuilder,
-    task: u8,
-    quarter: u8,
-) -> Result<(), AllocError>
+fn push_quarter(storage: &mut Parts, builder: &mut Builder, task: u8, quarter: u8) -> Pushed
     requires building { IsBuilding storage.old builder.old }
     requires quarter { quarter < 4 }
     ensures builds { Builds storage.old builder.old storage.new builder.new }
@@ -113,11 +114,7 @@ fn push_quarter(
 }
 
 // The registers of a task become zeros, and it is gone.
-fn push_ended_task(
-    storage: &mut Parts,
-    builder: &mut ChangeBuilder,
-    task: u8,
-) -> Result<(), AllocError>
+fn push_ended_task(storage: &mut Parts, builder: &mut Builder, task: u8) -> Pushed
     requires { IsBuilding storage.old builder.old }
     ensures builds { Builds storage.old builder.old storage.new builder.new }
     ensures ok { OnOk result (Pushes storage.old builder.old
@@ -142,69 +139,56 @@ fn push_ended_task(
 // The task is gone, where it is so many steps below the other.
 fn push_ended_at(
     storage: &mut Parts,
-    builder: &mut ChangeBuilder,
-    parents: &Parents,
-    top: u8,
+    builder: &mut Builder,
+    tree: &Tree,
     steps: u8,
     task: u8,
-) -> Result<(), AllocError>
+) -> Pushed
     requires building { IsBuilding storage.old builder.old }
-    requires tree { AreParents parents.now.of (state_of storage.old).tasks.parents }
+    requires tree { AreParents tree.now.parents.of (state_of storage.old).tasks.parents }
     ensures builds { Builds storage.old builder.old storage.new builder.new }
-    ensures ok { OnOk result (Pushes storage.old builder.old
-        (flat_map (ended_records (state_of storage.old))
-        (filter (is_below_by (state_of storage.old).tasks.parents top steps) (task ∷ []))) storage.new builder.new) }
+    ensures ok { OnOk result (Pushes storage.old builder.old (flat_map (ended_records (state_of storage.old))
+        (filter (is_below_by (state_of storage.old).tasks.parents tree.now.top steps) (task ∷ [])))
+        storage.new builder.new) }
     ensures needless { length (flat_map (ended_records (state_of storage.old))
-        (filter (is_below_by (state_of storage.old).tasks.parents top steps) (task ∷ [])))
+        (filter (is_below_by (state_of storage.old).tasks.parents tree.now.top steps) (task ∷ [])))
         ≤ storage.old.elements.spare → IsOk result }
 {
-    if is_below_by(storage, parents, top, steps, task) {
+    if is_below_by(storage, tree, steps, task) {
         return push_ended_task(storage, builder, task);
     }
     Ok(())
 }
 
 // The tasks that are so many steps below the other are gone.
-fn push_ended_level(
-    storage: &mut Parts,
-    builder: &mut ChangeBuilder,
-    parents: &Parents,
-    top: u8,
-    steps: u8,
-) -> Result<(), AllocError>
+fn push_ended_level(storage: &mut Parts, builder: &mut Builder, tree: &Tree, steps: u8) -> Pushed
     requires building { IsBuilding storage.old builder.old }
-    requires tree { AreParents parents.now.of (state_of storage.old).tasks.parents }
+    requires tree { AreParents tree.now.parents.of (state_of storage.old).tasks.parents }
     ensures builds { Builds storage.old builder.old storage.new builder.new }
-    ensures ok { OnOk result (Pushes storage.old builder.old
-        (flat_map (ended_records (state_of storage.old))
-        (ended_level (state_of storage.old).tasks.parents top steps)) storage.new builder.new) }
+    ensures ok { OnOk result (Pushes storage.old builder.old (flat_map (ended_records (state_of storage.old))
+        (ended_level (state_of storage.old).tasks.parents tree.now.top steps)) storage.new builder.new) }
     ensures needless { length (flat_map (ended_records (state_of storage.old))
-        (ended_level (state_of storage.old).tasks.parents top steps)) ≤ storage.old.elements.spare → IsOk result }
+        (ended_level (state_of storage.old).tasks.parents tree.now.top steps)) ≤ storage.old.elements.spare
+        → IsOk result }
 {
     for task in 1..TASKS_END {
-        push_ended_at(storage, builder, parents, top, steps, task)?;
+        push_ended_at(storage, builder, tree, steps, task)?;
     }
     Ok(())
 }
 
 /// The tasks of the subtree are gone, those furthest below its top first.
-pub(crate) fn push_ended(
-    storage: &mut Parts,
-    builder: &mut ChangeBuilder,
-    parents: &Parents,
-    top: u8,
-) -> Result<(), AllocError>
+pub(crate) fn push_ended(storage: &mut Parts, builder: &mut Builder, tree: &Tree) -> Pushed
     requires building { IsBuilding storage.old builder.old }
-    requires tree { AreParents parents.now.of (state_of storage.old).tasks.parents }
+    requires tree { AreParents tree.now.parents.of (state_of storage.old).tasks.parents }
     ensures builds { Builds storage.old builder.old storage.new builder.new }
-    ensures ok { OnOk result (Pushes storage.old builder.old
-        (flat_map (ended_records (state_of storage.old))
-        (ended_below (state_of storage.old).tasks.parents top)) storage.new builder.new) }
+    ensures ok { OnOk result (Pushes storage.old builder.old (flat_map (ended_records (state_of storage.old))
+        (ended_below (state_of storage.old).tasks.parents tree.now.top)) storage.new builder.new) }
     ensures needless { length (flat_map (ended_records (state_of storage.old))
-        (ended_below (state_of storage.old).tasks.parents top)) ≤ storage.old.elements.spare → IsOk result }
+        (ended_below (state_of storage.old).tasks.parents tree.now.top)) ≤ storage.old.elements.spare → IsOk result }
 {
     for done in 0..MOST_STEPS {
-        push_ended_level(storage, builder, parents, top, MOST_STEPS - done)?;
+        push_ended_level(storage, builder, tree, MOST_STEPS - done)?;
     }
-    push_ended_level(storage, builder, parents, top, 0)
+    push_ended_level(storage, builder, tree, 0)
 }

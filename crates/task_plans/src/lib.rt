@@ -12,3 +12,11 @@ mod run;
 pub use attach::{AttachPlan, plan_attach};
 pub use end::{EndPlan, plan_detach, plan_end_task};
 pub use run::plan_run;
+use std::alloc::AllocError;
+use storage_swap::ChangeBuilder;
+
+/// A change that is being made, record by record.
+pub(crate) type Builder = ChangeBuilder;
+
+/// What it comes to that records are pushed: nothing, or that memory is refused.
+pub(crate) type Pushed = Result<(), AllocError>;

@@ -7,10 +7,9 @@ ghost use Rattle.storage_swap.specs.Builder.{IsBuilding, Builds, Pushes};
 ghost use Rattle.change_laws.specs.Attaching.{made, shared, gift_records, share_records, zero_records};
 
 use crate::numbers::Numbers;
-use std::alloc::AllocError;
+use crate::{Builder, Pushed};
 use storage_changes::{OwnRecord, PassRecord, Record, SharerRecord};
 use storage_exchange::Parts;
-use storage_swap::ChangeBuilder;
 use vsm_model::Subpool;
 
 // A subpool that is made.
@@ -35,12 +34,7 @@ fn shared(number: u8, owner: u8, task: u8) -> Record
 }
 
 // A number that is given to the task.
-fn push_gift(
-    storage: &mut Parts,
-    builder: &mut ChangeBuilder,
-    task: u8,
-    number: u8,
-) -> Result<(), AllocError>
+fn push_gift(storage: &mut Parts, builder: &mut Builder, task: u8, number: u8) -> Pushed
     requires { IsBuilding storage.old builder.old }
     ensures builds { Builds storage.old builder.old storage.new builder.new }
     ensures ok { OnOk result (Pushes storage.old builder.old
@@ -65,12 +59,7 @@ fn push_gift(
 }
 
 // A number that is shared with the task.
-fn push_share(
-    storage: &mut Parts,
-    builder: &mut ChangeBuilder,
-    task: u8,
-    number: u8,
-) -> Result<(), AllocError>
+fn push_share(storage: &mut Parts, builder: &mut Builder, task: u8, number: u8) -> Pushed
     requires { IsBuilding storage.old builder.old }
     ensures builds { Builds storage.old builder.old storage.new builder.new }
     ensures ok { OnOk result (Pushes storage.old builder.old
@@ -92,12 +81,7 @@ fn push_share(
 }
 
 /// Subpool 0 is shared with the task, or it's one of its own.
-pub(crate) fn push_zero(
-    storage: &mut Parts,
-    builder: &mut ChangeBuilder,
-    task: u8,
-    shares_zero: bool,
-) -> Result<(), AllocError>
+pub fn push_zero(storage: &mut Parts, builder: &mut Builder, task: u8, shares_zero: bool) -> Pushed
     requires { IsBuilding storage.old builder.old }
     ensures builds { Builds storage.old builder.old storage.new builder.new }
     ensures ok { OnOk result (Pushes storage.old builder.old
@@ -113,43 +97,33 @@ pub(crate) fn push_zero(
 }
 
 /// The numbers are given to the task, in their order.
-pub(crate) fn push_gifts(
-    storage: &mut Parts,
-    builder: &mut ChangeBuilder,
-    task: u8,
-    numbers: &Numbers,
-) -> Result<(), AllocError>
+pub fn push_gifts(storage: &mut Parts, builder: &mut Builder, task: u8, given: &Numbers) -> Pushed
     requires building { IsBuilding storage.old builder.old }
-    requires range { All (λ number. number ≤ 127) numbers.now.items }
+    requires range { All (λ number. number ≤ 127) given.now.items }
     ensures builds { Builds storage.old builder.old storage.new builder.new }
     ensures ok { OnOk result (Pushes storage.old builder.old
-        (flat_map (gift_records (state_of storage.old) task) numbers.now.items) storage.new builder.new) }
-    ensures needless { length (flat_map (gift_records (state_of storage.old) task) numbers.now.items)
+        (flat_map (gift_records (state_of storage.old) task) given.now.items) storage.new builder.new) }
+    ensures needless { length (flat_map (gift_records (state_of storage.old) task) given.now.items)
         ≤ storage.old.elements.spare → IsOk result }
 {
-    for k in 0..numbers.len() {
-        push_gift(storage, builder, task, numbers[k] as u8)?;
+    for k in 0..given.len() {
+        push_gift(storage, builder, task, given[k] as u8)?;
     }
     Ok(())
 }
 
 /// The numbers are shared with the task, in their order.
-pub(crate) fn push_shares(
-    storage: &mut Parts,
-    builder: &mut ChangeBuilder,
-    task: u8,
-    numbers: &Numbers,
-) -> Result<(), AllocError>
+pub fn push_shares(storage: &mut Parts, builder: &mut Builder, task: u8, shared: &Numbers) -> Pushed
     requires building { IsBuilding storage.old builder.old }
-    requires range { All (λ number. number ≤ 127) numbers.now.items }
+    requires range { All (λ number. number ≤ 127) shared.now.items }
     ensures builds { Builds storage.old builder.old storage.new builder.new }
     ensures ok { OnOk result (Pushes storage.old builder.old
-        (flat_map (share_records (state_of storage.old) task) numbers.now.items) storage.new builder.new) }
-    ensures needless { length (flat_map (share_records (state_of storage.old) task) numbers.now.items)
+        (flat_map (share_records (state_of storage.old) task) shared.now.items) storage.new builder.new) }
+    ensures needless { length (flat_map (share_records (state_of storage.old) task) shared.now.items)
         ≤ storage.old.elements.spare → IsOk result }
 {
-    for k in 0..numbers.len() {
-        push_share(storage, builder, task, numbers[k] as u8)?;
+    for k in 0..shared.len() {
+        push_share(storage, builder, task, shared[k] as u8)?;
     }
     Ok(())
 }

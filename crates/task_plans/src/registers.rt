@@ -1,32 +1,17 @@
 //! Registers that a change sets.
 
-ghost use Rattle.std.specs.Prelude.{◌<◌, [], ◌∷◌, IsOk, OnOk};
+ghost use Rattle.std.specs.Prelude.{◌≡◌};
 ghost use Rattle.storage_changes.specs.declared.record.Record.TheVariants.{Register};
-ghost use Rattle.storage_swap.specs.Builder.{IsBuilding, Builds, Pushes};
 
-use std::alloc::AllocError;
 use storage_changes::{Record, RegisterRecord};
-use storage_exchange::Parts;
-use storage_swap::ChangeBuilder;
 
-/// One more record: a register of the task gets the word.
-pub(crate) fn push_register(
-    storage: &mut Parts,
-    builder: &mut ChangeBuilder,
-    task: u8,
-    register: u8,
-    word: u32,
-) -> Result<(), AllocError>
-    requires { IsBuilding storage.old builder.old }
-    ensures builds { Builds storage.old builder.old storage.new builder.new }
-    ensures ok { OnOk result (Pushes storage.old builder.old
-        (Register (record { task = task; register = register; word = word }) ∷ []) storage.new builder.new) }
-    ensures needless { 0 < storage.old.elements.spare → IsOk result }
+/// A register of the task that gets the word.
+pub(crate) fn set_register(task: u8, register: u8, word: u32) -> Record
+    ensures { result ≡ Register (record { task = task; register = register; word = word }) }
 {
-    let sets = Record::Register(RegisterRecord {
+    Record::Register(RegisterRecord {
         task,
         register,
         word,
-    });
-    builder.push(storage, sets)
+    })
 }

@@ -14,7 +14,7 @@ pub loop-subpool-init : goal.loop-subpool-init
 loop-subpool-init c =
     let p = c.args.storage.now in
     let m = state_of p in
-    let top = c.args.top in
+    let top = c.args.tree.now.top in
     let stand = c.requires.building.ready.stands.storage in
     let first = c.first_subpool_place-place in
     let range = (c.subpools_are_there.ensures p.elements p.subpools stand.subpools).0 in
@@ -26,7 +26,7 @@ pub park_one-requires-clause-can : goal.park_one-requires-clause-can
 park_one-requires-clause-can c =
     let p = c.args.storage.now in
     let t = c.loop-subpool.storage in
-    let top = c.args.top in
+    let top = c.args.tree.now.top in
     let x = c.in-Some.subpool in
     let w = c.loop-subpool.invariant in
     let added : StorageState → List Subpool = λ m. owned_among m top (x ∷ []) in
@@ -36,7 +36,7 @@ pub loop-subpool-smaller : goal.loop-subpool-smaller
 loop-subpool-smaller c =
     let p = c.args.storage.now in
     let t = c.loop-subpool.storage in
-    let top = c.args.top in
+    let top = c.args.tree.now.top in
     let x = c.in-Some.subpool in
     let w = c.loop-subpool.invariant in
     let added : StorageState → List Subpool = λ m. owned_among m top (x ∷ []) in
@@ -46,15 +46,15 @@ pub loop-subpool-preserved : goal.loop-subpool-preserved
 loop-subpool-preserved c =
     let p = c.args.storage.now in
     let t = c.loop-subpool.storage in
-    let top = c.args.top in
+    let top = c.args.tree.now.top in
     let x = c.in-Some.subpool in
     let w = c.loop-subpool.invariant in
     let added : StorageState → List Subpool = λ m. owned_among m top (x ∷ []) in
     parks_more top p c.args.builder.now t c.loop-subpool.builder c.loop-subpool.place w c.in-Some.next x c.in-Some.ensures.next (added (state_of t)) (ap added w.builds.keeps.shows) c.park_one.new.storage c.park_one.new.builder c.in-Some.ensures.place c.park_one.ensures.builds
-    c.in_ok-park_one.ensures.records c.in_ok-park_one.ensures.parked c.in_ok-park_one.ensures.spare c.in_ok-park_one.ensures.live c.in_ok-park_one.ensures.made
+    c.in_ok-park_one.ensures.ok.records c.in_ok-park_one.ensures.ok.parked c.in_ok-park_one.ensures.ok.spare c.in_ok-park_one.ensures.ok.live c.in_ok-park_one.ensures.ok.made
 
-pub returns-clause-parked : goal.returns-clause-parked
-returns-clause-parked c = (parks_done c.args.top c.args.storage.now c.args.builder.now c.loop-subpool.storage c.loop-subpool.builder c.loop-subpool.place c.loop-subpool.invariant c.in_default.ensures.none c.requires.none).0
+pub returns-clause-ok : goal.returns-clause-ok
+returns-clause-ok c = parks_done c.args.tree.now.top c.args.storage.now c.args.builder.now c.loop-subpool.storage c.loop-subpool.builder c.loop-subpool.place c.loop-subpool.invariant c.in_default.ensures.none
 
 pub park_one-requires-clause-tree : goal.park_one-requires-clause-tree
-park_one-requires-clause-tree c = still c.args.parents.now.of _ _ (c.loop-subpool.invariant.builds.keeps.shows) c.requires.tree
+park_one-requires-clause-tree c = still c.args.tree.now.parents.of _ _ (c.loop-subpool.invariant.builds.keeps.shows) c.requires.tree

@@ -15,7 +15,7 @@ pub returns-in_err-push_emptied-clause-needless : goal.returns-in_err-push_empti
 returns-in_err-push_emptied-clause-needless c = λ room.
     let p = c.args.storage.now in
     let t = c.loop-subpool.storage in
-    let top = c.args.top in
+    let top = c.args.tree.now.top in
     let x = c.in-Some.subpool in
     let w = c.loop-subpool.invariant in
     let h : StorageState → List Subpool → List Record = λ m ps. flat_map (emptying_records m.subpools) (owned_among m top ps) in
@@ -27,7 +27,7 @@ pub loop-subpool-smaller : goal.loop-subpool-smaller
 loop-subpool-smaller c =
     let p = c.args.storage.now in
     let t = c.loop-subpool.storage in
-    let top = c.args.top in
+    let top = c.args.tree.now.top in
     let x = c.in-Some.subpool in
     let w = c.loop-subpool.invariant in
     let h : StorageState → List Subpool → List Record = λ m ps. flat_map (emptying_records m.subpools) (owned_among m top ps) in
@@ -39,7 +39,7 @@ pub loop-subpool-preserved : goal.loop-subpool-preserved
 loop-subpool-preserved c =
     let p = c.args.storage.now in
     let t = c.loop-subpool.storage in
-    let top = c.args.top in
+    let top = c.args.tree.now.top in
     let x = c.in-Some.subpool in
     let w = c.loop-subpool.invariant in
     let h : StorageState → List Subpool → List Record = λ m ps. flat_map (emptying_records m.subpools) (owned_among m top ps) in
@@ -48,4 +48,4 @@ loop-subpool-preserved c =
     walk_more (h (state_of p)) p c.args.builder.now t c.loop-subpool.builder c.loop-subpool.place w (let m = state_of p in passed_first (λ q. is_in (ended_below m.tasks.parents top) q.owner) (emptying_records m.subpools)) c.in-Some.next x c.in-Some.ensures.next (added (state_of t)) its c.push_emptied.new.storage c.push_emptied.new.builder c.in-Some.ensures.place c.push_emptied.ensures.builds c.in_ok-push_emptied.ensures.ok
 
 pub push_emptied-requires-clause-tree : goal.push_emptied-requires-clause-tree
-push_emptied-requires-clause-tree c = still c.args.parents.now.of _ _ (c.loop-subpool.invariant.leads.builds.keeps.shows) c.requires.tree
+push_emptied-requires-clause-tree c = still c.args.tree.now.parents.of _ _ (c.loop-subpool.invariant.leads.builds.keeps.shows) c.requires.tree

@@ -10,7 +10,7 @@ use Rattle.task_plans.proofs.end.push_removed.Given as goal
 abbrev pub invariant-loop-subpool : goal.invariant-loop-subpool
 invariant-loop-subpool l =
     let m = state_of l.fn.storage in
-    WalkLeads (λ ps. map removed (owned_among m l.top ps)) l.fn.storage l.fn.builder l.storage l.builder l.place
+    WalkLeads (λ ps. map removed (owned_among m l.tree.top ps)) l.fn.storage l.fn.builder l.storage l.builder l.place
 
 abbrev pub decreases-loop-subpool : goal.decreases-loop-subpool
 decreases-loop-subpool l = length (subpools_left l.storage.elements l.storage.subpools l.place)

@@ -15,7 +15,7 @@ pub loop-task-smaller : goal.loop-task-smaller
 loop-task-smaller c =
     let p = c.args.storage.now in
     let t = c.loop-task.storage in
-    let top = c.args.top in
+    let top = c.args.tree.now.top in
     let q = c.args.subpool in
     let x = c.in-Some.task in
     let w = c.loop-task.invariant in
@@ -30,7 +30,7 @@ pub loop-task-preserved : goal.loop-task-preserved
 loop-task-preserved c =
     let p = c.args.storage.now in
     let t = c.loop-task.storage in
-    let top = c.args.top in
+    let top = c.args.tree.now.top in
     let q = c.args.subpool in
     let x = c.in-Some.task in
     let w = c.loop-task.invariant in
@@ -42,4 +42,4 @@ loop-task-preserved c =
     c.push_unseen.new.storage c.push_unseen.new.builder c.in-Some.ensures.place c.push_unseen.ensures.builds c.in_ok-push_unseen.ensures.ok
 
 pub push_unseen-requires-clause-tree : goal.push_unseen-requires-clause-tree
-push_unseen-requires-clause-tree c = still c.args.parents.now.of _ _ (c.loop-task.invariant.leads.builds.keeps.shows) c.requires.tree
+push_unseen-requires-clause-tree c = still c.args.tree.now.parents.of _ _ (c.loop-task.invariant.leads.builds.keeps.shows) c.requires.tree

@@ -11,7 +11,7 @@ use Rattle.task_plans.proofs.end.push_unseeing.Given as goal
 abbrev pub invariant-loop-task : goal.invariant-loop-task
 invariant-loop-task l =
     let m = state_of l.fn.storage in
-    SharersLead (λ tasks. map (unshared l.subpool) (unseeing_among m l.top l.subpool tasks)) l.subpool (sharers m.subpools.sight l.subpool.number l.subpool.owner) l.fn.storage l.fn.builder l.storage l.builder l.place
+    SharersLead (λ tasks. map (unshared l.subpool) (unseeing_among m l.tree.top l.subpool tasks)) l.subpool (sharers m.subpools.sight l.subpool.number l.subpool.owner) l.fn.storage l.fn.builder l.storage l.builder l.place
 
 abbrev pub decreases-loop-task : goal.decreases-loop-task
 decreases-loop-task l = length (sharers_left l.storage.elements l.storage.subpools l.place l.subpool)

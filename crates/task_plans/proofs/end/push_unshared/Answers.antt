@@ -15,7 +15,7 @@ pub loop-subpool-smaller : goal.loop-subpool-smaller
 loop-subpool-smaller c =
     let p = c.args.storage.now in
     let t = c.loop-subpool.storage in
-    let top = c.args.top in
+    let top = c.args.tree.now.top in
     let x = c.in-Some.subpool in
     let w = c.loop-subpool.invariant in
     let h : StorageState → List Subpool → List Record = λ m ps. flat_map (λ q. map (unshared q) (unseeing m.subpools (ended_below m.tasks.parents top) q)) ps in
@@ -27,7 +27,7 @@ pub loop-subpool-preserved : goal.loop-subpool-preserved
 loop-subpool-preserved c =
     let p = c.args.storage.now in
     let t = c.loop-subpool.storage in
-    let top = c.args.top in
+    let top = c.args.tree.now.top in
     let x = c.in-Some.subpool in
     let w = c.loop-subpool.invariant in
     let h : StorageState → List Subpool → List Record = λ m ps. flat_map (λ q. map (unshared q) (unseeing m.subpools (ended_below m.tasks.parents top) q)) ps in
@@ -36,4 +36,4 @@ loop-subpool-preserved c =
     walk_more (h (state_of p)) p c.args.builder.now t c.loop-subpool.builder c.loop-subpool.place w (let m = state_of p in all_first (λ q. map (unshared q) (unseeing m.subpools (ended_below m.tasks.parents top) q))) c.in-Some.next x c.in-Some.ensures.next (added (state_of t)) its c.push_unseeing.new.storage c.push_unseeing.new.builder c.in-Some.ensures.place c.push_unseeing.ensures.builds c.in_ok-push_unseeing.ensures.ok
 
 pub push_unseeing-requires-clause-tree : goal.push_unseeing-requires-clause-tree
-push_unseeing-requires-clause-tree c = still c.args.parents.now.of _ _ (c.loop-subpool.invariant.leads.builds.keeps.shows) c.requires.tree
+push_unseeing-requires-clause-tree c = still c.args.tree.now.parents.of _ _ (c.loop-subpool.invariant.leads.builds.keeps.shows) c.requires.tree

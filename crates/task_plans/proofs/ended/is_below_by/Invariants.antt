@@ -6,4 +6,4 @@ use Rattle.task_plans.proofs.ended.is_below_by.Given as goal
 abbrev pub invariant-loop : goal.invariant-loop
 invariant-loop l =
     let parents = (state_of l.storage).tasks.parents in
-    is_below_by parents l.top (l.steps - l.counter) l.above ≡ is_below_by parents l.top l.steps l.task
+    is_below_by parents l.tree.top (l.steps - l.counter) l.above ≡ is_below_by parents l.tree.top l.steps l.task

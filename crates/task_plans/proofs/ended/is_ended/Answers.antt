@@ -14,32 +14,32 @@ returns-then-task-eq0 c =
       | then-task-eq0-via-then-task-eq0 w ↦ inl (omega (arith, w.if-task-eq0.true))
       | then-task-eq0-via-else-task-eq0+then-task-ge-TASKS_END w ↦ inr (omega (arith, w.if-task-ge-TASKS_END.true))
     ] in
-    sym (none_in_ended parents c.args.top c.args.task outside)
+    sym (none_in_ended parents c.args.tree.now.top c.args.task outside)
 
-pub returns-then-above-top : goal.returns-then-above-top
-returns-then-above-top c =
+pub returns-then-above-tree : goal.returns-then-above-tree
+returns-then-above-tree c =
     let parents = (state_of c.args.storage.now).tasks.parents in
-    sym (is_in_ended parents c.args.top c.args.task (omega (arith, c.if-task-eq0.false)) (omega (arith, c.if-task-ge-TASKS_END.false))
+    sym (is_in_ended parents c.args.tree.now.top c.args.task (omega (arith, c.if-task-eq0.false)) (omega (arith, c.if-task-ge-TASKS_END.false))
     ∙ sym c.loop.invariant
-    ∙ climb_here parents c.args.top (63 - c.loop.counter) c.loop.above (eq-eqb c.loop.above c.args.top c.if-above-top.true))
+    ∙ climb_here parents c.args.tree.now.top (63 - c.loop.counter) c.loop.above (eq-eqb c.loop.above c.args.tree.now.top c.if-above-tree.true))
 
 pub returns-in-None : goal.returns-in-None
 returns-in-None c =
     let parents = (state_of c.args.storage.now).tasks.parents in
-    sym (is_in_ended parents c.args.top c.args.task (omega (arith, c.if-task-eq0.false)) (omega (arith, c.if-task-ge-TASKS_END.false))
+    sym (is_in_ended parents c.args.tree.now.top c.args.task (omega (arith, c.if-task-eq0.false)) (omega (arith, c.if-task-ge-TASKS_END.false))
     ∙ sym c.loop.invariant
-    ∙ climb_stops parents c.args.top (63 - c.loop.counter) c.loop.above (ne_eqb c.loop.above c.args.top c.if-above-top.false) (sym c.in-None.ensures))
+    ∙ climb_stops parents c.args.tree.now.top (63 - c.loop.counter) c.loop.above (ne_eqb c.loop.above c.args.tree.now.top c.if-above-tree.false) (sym c.in-None.ensures))
 
 pub loop-preserved : goal.loop-preserved
 loop-preserved c =
-    climb_up (state_of c.args.storage.now).tasks.parents c.args.top 63 c.loop.counter c.loop.above c.in-Some.parent c.loop-test.true
-    (ne_eqb c.loop.above c.args.top c.if-above-top.false) (sym c.in-Some.ensures)
+    climb_up (state_of c.args.storage.now).tasks.parents c.args.tree.now.top 63 c.loop.counter c.loop.above c.in-Some.parent c.loop-test.true
+    (ne_eqb c.loop.above c.args.tree.now.top c.if-above-tree.false) (sym c.in-Some.ensures)
     ∙ c.loop.invariant
 
 pub returns : goal.returns
 returns c =
     let parents = (state_of c.args.storage.now).tasks.parents in
     let last : 63 - c.loop.counter ≡ 0 = omega (arith, c.loop-test.false) in
-    sym (is_in_ended parents c.args.top c.args.task (omega (arith, c.if-task-eq0.false)) (omega (arith, c.if-task-ge-TASKS_END.false))
+    sym (is_in_ended parents c.args.tree.now.top c.args.task (omega (arith, c.if-task-eq0.false)) (omega (arith, c.if-task-ge-TASKS_END.false))
     ∙ sym c.loop.invariant
-    ∙ ap (λ n. climbs parents n c.args.top c.loop.above) last)
+    ∙ ap (λ n. climbs parents n c.args.tree.now.top c.loop.above) last)

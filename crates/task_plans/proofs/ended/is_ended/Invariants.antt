@@ -6,4 +6,4 @@ use Rattle.task_plans.proofs.ended.is_ended.Given as goal
 abbrev pub invariant-loop : goal.invariant-loop
 invariant-loop l =
     let parents = (state_of l.storage).tasks.parents in
-    climbs parents (63 - l.counter) l.top l.above ≡ climbs parents 63 l.top l.task
+    climbs parents (63 - l.counter) l.tree.top l.above ≡ climbs parents 63 l.tree.top l.task

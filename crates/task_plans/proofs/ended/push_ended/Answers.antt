@@ -12,7 +12,7 @@ use Rattle.task_plans.proofs.ended.push_ended.Goals as goal
 
 pub loop-done-init : goal.loop-done-init
 unfolding ended_below
-loop-done-init c = leads-none c.args.storage.now c.args.builder.now (flat_map (ended_records (state_of c.args.storage.now)) (ended_below (state_of c.args.storage.now).tasks.parents c.args.top)) c.requires.building
+loop-done-init c = leads-none c.args.storage.now c.args.builder.now (flat_map (ended_records (state_of c.args.storage.now)) (ended_below (state_of c.args.storage.now).tasks.parents c.args.tree.now.top)) c.requires.building
 
 pub returns-in_err-push_ended_level-clause-builds : goal.returns-in_err-push_ended_level-clause-builds
 returns-in_err-push_ended_level-clause-builds c = builds-follow _ _ _ _ _ _ c.loop-done.invariant.builds c.push_ended_level.ensures.builds
@@ -22,7 +22,7 @@ returns-in_err-push_ended_level-clause-needless c = λ room.
     let p = c.args.storage.now in
     let t = c.loop-done.storage in
     let m = state_of p in
-    let top = c.args.top in
+    let top = c.args.tree.now.top in
     let done = c.loop-done.done in
     let w = c.loop-done.invariant in
     let level : StorageState → List Record = λ x. flat_map (ended_records x) (ended_level x.tasks.parents top (63 - done)) in
@@ -39,7 +39,7 @@ loop-done-preserved c =
     let p = c.args.storage.now in
     let t = c.loop-done.storage in
     let m = state_of p in
-    let top = c.args.top in
+    let top = c.args.tree.now.top in
     let done = c.loop-done.done in
     let w = c.loop-done.invariant in
     let level : StorageState → List Record = λ x. flat_map (ended_records x) (ended_level x.tasks.parents top (63 - done)) in
@@ -58,7 +58,7 @@ returns-clause-ok c =
     let p = c.args.storage.now in
     let t = c.loop-done.storage in
     let m = state_of p in
-    let top = c.args.top in
+    let top = c.args.tree.now.top in
     let done = c.loop-done.done in
     let w = c.loop-done.invariant in
     let none : 63 - done ≡ 0 = omega (arith, c.loop-done-test.false) in
@@ -75,7 +75,7 @@ returns-clause-needless c = λ room.
     let p = c.args.storage.now in
     let t = c.loop-done.storage in
     let m = state_of p in
-    let top = c.args.top in
+    let top = c.args.tree.now.top in
     let done = c.loop-done.done in
     let w = c.loop-done.invariant in
     let none : 63 - done ≡ 0 = omega (arith, c.loop-done-test.false) in

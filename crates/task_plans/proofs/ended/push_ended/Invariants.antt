@@ -8,5 +8,5 @@ use Rattle.task_plans.proofs.ended.push_ended.Given as goal
 abbrev pub invariant-loop-done : goal.invariant-loop-done
 invariant-loop-done l =
     let m = state_of l.fn.storage in
-    Leads l.fn.storage l.fn.builder (flat_map (ended_records m) (ended_below m.tasks.parents l.top)) l.storage l.builder
-    (flat_map (ended_records m) (ended_from m.tasks.parents l.top (63 - l.done)))
+    Leads l.fn.storage l.fn.builder (flat_map (ended_records m) (ended_below m.tasks.parents l.tree.top)) l.storage l.builder
+    (flat_map (ended_records m) (ended_from m.tasks.parents l.tree.top (63 - l.done)))

@@ -15,5 +15,5 @@ returns-then-is_below_by-clause-ok c =
     let done = c.push_ended_task in
     let P : List Record → Type 0 = λ rs. OnOk done.result (Pushes c.args.storage.now c.args.builder.now rs done.new.storage done.new.builder) in
     subst P
-    (sym (ap (flat_map (ended_records m)) (passes_first (is_below_by m.tasks.parents c.args.top c.args.steps) task [] (sym c.is_below_by.ensures ∙ c.if-is_below_by.true)) ∙ append-nil (ended_records m task)))
+    (sym (ap (flat_map (ended_records m)) (passes_first (is_below_by m.tasks.parents c.args.tree.now.top c.args.steps) task [] (sym c.is_below_by.ensures ∙ c.if-is_below_by.true)) ∙ append-nil (ended_records m task)))
     done.ensures.ok

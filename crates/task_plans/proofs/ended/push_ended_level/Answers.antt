@@ -20,11 +20,11 @@ returns-in_err-push_ended_at-clause-needless c = λ room.
     let t = c.loop-task.storage in
     let task = c.loop-task.task in
     let w = c.loop-task.invariant in
-    let each : StorageState → List ℕ → List Record = λ m ts. flat_map (ended_records m) (filter (is_below_by m.tasks.parents c.args.top c.args.steps) ts) in
+    let each : StorageState → List ℕ → List Record = λ m ts. flat_map (ended_records m) (filter (is_below_by m.tasks.parents c.args.tree.now.top c.args.steps) ts) in
     let later = range_with_len (task + 1) (65 - (task + 1)) in
     let m = state_of p in
     let is : each m (range_with_len task (65 - task)) ≡ each (state_of t) (task ∷ []) ++ each m later =
-    ap (each m) (run_next task 65 c.loop-task-test.true) ∙ passed_first (is_below_by m.tasks.parents c.args.top c.args.steps) (ended_records m) task later
+    ap (each m) (run_next task 65 c.loop-task-test.true) ∙ passed_first (is_below_by m.tasks.parents c.args.tree.now.top c.args.steps) (ended_records m) task later
     ∙ ap (λ (x : StorageState). each x (task ∷ []) ++ each m later) (sym w.builds.keeps.shows) in
     let r = leads-room _ _ _ _ _ _ w room in
     absurd (cc (c.in_err-push_ended_at.ensures.needless (omega (arith, r, ap length is, length-append (each (state_of t) (task ∷ [])) (each m later)))))
@@ -35,13 +35,13 @@ loop-task-preserved c =
     let t = c.loop-task.storage in
     let task = c.loop-task.task in
     let w = c.loop-task.invariant in
-    let each : StorageState → List ℕ → List Record = λ m ts. flat_map (ended_records m) (filter (is_below_by m.tasks.parents c.args.top c.args.steps) ts) in
+    let each : StorageState → List ℕ → List Record = λ m ts. flat_map (ended_records m) (filter (is_below_by m.tasks.parents c.args.tree.now.top c.args.steps) ts) in
     let later = range_with_len (task + 1) (65 - (task + 1)) in
     let m = state_of p in
     let is : each m (range_with_len task (65 - task)) ≡ each (state_of t) (task ∷ []) ++ each m later =
-    ap (each m) (run_next task 65 c.loop-task-test.true) ∙ passed_first (is_below_by m.tasks.parents c.args.top c.args.steps) (ended_records m) task later
+    ap (each m) (run_next task 65 c.loop-task-test.true) ∙ passed_first (is_below_by m.tasks.parents c.args.tree.now.top c.args.steps) (ended_records m) task later
     ∙ ap (λ (x : StorageState). each x (task ∷ []) ++ each m later) (sym w.builds.keeps.shows) in
     leads-more _ _ _ _ _ _ w _ _ (each (state_of t) (task ∷ [])) (each m later) is c.push_ended_at.ensures.builds c.in_ok-push_ended_at.ensures.ok
 
 pub push_ended_at-requires-clause-tree : goal.push_ended_at-requires-clause-tree
-push_ended_at-requires-clause-tree c = still c.args.parents.now.of _ _ (c.loop-task.invariant.builds.keeps.shows) c.requires.tree
+push_ended_at-requires-clause-tree c = still c.args.tree.now.parents.of _ _ (c.loop-task.invariant.builds.keeps.shows) c.requires.tree

@@ -12,7 +12,7 @@ use Rattle.task_plans.proofs.passing.push_gifts.Goals as goal
 pub loop-k-preserved : goal.loop-k-preserved
 loop-k-preserved c =
     let p = c.args.storage.now in
-    let xs = c.args.numbers.now.items in
+    let xs = c.args.given.now.items in
     let k = c.loop-k.k in
     let each : StorageState → ℕ → List Record = λ m. gift_records m c.args.task in
     let P : List ℕ → Type 0 = λ ys. Pushes c.loop-k.storage c.loop-k.builder (each (state_of c.loop-k.storage) (get_or ys k 0)) c.push_gift.new.storage c.push_gift.new.builder in

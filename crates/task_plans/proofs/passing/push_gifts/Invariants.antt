@@ -8,4 +8,4 @@ use Rattle.task_plans.proofs.passing.push_gifts.Given as goal
 abbrev pub invariant-loop-k : goal.invariant-loop-k
 invariant-loop-k l =
     let each = gift_records (state_of l.fn.storage) l.task in
-    Leads l.fn.storage l.fn.builder (flat_map each l.numbers.items) l.storage l.builder (flat_map each (drop l.k l.numbers.items))
+    Leads l.fn.storage l.fn.builder (flat_map each l.given.items) l.storage l.builder (flat_map each (drop l.k l.given.items))

@@ -37,11 +37,11 @@ returns-in_err-push_gifts-clause-builds c = builds-follow _ _ _ _ _ _ (builds-fo
 pub returns-in_err-push_shares-clause-builds : goal.returns-in_err-push_shares-clause-builds
 returns-in_err-push_shares-clause-builds c = builds-follow _ _ _ _ _ _ (builds-follow _ _ _ _ _ _ (builds-follow _ _ _ _ _ _ c.push.ensures.builds c.push_zero.ensures.builds) c.push_gifts.ensures.builds) c.push_shares.ensures.builds
 
-pub returns-in_err-push_register-clause-builds : goal.returns-in_err-push_register-clause-builds
-returns-in_err-push_register-clause-builds c = builds-follow _ _ _ _ _ _ (builds-follow _ _ _ _ _ _ (builds-follow _ _ _ _ _ _ (builds-follow _ _ _ _ _ _ c.push.ensures.builds c.push_zero.ensures.builds) c.push_gifts.ensures.builds) c.push_shares.ensures.builds) c.push_register.ensures.builds
+pub returns-in_err-push-2-clause-builds : goal.returns-in_err-push-2-clause-builds
+returns-in_err-push-2-clause-builds c = builds-follow _ _ _ _ _ _ (builds-follow _ _ _ _ _ _ (builds-follow _ _ _ _ _ _ (builds-follow _ _ _ _ _ _ c.push.ensures.builds c.push_zero.ensures.builds) c.push_gifts.ensures.builds) c.push_shares.ensures.builds) c.push-2.ensures.builds
 
-pub returns-in_err-push_register-2-clause-builds : goal.returns-in_err-push_register-2-clause-builds
-returns-in_err-push_register-2-clause-builds c = builds-follow _ _ _ _ _ _ (builds-follow _ _ _ _ _ _ (builds-follow _ _ _ _ _ _ (builds-follow _ _ _ _ _ _ (builds-follow _ _ _ _ _ _ c.push.ensures.builds c.push_zero.ensures.builds) c.push_gifts.ensures.builds) c.push_shares.ensures.builds) c.push_register.ensures.builds) c.push_register-2.ensures.builds
+pub returns-in_err-push-3-clause-builds : goal.returns-in_err-push-3-clause-builds
+returns-in_err-push-3-clause-builds c = builds-follow _ _ _ _ _ _ (builds-follow _ _ _ _ _ _ (builds-follow _ _ _ _ _ _ (builds-follow _ _ _ _ _ _ (builds-follow _ _ _ _ _ _ c.push.ensures.builds c.push_zero.ensures.builds) c.push_gifts.ensures.builds) c.push_shares.ensures.builds) c.push-2.ensures.builds) c.push-3.ensures.builds
 
 pub returns-in_err-push_gifts-clause-needless : goal.returns-in_err-push_gifts-clause-needless
 returns-in_err-push_gifts-clause-needless c = λ h.
@@ -62,28 +62,28 @@ returns-in_err-push_shares-clause-needless c = λ h.
     let together = four_together (zero_records m task c.args.self.attach.shares_zero) (flat_map (gift_records m task) (numbers m c.args.self.attach.given)) (flat_map (share_records m task) (numbers m c.args.self.attach.shared)) (register_records m ((15, 0) ∷ (1, task) ∷ [])) in
     absurd (cc (c.in_err-push_shares.ensures.needless (omega (arith, together, h, zero, gifts, shares, c.in_ok-push.ensures.ok.spare, c.in_ok-push_zero.ensures.ok.spare, c.in_ok-push_gifts.ensures.ok.spare))))
 
-pub returns-in_err-push_register-clause-needless : goal.returns-in_err-push_register-clause-needless
-returns-in_err-push_register-clause-needless c = λ h.
+pub returns-in_err-push-2-clause-needless : goal.returns-in_err-push-2-clause-needless
+returns-in_err-push-2-clause-needless c = λ h.
     let m : StorageState = state_of c.args.storage.now in
     let zero : length (zero_records (state_of c.push.new.storage) c.args.self.task c.args.self.attach.shares_zero) ≡ length (zero_records m c.args.self.task c.args.self.attach.shares_zero) = ap (λ (x : StorageState). length (zero_records x c.args.self.task c.args.self.attach.shares_zero)) c.push.ensures.builds.keeps.shows in
     let gifts : length (flat_map (gift_records (state_of c.push_zero.new.storage) c.args.self.task) c.numbers_or_none-given.result.items) ≡ length (flat_map (gift_records m c.args.self.task) (numbers m c.args.self.attach.given)) = (λ i. length (flat_map (gift_records ((builds-follow _ _ _ _ _ _ c.push.ensures.builds c.push_zero.ensures.builds).keeps.shows i) c.args.self.task) (c.numbers_or_none-given.ensures i))) in
     let shares : length (flat_map (share_records (state_of c.push_gifts.new.storage) c.args.self.task) c.numbers_or_none-shared.result.items) ≡ length (flat_map (share_records m c.args.self.task) (numbers m c.args.self.attach.shared)) = (λ i. length (flat_map (share_records ((builds-follow _ _ _ _ _ _ (builds-follow _ _ _ _ _ _ c.push.ensures.builds c.push_zero.ensures.builds) c.push_gifts.ensures.builds).keeps.shows i) c.args.self.task) (c.numbers_or_none-shared.ensures i))) in
     let task = c.args.self.task in
     let together = four_together (zero_records m task c.args.self.attach.shares_zero) (flat_map (gift_records m task) (numbers m c.args.self.attach.given)) (flat_map (share_records m task) (numbers m c.args.self.attach.shared)) (register_records m ((15, 0) ∷ (1, task) ∷ [])) in
-    absurd (cc (c.in_err-push_register.ensures.needless (omega (arith, together, h, zero, gifts, shares, c.in_ok-push.ensures.ok.spare, c.in_ok-push_zero.ensures.ok.spare, c.in_ok-push_gifts.ensures.ok.spare, c.in_ok-push_shares.ensures.ok.spare))))
+    absurd (cc (c.in_err-push-2.ensures.needless (omega (arith, together, h, zero, gifts, shares, c.in_ok-push.ensures.ok.spare, c.in_ok-push_zero.ensures.ok.spare, c.in_ok-push_gifts.ensures.ok.spare, c.in_ok-push_shares.ensures.ok.spare))))
 
-pub returns-in_err-push_register-2-clause-needless : goal.returns-in_err-push_register-2-clause-needless
-returns-in_err-push_register-2-clause-needless c = λ h.
+pub returns-in_err-push-3-clause-needless : goal.returns-in_err-push-3-clause-needless
+returns-in_err-push-3-clause-needless c = λ h.
     let m : StorageState = state_of c.args.storage.now in
     let zero : length (zero_records (state_of c.push.new.storage) c.args.self.task c.args.self.attach.shares_zero) ≡ length (zero_records m c.args.self.task c.args.self.attach.shares_zero) = ap (λ (x : StorageState). length (zero_records x c.args.self.task c.args.self.attach.shares_zero)) c.push.ensures.builds.keeps.shows in
     let gifts : length (flat_map (gift_records (state_of c.push_zero.new.storage) c.args.self.task) c.numbers_or_none-given.result.items) ≡ length (flat_map (gift_records m c.args.self.task) (numbers m c.args.self.attach.given)) = (λ i. length (flat_map (gift_records ((builds-follow _ _ _ _ _ _ c.push.ensures.builds c.push_zero.ensures.builds).keeps.shows i) c.args.self.task) (c.numbers_or_none-given.ensures i))) in
     let shares : length (flat_map (share_records (state_of c.push_gifts.new.storage) c.args.self.task) c.numbers_or_none-shared.result.items) ≡ length (flat_map (share_records m c.args.self.task) (numbers m c.args.self.attach.shared)) = (λ i. length (flat_map (share_records ((builds-follow _ _ _ _ _ _ (builds-follow _ _ _ _ _ _ c.push.ensures.builds c.push_zero.ensures.builds) c.push_gifts.ensures.builds).keeps.shows i) c.args.self.task) (c.numbers_or_none-shared.ensures i))) in
     let task = c.args.self.task in
     let together = four_together (zero_records m task c.args.self.attach.shares_zero) (flat_map (gift_records m task) (numbers m c.args.self.attach.given)) (flat_map (share_records m task) (numbers m c.args.self.attach.shared)) (register_records m ((15, 0) ∷ (1, task) ∷ [])) in
-    absurd (cc (c.in_err-push_register-2.ensures.needless (omega (arith, together, h, zero, gifts, shares, c.in_ok-push.ensures.ok.spare, c.in_ok-push_zero.ensures.ok.spare, c.in_ok-push_gifts.ensures.ok.spare, c.in_ok-push_shares.ensures.ok.spare, c.in_ok-push_register.ensures.ok.spare))))
+    absurd (cc (c.in_err-push-3.ensures.needless (omega (arith, together, h, zero, gifts, shares, c.in_ok-push.ensures.ok.spare, c.in_ok-push_zero.ensures.ok.spare, c.in_ok-push_gifts.ensures.ok.spare, c.in_ok-push_shares.ensures.ok.spare, c.in_ok-push-2.ensures.ok.spare))))
 
 pub returns-clause-builds : goal.returns-clause-builds
-returns-clause-builds c = builds-follow _ _ _ _ _ _ (builds-follow _ _ _ _ _ _ (builds-follow _ _ _ _ _ _ (builds-follow _ _ _ _ _ _ (builds-follow _ _ _ _ _ _ c.push.ensures.builds c.push_zero.ensures.builds) c.push_gifts.ensures.builds) c.push_shares.ensures.builds) c.push_register.ensures.builds) c.push_register-2.ensures.builds
+returns-clause-builds c = builds-follow _ _ _ _ _ _ (builds-follow _ _ _ _ _ _ (builds-follow _ _ _ _ _ _ (builds-follow _ _ _ _ _ _ (builds-follow _ _ _ _ _ _ c.push.ensures.builds c.push_zero.ensures.builds) c.push_gifts.ensures.builds) c.push_shares.ensures.builds) c.push-2.ensures.builds) c.push-3.ensures.builds
 
 pub returns-clause-ok : goal.returns-clause-ok
 returns-clause-ok c =
@@ -98,12 +98,14 @@ returns-clause-ok c =
     let shares : flat_map (share_records (state_of c.push_gifts.new.storage) task) c.numbers_or_none-shared.result.items ≡ flat_map (share_records m task) (numbers m c.args.self.attach.shared) =
     (λ i. flat_map (share_records ((builds-follow _ _ _ _ _ _ (builds-follow _ _ _ _ _ _ c.push.ensures.builds c.push_zero.ensures.builds) c.push_gifts.ensures.builds).keeps.shows i) task) (c.numbers_or_none-shared.ensures i)) in
     let register : ℕ → ℕ → ℕ → Record = λ t r w. Register (record { task = t; register = r; word = w }) in
+    let code : c.set_register.result ≡ register m.tasks.current 15 0 = c.set_register.ensures ∙ ap (λ (t : ℕ). register t 15 0) here in
+    let number : c.set_register-2.result ≡ register m.tasks.current 1 task = c.set_register-2.ensures ∙ (λ i. register (here i) 1 (c.from.ensures i)) in
     let all =
     pushes-follow _ _ _ _ _ _ _ _ (pushes-follow _ _ _ _ _ _ _ _ (pushes-follow _ _ _ _ _ _ _ _ (pushes-follow _ _ _ _ _ _ _ _ (pushes-follow _ _ _ _ _ _ _ _
-    c.in_ok-push.ensures.ok c.in_ok-push_zero.ensures.ok) c.in_ok-push_gifts.ensures.ok) c.in_ok-push_shares.ensures.ok) c.in_ok-push_register.ensures.ok) c.in_ok-push_register-2.ensures.ok in
-    let P : List Record → Type 0 = λ rs. Pushes p c.args.builder.now rs c.push_register-2.new.storage c.push_register-2.new.builder in
+    c.in_ok-push.ensures.ok c.in_ok-push_zero.ensures.ok) c.in_ok-push_gifts.ensures.ok) c.in_ok-push_shares.ensures.ok) c.in_ok-push-2.ensures.ok) c.in_ok-push-3.ensures.ok in
+    let P : List Record → Type 0 = λ rs. Pushes p c.args.builder.now rs c.push-3.new.storage c.push-3.new.self in
     subst P
-    ((λ i. ((((Task (record { task = task; parent = here i; present = true }) ∷ zero i) ++ gifts i) ++ shares i) ++ register (here i) 15 0 ∷ []) ++ register (here i) 1 (c.from.ensures i) ∷ [])
+    ((λ i. ((((Task (record { task = task; parent = here i; present = true }) ∷ zero i) ++ gifts i) ++ shares i) ++ code i ∷ []) ++ number i ∷ [])
     ∙ append_assoc (((Task (record { task = task; parent = m.tasks.current; present = true }) ∷ zero_records m task c.args.self.attach.shares_zero)
     ++ flat_map (gift_records m task) (numbers m c.args.self.attach.given)) ++ flat_map (share_records m task) (numbers m c.args.self.attach.shared)) (register m.tasks.current 15 0 ∷ []) (register m.tasks.current 1 task ∷ []))
     all

@@ -21,7 +21,7 @@ returns-in_err-push_ended-clause-builds c = builds-follow _ _ _ _ _ _ (builds-fo
 
 pub returns-in-Returned-clause-builds : goal.returns-in-Returned-clause-builds
 returns-in-Returned-clause-builds c =
-    builds-follow _ _ _ _ _ _ (builds-follow _ _ _ _ _ _ (builds-follow _ _ _ _ _ _ c.push_unshared.ensures.builds c.push_removed.ensures.builds) c.push_ended.ensures.builds) c.push_register.ensures.builds
+    builds-follow _ _ _ _ _ _ (builds-follow _ _ _ _ _ _ (builds-follow _ _ _ _ _ _ c.push_unshared.ensures.builds c.push_removed.ensures.builds) c.push_ended.ensures.builds) c.push.ensures.builds
 
 pub returns-in-Returned-clause-ok : goal.returns-in-Returned-clause-ok
 returns-in-Returned-clause-ok c =
@@ -40,11 +40,12 @@ returns-in-Returned-clause-ok c =
     let three : Pushes p a base c.push_ended.new.storage c.push_ended.new.builder =
     subst P (λ i. unseen ++ gone (one.keeps.shows i) ++ tasks (two.keeps.shows i))
     (pushes-follow _ _ _ _ _ _ _ _ (pushes-follow _ _ _ _ _ _ _ _ c.in_ok-push_unshared.ensures.ok c.in_ok-push_removed.ensures.ok) c.in_ok-push_ended.ensures.ok) in
-    let u = c.push_register.new.storage in
-    let d = c.push_register.new.builder in
-    let Q : Reply → Type 0 = λ reply. OnOk c.push_register.result (Pushes p a (base ++ register_records (with_turn m next) (end_registers reply)) u d) in
+    let u = c.push.new.storage in
+    let d = c.push.new.self in
+    let R : Record → Type 0 = λ x. OnOk c.push.result (Pushes c.push_ended.new.storage c.push_ended.new.builder (x ∷ []) u d) in
+    let Q : Reply → Type 0 = λ reply. OnOk c.push.result (Pushes p a (base ++ register_records (with_turn m next) (end_registers reply)) u d) in
     subst Q (sym c.in-Returned.is)
-    (ok_follows p c.push_ended.new.storage u a c.push_ended.new.builder d base (Register (record { task = next; register = 15; word = c.in-Returned.code }) ∷ []) c.push_register.result three c.push_register.ensures.ok)
+    (ok_follows p c.push_ended.new.storage u a c.push_ended.new.builder d base (Register (record { task = next; register = 15; word = c.in-Returned.code }) ∷ []) c.push.result three (subst R c.set_register.ensures c.push.ensures.ok))
 
 pub returns-in_default : goal.returns-in_default
 returns-in_default c =
