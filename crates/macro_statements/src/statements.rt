@@ -165,12 +165,13 @@ pub fn head_of(card: &[u8]) -> (Head, &[u8])
     ensures within { length result.1.now ≤ length card.now }
 {
     let from = from_operation(card);
-    let operation = operation_of(word(from));
+    let size = word_len(from);
+    let operation = operation_of(&from[..size]);
     let head = Head {
         misplaced: is_misplaced(card),
         operation,
     };
-    let rest = operands_in(behind_of(operation), after_blanks(after_word(from)));
+    let rest = operands_in(behind_of(operation), after_blanks(&from[size..]));
     (head, rest)
 }
 

@@ -1,5 +1,6 @@
 pub mod Above
 mod ClassTable
+mod DigitTable
 mod Classes
 pub mod Split
 pub mod Names

@@ -1,7 +1,7 @@
 //! What POKE stores and how much PEEK shows, as operands spell it.
 
-ghost use Rattle.std.specs.Prelude.{◌≡◌, ◌↔◌, ◌≤◌, ◌/◌, ◌%◌, IfSome, IsTrue, drop, is_some, length};
-ghost use Rattle.std.specs.Char.{is_digit};
+ghost use Rattle.std.specs.Prelude.{◌≡◌, ◌↔◌, ◌≤◌, ◌/◌, ◌%◌, IfSome, IsTrue, drop, is_some, length, min};
+ghost use Rattle.std.specs.Char.{digit_value, is_digit};
 ghost use Rattle.std.specs.List.{list_all};
 ghost use Rattle.std.specs.Option.{option_map};
 ghost use Rattle.operand_texts.specs.Written.{written_in, stored_in, IsValue, IsStored};
@@ -33,13 +33,35 @@ impl Content {
     }
 }
 
+// For each byte the value of the hexadecimal digit that it is, or 16, in the five low bits of a letter.
+static DIGITS: [u8; 256] = *b"\
+    PPPPPPPPPPPPPPPPPPPPPPPPPPPPPPPP\
+    PPPPPPPPPPPPPPPP@ABCDEFGHIPPPPPP\
+    PJKLMNOPPPPPPPPPPPPPPPPPPPPPPPPP\
+    PJKLMNOPPPPPPPPPPPPPPPPPPPPPPPPP\
+    PPPPPPPPPPPPPPPPPPPPPPPPPPPPPPPP\
+    PPPPPPPPPPPPPPPPPPPPPPPPPPPPPPPP\
+    PPPPPPPPPPPPPPPPPPPPPPPPPPPPPPPP\
+    PPPPPPPPPPPPPPPPPPPPPPPPPPPPPPPP";
+
+/// The value of a hexadecimal digit, and 16 for any other byte.
+fn digit_or_16(byte: u8) -> u8
+    ensures { result ≡ min (digit_value byte) 16 }
+{
+    DIGITS[usize::from(byte)] & 31
+}
+
 /// The byte that two hexadecimal digits spell.
 fn byte_of(high: u8, low: u8) -> Option<u8>
     ensures { result ≡ byte_of high low }
 {
-    let high = char::from(high).to_digit(16)?;
-    let low = char::from(low).to_digit(16)?;
-    Some((16 * high + low) as u8)
+    let first = digit_or_16(high);
+    let second = digit_or_16(low);
+    if first < 16 && second < 16 {
+        Some(16 * first + second)
+    } else {
+        None
+    }
 }
 
 /// The bytes that pairs of hexadecimal digits spell.
@@ -117,12 +139,17 @@ pub fn content_of(text: &[u8]) -> Option<Content>
     }
 }
 
+/// Whether a byte is a hexadecimal digit.
+fn is_hexadecimal(byte: u8) -> bool
+    ensures { result ≡ is_digit byte 16 }
+{
+    digit_or_16(byte) < 16
+}
+
 fn are_hexadecimal(digits: &[u8]) -> bool
     ensures { result ≡ list_all (λ c. is_digit c 16) digits.now }
 {
-    digits
-        .iter()
-        .all(|digit| char::from(*digit).to_digit(16).is_some())
+    digits.iter().all(|digit| is_hexadecimal(*digit))
 }
 
 /// Whether each pair of digits spells a byte.

@@ -37,7 +37,7 @@ pub(crate) fn is_one_too_many(names: &NameTable, name: Option<&Name>) -> bool
     ensures { result ≡ is_one_too_many (rows_of names.now) (option_map (λ n. n.now.bytes) name.entry) }
 {
     match name {
-        Some(name) => names.word(name).is_none() && names.is_full(),
+        Some(name) => names.is_full() && names.word(name).is_none(),
         None => false,
     }
 }
