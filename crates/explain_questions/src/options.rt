@@ -26,6 +26,16 @@ fn with_flag<'a>(
     with(command, flag)
 }
 
+/// What takes a value; nothing is said of it.
+fn valued<'a>(alloc: Global, name: &'a str, value: &'a str, help: &'a str) -> Arg<'a> {
+    Arg::new(alloc, name).value_name(value).help(help)
+}
+
+/// An argument that is an option of this name.
+fn option<'a>(argument: Arg<'a>, name: &'a str) -> Arg<'a> {
+    argument.long(name)
+}
+
 /// A command with an option that takes a value.
 fn with_option<'a>(
     alloc: Global,
@@ -34,11 +44,7 @@ fn with_option<'a>(
     value: &'a str,
     help: &'a str,
 ) -> Result<Command<'a>, AllocError> {
-    let option = Arg::new(alloc, name)
-        .long(name)
-        .value_name(value)
-        .help(help);
-    with(command, option)
+    with(command, option(valued(alloc, name, value, help), name))
 }
 
 /// A command with a word that stands for itself, by its place.
@@ -49,7 +55,7 @@ fn with_operand<'a>(
     value: &'a str,
     help: &'a str,
 ) -> Result<Command<'a>, AllocError> {
-    with(command, Arg::new(alloc, name).value_name(value).help(help))
+    with(command, valued(alloc, name, value, help))
 }
 
 /// A command with the name of a file, which has to be there.
@@ -61,6 +67,11 @@ fn with_file<'a>(
     with(command, Arg::new(alloc, "FILE").help(help).required(true))
 }
 
+/// A command that says what it's for and, behind its options, how it's used; nothing is said of either.
+fn told<'a>(command: Command<'a>, about: &'a str, after: &'a str) -> Command<'a> {
+    command.about(about).after_help(after)
+}
+
 /// A command of this name, with vsm's options.
 fn command<'a>(
     alloc: Global,
@@ -68,7 +79,7 @@ fn command<'a>(
     about: &'a str,
     after: &'a str,
 ) -> Result<Command<'a>, AllocError> {
-    let command = Command::new(alloc, name).about(about).after_help(after);
+    let command = told(Command::new(alloc, name), about, after);
     with_settings(alloc, command)
 }
 
@@ -125,17 +136,23 @@ fn with_command<'a>(command: Command<'a>, below: Command<'a>) -> Result<Command<
     command.subcommand(below)
 }
 
+/// A command that has commands below it, one of which has to be named, and none of them for help.
+fn parted<'a>(command: Command<'a>) -> Command<'a> {
+    command
+        .subcommand_required(true)
+        .disable_help_subcommand(true)
+}
+
+/// The program's name and version.
+fn named<'a>(alloc: Global) -> Result<Command<'a>, AllocError> {
+    let program = Command::new(alloc, "vsm-explain").version(VERSION);
+    program.bin_name("vsm-explain")
+}
+
 /// The program's name, and what it says of itself.
 fn program<'a>(alloc: Global) -> Result<Command<'a>, AllocError> {
-    let program = Command::new(alloc, "vsm-explain").bin_name("vsm-explain")?;
-    Ok(
-        program
-            .version(VERSION)
-            .about(ABOUT)
-            .after_help(AFTER)
-            .subcommand_required(true)
-            .disable_help_subcommand(true),
-    )
+    let program = named(alloc)?;
+    Ok(parted(told(program, ABOUT, AFTER)))
 }
 
 /// The commands, their options and operands.

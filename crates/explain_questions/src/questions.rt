@@ -25,7 +25,7 @@ const LAST_TASK: u32 = 255;
 const LAST_REGISTER: u32 = 15;
 
 /// What is asked for that lines change.
-#[derive(Clone, Copy, Debug, PartialEq, Eq)]
+#[derive(Clone, Copy)]
 pub enum About {
     /// So many bytes from this address on.
     Bytes { address: u32, count: u32 },
@@ -40,7 +40,7 @@ pub enum About {
 }
 
 /// What is asked of a script.
-#[derive(Clone, Copy, Debug, PartialEq, Eq)]
+#[derive(Clone, Copy)]
 pub enum Question<'a> {
     /// Its listing, or the places of its faults alone.
     List {
@@ -68,7 +68,7 @@ pub enum Question<'a> {
 }
 
 /// A question, with the script of which it's asked and the settings under which that runs.
-#[derive(Clone, Copy, Debug, PartialEq, Eq)]
+#[derive(Clone, Copy)]
 pub struct Asking<'a> {
     pub question: Question<'a>,
     /// `None` for standard input.

@@ -4,7 +4,7 @@ use std::fmt;
 use std::fmt::{Display, Formatter};
 
 /// What is wrong with words that name a command.
-#[derive(Clone, Copy, Debug, PartialEq, Eq)]
+#[derive(Clone, Copy)]
 pub enum WordRefusal<'a> {
     /// `why` has one word, which may be a script without its line.
     NoLine(&'a str),
