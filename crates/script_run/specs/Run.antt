@@ -23,6 +23,12 @@ pub record Runs (settings : Settings) (at_first now : Option (List ℕ)) (g : Ga
   pub took : Took settings given answers s
   pub out : Holds at_first now g (output settings answers)
 
+-- This holds behind a call, whatever the settings, what the writer held at first, and the bytes taken before.
+abbrev pub GoesOn : Option (List ℕ) → Gathered → Session → (Settings → Option (List ℕ) → List ℕ → Type 0) → Type 0
+GoesOn now g s holds =
+    (settings : Settings) (at_first : Option (List ℕ)) (given : List ℕ) → Runs settings at_first now g given s
+    → holds settings at_first given
+
 -- One of these bytes passes a bound, whatever stands behind them; the lines before it are told.
 pub record Passes (settings : Settings) (at_first now : Option (List ℕ)) (g : Gathered) (given : List ℕ) : Type 0 where
   pub answers : List Marked

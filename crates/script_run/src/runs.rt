@@ -3,7 +3,7 @@ ghost use Rattle.std.specs.Prelude.{◌++◌, [], ◌∷◌, ◌<◌, ◌≤◌,
 ghost use Rattle.std.specs.Io.KnownBytes.{IsAtEnd};
 ghost use Rattle.vsm_model.specs.declared.limits.Settings.{Settings};
 ghost use Rattle.text_output.specs.Writing.{IsEmpty};
-ghost use Rattle.script_run.specs.Run.{Runs, Takes, TakesLine, TakesRead, Finishes, Ran};
+ghost use Rattle.script_run.specs.Run.{Runs, GoesOn, Takes, TakesLine, TakesRead, Finishes, Ran};
 
 use crate::faults::RunFault;
 use script_steps::{Bench, LINES, RunTotals, Session, TooLong, before_feed, put_told};
@@ -18,9 +18,8 @@ fn take_feed<W: Write>(
     gathered: &mut Gathered,
     writer: &mut W,
 ) -> Result<(), TooLong>
-    ensures { (settings : Settings) (first : Option (List ℕ)) (given : List ℕ)
-        → Runs settings first (W.contents writer.old) gathered.old given session.old
-        → Takes settings first (W.contents writer.new) gathered.new (given ++ 10 ∷ []) session.new result }
+    ensures { GoesOn (W.contents writer.old) gathered.old session.old (λ settings first given.
+        Takes settings first (W.contents writer.new) gathered.new (given ++ 10 ∷ []) session.new result) }
 {
     if session.lines() >= LINES {
         return Err(TooLong);
@@ -38,9 +37,8 @@ fn take_line<W: Write>(
     rest: &[u8],
 ) -> Result<usize, TooLong>
     requires { 0 < length rest.now }
-    ensures takes { (settings : Settings) (first : Option (List ℕ)) (given : List ℕ)
-        → Runs settings first (W.contents writer.old) gathered.old given session.old
-        → TakesLine settings first (W.contents writer.new) gathered.new given rest.now session.new result }
+    ensures takes { GoesOn (W.contents writer.old) gathered.old session.old (λ settings first given.
+        TakesLine settings first (W.contents writer.new) gathered.new given rest.now session.new result) }
     ensures some { IfOk result (λ n. 0 < n) }
     ensures within { IfOk result (λ n. n ≤ length rest.now) }
 {
@@ -60,9 +58,8 @@ fn take_piece<W: Write>(
     writer: &mut W,
     piece: &[u8],
 ) -> Result<(), TooLong>
-    ensures { (settings : Settings) (first : Option (List ℕ)) (given : List ℕ)
-        → Runs settings first (W.contents writer.old) gathered.old given session.old
-        → Takes settings first (W.contents writer.new) gathered.new (given ++ piece.now) session.new result }
+    ensures { GoesOn (W.contents writer.old) gathered.old session.old (λ settings first given.
+        Takes settings first (W.contents writer.new) gathered.new (given ++ piece.now) session.new result) }
 {
     let mut rest = piece;
     while !rest.is_empty() {
@@ -79,9 +76,8 @@ fn take_read<W: Write>(
     writer: &mut W,
     piece: &[u8],
 ) -> Result<(), RunFault>
-    ensures takes { (settings : Settings) (first : Option (List ℕ)) (given : List ℕ)
-        → Runs settings first (W.contents writer.old) gathered.old given session.old
-        → TakesRead settings first (W.contents writer.new) gathered.new (given ++ piece.now) session.new result }
+    ensures takes { GoesOn (W.contents writer.old) gathered.old session.old (λ settings first given.
+        TakesRead settings first (W.contents writer.new) gathered.new (given ++ piece.now) session.new result) }
     ensures empty { OnOk result (IsEmpty gathered.new) }
 {
     let taken = take_piece(session, gathered, writer, piece);

@@ -8,7 +8,7 @@ ghost use Rattle.script_steps.specs.Answers.{Responds, Tells, told_count, told_r
 ghost use Rattle.bench_core.specs.Machine.{shown_at};
 ghost use Rattle.script_steps.specs.Responses.{reading_response};
 
-use crate::responses::Response;
+use crate::responses::{Response, Told};
 use arrayvec::ArrayVec;
 use bench_core::Bench;
 use macro_reader::{Fault, Fed, Request, Statement, Value};
@@ -89,7 +89,7 @@ fn respond(bench: &mut Bench, request: &Request) -> Response
 }
 
 /// The response to what a line brought, with the number of the statement's first line.
-pub(crate) fn tell(bench: &mut Bench, fed: &Result<Fed, Fault>) -> Option<(u32, Response)>
+pub(crate) fn tell(bench: &mut Bench, fed: &Result<Fed, Fault>) -> Told
     requires { IsValidFed fed.now }
     ensures tells { Tells (settings_in bench.old) (bench_of bench.old) (told_by fed.now) result (bench_of bench.new) }
     ensures settings { settings_in bench.new ≡ settings_in bench.old }
@@ -102,7 +102,7 @@ pub(crate) fn tell(bench: &mut Bench, fed: &Result<Fed, Fault>) -> Option<(u32, 
 }
 
 /// The response to a statement that is open at the end of the script. It leaves a bench as it is.
-pub(crate) fn tell_end(ended: Result<(), Fault>) -> Option<(u32, Response)>
+pub(crate) fn tell_end(ended: Result<(), Fault>) -> Told
     ensures { IsToldAlone (told_at_end ended) result }
 {
     match ended {
@@ -112,7 +112,7 @@ pub(crate) fn tell_end(ended: Result<(), Fault>) -> Option<(u32, Response)>
 }
 
 /// How many lines of output are told: one or none.
-pub(crate) fn told_count(told: &Option<(u32, Response)>) -> u32
+pub(crate) fn told_count(told: &Told) -> u32
     ensures count { result ≡ told_count told.now }
     ensures most { result ≤ 1 }
 {
@@ -120,7 +120,7 @@ pub(crate) fn told_count(told: &Option<(u32, Response)>) -> u32
 }
 
 /// How many of them are refusals.
-pub(crate) fn told_refused(told: &Option<(u32, Response)>) -> u32
+pub(crate) fn told_refused(told: &Told) -> u32
     ensures count { result ≡ told_refused told.now }
     ensures most { result ≤ told_count told.now }
 {

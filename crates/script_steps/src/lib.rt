@@ -12,7 +12,7 @@ mod totals;
 pub use bench_core::{Bench, NewFault, Refusal};
 pub use lines::Ending;
 pub use macro_reader::{FaultKind, Stand};
-pub use responses::Response;
+pub use responses::{Response, Told};
 pub use session::{LINES, Session, TooLong};
 pub use steps::{Step, Watch, before_feed};
 pub use texts::{fault_word, put_behind, put_numbered, put_response, put_told};

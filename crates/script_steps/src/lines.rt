@@ -11,7 +11,7 @@ ghost use Rattle.bench_core.specs.Stands.{IsNew, bench_of, settings_in};
 ghost use Rattle.script_steps.specs.Taken.{Took, TakesBytes, Brings, IsTold, Ended, EndBrings, Counts};
 
 use crate::answers::{tell, tell_end, told_count, told_refused};
-use crate::responses::Response;
+use crate::responses::Told;
 use crate::session::{LINE_BYTES, LINES, Session, TooLong};
 use crate::totals::RunTotals;
 use arrayvec::ArrayVec;
@@ -27,9 +27,9 @@ pub struct Ending {
     /// The bench as the script left it.
     pub bench: Bench,
     /// The answer that a last line without a line feed brought.
-    pub last: Option<(u32, Response)>,
+    pub last: Told,
     /// The fault of a statement that is open at the end.
-    pub open_statement: Option<(u32, Response)>,
+    pub open_statement: Told,
 }
 
 /// Keeps the bytes of a line of which the first 80 are kept.
@@ -60,12 +60,7 @@ fn columns(kept: &[u8], size: u32) -> &[u8]
 }
 
 /// The response to a last line of so many bytes, of which the first 80 are kept: to none where there are no bytes.
-fn take_last(
-    reader: &mut Reader,
-    bench: &mut Bench,
-    kept: &[u8],
-    size: u32,
-) -> Option<(u32, Response)>
+fn take_last(reader: &mut Reader, bench: &mut Bench, kept: &[u8], size: u32) -> Told
     ensures tells { (lines : List Line) (answers : List Answer) (rest : List ℕ) → IsBehind lines answers reader.old
         → size ≡ length rest → kept.now ≡ take 80 rest
         → (more : List Answer) × IsBehind (lines ++ last_line rest) (answers ++ more) reader.new
@@ -118,7 +113,7 @@ impl Session {
     /// statement's first line, from 1.
     ///
     /// Only while fewer than `LINES` lines have ended.
-    pub fn end_line(&mut self) -> Option<(u32, Response)>
+    pub fn end_line(&mut self) -> Told
         requires { self.old.lines < 1048576 }
         ensures { (settings : Settings) (given : List ℕ) (answers : List Marked) → Took settings given answers self.old
             → (more : List Marked) × IsTold settings answers more

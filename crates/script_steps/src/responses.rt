@@ -28,6 +28,9 @@ pub enum Response {
     Fault(FaultKind),
 }
 
+/// A response, with the number of the statement's first line; `None` where a line brings none.
+pub type Told = Option<(u32, Response)>;
+
 impl Response {
     /// Whether it counts as refused: a fault, a refusal or an abend.
     pub fn is_refused(&self) -> bool

@@ -7,7 +7,7 @@ ghost use Rattle.script_steps.specs.Responses.{fault_word, lines_behind, refusal
 ghost use Rattle.script_steps.specs.Responses.{numbered};
 ghost use Rattle.text_output.specs.Writing.{Puts};
 
-use crate::responses::Response;
+use crate::responses::{Response, Told};
 use bench_core::{Bench, Refusal};
 use macro_reader::FaultKind;
 use std::io::Write;
@@ -164,12 +164,7 @@ pub fn put_behind<W: Write>(
 
 /// Puts the line of a response, if there is one, and the lines behind it.
 #[tactic(auto, using(text_output::proofs::Gathering::puts_both))]
-pub fn put_told<W: Write>(
-    gathered: &mut Gathered,
-    writer: &mut W,
-    bench: &Bench,
-    told: &Option<(u32, Response)>,
-)
+pub fn put_told<W: Write>(gathered: &mut Gathered, writer: &mut W, bench: &Bench, told: &Told)
     ensures { Puts (W.contents writer.old) (W.contents writer.new) gathered.old gathered.new
         (told_text (settings_in bench.now) (bench_of bench.now) told.now) }
 {

@@ -1,5 +1,5 @@
 -- The pages that a plan's change comes to assign are just those that the plain machine newly assigns.
-use Rattle.std.proofs.Common.{◌≡◌, ◌<◌, ℕ, true, false, Option, Some, None, refl, arith, sym, ◌∙◌, true≢false}
+use Rattle.std.proofs.Common.{◌≡◌, ℕ, true, Option, Some, None, refl, arith, sym, ◌∙◌, true≢false}
 use Rattle.std.proofs.Props.{props}
 use mathlib.Core.Logic.{∥∥₁_elim}
 use Rattle.vsm_model.specs.declared.limits.Settings.{Settings}

@@ -8,6 +8,7 @@ ghost use Rattle.storage_plans.specs.StorePlans.{store_change, CanBeStored};
 ghost use Rattle.cell_plans.specs.CellPlans.{build_change, CanBeBuilt};
 ghost use Rattle.storage_core.specs.Meaning.{state_in_place, settings_of};
 ghost use Rattle.storage_core.specs.Planned.{IsSpareFor};
+ghost use Rattle.storage_core.specs.Reserved.{IsReserved};
 ghost use Rattle.storage_core.specs.Stays.{Stays};
 
 use crate::storage::Storage;
@@ -22,18 +23,8 @@ impl Storage {
     #[inline(never)]
     pub(crate) fn reserve_store(&mut self, plan: StorePlan) -> Result<Change, AllocError>
         requires { CanBeStored (state_in_place self.old) plan }
-        ensures ok { IfOk result (λ change. Reserves self.old.parts
-            (store_change (state_in_place self.old) plan) change self.new.parts) }
-        ensures frames { IfOk result (λ change. length change.frames ≡ 0) }
-        ensures few { IfOk result (λ change. change.records.count + change.blanks.count ≤ 17) }
-        ensures uses { IfOk result (λ _. self.old.parts.elements.spare ≤ self.new.parts.elements.spare + 17) }
-        ensures live { IfOk result (λ _. live_count self.new.parts.elements
-            ≤ live_count self.old.parts.elements + 17) }
-        ensures made { IfOk result (λ _. MakesElements self.old.parts.elements self.new.parts.elements 17) }
-        ensures made_frames { IfOk result (λ _. MakesFrames self.old.parts.region self.new.parts.region 0) }
-        ensures err { OnErr result (Stays self.old.parts self.new.parts) }
-        ensures needless { 17 ≤ self.old.parts.elements.spare → IsOk result }
-        ensures settings { settings_of self.new ≡ settings_of self.old }
+        ensures { IsReserved self.old (store_change (state_in_place self.old) plan) 17 0
+            (17 ≤ self.old.parts.elements.spare) self.new result }
     {
         let records = block_records(&self.parts, plan.address, plan.bytes.as_slice());
         Change::reserve(&mut self.parts, None, records.as_slice(), 0, NO_PAGES)

@@ -14,16 +14,13 @@ use storage_plans::areas::subpool_for;
 use storage_plans::reasons::{SideReason, obtain_reasons, reasons};
 use vsm_model::{Obtain, Residence, Subpool};
 
+/// What the first side of the line that is looked at has, and what the second has, if it's looked at too.
+pub type Sides = (SideReason, Option<SideReason>);
+
 impl Storage {
     /// What each side of the line that is looked at has for an area of `count` doublewords of the subpool, on a
     /// boundary of `spacing` doublewords: above the line first, where it may be there.
-    pub fn area_reasons(
-        &self,
-        side: Residence,
-        subpool: Subpool,
-        count: u32,
-        spacing: u32,
-    ) -> (SideReason, Option<SideReason>)
+    pub fn area_reasons(&self, side: Residence, subpool: Subpool, count: u32, spacing: u32) -> Sides
         requires { (0 < count) × (count ≤ 2 ^ 29) × (0 < spacing) × (spacing ≤ 512) }
         ensures first { IsReason (settings_of self.now) (state_of self.now) side subpool count spacing result.0 }
         ensures second { IfSome result.1
@@ -36,7 +33,7 @@ impl Storage {
 
     /// Why a request for storage finds an area for its minimum, or none: there is none just where the request wants
     /// storage.
-    pub fn obtain_reasons(&self, o: Obtain) -> (SideReason, Option<SideReason>)
+    pub fn obtain_reasons(&self, o: Obtain) -> Sides
         requires number { o.number ≤ 127 }
         requires some { 0 < minimum o.lengths }
         requires ordered { minimum o.lengths ≤ maximum o.lengths }

@@ -1,3 +1,4 @@
 pub mod Cells
+pub mod Found
 pub mod Totals
 pub mod Lines

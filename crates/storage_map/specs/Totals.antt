@@ -1,6 +1,11 @@
 -- The totals of a storage.
 -- Assembler Services Guide, "Virtual storage management".
-use Rattle.std.specs.Prelude.{true, false}
+use Rattle.std.specs.Prelude.{ℕ, Bool, true, false}
+use Rattle.change_laws.specs.MapTotals.{subpool_pages, subpool_free}
+use Rattle.subpool_set.specs.declared.places.PoolPlace.{PoolPlace}
+use Rattle.storage_core.specs.declared.storage.Storage.{Storage}
+use Rattle.storage_core.specs.Meaning.{state_in_place}
+use Rattle.storage_core.specs.Walks.{subpool_before}
 use Rattle.vsm_model.specs.declared.limits.Settings.{Settings}
 use Rattle.vsm_model.specs.Regions.{low_region, high_region}
 use Rattle.vsm_model.specs.State.{State}
@@ -18,3 +23,10 @@ totals_of settings s =
       taken = total_bytes settings s true;
       free = total_bytes settings s false;
     }
+
+-- the pages below the 16 MB line, or those above it, of the subpool before the place, and its free doublewords
+abbrev pub pages_before : Storage → PoolPlace → Bool → ℕ
+pages_before s place below = subpool_pages (state_in_place s).subpools below (subpool_before s place)
+
+abbrev pub free_before : Storage → PoolPlace → ℕ
+free_before s place = subpool_free (state_in_place s).subpools (subpool_before s place)

@@ -17,15 +17,14 @@ pub(crate) fn put_extents<W: Write>(
     gathered: &mut Gathered,
     writer: &mut W,
     storage: &Storage,
-    subpool_place: PoolPlace,
+    place: PoolPlace,
 )
-    requires { IsBehindSubpool storage.now subpool_place }
+    requires { IsBehindSubpool storage.now place }
     ensures { Puts (W.contents writer.old) (W.contents writer.new) gathered.old gathered.new
-        (flat_map extent_line (extents (state_in_place storage.now).subpools
-        (subpool_before storage.now subpool_place))) }
+        (flat_map extent_line (extents (state_in_place storage.now).subpools (subpool_before storage.now place))) }
 {
-    let mut place = storage.first_extent_at(subpool_place);
-    while let Some((run, behind)) = storage.next_extent(place) {
+    let mut cursor = storage.first_extent_at(place);
+    while let Some((run, behind)) = storage.next_extent(cursor) {
         put_area(
             gathered,
             writer,
@@ -33,7 +32,7 @@ pub(crate) fn put_extents<W: Write>(
             PAGE_BYTES * run.start,
             PAGE_BYTES * run.len,
         );
-        place = behind;
+        cursor = behind;
     }
 }
 
@@ -42,16 +41,15 @@ pub(crate) fn put_free_areas<W: Write>(
     gathered: &mut Gathered,
     writer: &mut W,
     storage: &Storage,
-    subpool_place: PoolPlace,
+    place: PoolPlace,
 )
-    requires { IsBehindSubpool storage.now subpool_place }
+    requires { IsBehindSubpool storage.now place }
     ensures { Puts (W.contents writer.old) (W.contents writer.new) gathered.old gathered.new
-        (flat_map free_line (free_areas (state_in_place storage.now).subpools
-        (subpool_before storage.now subpool_place))) }
+        (flat_map free_line (free_areas (state_in_place storage.now).subpools (subpool_before storage.now place))) }
 {
-    let mut place = storage.first_free_area_at(subpool_place);
-    while let Some((area, behind)) = storage.next_free_area(place) {
+    let mut cursor = storage.first_free_area_at(place);
+    while let Some((area, behind)) = storage.next_free_area(cursor) {
         put_area(gathered, writer, b"  FREE", 8 * area.start, 8 * area.len);
-        place = behind;
+        cursor = behind;
     }
 }

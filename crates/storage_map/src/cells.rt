@@ -143,23 +143,17 @@ fn put_free_cells<W: Write>(
     }
 }
 
-/// Puts the lines of a cell pool, which has this name.
-fn put_cell_pool<W: Write>(
-    gathered: &mut Gathered,
-    writer: &mut W,
-    storage: &Storage,
-    id: CellId,
-    name: &Name,
-)
-    requires there { IsSome (cell_pool storage.now id) }
-    requires name { IfSome (cell_pool storage.now id) (λ p. name.now.bytes ≡ p.name) }
+/// Puts the lines of a cell pool.
+fn put_cell_pool<W: Write>(gathered: &mut Gathered, writer: &mut W, storage: &Storage, id: CellId)
+    requires { IsSome (cell_pool storage.now id) }
     ensures { IfSome (cell_pool storage.now id) (λ p.
         Puts (W.contents writer.old) (W.contents writer.new) gathered.old gathered.new
         (cell_pool_lines p.name (cell_pool_of p))) }
 {
+    let name = cell_pool_name(storage, id);
     let settings = cell_pool_settings(storage, id);
     let header = cell_pool_header(storage, id);
-    put_cell_pool_line(gathered, writer, name, settings, &header);
+    put_cell_pool_line(gathered, writer, &name, settings, &header);
     let extents = first_cell_extent(storage, id);
     put_cell_extents(gathered, writer, storage, extents, settings.size);
     put_free_cells(gathered, writer, storage, first_free_cell(storage, id));
@@ -172,8 +166,7 @@ pub(crate) fn put_cell_pools<W: Write>(gathered: &mut Gathered, writer: &mut W, 
 {
     let mut behind: Option<Name> = None;
     while let Some(id) = next_cell_pool(storage, behind.as_ref()) {
-        let name = cell_pool_name(storage, id);
-        put_cell_pool(gathered, writer, storage, id, &name);
-        behind = Some(name);
+        put_cell_pool(gathered, writer, storage, id);
+        behind = Some(cell_pool_name(storage, id));
     }
 }

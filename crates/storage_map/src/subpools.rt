@@ -3,7 +3,7 @@ ghost use Rattle.std.specs.Prelude.{◌≡◌, flat_map, true};
 ghost use Rattle.subpool_storage.specs.Order.{subpools_in_order};
 ghost use Rattle.subpool_storage.specs.Subpools.{is_there};
 ghost use Rattle.storage_core.specs.Meaning.{state_in_place, state_of, settings_of};
-ghost use Rattle.storage_core.specs.Walks.{IsBehindSubpool, subpool_before};
+ghost use Rattle.storage_map.specs.Found.{IsFound};
 ghost use Rattle.storage_map.specs.Lines.{sharer_text, subpool_line};
 ghost use Rattle.vsm_model.specs.Map.{listed, sharers, subpool_lines};
 ghost use Rattle.text_output.specs.Writing.{Puts};
@@ -15,6 +15,13 @@ use std::io::Write;
 use storage_core::{PoolPlace, Storage, Subpool};
 use text_output::{Gathered, put_decimal};
 
+/// A subpool that a walk found, and the place behind it.
+#[derive(Clone, Copy)]
+pub(crate) struct Found {
+    subpool: Subpool,
+    behind: PoolPlace,
+}
+
 /// Puts a comma and a task.
 #[tactic(auto, using(text_output::proofs::Gathering::puts_both))]
 fn put_sharer<W: Write>(gathered: &mut Gathered, writer: &mut W, task: u8)
@@ -24,72 +31,61 @@ fn put_sharer<W: Write>(gathered: &mut Gathered, writer: &mut W, task: u8)
     put_decimal(gathered, writer, u64::from(task));
 }
 
-/// Puts the tasks that see the subpool before the place besides its owner, with commas between, or NONE.
-fn put_sharers<W: Write>(
-    gathered: &mut Gathered,
-    writer: &mut W,
-    storage: &Storage,
-    subpool: Subpool,
-    subpool_place: PoolPlace,
-)
-    requires behind { IsBehindSubpool storage.now subpool_place }
-    requires before { subpool_before storage.now subpool_place ≡ subpool }
+/// Puts the tasks that see the subpool besides its owner, with commas between, or NONE.
+fn put_sharers<W: Write>(gathered: &mut Gathered, writer: &mut W, storage: &Storage, found: Found)
+    requires { IsFound storage.now found }
     ensures { Puts (W.contents writer.old) (W.contents writer.new) gathered.old gathered.new
-        (listed (sharers (state_of storage.now) subpool.number subpool.owner)) }
+        (listed (sharers (state_of storage.now) found.subpool.number found.subpool.owner)) }
 {
     subpools_are_shown();
-    let front = Storage::first_sharer_place(subpool_place);
-    let Some((first, second)) = storage.next_sharer(subpool, front) else {
+    let front = Storage::first_sharer_place(found.behind);
+    let Some((first, second)) = storage.next_sharer(found.subpool, front) else {
         gathered.put(writer, b"NONE");
         return;
     };
     put_decimal(gathered, writer, u64::from(first));
     let mut place = second;
-    while let Some((task, behind)) = storage.next_sharer(subpool, place) {
+    while let Some((task, behind)) = storage.next_sharer(found.subpool, place) {
         put_sharer(gathered, writer, task);
         place = behind;
     }
 }
 
-/// Puts the first line of the subpool before the place.
+/// Puts the first line of the subpool.
 #[tactic(auto, using(text_output::proofs::Gathering::puts_both))]
 fn put_subpool_line<W: Write>(
     gathered: &mut Gathered,
     writer: &mut W,
     storage: &Storage,
-    subpool: Subpool,
-    subpool_place: PoolPlace,
+    found: Found,
 )
-    requires behind { IsBehindSubpool storage.now subpool_place }
-    requires before { subpool_before storage.now subpool_place ≡ subpool }
+    requires { IsFound storage.now found }
     ensures { Puts (W.contents writer.old) (W.contents writer.new) gathered.old gathered.new
-        (subpool_line (state_of storage.now) subpool) }
+        (subpool_line (state_of storage.now) found.subpool) }
 {
-    put_field(gathered, writer, b" SUBPOOL", u64::from(subpool.number));
-    put_field(gathered, writer, b" OWNER", u64::from(subpool.owner));
+    put_field(
+        gathered,
+        writer,
+        b" SUBPOOL",
+        u64::from(found.subpool.number),
+    );
+    put_field(gathered, writer, b" OWNER", u64::from(found.subpool.owner));
     gathered.put(writer, b" SHARERS ");
-    put_sharers(gathered, writer, storage, subpool, subpool_place);
+    put_sharers(gathered, writer, storage, found);
     gathered.put(writer, b"\n");
 }
 
-/// Puts the lines of the subpool before the place.
-fn put_subpool<W: Write>(
-    gathered: &mut Gathered,
-    writer: &mut W,
-    storage: &Storage,
-    subpool: Subpool,
-    subpool_place: PoolPlace,
-)
-    requires there { is_there (state_in_place storage.now).subpools subpool ≡ true }
-    requires behind { IsBehindSubpool storage.now subpool_place }
-    requires before { subpool_before storage.now subpool_place ≡ subpool }
+/// Puts the lines of the subpool.
+fn put_subpool<W: Write>(gathered: &mut Gathered, writer: &mut W, storage: &Storage, found: Found)
+    requires there { is_there (state_in_place storage.now).subpools found.subpool ≡ true }
+    requires found { IsFound storage.now found }
     ensures { Puts (W.contents writer.old) (W.contents writer.new) gathered.old gathered.new
-        (subpool_lines (settings_of storage.now) (state_of storage.now) subpool.number subpool.owner) }
+        (subpool_lines (settings_of storage.now) (state_of storage.now) found.subpool.number found.subpool.owner) }
 {
     runs_are_shown();
-    put_subpool_line(gathered, writer, storage, subpool, subpool_place);
-    put_extents(gathered, writer, storage, subpool_place);
-    put_free_areas(gathered, writer, storage, subpool_place);
+    put_subpool_line(gathered, writer, storage, found);
+    put_extents(gathered, writer, storage, found.behind);
+    put_free_areas(gathered, writer, storage, found.behind);
 }
 
 /// Puts the lines of all subpools, by number and then by owner.
@@ -100,7 +96,7 @@ pub(crate) fn put_subpools<W: Write>(gathered: &mut Gathered, writer: &mut W, st
 {
     let mut place = Storage::first_subpool_place();
     while let Some((subpool, behind)) = storage.next_subpool(place) {
-        put_subpool(gathered, writer, storage, subpool, behind);
+        put_subpool(gathered, writer, storage, Found { subpool, behind });
         place = behind;
     }
 }

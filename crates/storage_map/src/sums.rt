@@ -1,9 +1,9 @@
 //! The totals of a storage.
 ghost use Rattle.std.specs.Prelude.{◌≡◌, ◌+◌, ◌<◌, ◌^◌, true, false};
-ghost use Rattle.change_laws.specs.MapTotals.{pages_on_side, subpool_pages, subpool_free, all_pages, all_free};
+ghost use Rattle.change_laws.specs.MapTotals.{pages_on_side, all_pages, all_free};
 ghost use Rattle.storage_core.specs.Meaning.{state_in_place, state_of, settings_of};
-ghost use Rattle.storage_core.specs.Walks.{IsBehindSubpool, subpool_before};
-ghost use Rattle.storage_map.specs.Totals.{totals_of};
+ghost use Rattle.storage_core.specs.Walks.{IsBehindSubpool};
+ghost use Rattle.storage_map.specs.Totals.{free_before, pages_before, totals_of};
 
 use crate::counts::Totals;
 use change_laws::maps::totals_are_sums;
@@ -38,39 +38,33 @@ fn with_run(pages: Pages, run: Run) -> Pages
 }
 
 /// The pages of the subpool before the place.
-fn pages_of(storage: &Storage, subpool_place: PoolPlace) -> Pages
-    requires behind { IsBehindSubpool storage.now subpool_place }
-    requires low { subpool_pages (state_in_place storage.now).subpools true
-        (subpool_before storage.now subpool_place) < 2 ^ 32 }
-    requires high { subpool_pages (state_in_place storage.now).subpools false
-        (subpool_before storage.now subpool_place) < 2 ^ 32 }
-    ensures low { result.low ≡ subpool_pages (state_in_place storage.now).subpools true
-        (subpool_before storage.now subpool_place) }
-    ensures high { result.high ≡ subpool_pages (state_in_place storage.now).subpools false
-        (subpool_before storage.now subpool_place) }
+fn pages_of(storage: &Storage, place: PoolPlace) -> Pages
+    requires behind { IsBehindSubpool storage.now place }
+    requires low { pages_before storage.now place true < 2 ^ 32 }
+    requires high { pages_before storage.now place false < 2 ^ 32 }
+    ensures low { result.low ≡ pages_before storage.now place true }
+    ensures high { result.high ≡ pages_before storage.now place false }
 {
     let mut pages = Pages { low: 0, high: 0 };
-    let mut place = storage.first_extent_at(subpool_place);
-    while let Some((run, behind)) = storage.next_extent(place) {
+    let mut cursor = storage.first_extent_at(place);
+    while let Some((run, behind)) = storage.next_extent(cursor) {
         pages = with_run(pages, run);
-        place = behind;
+        cursor = behind;
     }
     pages
 }
 
 /// The free doublewords of the subpool before the place.
-fn free_of(storage: &Storage, subpool_place: PoolPlace) -> u32
-    requires behind { IsBehindSubpool storage.now subpool_place }
-    requires few { subpool_free (state_in_place storage.now).subpools
-        (subpool_before storage.now subpool_place) < 2 ^ 32 }
-    ensures { result ≡ subpool_free (state_in_place storage.now).subpools
-        (subpool_before storage.now subpool_place) }
+fn free_of(storage: &Storage, place: PoolPlace) -> u32
+    requires behind { IsBehindSubpool storage.now place }
+    requires few { free_before storage.now place < 2 ^ 32 }
+    ensures { result ≡ free_before storage.now place }
 {
     let mut free = 0;
-    let mut place = storage.first_free_area_at(subpool_place);
-    while let Some((area, behind)) = storage.next_free_area(place) {
+    let mut cursor = storage.first_free_area_at(place);
+    while let Some((area, behind)) = storage.next_free_area(cursor) {
         free += area.len;
-        place = behind;
+        cursor = behind;
     }
     free
 }

@@ -11,6 +11,14 @@ use storage_core::Storage;
 use text_output::Gathered;
 use vsm_model::geometry::TASKS_END;
 
+/// Eight registers of a task, from the first on.
+#[derive(Clone, Copy)]
+struct Row {
+    task: u8,
+    first: u8,
+    ghost within: { first ≤ 8 },
+}
+
 /// Puts that the task is the current one, and nothing where it isn't.
 #[tactic(auto, using(text_output::proofs::Gathering::puts_none))]
 fn put_current<W: Write>(gathered: &mut Gathered, writer: &mut W, storage: &Storage, task: u8)
@@ -40,39 +48,30 @@ fn put_task_line<W: Write>(
     gathered.put(writer, b"\n");
 }
 
-/// Puts the words of eight registers of a task, from the first on.
-fn put_words<W: Write>(
-    gathered: &mut Gathered,
-    writer: &mut W,
-    storage: &Storage,
-    task: u8,
-    first: u8,
-)
-    requires { first ≤ 8 }
+/// Puts the words of eight registers.
+fn put_words<W: Write>(gathered: &mut Gathered, writer: &mut W, storage: &Storage, row: Row)
     ensures { Puts (W.contents writer.old) (W.contents writer.new) gathered.old gathered.new
-        (register_words (state_of storage.now) task first (first + 8)) }
+        (register_words (state_of storage.now) row.task row.first (row.first + 8)) }
 {
-    for register in first..first + 8 {
-        put_hex_field(gathered, writer, storage.register(task, register));
+    for register in row.first..row.first + 8 {
+        put_hex_field(gathered, writer, storage.register(row.task, register));
     }
 }
 
-/// Puts the line of eight registers of a task, from the first on.
+/// Puts the line of eight registers, which begins with a word.
 #[tactic(auto, using(text_output::proofs::Gathering::puts_both))]
 fn put_registers<W: Write>(
     gathered: &mut Gathered,
     writer: &mut W,
     storage: &Storage,
-    task: u8,
     word: &[u8],
-    first: u8,
+    row: Row,
 )
-    requires { first ≤ 8 }
     ensures { Puts (W.contents writer.old) (W.contents writer.new) gathered.old gathered.new
-        (register_line (state_of storage.now) task word.now first) }
+        (register_line (state_of storage.now) row.task word.now row.first) }
 {
     gathered.put(writer, word);
-    put_words(gathered, writer, storage, task, first);
+    put_words(gathered, writer, storage, row);
     gathered.put(writer, b"\n");
 }
 
@@ -85,8 +84,8 @@ fn put_task<W: Write>(gathered: &mut Gathered, writer: &mut W, storage: &Storage
         return;
     };
     put_task_line(gathered, writer, storage, task, parent);
-    put_registers(gathered, writer, storage, task, b"  R0", 0);
-    put_registers(gathered, writer, storage, task, b"  R8", 8);
+    put_registers(gathered, writer, storage, b"  R0", Row { task, first: 0 });
+    put_registers(gathered, writer, storage, b"  R8", Row { task, first: 8 });
 }
 
 /// Puts the lines of all tasks, ascending.

@@ -14,11 +14,14 @@ ghost use Rattle.vsm_machine.specs.Machine.{bytes_in, left_or_looked_up, with_by
 ghost use Rattle.vsm_machine.specs.Machine.{with_passed, with_three};
 
 use crate::machine::Machine;
-use crate::values::{bytes_of, look_up};
+use crate::values::{Room, bytes_of, look_up};
 use macro_statements::{Family, Form, Header, Length, NewCellPool, Statement, Subpools};
 use operand_texts::{Content, Name, Place, Value};
 use storage_core::{Attach, Boundary, Lengths, Location, Obtain, Passed, Release, Service};
 use vsm_model::{Build, Get};
+
+/// The service that is asked for; `None` where a name in one of its values isn't defined.
+pub type Asked<'a> = Option<Service<'a>>;
 
 /// The register that is set besides register 1, if the place is one.
 fn register_of(place: &Option<Place>) -> Option<u8>
@@ -59,15 +62,10 @@ fn passed_of(machine: &Machine, subpools: &Subpools) -> Option<Passed>
 }
 
 /// The new task that a statement asks for; `None` where a name in one of its values isn't defined.
-fn attach_of<'a>(
-    machine: &Machine,
-    given: &Subpools,
-    shared: &Subpools,
-    shares_zero: bool,
-) -> Option<Service<'a>>
+fn attach_of<'a>(machine: &Machine, given: &Subpools, shared: &Subpools, zero: bool) -> Asked<'a>
     requires given { IsSubpools (subpools_in given.now) }
     requires shared { IsSubpools (subpools_in shared.now) }
-    ensures is { option_map service_in result ≡ with_passed shares_zero
+    ensures is { option_map service_in result ≡ with_passed zero
         (passed_asked (plain_of machine.now) (subpools_in given.now))
         (passed_asked (plain_of machine.now) (subpools_in shared.now)) }
     ensures bounds { IfSome result (λ service. CanBePlanned (service_in service)) }
@@ -75,7 +73,7 @@ fn attach_of<'a>(
     Some(Service::Attach(Attach {
         given: passed_of(machine, given)?,
         shared: passed_of(machine, shared)?,
-        shares_zero,
+        shares_zero: zero,
     }))
 }
 
@@ -88,7 +86,7 @@ fn obtain_of<'a>(
     boundary: Boundary,
     location: Location,
     form: &Form,
-) -> Option<Service<'a>>
+) -> Asked<'a>
     requires length { IsLength (length_in length.now) }
     requires subpool { IsValue (written_in subpool.now) }
     requires place { IfSome (option_map target_in place.now) IsTarget }
@@ -115,7 +113,7 @@ fn release_of<'a>(
     address: &Value,
     subpool: &Value,
     conditional: bool,
-) -> Option<Service<'a>>
+) -> Asked<'a>
     requires length { IsValue (written_in length.now) }
     requires address { IsValue (written_in address.now) }
     requires subpool { IsValue (written_in subpool.now) }
@@ -135,21 +133,16 @@ fn release_of<'a>(
 
 /// The store that a statement asks for; `None` where a name in one of its values isn't defined. A value that is stored
 /// is written into `room`.
-fn store_of<'a>(
-    machine: &Machine,
-    address: &Value,
-    content: &'a Content,
-    room: &'a mut [u8; 4],
-) -> Option<Service<'a>>
+fn store_of<'a>(machine: &Machine, address: &Value, bytes: &'a Content, room: Room<'a>) -> Asked<'a>
     requires address { IsValue (written_in address.now) }
-    requires content { IsStored (stored_in content.now) }
+    requires bytes { IsStored (stored_in bytes.now) }
     ensures is { option_map service_in result ≡ with_bytes (looked_up (plain_of machine.now) (written_in address.now))
-        (bytes_in (plain_of machine.now) (stored_in content.now)) }
+        (bytes_in (plain_of machine.now) (stored_in bytes.now)) }
     ensures bounds { IfSome result (λ service. CanBePlanned (service_in service)) }
 {
     Some(Service::Store {
         address: look_up(machine, address)?,
-        bytes: bytes_of(machine, content, room)?,
+        bytes: bytes_of(machine, bytes, room)?,
     })
 }
 
@@ -196,7 +189,7 @@ fn header_text(header: &Option<Header>) -> Option<&str>
 }
 
 /// The cell pool that a statement asks for; `None` where a name in one of its values isn't defined.
-fn build_of<'a>(machine: &Machine, cells: &'a NewCellPool) -> Option<Service<'a>>
+fn build_of<'a>(machine: &Machine, cells: &'a NewCellPool) -> Asked<'a>
     requires valid { IsValidAct (build_in cells.now) }
     ensures is { option_map service_in result ≡ service_asked (plain_of machine.now) (build_in cells.now) }
     ensures bounds { IfSome result (λ service. CanBePlanned (service_in service)) }
@@ -224,7 +217,7 @@ fn get_of<'a>(pool: &'a Name, place: &Option<Place>, conditional: bool) -> Servi
 }
 
 /// The release of a whole subpool; `None` where a name in the value isn't defined.
-fn whole_of<'a>(machine: &Machine, subpool: &Value) -> Option<Service<'a>>
+fn whole_of<'a>(machine: &Machine, subpool: &Value) -> Asked<'a>
     requires { IsValue (written_in subpool.now) }
     ensures is { option_map service_in result
         ≡ option_map whole (looked_up (plain_of machine.now) (written_in subpool.now)) }
@@ -235,7 +228,7 @@ fn whole_of<'a>(machine: &Machine, subpool: &Value) -> Option<Service<'a>>
 }
 
 /// The end of a task; `None` where a name in the value isn't defined.
-fn detach_of<'a>(machine: &Machine, task: &Value) -> Option<Service<'a>>
+fn detach_of<'a>(machine: &Machine, task: &Value) -> Asked<'a>
     requires { IsValue (written_in task.now) }
     ensures is { option_map service_in result
         ≡ option_map detach (looked_up (plain_of machine.now) (written_in task.now)) }
@@ -246,7 +239,7 @@ fn detach_of<'a>(machine: &Machine, task: &Value) -> Option<Service<'a>>
 }
 
 /// The turn of a task; `None` where a name in the value isn't defined.
-fn run_of<'a>(machine: &Machine, task: &Value) -> Option<Service<'a>>
+fn run_of<'a>(machine: &Machine, task: &Value) -> Asked<'a>
     requires { IsValue (written_in task.now) }
     ensures is { option_map service_in result
         ≡ option_map run (looked_up (plain_of machine.now) (written_in task.now)) }
@@ -258,11 +251,7 @@ fn run_of<'a>(machine: &Machine, task: &Value) -> Option<Service<'a>>
 
 /// The service that a statement asks for, with the words of its values; `None` where a name in one of them isn't
 /// defined. A value that is stored is written into `room`.
-pub fn service_of<'a>(
-    machine: &Machine,
-    statement: &'a Statement,
-    room: &'a mut [u8; 4],
-) -> Option<Service<'a>>
+pub fn service_of<'a>(machine: &Machine, statement: &'a Statement, room: Room<'a>) -> Asked<'a>
     requires { IsValidAct (act_in statement.now) }
     ensures is { option_map service_in result ≡ service_asked (plain_of machine.now) (act_in statement.now) }
     ensures bounds { IfSome result (λ service. CanBePlanned (service_in service)) }

@@ -25,12 +25,15 @@ pub fn look_up(machine: &Machine, value: &Value) -> Option<u32>
     }
 }
 
+/// Where the bytes of a value that is stored are written.
+pub type Room<'a> = &'a mut [u8; 4];
+
 /// The bytes that are stored, where the name in them is defined: those that are spelled, or a value, which is written
 /// into `room` as a fullword, the most significant byte first.
 pub(crate) fn bytes_of<'a>(
     machine: &Machine,
     content: &'a Content,
-    room: &'a mut [u8; 4],
+    room: Room<'a>,
 ) -> Option<&'a [u8]>
     requires { IsStored (stored_in content.now) }
     ensures { option_map (λ b. b.now) result ≡ bytes_in (plain_of machine.now) (stored_in content.now) }

@@ -9,34 +9,34 @@ use Rattle.storage_map.proofs.areas.put_extents.Goals as goal
 
 pub loop-run-init : goal.loop-run-init
 loop-run-init g c =
-    let first = c.first_extent_at-place in
-    let all = extents (state_in_place c.args.storage.now).subpools (subpool_before c.args.storage.now c.args.subpool_place) in
+    let first = c.first_extent_at-cursor in
+    let all = extents (state_in_place c.args.storage.now).subpools (subpool_before c.args.storage.now c.args.place) in
     record {
-      place = subst (IsExtentPlace c.args.storage.now (subpool_before c.args.storage.now c.args.subpool_place) first.result) (sym first.ensures.index) first.ensures;
+      place = subst (IsExtentPlace c.args.storage.now (subpool_before c.args.storage.now c.args.place) first.result) (sym first.ensures.index) first.ensures;
       text = remains_all (g.W.Write.contents c.args.writer.now) c.args.gathered.now (flat_map extent_line all) (flat_map extent_line (drop (place_index first.result.place) all))
           (ap (λ (i : ℕ). flat_map extent_line (drop i all)) (sym first.ensures.index));
     }
 
 pub next_extent-requires : goal.next_extent-requires
-next_extent-requires g c = ((subpool_before c.args.storage.now c.args.subpool_place), place_index c.loop-run.place.place, c.loop-run.invariant.place)
+next_extent-requires g c = ((subpool_before c.args.storage.now c.args.place), place_index c.loop-run.cursor.place, c.loop-run.invariant.place)
 
 pub loop-run-smaller : goal.loop-run-smaller
 loop-run-smaller g c =
-    let all = extents (state_in_place c.args.storage.now).subpools (subpool_before c.args.storage.now c.args.subpool_place) in
-    let i = place_index c.loop-run.place.place in
+    let all = extents (state_in_place c.args.storage.now).subpools (subpool_before c.args.storage.now c.args.place) in
+    let i = place_index c.loop-run.cursor.place in
     fewer all i (place_index c.in-Some.behind.place) c.in-Some.run'
-    (sym (c.in-Some.ensures.is (subpool_before c.args.storage.now c.args.subpool_place) i c.loop-run.invariant.place))
-    (c.in-Some.ensures.next (subpool_before c.args.storage.now c.args.subpool_place) i c.loop-run.invariant.place).index
+    (sym (c.in-Some.ensures.is (subpool_before c.args.storage.now c.args.place) i c.loop-run.invariant.place))
+    (c.in-Some.ensures.next (subpool_before c.args.storage.now c.args.place) i c.loop-run.invariant.place).index
 
 pub loop-run-preserved : goal.loop-run-preserved
 loop-run-preserved g c =
-    let all = extents (state_in_place c.args.storage.now).subpools (subpool_before c.args.storage.now c.args.subpool_place) in
-    let i = place_index c.loop-run.place.place in
+    let all = extents (state_in_place c.args.storage.now).subpools (subpool_before c.args.storage.now c.args.place) in
+    let i = place_index c.loop-run.cursor.place in
     let j = place_index c.in-Some.behind.place in
-    let got = sym (c.in-Some.ensures.is (subpool_before c.args.storage.now c.args.subpool_place) i c.loop-run.invariant.place) in
-    let next = c.in-Some.ensures.next (subpool_before c.args.storage.now c.args.subpool_place) i c.loop-run.invariant.place in
+    let got = sym (c.in-Some.ensures.is (subpool_before c.args.storage.now c.args.place) i c.loop-run.invariant.place) in
+    let next = c.in-Some.ensures.next (subpool_before c.args.storage.now c.args.place) i c.loop-run.invariant.place in
     record {
-      place = subst (IsExtentPlace c.args.storage.now (subpool_before c.args.storage.now c.args.subpool_place) c.in-Some.behind) (sym next.index) next;
+      place = subst (IsExtentPlace c.args.storage.now (subpool_before c.args.storage.now c.args.place) c.in-Some.behind) (sym next.index) next;
       text = remains_less (g.W.Write.contents c.args.writer.now) (g.W.Write.contents c.loop-run.writer) (g.W.Write.contents c.put_area.new.writer)
           c.args.gathered.now c.loop-run.gathered c.put_area.new.gathered
           (flat_map extent_line all) (flat_map extent_line (drop i all)) (extent_line c.in-Some.run') (flat_map extent_line (drop j all))
@@ -45,8 +45,8 @@ loop-run-preserved g c =
 
 pub returns : goal.returns
 returns g c =
-    let all = extents (state_in_place c.args.storage.now).subpools (subpool_before c.args.storage.now c.args.subpool_place) in
-    let i = place_index c.loop-run.place.place in
+    let all = extents (state_in_place c.args.storage.now).subpools (subpool_before c.args.storage.now c.args.place) in
+    let i = place_index c.loop-run.cursor.place in
     all_put (g.W.Write.contents c.args.writer.now) (g.W.Write.contents c.loop-run.writer) c.args.gathered.now c.loop-run.gathered
     (flat_map extent_line all) (flat_map extent_line (drop i all)) c.loop-run.invariant.text
-    (ap (flat_map extent_line) (drop_end all i (sym (c.in_default.ensures.is (subpool_before c.args.storage.now c.args.subpool_place) i c.loop-run.invariant.place))))
+    (ap (flat_map extent_line) (drop_end all i (sym (c.in_default.ensures.is (subpool_before c.args.storage.now c.args.place) i c.loop-run.invariant.place))))

@@ -9,11 +9,11 @@ use Rattle.storage_map.proofs.areas.put_extents.Given as goal
 
 abbrev pub invariant-loop-run : goal.invariant-loop-run
 invariant-loop-run g l =
-    let all = extents (state_in_place l.storage).subpools (subpool_before l.storage l.fn.subpool_place) in
+    let all = extents (state_in_place l.storage).subpools (subpool_before l.storage l.fn.place) in
     record {
-      place : IsExtentPlace l.storage (subpool_before l.storage l.fn.subpool_place) l.place (place_index l.place.place);
-      text : Remains (g.W.Write.contents l.fn.writer) (g.W.Write.contents l.writer) l.fn.gathered l.gathered (flat_map extent_line all) (flat_map extent_line (drop (place_index l.place.place) all));
+      place : IsExtentPlace l.storage (subpool_before l.storage l.fn.place) l.cursor (place_index l.cursor.place);
+      text : Remains (g.W.Write.contents l.fn.writer) (g.W.Write.contents l.writer) l.fn.gathered l.gathered (flat_map extent_line all) (flat_map extent_line (drop (place_index l.cursor.place) all));
     }
 
 abbrev pub decreases-loop-run : goal.decreases-loop-run
-decreases-loop-run g l = length (extents (state_in_place l.storage).subpools (subpool_before l.storage l.fn.subpool_place)) - place_index l.place.place
+decreases-loop-run g l = length (extents (state_in_place l.storage).subpools (subpool_before l.storage l.fn.place)) - place_index l.cursor.place

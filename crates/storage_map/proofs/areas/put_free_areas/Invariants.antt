@@ -9,11 +9,11 @@ use Rattle.storage_map.proofs.areas.put_free_areas.Given as goal
 
 abbrev pub invariant-loop-area : goal.invariant-loop-area
 invariant-loop-area g l =
-    let all = free_areas (state_in_place l.storage).subpools (subpool_before l.storage l.fn.subpool_place) in
+    let all = free_areas (state_in_place l.storage).subpools (subpool_before l.storage l.fn.place) in
     record {
-      place : IsFreeAreaPlace l.storage (subpool_before l.storage l.fn.subpool_place) l.place (place_index l.place.place);
-      text : Remains (g.W.Write.contents l.fn.writer) (g.W.Write.contents l.writer) l.fn.gathered l.gathered (flat_map free_line all) (flat_map free_line (drop (place_index l.place.place) all));
+      place : IsFreeAreaPlace l.storage (subpool_before l.storage l.fn.place) l.cursor (place_index l.cursor.place);
+      text : Remains (g.W.Write.contents l.fn.writer) (g.W.Write.contents l.writer) l.fn.gathered l.gathered (flat_map free_line all) (flat_map free_line (drop (place_index l.cursor.place) all));
     }
 
 abbrev pub decreases-loop-area : goal.decreases-loop-area
-decreases-loop-area g l = length (free_areas (state_in_place l.storage).subpools (subpool_before l.storage l.fn.subpool_place)) - place_index l.place.place
+decreases-loop-area g l = length (free_areas (state_in_place l.storage).subpools (subpool_before l.storage l.fn.place)) - place_index l.cursor.place

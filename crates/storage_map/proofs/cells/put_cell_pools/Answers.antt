@@ -18,10 +18,10 @@ pub loop-id-smaller : goal.loop-id-smaller
 loop-id-smaller g c =
     let s = c.args.storage.now in
     let table = (state_of s).cell_pools in
-    let name = c.cell_pool_name-name.result.bytes in
+    let name = c.cell_pool_name.result.bytes in
     let F : Option (List ℕ) → Type 0 = λ low. length (rows_behind table (Some name)) < length (rows_behind table low) in
     subst F (low_is c.as_ref.result c.loop-id.behind c.as_ref.ensures.value)
-    (fewer_rows table (option_map (λ n. n.now.bytes) c.as_ref.result) name (cell_pool s c.in-Some.id) c.in-Some.ensures.there c.in-Some.ensures.next c.cell_pool_name-name.ensures)
+    (fewer_rows table (option_map (λ n. n.now.bytes) c.as_ref.result) name (cell_pool s c.in-Some.id) c.in-Some.ensures.there c.in-Some.ensures.next c.cell_pool_name.ensures)
 
 pub loop-id-preserved : goal.loop-id-preserved
 loop-id-preserved g c =
@@ -29,14 +29,14 @@ loop-id-preserved g c =
     let table = (state_of s).cell_pools in
     let low = option_map (λ n. n.now.bytes) c.as_ref.result in
     let is = low_is c.as_ref.result c.loop-id.behind c.as_ref.ensures.value in
-    let name = c.cell_pool_name-name.result.bytes in
+    let name = c.cell_pool_name.result.bytes in
     rows_remain table (option_map (λ n. n.bytes) c.loop-id.behind) name
     (g.W.Write.contents c.args.writer.now) (g.W.Write.contents c.loop-id.writer) (g.W.Write.contents c.put_cell_pool.new.writer)
     c.args.gathered.now c.loop-id.gathered c.put_cell_pool.new.gathered (flat_map row_lines table)
     (cell_pool s c.in-Some.id) c.in-Some.ensures.there c.loop-id.invariant
     (let F : Option (List ℕ) → Type 0 = λ z. IfSome (cell_pool s c.in-Some.id) (λ p. rows_behind table z ≡ (p.name, cell_pool_of p) ∷ rows_behind table (Some p.name)) in
     subst F is c.in-Some.ensures.next)
-    c.cell_pool_name-name.ensures c.put_cell_pool.ensures
+    c.cell_pool_name.ensures c.put_cell_pool.ensures
 
 pub returns : goal.returns
 returns g c =

@@ -8,7 +8,7 @@ use Rattle.storage_map.proofs.subpools.put_sharers.Given as goal
 
 abbrev pub invariant-loop-task : goal.invariant-loop-task
 invariant-loop-task g l =
-    let p = l.fn.subpool in
+    let p = l.fn.found.subpool in
     record {
       place : IsSharerPlace l.storage l.place;
       text : Remains (g.W.Write.contents l.fn.writer) (g.W.Write.contents l.writer) l.fn.gathered l.gathered
@@ -16,4 +16,4 @@ invariant-loop-task g l =
     }
 
 abbrev pub decreases-loop-task : goal.decreases-loop-task
-decreases-loop-task g l = length (sharers_left l.storage l.place l.fn.subpool)
+decreases-loop-task g l = length (sharers_left l.storage l.place l.fn.found.subpool)

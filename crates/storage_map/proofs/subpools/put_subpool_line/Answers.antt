@@ -19,10 +19,10 @@ returns g c =
     let g4 = c.put_sharers.new.gathered in
     let w5 = g.W.Write.contents c.put-2.new.writer in
     let g5 = c.put-2.new.self in
-    let t1 = field (codes " SUBPOOL") c.args.subpool.number in
-    let t2 = field (codes " OWNER") c.args.subpool.owner in
+    let t1 = field (codes " SUBPOOL") c.args.found.subpool.number in
+    let t2 = field (codes " OWNER") c.args.found.subpool.owner in
     let t3 = codes " SHARERS " in
-    let t4 = listed (sharers (state_of c.args.storage.now) c.args.subpool.number c.args.subpool.owner) in
+    let t4 = listed (sharers (state_of c.args.storage.now) c.args.found.subpool.number c.args.found.subpool.owner) in
     let t5 = (10 ∷ []) in
     puts_both w0 w4 w5 g0 g4 g5 (t1 ++ t2 ++ t3 ++ t4) t5
     (puts_both w0 w3 w4 g0 g3 g4 (t1 ++ t2 ++ t3) t4

@@ -10,9 +10,9 @@ abbrev pub invariant-loop-area : goal.invariant-loop-area
 invariant-loop-area l =
     let m = (state_in_place l.storage).subpools in
     record {
-      place : IsFreeAreaPlace l.storage (subpool_before l.storage l.fn.subpool_place) l.place (place_index l.place.place);
-      free : l.free + sum_of (λ r. r.len) (drop (place_index l.place.place) (free_areas m (subpool_before l.storage l.fn.subpool_place))) ≡ subpool_free m (subpool_before l.storage l.fn.subpool_place);
+      place : IsFreeAreaPlace l.storage (subpool_before l.storage l.fn.place) l.cursor (place_index l.cursor.place);
+      free : l.free + sum_of (λ r. r.len) (drop (place_index l.cursor.place) (free_areas m (subpool_before l.storage l.fn.place))) ≡ subpool_free m (subpool_before l.storage l.fn.place);
     }
 
 abbrev pub decreases-loop-area : goal.decreases-loop-area
-decreases-loop-area l = length (free_areas (state_in_place l.storage).subpools (subpool_before l.storage l.fn.subpool_place)) - place_index l.place.place
+decreases-loop-area l = length (free_areas (state_in_place l.storage).subpools (subpool_before l.storage l.fn.place)) - place_index l.cursor.place

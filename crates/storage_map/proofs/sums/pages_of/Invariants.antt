@@ -9,12 +9,12 @@ use Rattle.storage_map.proofs.sums.pages_of.Given as goal
 abbrev pub invariant-loop-run : goal.invariant-loop-run
 invariant-loop-run l =
     let m = (state_in_place l.storage).subpools in
-    let rest = drop (place_index l.place.place) (extents m (subpool_before l.storage l.fn.subpool_place)) in
+    let rest = drop (place_index l.cursor.place) (extents m (subpool_before l.storage l.fn.place)) in
     record {
-      place : IsExtentPlace l.storage (subpool_before l.storage l.fn.subpool_place) l.place (place_index l.place.place);
-      low : l.pages.low + sum_of (pages_on_side true) rest ≡ subpool_pages m true (subpool_before l.storage l.fn.subpool_place);
-      high : l.pages.high + sum_of (pages_on_side false) rest ≡ subpool_pages m false (subpool_before l.storage l.fn.subpool_place);
+      place : IsExtentPlace l.storage (subpool_before l.storage l.fn.place) l.cursor (place_index l.cursor.place);
+      low : l.pages.low + sum_of (pages_on_side true) rest ≡ subpool_pages m true (subpool_before l.storage l.fn.place);
+      high : l.pages.high + sum_of (pages_on_side false) rest ≡ subpool_pages m false (subpool_before l.storage l.fn.place);
     }
 
 abbrev pub decreases-loop-run : goal.decreases-loop-run
-decreases-loop-run l = length (extents (state_in_place l.storage).subpools (subpool_before l.storage l.fn.subpool_place)) - place_index l.place.place
+decreases-loop-run l = length (extents (state_in_place l.storage).subpools (subpool_before l.storage l.fn.place)) - place_index l.cursor.place

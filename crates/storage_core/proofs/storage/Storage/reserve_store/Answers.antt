@@ -1,10 +1,6 @@
-use Rattle.std.proofs.Common.{◌≤◌, IfOk, subst, arith}
+use Rattle.std.proofs.Common.{arith, rules}
 use Rattle.vsm_elements.specs.Store.{live_count}
-use Rattle.change_laws.proofs.Rows.{none_fresh}
-use Rattle.storage_changes.specs.Changes.{change_of, no_pages}
-use Rattle.storage_plans.proofs.Assigning.{none_assigned}
 use Rattle.storage_swap.specs.Growth.{MakesElements, MakesFrames}
-use Rattle.storage_core.specs.Meaning.{state_in_place}
 use Rattle.storage_core.proofs.Counted.{few_records, if_made, made_within, uses_within}
 use Rattle.storage_core.proofs.Holding.{reserved_is_held}
 use Rattle.storage_core.proofs.Staying.{failed_stays}
@@ -18,33 +14,23 @@ invariant_of-self c =
           c.reserve.ensures.ok c.reserve.ensures.grown;
     }
 
-pub returns-clause-err : goal.returns-clause-err
-returns-clause-err c =
-    let s = c.args.self.now in
-    failed_stays s.parts c.reserve.new.storage s.held.stands c.reserve.result c.reserve.ensures.grown
-
-pub returns-clause-few : goal.returns-clause-few
-returns-clause-few c =
-    let s = c.args.self.now in
-    few_records s.parts c.reserve.new.storage c.as_slice-2.result.now c.reserve.result c.reserve.ensures.ok c.as_slice-2.ensures.fits
-
-pub returns-clause-uses : goal.returns-clause-uses
-returns-clause-uses c =
-    let s = c.args.self.now in
-    uses_within s.parts.elements.spare c.reserve.new.storage.elements.spare _ 17 (omega (arith, c.as_slice-2.ensures.fits)) c.reserve.result c.reserve.ensures.uses
-
-pub returns-clause-live : goal.returns-clause-live
-returns-clause-live c =
-    let s = c.args.self.now in
-    uses_within (live_count c.reserve.new.storage.elements) (live_count s.parts.elements) _ 17 (omega (arith, c.as_slice-2.ensures.fits)) c.reserve.result c.reserve.ensures.live
-
-pub returns-clause-made : goal.returns-clause-made
-returns-clause-made c =
-    let s = c.args.self.now in
-    let e = c.reserve.new.storage.elements in
-    if_made (MakesElements s.parts.elements e 17) c.reserve.result
-    (made_within s.parts.elements e _ 17 (omega (arith, c.as_slice-2.ensures.fits)) c.reserve.ensures.made)
-
-pub returns-clause-made_frames : goal.returns-clause-made_frames
-returns-clause-made_frames c =
-    if_made (MakesFrames c.args.self.now.parts.region c.reserve.new.storage.region 0) c.reserve.result c.reserve.ensures.made_frames
+pub returns : goal.returns
+returns c = record {
+  ok = search rules;
+  frames = search rules;
+  few = (let s = c.args.self.now in
+      few_records s.parts c.reserve.new.storage c.as_slice-2.result.now c.reserve.result c.reserve.ensures.ok c.as_slice-2.ensures.fits);
+  uses = (let s = c.args.self.now in
+      uses_within s.parts.elements.spare c.reserve.new.storage.elements.spare _ 17 (omega (arith, c.as_slice-2.ensures.fits)) c.reserve.result c.reserve.ensures.uses);
+  live = (let s = c.args.self.now in
+      uses_within (live_count c.reserve.new.storage.elements) (live_count s.parts.elements) _ 17 (omega (arith, c.as_slice-2.ensures.fits)) c.reserve.result c.reserve.ensures.live);
+  made = (let s = c.args.self.now in
+      let e = c.reserve.new.storage.elements in
+      if_made (MakesElements s.parts.elements e 17) c.reserve.result
+      (made_within s.parts.elements e _ 17 (omega (arith, c.as_slice-2.ensures.fits)) c.reserve.ensures.made));
+  made_frames = if_made (MakesFrames c.args.self.now.parts.region c.reserve.new.storage.region 0) c.reserve.result c.reserve.ensures.made_frames;
+  err = (let s = c.args.self.now in
+      failed_stays s.parts c.reserve.new.storage s.held.stands c.reserve.result c.reserve.ensures.grown);
+  needless = search rules;
+  settings = search rules;
+}
