@@ -13,13 +13,14 @@ use storage_map::{
     first_free_cell, next_cell_extent, next_cell_pool, next_free_cell,
 };
 use text_output::Gathered;
+use vsm_model::geometry::MOST_CELL_POOLS;
 
 /// The cell pool of a name.
 pub fn find_pool(storage: &Storage, name: &str) -> Option<CellId>
     ensures { IfSome result (λ id. IsSome (cell_pool storage.now id)) }
 {
     let mut id = next_cell_pool(storage, None)?;
-    for _ in 0..256 {
+    for _ in 0..MOST_CELL_POOLS {
         let its = cell_pool_name(storage, id);
         if its.as_str() == name {
             return Some(id);
@@ -32,14 +33,14 @@ pub fn find_pool(storage: &Storage, name: &str) -> Option<CellId>
 /// How many cell pools there are.
 pub fn count_pools(storage: &Storage) -> u32 {
     let mut next = next_cell_pool(storage, None);
-    for count in 0..256 {
+    for count in 0..MOST_CELL_POOLS {
         let Some(id) = next else {
             return count;
         };
         let name = cell_pool_name(storage, id);
         next = next_cell_pool(storage, Some(&name));
     }
-    256
+    MOST_CELL_POOLS
 }
 
 /// The doublewords of an extent.
@@ -79,7 +80,7 @@ fn first_overlap(storage: &Storage, area: Run) -> Option<(CellId, Run)>
     ensures { IfSome result (λ r. IsSome (cell_pool storage.now r.0)) }
 {
     let mut id = next_cell_pool(storage, None)?;
-    for _ in 0..256 {
+    for _ in 0..MOST_CELL_POOLS {
         if let Some(extent) = extent_in(storage, id, area) {
             return Some((id, extent));
         }

@@ -7,6 +7,7 @@ use place_reasons::{Piece, put_line, put_pieces};
 use std::io::Write;
 use storage_core::{Storage, Subpool};
 use text_output::Gathered;
+use vsm_model::geometry::PAGE_BYTES;
 
 /// Puts whose the pages of bytes that are shown are.
 pub fn put_bytes<W: Write>(
@@ -70,7 +71,7 @@ fn put_holder<W: Write>(gathered: &mut Gathered, writer: &mut W, address: u32, s
 fn put_page<W: Write>(gathered: &mut Gathered, writer: &mut W, storage: &Storage, address: u32)
     ensures { PutsSome (W.contents writer.old) (W.contents writer.new) gathered.old gathered.new }
 {
-    match storage.subpool_of_page(address / 4096) {
+    match storage.subpool_of_page(address / PAGE_BYTES) {
         Some(subpool) => put_holder(gathered, writer, address, subpool),
         None => put_unassigned(gathered, writer, address),
     }
@@ -98,7 +99,7 @@ pub fn put_not_there<W: Write>(
     ensures { PutsOneOf not_there_words (W.contents writer.old) (W.contents writer.new) gathered.old gathered.new }
 {
     let last = address.checked_add(count.saturating_sub(1));
-    match storage.subpool_of_page(address / 4096) {
+    match storage.subpool_of_page(address / PAGE_BYTES) {
         Some(subpool) => {
             put_holder(gathered, writer, address, subpool);
             put_last_not_there(gathered, writer, last);
@@ -131,7 +132,9 @@ fn put_last<W: Write>(
     ensures { PutsSome (W.contents writer.old) (W.contents writer.new) gathered.old gathered.new }
 {
     match last {
-        Some(last) if last / 4096 != first / 4096 => put_page(gathered, writer, storage, last),
+        Some(last) if last / PAGE_BYTES != first / PAGE_BYTES => put_page(
+            gathered, writer, storage, last,
+        ),
         Some(_) => (),
         None => put_past_end(gathered, writer),
     }

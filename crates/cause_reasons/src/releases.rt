@@ -7,10 +7,13 @@ use place_reasons::{Piece, first_free, first_page_beside, first_page_of_another,
 use std::io::Write;
 use storage_core::{Release, Run, Settings, Storage, Subpool};
 use text_output::Gathered;
+use vsm_model::geometry::{
+    HIGH_PAGE, LAST_SUBPOOL, LOW_PAGE, PAGE_BYTES, PAGE_DOUBLEWORDS, PAGE_K,
+};
 
 /// The subpool that the current task sees at a number below 128.
 pub(crate) fn seen(storage: &Storage, number: u32) -> Option<Subpool> {
-    if number > 127 {
+    if number > LAST_SUBPOOL {
         return None;
     }
     let number = number as u8;
@@ -23,7 +26,7 @@ pub(crate) fn seen_or_own(storage: &Storage, number: u32) -> Subpool {
     match seen(storage, number) {
         Some(subpool) => subpool,
         None => Subpool {
-            number: number.min(127) as u8,
+            number: number.min(LAST_SUBPOOL) as u8,
             owner: storage.current(),
         },
     }
@@ -39,8 +42,11 @@ pub(crate) fn area_of(r: Release) -> Run {
 
 /// The pages that an area in doublewords touches.
 fn pages_of(area: Run) -> Run {
-    let start = area.start / 512;
-    let end = area.start.saturating_add(area.len).div_ceil(512);
+    let start = area.start / PAGE_DOUBLEWORDS;
+    let end = area
+        .start
+        .saturating_add(area.len)
+        .div_ceil(PAGE_DOUBLEWORDS);
     Run {
         start,
         len: end.saturating_sub(start),
@@ -49,12 +55,12 @@ fn pages_of(area: Run) -> Run {
 
 /// The page behind the last of the region that a page lies in; `None` where it lies in none.
 fn region_end(settings: Settings, page: u32) -> Option<u32> {
-    let low = 6 + settings.low_k / 4;
-    if 6 <= page && page < low {
+    let low = LOW_PAGE + settings.low_k / PAGE_K;
+    if LOW_PAGE <= page && page < low {
         return Some(low);
     }
-    let high = 32_768u32.saturating_add(settings.high_k / 4);
-    if 32_768 <= page && page < high {
+    let high = HIGH_PAGE.saturating_add(settings.high_k / PAGE_K);
+    if HIGH_PAGE <= page && page < high {
         return Some(high);
     }
     None
@@ -105,11 +111,11 @@ fn put_foreign<W: Write>(
 {
     let pages = pages_of(area_of(r));
     if let Some((page, other)) = first_page_of_another(storage, subpool, pages) {
-        let address = page.saturating_mul(4096).max(r.address);
+        let address = page.saturating_mul(PAGE_BYTES).max(r.address);
         return put_in_another(gathered, writer, address, other);
     }
     let outside = match region_end(storage.settings(), pages.start) {
-        Some(end) => end.saturating_mul(4096),
+        Some(end) => end.saturating_mul(PAGE_BYTES),
         None => r.address,
     };
     put_outside(gathered, writer, outside);
@@ -215,7 +221,7 @@ pub fn put_free<W: Write>(gathered: &mut Gathered, writer: &mut W, storage: &Sto
     let subpool = seen_or_own(storage, r.number);
     let area = area_of(r);
     let beside = first_page_beside(storage, subpool, pages_of(area));
-    let unassigned = beside.saturating_mul(512).max(area.start);
+    let unassigned = beside.saturating_mul(PAGE_DOUBLEWORDS).max(area.start);
     match first_free(storage, subpool, area) {
         Some(free) if free < unassigned => put_free_in(gathered, writer, free, subpool),
         _ => put_nobodys(gathered, writer, unassigned),

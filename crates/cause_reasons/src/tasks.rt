@@ -10,20 +10,21 @@ use place_reasons::{Piece, put_line};
 use std::io::Write;
 use storage_core::{Attach, Cause, Passed, Storage};
 use text_output::Gathered;
+use vsm_model::geometry::{LAST_SUBPOOL, LAST_TASK, SUBPOOL_NUMBERS};
 
 /// How many tasks there are.
 fn count_tasks(storage: &Storage) -> u32 {
-    for i in 0..64 {
+    for i in 0..LAST_TASK {
         if storage.task_at(i).is_none() {
             return i;
         }
     }
-    64
+    LAST_TASK
 }
 
 /// The parent of a task; `None` where there is no such task.
 fn parent_of(storage: &Storage, task: u32) -> Option<u8> {
-    if task > 64 {
+    if task > LAST_TASK {
         return None;
     }
     storage.parent(task as u8)
@@ -101,7 +102,7 @@ pub fn put_detach<W: Write>(
 /// The first subtask of the current task.
 fn first_child(storage: &Storage) -> Option<u8> {
     let current = storage.current();
-    for i in 0..64 {
+    for i in 0..LAST_TASK {
         let task = storage.task_at(i)?;
         if storage.parent(task) == Some(current) {
             return Some(task);
@@ -168,7 +169,7 @@ fn put_no_list<W: Write>(gathered: &mut Gathered, writer: &mut W)
 
 /// Puts the numbers of the subpools that are given and shared.
 fn put_lists<W: Write>(gathered: &mut Gathered, writer: &mut W, storage: &Storage, a: Attach) {
-    let mut named = [false; 128];
+    let mut named = [false; SUBPOOL_NUMBERS];
     put_numbers(gathered, writer, storage, "given", a.given, &mut named);
     put_numbers(gathered, writer, storage, "shared", a.shared, &mut named);
 }
@@ -192,11 +193,11 @@ pub fn put_attach<W: Write>(
 }
 
 /// The numbers below 128 that lists have named so far.
-type Named = [bool; 128];
+type Named = [bool; SUBPOOL_NUMBERS];
 
 /// Whether a number was named before; it's named now.
 fn is_again(named: &mut Named, number: u32) -> bool {
-    if number > 127 {
+    if number > LAST_SUBPOOL {
         return false;
     }
     let again = named[number as usize];
@@ -224,8 +225,8 @@ fn put_numbers<W: Write>(
 fn wrong_text(number: u32, again: bool) -> &'static str {
     match number {
         0 => ": subpool 0 goes by SZERO",
-        1..=127 if again => ": it's named twice",
-        1..=127 => "",
+        1..=LAST_SUBPOOL if again => ": it's named twice",
+        1..=LAST_SUBPOOL => "",
         _ => ": it's above 127",
     }
 }

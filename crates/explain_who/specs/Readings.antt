@@ -7,6 +7,8 @@ use Rattle.vsm_model.specs.declared.limits.Settings.{Settings}
 use Rattle.vsm_model.specs.Names.{NamedState, word_of}
 use Rattle.vsm_model.specs.Bytes.{load}
 use Rattle.vsm_model.specs.State.{is_task}
+use Rattle.bench_core.specs.Stands.{bench_of, settings_in}
+use Rattle.bench_core.specs.declared.bench.Bench.{Bench}
 use Rattle.explain_who.specs.Holdings.{holding_of, same_holding}
 use Rattle.explain_who.specs.declared.holdings.Holding.{Holding}
 use Rattle.explain_who.specs.declared.readings.Asked.{Asked}
@@ -34,6 +36,10 @@ reading settings (Some (asked.Register task register)) m = seen.Register (regist
 reading settings (Some (asked.Name name)) m = seen.Name (word_of m.names name.bytes)
 reading settings (Some (asked.Subpool p)) m = seen.Held (holding_read settings p m)
 reading settings (Some (asked.Holder address)) m = seen.Holder (m.storage.pages (address / 4096))
+
+-- as it is in the state of a bench
+abbrev pub read_of : Bench → Option Asked → Seen
+read_of bench asked = reading (settings_in bench) asked (bench_of bench).present
 
 abbrev pub same_word : Option ℕ → Option ℕ → Bool
 same_word None None = true

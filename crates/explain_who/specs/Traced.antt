@@ -1,5 +1,5 @@
 -- A script that was followed to its end.
-use Rattle.std.specs.Prelude.{◌≡◌, ℕ, List, ◌++◌, take, Option, Some, None, Result, Ok, Err}
+use Rattle.std.specs.Prelude.{◌≡◌, ℕ, List, ◌++◌, take, Option, Some, None, Result, Ok, Err, OnOk}
 use Rattle.line_history.specs.Trails as marks
 use Rattle.line_history.specs.Trails.{marks_of}
 use Rattle.line_history.specs.declared.trail.Trail.{Trail}
@@ -11,6 +11,7 @@ use Rattle.script_steps.specs.Output.{Marked}
 use Rattle.script_steps.specs.Taken.{Took, Ended}
 use Rattle.script_steps.specs.declared.session.Session.{Session}
 use Rattle.explain_who.specs.Lined.{lined_all, standing_differences}
+use Rattle.explain_who.specs.Notes.{IsNextLine}
 use Rattle.explain_who.specs.Readings.{reading}
 use Rattle.explain_who.specs.Who.{Difference}
 use Rattle.explain_who.specs.declared.faults.WhoFault.{WhoFault}
@@ -34,6 +35,20 @@ FollowsLine settings asked script at answers s trail (Ok (Some next)) =
 FollowsLine settings asked script at answers s trail (Ok None) =
     Took settings (take at script) answers s × Follows settings asked answers trail
 FollowsLine settings asked script at answers s trail (Err fault) = Unit {0}
+
+-- A line from a place on is followed, where what stands before it is: where the next begins, and what it brought.
+pub record IsLineFollowed (asked : Option Asked) (script : List ℕ) (at : ℕ) (old new : Session) (t u : Trail Seen)
+    (r : Result (Option ℕ) WhoFault) : Type 0 where
+  pub place : IsNextLine script at r
+  pub follows : (settings : Settings) (answers : List Marked) → Took settings (take at script) answers old
+      → Follows settings asked answers t → FollowsLine settings asked script at answers new u r
+
+-- What stands behind the last line feed is followed to the script's end, where what stands before it is.
+abbrev pub IsEndFollowed : Option Asked → List ℕ → Session → Trail Seen → Trail Seen → Result ℕ WhoFault → Type 0
+IsEndFollowed asked rest s t u r =
+    (settings : Settings) (given : List ℕ) (answers : List Marked) → Took settings given answers s
+    → Follows settings asked answers t
+    → OnOk r ((all : List Marked) × Ended settings (given ++ rest) all × Follows settings asked all u)
 
 -- A whole script is followed: its answers, what is read first, and its trail.
 pub record IsTraced (settings : Settings) (script : List ℕ) (asked : Option Asked) (t : Traced) : Type 0 where

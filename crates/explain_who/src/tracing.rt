@@ -1,14 +1,10 @@
 //! A script is followed on a bench: which of its statements stand, and what is read behind each.
-ghost use Rattle.std.specs.Prelude.{◌≡◌, ◌≤◌, ◌++◌, ℕ, List, drop, length, take, IfOk, OnOk};
-ghost use Rattle.vsm_model.specs.declared.limits.Settings.{Settings};
-ghost use Rattle.bench_core.specs.Stands.{bench_of, settings_in};
+ghost use Rattle.std.specs.Prelude.{◌≡◌, ◌≤◌, drop, length, IfOk, OnOk};
 ghost use Rattle.line_history.specs.Trails.{marks_of};
-ghost use Rattle.script_steps.specs.Output.{Marked};
 ghost use Rattle.script_steps.specs.Script.{NoFeed};
-ghost use Rattle.script_steps.specs.Taken.{Ended, Took};
-ghost use Rattle.explain_who.specs.Readings.{reading};
-ghost use Rattle.explain_who.specs.Notes.{with_told, IsNextLine};
-ghost use Rattle.explain_who.specs.Traced.{Follows, FollowsLine, IsTraced};
+ghost use Rattle.explain_who.specs.Readings.{read_of};
+ghost use Rattle.explain_who.specs.Notes.{with_told};
+ghost use Rattle.explain_who.specs.Traced.{IsEndFollowed, IsLineFollowed, IsTraced};
 
 use crate::faults::WhoFault;
 use crate::readings::{Asked, Seen, read};
@@ -39,8 +35,7 @@ fn note(
     told: &Option<(u32, Response)>,
 ) -> Result<(), AllocError>
     ensures { OnOk result (marks_of trail.new
-        ≡ with_told (reading (settings_in bench.now) asked.now (bench_of bench.now).present) before told.now
-        (marks_of trail.old)) }
+        ≡ with_told (read_of bench.now asked.now) before told.now (marks_of trail.old)) }
 {
     match told {
         Some((line, Response::Replied(_))) => trail.applied(*line, read(bench, asked)),
@@ -68,10 +63,7 @@ fn follow_line(
     asked: &Option<Asked>,
 ) -> Result<Option<usize>, WhoFault>
     requires { at ≤ length script.now }
-    ensures place { IsNextLine script.now at result }
-    ensures follows { (settings : Settings) (answers : List Marked)
-        → Took settings (take at script.now) answers session.old → Follows settings asked.now answers trail.old
-        → FollowsLine settings asked.now script.now at answers session.new trail.new result }
+    ensures { IsLineFollowed asked.now script.now at session.old session.new trail.old trail.new result }
 {
     let before = session.bench().kept();
     let step = match session.take_line(script, at) {
@@ -93,10 +85,7 @@ fn follow_end(
     asked: &Option<Asked>,
 ) -> Result<u32, WhoFault>
     requires { NoFeed rest.now }
-    ensures { (settings : Settings) (given : List ℕ) (answers : List Marked) → Took settings given answers session
-        → Follows settings asked.now answers trail.old
-        → OnOk result ((all : List Marked) × Ended settings (given ++ rest.now) all
-        × Follows settings asked.now all trail.new) }
+    ensures { IsEndFollowed asked.now rest.now session trail.old trail.new result }
 {
     let mut session = session;
     let before = session.bench().kept();

@@ -1,13 +1,9 @@
 //! Why a statement is answered as it is: its first cause, or the place of its area, with the numbers that decide.
-ghost use Rattle.std.specs.Prelude.{Bool, IfSome};
+ghost use Rattle.std.specs.Prelude.{IfSome};
 ghost use Rattle.vsm_model.specs.Meaning.{service_in};
-ghost use Rattle.vsm_model.specs.Step.{causes};
-ghost use Rattle.storage_core.specs.Meaning.{settings_of, state_of};
 ghost use Rattle.macro_statements.specs.Requests.{act_in, asked_in, IsValidAct};
 ghost use Rattle.bench_core.specs.Stands.{bench_of, settings_in};
-ghost use Rattle.cause_reasons.specs.Told.{TellsCause};
-ghost use Rattle.cause_reasons.specs.Words.{cause_words};
-ghost use Rattle.explain_why.specs.Told.{TellsFirstCause, TellsRequest};
+ghost use Rattle.explain_why.specs.Told.{TellsFirstCause, TellsRequest, TellsService};
 
 use crate::headings::{put_heading, put_number};
 use crate::refusals::put_refusal;
@@ -125,9 +121,7 @@ fn put_cause<W: Write>(
     service: &Service<'_>,
     cause: Option<Cause>,
 )
-    ensures { IfSome cause (λ its. (full : Bool) → TellsCause
-        (causes (settings_of storage.now) full (state_of storage.now) (service_in service.now))
-        (cause_words (service_in service.now) its) its
+    ensures { IfSome cause (λ its. TellsService storage.now (service_in service.now) its
         (W.contents writer.old) (W.contents writer.new) gathered.old gathered.new) }
 {
     match cause {

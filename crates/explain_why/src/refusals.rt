@@ -1,16 +1,12 @@
 //! The first cause of a service, told with the numbers that decide.
-ghost use Rattle.std.specs.Prelude.{Bool, List, Option, ℕ};
-ghost use Rattle.vsm_model.specs.Cells.{build_causes, free_causes, get_causes};
+ghost use Rattle.std.specs.Prelude.{List, Option, ℕ};
 ghost use Rattle.vsm_model.specs.Meaning.{service_in};
-ghost use Rattle.vsm_model.specs.Obtaining.{obtain_causes};
-ghost use Rattle.vsm_model.specs.Releasing.{release_causes, whole_causes};
-ghost use Rattle.vsm_model.specs.Step.{causes};
-ghost use Rattle.storage_core.specs.Meaning.{settings_of, state_of};
-ghost use Rattle.cause_reasons.specs.Told.{PutsOneOf, TellsCause};
-ghost use Rattle.cause_reasons.specs.Words.{bad_cells_words, build_words, cause_words, get_words, left_out_words};
-ghost use Rattle.cause_reasons.specs.Words.{lengths_words, misaligned_words, names_full_words, obtain_words};
-ghost use Rattle.cause_reasons.specs.Words.{pool_words, pool_exists_words, pools_full_words, release_words};
-ghost use Rattle.cause_reasons.specs.Words.{too_high_words, empty_words, whole_words, zero_words};
+ghost use Rattle.vsm_model.specs.Services.{build, free, get, obtain, release, whole};
+ghost use Rattle.cause_reasons.specs.Told.{PutsOneOf};
+ghost use Rattle.cause_reasons.specs.Words.{bad_cells_words, empty_words, left_out_words, lengths_words};
+ghost use Rattle.cause_reasons.specs.Words.{misaligned_words, names_full_words, pool_exists_words, pools_full_words};
+ghost use Rattle.cause_reasons.specs.Words.{too_high_words, zero_words};
+ghost use Rattle.explain_why.specs.Told.{TellsService};
 
 use cause_reasons::{
     count_pools, put_area, put_attach, put_detach, put_end, put_first_extent, put_free,
@@ -110,8 +106,8 @@ fn put_obtain<W: Write>(
     o: Obtain,
     cause: Cause,
 )
-    ensures { (full : Bool) → TellsCause (obtain_causes (settings_of storage.now) full (state_of storage.now) o)
-        (obtain_words cause) cause (W.contents writer.old) (W.contents writer.new) gathered.old gathered.new }
+    ensures { TellsService storage.now (obtain o) cause
+        (W.contents writer.old) (W.contents writer.new) gathered.old gathered.new }
 {
     match cause {
         Cause::UnsupportedSubpool => put_left_out(gathered, writer, o.number),
@@ -157,8 +153,8 @@ fn put_release<W: Write>(
     r: Release,
     cause: Cause,
 )
-    ensures { TellsCause (release_causes (settings_of storage.now) (state_of storage.now) r) (release_words cause)
-        cause (W.contents writer.old) (W.contents writer.new) gathered.old gathered.new }
+    ensures { TellsService storage.now (release r) cause
+        (W.contents writer.old) (W.contents writer.new) gathered.old gathered.new }
 {
     match cause {
         Cause::UnsupportedSubpool => put_left_out(gathered, writer, r.number),
@@ -190,7 +186,7 @@ fn put_whole<W: Write>(
     number: u32,
     cause: Cause,
 )
-    ensures { TellsCause (whole_causes (state_of storage.now) number) (whole_words cause) cause
+    ensures { TellsService storage.now (whole number) cause
         (W.contents writer.old) (W.contents writer.new) gathered.old gathered.new }
 {
     match cause {
@@ -251,19 +247,21 @@ fn put_pools_full<W: Write>(gathered: &mut Gathered, writer: &mut W, storage: &S
     );
 }
 
+/// What is asked of the cell pool of a name: its numbers, a cell, or that this one comes back.
+type OfPool<'a, T> = (&'a str, T);
+
 /// Puts why a cell pool can't be built.
 fn put_build<W: Write>(
     gathered: &mut Gathered,
     writer: &mut W,
     storage: &Storage,
-    name: &str,
-    b: Build,
+    asked: OfPool<'_, Build>,
     cause: Cause,
 )
-    ensures { (header : Option (List ℕ)) → TellsCause
-        (build_causes (settings_of storage.now) (state_of storage.now) name.now header b) (build_words cause) cause
+    ensures { (header : Option (List ℕ)) → TellsService storage.now (build asked.entry.0.now header asked.entry.1) cause
         (W.contents writer.old) (W.contents writer.new) gathered.old gathered.new }
 {
+    let (name, b) = asked;
     match cause {
         Cause::UnsupportedSubpool => put_left_out(gathered, writer, b.number),
         Cause::SubpoolNotAllowed => put_too_high(gathered, writer, b.number),
@@ -279,14 +277,13 @@ fn put_get<W: Write>(
     gathered: &mut Gathered,
     writer: &mut W,
     storage: &Storage,
-    name: &str,
-    g: Get,
+    asked: OfPool<'_, Get>,
     cause: Cause,
 )
-    ensures { (full : Bool) → TellsCause
-        (get_causes (settings_of storage.now) full (state_of storage.now) name.now g) (get_words cause) cause
+    ensures { TellsService storage.now (get asked.entry.0.now asked.entry.1) cause
         (W.contents writer.old) (W.contents writer.new) gathered.old gathered.new }
 {
+    let (name, g) = asked;
     match cause {
         Cause::NoCellPool => put_no_pool(gathered, writer, storage, name),
         Cause::TooManyNames => put_names_full(gathered, writer),
@@ -299,13 +296,13 @@ fn put_freed<W: Write>(
     gathered: &mut Gathered,
     writer: &mut W,
     storage: &Storage,
-    name: &str,
-    cell: u32,
+    asked: OfPool<'_, u32>,
     cause: Cause,
 )
-    ensures { TellsCause (free_causes (state_of storage.now) name.now cell) (pool_words cause) cause
+    ensures { TellsService storage.now (free asked.entry.0.now asked.entry.1) cause
         (W.contents writer.old) (W.contents writer.new) gathered.old gathered.new }
 {
+    let (name, cell) = asked;
     match cause {
         Cause::NoCellPool => put_no_pool(gathered, writer, storage, name),
         _ => put_not_in_use(gathered, writer, storage, name, cell),
@@ -320,9 +317,7 @@ pub(crate) fn put_refusal<W: Write>(
     service: &Service<'_>,
     cause: Cause,
 )
-    ensures { (full : Bool) → TellsCause
-        (causes (settings_of storage.now) full (state_of storage.now) (service_in service.now))
-        (cause_words (service_in service.now) cause) cause
+    ensures { TellsService storage.now (service_in service.now) cause
         (W.contents writer.old) (W.contents writer.new) gathered.old gathered.new }
 {
     match service {
@@ -338,12 +333,12 @@ pub(crate) fn put_refusal<W: Write>(
             put_not_there(gathered, writer, storage, *address, count)
         }
         Service::Build { name, numbers, .. } => {
-            put_build(gathered, writer, storage, name, *numbers, cause)
+            put_build(gathered, writer, storage, (*name, *numbers), cause)
         }
         Service::Get { name, operands } => {
-            put_get(gathered, writer, storage, name, *operands, cause)
+            put_get(gathered, writer, storage, (*name, *operands), cause)
         }
-        Service::Free { name, cell } => put_freed(gathered, writer, storage, name, *cell, cause),
+        Service::Free { name, cell } => put_freed(gathered, writer, storage, (*name, *cell), cause),
         Service::Delete { name } => put_no_pool(gathered, writer, storage, name),
     }
 }

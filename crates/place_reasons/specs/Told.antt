@@ -1,6 +1,6 @@
 -- What is told of the place of an area: lines of text that end in the place, or in that there is none.
-use Rattle.std.specs.Prelude.{ℕ, ◌*◌, ◌-◌, ◌^◌, min, List, [], ◌++◌, Option, Some, None, codes}
-use Rattle.vsm_model.specs.Areas.{Place, Inside, Fresh, Nowhere}
+use Rattle.std.specs.Prelude.{◌≡◌, ℕ, ◌*◌, ◌-◌, ◌^◌, min, Bool, not, List, [], ◌++◌, Option, Some, None, codes}
+use Rattle.vsm_model.specs.Areas.{Place, Inside, Fresh, Nowhere, is_nowhere}
 use Rattle.vsm_model.specs.Texts.{hexadecimal}
 use Rattle.storage_plans.specs.Reasons.{side_place}
 use Rattle.storage_plans.specs.declared.reasons.SideReason.{SideReason}
@@ -35,3 +35,8 @@ PutsEnding old new before after last = (front : List ℕ) × Puts old new before
 
 abbrev pub PutsSome : Option (List ℕ) → Option (List ℕ) → Gathered → Gathered → Type 0
 PutsSome old new before after = (text : List ℕ) × Puts old new before after text
+
+-- What is put of a side ends in the place that it has, if it has one; and whether it has one is answered.
+pub record TellsSide (old new : Option (List ℕ)) (before after : Gathered) (its : Place) (answer : Bool) : Type 0 where
+  pub place : PutsEnding old new before after (found_text its)
+  pub found : answer ≡ not (is_nowhere its)

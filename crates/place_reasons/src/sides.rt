@@ -1,10 +1,10 @@
 //! What each side of the line has for an area, told.
-ghost use Rattle.std.specs.Prelude.{◌≡◌, not, IfSome};
-ghost use Rattle.vsm_model.specs.Areas.{Inside, Fresh, is_nowhere};
+ghost use Rattle.std.specs.Prelude.{IfSome};
+ghost use Rattle.vsm_model.specs.Areas.{Inside, Fresh};
 ghost use Rattle.storage_plans.specs.Reasons.{side_place};
 ghost use Rattle.text_output.specs.Writing.{Puts};
 ghost use Rattle.place_reasons.specs.Places.{sides_place};
-ghost use Rattle.place_reasons.specs.Told.{found_text, option_place, place_text, PutsEnding, PutsSome};
+ghost use Rattle.place_reasons.specs.Told.{found_text, option_place, place_text, PutsEnding, PutsSome, TellsSide};
 
 use crate::areas::{FreeAreas, free_areas};
 use crate::pieces::{Piece, put_pieces};
@@ -147,9 +147,8 @@ fn put_side<W: Write>(
     count: u32,
     reason: SideReason,
 ) -> bool
-    ensures place { PutsEnding (W.contents writer.old) (W.contents writer.new) gathered.old gathered.new
-        (found_text (side_place reason)) }
-    ensures found { result ≡ not (is_nowhere (side_place reason)) }
+    ensures { TellsSide (W.contents writer.old) (W.contents writer.new) gathered.old gathered.new
+        (side_place reason) result }
 {
     put_inside(gathered, writer, sum, reason);
     if reason.inside.is_some() {
@@ -165,17 +164,15 @@ fn put_second<W: Write>(
     writer: &mut W,
     storage: &Storage,
     subpool: Subpool,
-    count: u32,
-    second: Option<SideReason>,
+    sides: &Sides,
 ) -> bool
-    ensures place { PutsEnding (W.contents writer.old) (W.contents writer.new) gathered.old gathered.new
-        (found_text (option_place second)) }
-    ensures found { result ≡ not (is_nowhere (option_place second)) }
+    ensures { TellsSide (W.contents writer.old) (W.contents writer.new) gathered.old gathered.new
+        (option_place sides.now.second) result }
 {
-    match second {
+    match sides.second {
         Some(reason) => {
             let sum = free_areas(storage, subpool, reason.side);
-            put_side(gathered, writer, sum, count, reason)
+            put_side(gathered, writer, sum, sides.count, reason)
         }
         None => false,
     }
@@ -196,14 +193,7 @@ pub fn put_sides<W: Write>(
     if put_side(gathered, writer, sum, sides.count, sides.first) {
         return;
     }
-    if put_second(
-        gathered,
-        writer,
-        storage,
-        subpool,
-        sides.count,
-        sides.second,
-    ) {
+    if put_second(gathered, writer, storage, subpool, sides) {
         return;
     }
     gathered.put(writer, b"  no place\n");
