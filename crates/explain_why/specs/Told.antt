@@ -20,7 +20,8 @@ use Rattle.explain_why.specs.declared.ahead.Asked.TheVariants as variant
 abbrev pub TellsService : Storage → Service → Cause → Option (List ℕ) → Option (List ℕ) → Gathered → Gathered → Type 0
 TellsService s service cause old new before after =
     (full : Bool)
-    → TellsCause (causes (settings_of s) full (state_of s) service) (cause_words service cause) cause old new before after
+    → TellsCause (causes (settings_of s) full (state_of s) service) (cause_words service cause) cause old new before
+    after
 
 -- Of a statement in a state what is put tells the first cause by the definitions: why it's refused there or, but for a
 -- conditional GET, answered 4.
