@@ -114,25 +114,28 @@ fn operand_place(card: &[u8], field: &Field, from: usize) -> TextPlace
     }
 }
 
-/// Where the caret of a fault of this kind stands, by the place where a rule of continuation is broken, or else column
-/// 72 of this line.
+/// The place where a rule of continuation is broken, or else column 72 of the last of so many lines.
+fn broken_place(broken: Option<TextPlace>, lines: usize) -> TextPlace {
+    broken.unwrap_or(TextPlace {
+        line: lines.saturating_sub(1),
+        column: 72,
+    })
+}
+
+/// Where the caret of a fault of this kind stands, by the place where a rule of continuation is broken.
 fn place_for(
     kind: FaultKind,
     card: &[u8],
     field: &Field,
     from: usize,
-    broken: Option<TextPlace>,
-    last: usize,
+    broken: TextPlace,
 ) -> TextPlace
     ensures { is_of_operand kind ≡ true → from < length field.now.text.items
         → slice_get field.now.places.items from ≡ Some result }
 {
     match kind {
         FaultKind::Column => TextPlace { line: 0, column: 1 },
-        FaultKind::Continuation => broken.unwrap_or(TextPlace {
-            line: last,
-            column: 72,
-        }),
+        FaultKind::Continuation => broken,
         FaultKind::Operation => TextPlace {
             line: 0,
             column: operation_column(card),
@@ -153,8 +156,8 @@ pub fn caret_of(script: &[u8], lines: &[SourceLine], kind: FaultKind) -> Caret
     let card = first_card(script, lines);
     let (field, broken) = field_over(script, &card, further_lines(lines));
     let (from, to) = wrong_operand(&card, field.text(), kind);
-    let last = lines.len().saturating_sub(1);
-    let place = place_for(kind, &card, &field, from, broken, last);
+    let broken = broken_place(broken, lines.len());
+    let place = place_for(kind, &card, &field, from, broken);
     Caret {
         place,
         card,

@@ -84,13 +84,11 @@ fn append(text: &mut ArrayVec<u8, FIELD_BYTES>, part: &[u8])
     let _ = text.try_extend_from_slice(part);
 }
 
+/// The places of a field's bytes.
+type Places = ArrayVec<TextPlace, FIELD_BYTES>;
+
 /// Appends so many places, one after another on a line from this column on.
-fn append_row(
-    places: &mut ArrayVec<TextPlace, FIELD_BYTES>,
-    line: usize,
-    column: usize,
-    count: usize,
-)
+fn append_row(places: &mut Places, line: usize, column: usize, count: usize)
     requires room { array_vec_len places.old + count ≤ 575 }
     requires column { column ≤ 72 }
     ensures places { places.new.items ≡ places.old.items ++ in_row line column count }

@@ -9,7 +9,7 @@ use operand_texts::nesting::Nesting;
 pub(crate) const FIELD_BYTES: usize = 575;
 
 /// Where a byte of a statement stands.
-#[derive(Clone, Copy, Debug, Default, PartialEq, Eq)]
+#[derive(Clone, Copy, Default)]
 pub struct TextPlace {
     /// The line of the statement, from 0.
     pub line: usize,

@@ -6,7 +6,7 @@ ghost use Rattle.statement_faults.specs.Places.{line_in};
 use arrayvec::ArrayVec;
 
 /// A line of a script: its number, and where its bytes lie, without its line feed.
-#[derive(Clone, Copy, Debug, Default)]
+#[derive(Clone, Copy, Default)]
 pub struct SourceLine {
     /// Its number in the script, from 1.
     pub number: u32,

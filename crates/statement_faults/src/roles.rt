@@ -9,7 +9,7 @@ ghost use Rattle.statement_faults.specs.Roles.{brought_by, role_in};
 use macro_reader::{FaultKind, Stand};
 
 /// What a line is.
-#[derive(Clone, Copy, Debug, PartialEq, Eq)]
+#[derive(Clone, Copy, PartialEq, Eq)]
 pub enum Role {
     /// A comment or an empty line.
     Aside,
@@ -36,7 +36,7 @@ impl Role {
 }
 
 /// What a line brings.
-#[derive(Clone, Copy, Debug, PartialEq, Eq)]
+#[derive(Clone, Copy, PartialEq, Eq)]
 pub enum Brought {
     /// No answer: it's an aside, it's dropped, or its statement goes on.
     Nothing,

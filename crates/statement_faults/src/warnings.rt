@@ -1,7 +1,7 @@
 //! What a script hides: bytes that its reader takes for others than the writer meant.
 
 /// What a line or a file has that its reader takes otherwise than it looks.
-#[derive(Clone, Copy, Debug, PartialEq, Eq)]
+#[derive(Clone, Copy)]
 pub enum Warning {
     /// The file begins with a byte order mark.
     ByteOrderMark,
