@@ -10,6 +10,7 @@ from __future__ import annotations
 import heapq
 from typing import Iterable, Optional
 
+from .building import Build, Builder, page_end, shape
 from .command import Fault
 from .family import Event, Family
 from .judge import MOST_POOLS, MOST_TASKS, Judge, refuse
@@ -18,10 +19,6 @@ from .maps import HIGH_START, LOW_START, PAGE, Area, CellPool, Map, Subpool
 from .places import Home, Key, Places, location, unassigned
 
 NO_LENGTH = 0xFFFFFFF8   # that has a place nowhere
-
-
-def page_end(address: int) -> int:
-    return -(-address // PAGE) * PAGE
 
 
 def has_whole_page(area: Area) -> bool:
@@ -57,6 +54,11 @@ class Script:
 
     def obtain(self, length: int, subpool: int, side: int, more: str = "") -> None:
         self.put("STORAGE OBTAIN,LENGTH=%d,SP=%d,LOC=%d%s" % (length, subpool, side, more))
+
+    def build(self, pool: CellPool) -> None:
+        header = "" if pool.header is None else ",HDR='%s'" % pool.header
+        self.put("CPOOL BUILD,PCELLCT=%d,SCELLCT=%d,CSIZE=%d,CPID=%s,SP=%d,LOC=%d%s" % (
+            pool.primary, pool.secondary, pool.size, pool.name, pool.subpool, pool.location, header))
 
     def release(self, area: Area, subpool: int) -> None:
         self.put("STORAGE RELEASE,LENGTH=%d,ADDR=X'%X',SP=%d" % (area.length, area.start, subpool))
@@ -96,9 +98,12 @@ class Loader:
         self.end()
         return self.script.lines
 
+    def pools_of(self, it: Subpool) -> list[CellPool]:
+        return [pool for pool in self.map.cell_pools if (pool.subpool, pool.owner) == (it.number, it.owner)]
+
     def is_own_work(self, it: Subpool) -> bool:
         """Whether a subpool has just cell pools as BUILD makes them."""
-        pools = [pool for pool in self.map.cell_pools if (pool.subpool, pool.owner) == (it.number, it.owner)]
+        pools = self.pools_of(it)
         extents = [pool.extents[0] for pool in pools]
         return (all(len(pool.extents) == 1 and pool.free_cells == pool.cells for pool in pools)
                 and sum(area.length for area in extents + it.free) == sum(area.length for area in it.extents))
@@ -312,7 +317,11 @@ class Loader:
         """Makes all storage of a subpool, or one that stays empty."""
         it = self.map.subpool(*key)
         assert it is not None
-        if it.extents:
+        if key in self.made:
+            return
+        if it.extents and self.family.makers[key].how == "build":
+            self.build(key)
+        elif it.extents:
             Pages(self, it).make()
         elif self.family.makers[key].how == "build":
             self.script.by(self.worker(key))
@@ -320,6 +329,53 @@ class Loader:
             self.script.put("CPOOL BUILD,PCELLCT=1,CSIZE=8,CPID=%s,SP=%d,LOC=31" % (name, key[0]))
             self.script.put("CPOOL DELETE,CPID=%s" % name)
         self.made.add(key)
+
+    def build(self, key: Key) -> None:
+        """Makes the cell pools of a subpool by BUILD and DELETE alone; where there's no other task, those of all
+        subpools."""
+        is_alone = len(self.map.tasks) == 1
+        its = [it for it in self.map.subpools if it.extents and (is_alone or (it.number, it.owner) == key)]
+        wanted = [Build(pool.extents[0], it.number, pool.location, pool) for it in its for pool in self.pools_of(it)]
+        builder = Builder(self.unassigned(24) + self.unassigned(31), wanted, MOST_POOLS - self.built)
+        steps = builder.plan()
+        if steps is None:
+            line = self.map.subpools[0].line if is_alone else its[0].line
+            if is_alone and len(wanted) == MOST_POOLS and not builder.has_last():
+                refuse(self.source, line, "task 1 just built its %d cell pools, and without any one of them a lower "
+                       "place than its own would fit, so that none was built last" % MOST_POOLS)
+            raise Fault("this can't be made: no order of BUILDs is found that takes at most %d cell pools at once"
+                        % MOST_POOLS, self.source, line)
+        self.script.by(self.worker(key))
+        for step in steps:
+            self.build_step(step)
+        self.built += len(wanted)
+        self.made.update((it.number, it.owner) for it in its)
+
+    def build_step(self, step: list[Build]) -> None:
+        """Builds a cell pool behind its fillers, which go again."""
+        *fillers, last = step
+        assert last.pool is not None
+        names: dict[Build, str] = {}
+        for filler in fillers:
+            if filler in names:
+                self.delete(names.pop(filler))
+            else:
+                names[filler] = self.build_filler(filler)
+        self.script.build(last.pool)
+        for name in names.values():
+            self.delete(name)
+
+    def build_filler(self, filler: Build) -> str:
+        name, found = self.spare_name(), shape(filler.area.length)
+        assert found is not None
+        self.script.put("CPOOL BUILD,PCELLCT=%d,CSIZE=%d,CPID=%s,SP=%d,LOC=%d" % (
+            *found, name, filler.number, filler.side))
+        self.pool_names.add(name)
+        return name
+
+    def delete(self, name: str) -> None:
+        self.script.put("CPOOL DELETE,CPID=%s" % name)
+        self.pool_names.remove(name)
 
     def end(self) -> None:
         for number in sorted(self.fillers):
@@ -332,20 +388,16 @@ class Loader:
 
 
 class Pages:
-    """Makes all storage of a subpool: its pages, and what lies in them.
+    """Makes all storage of a subpool by a task that may obtain: its pages, and what lies in them.
 
-    All unassigned pages are first taken by areas, its own up to the last of them. Where its maker may not
-    obtain ("build"), they're taken by cell pools that only BUILD and DELETE touch; these are cut where a free
-    area or an extent of the map begins.
+    All unassigned pages are first taken by areas, its own up to the last of them.
     """
 
     def __init__(self, loader: Loader, it: Subpool) -> None:
         self.loader, self.map, self.script, self.it = loader, loader.map, loader.script, it
         self.key = (it.number, it.owner)
-        self.is_built = loader.family.makers[self.key].how == "build"
-        self.pools = [pool for pool in self.map.cell_pools if (pool.subpool, pool.owner) == self.key]
+        self.pools = loader.pools_of(it)
         self.gaps: list[Area] = []
-        self.pieces: dict[Area, str] = {}
         self.unused = {pool.name: 0 for pool in self.pools}
 
     def make(self) -> None:
@@ -356,7 +408,7 @@ class Pages:
         for pool in self.pools:
             self.make_free_cells(pool)
         for area in self.it.free + self.gaps:
-            self.give_back(area)
+            self.script.release(area, self.key[0])
 
     # All pages.
 
@@ -379,7 +431,8 @@ class Pages:
             if at < run.start:
                 self.gaps.append(Area(at, run.start - at))
                 self.take(self.gaps[-1])
-            self.fill_run(run)
+            if run.length:
+                self.take(run)
             at = run.end
 
     def is_high_full(self) -> bool:
@@ -387,43 +440,9 @@ class Pages:
         return any(pool.location == 31 and extent.start < HIGH_START
                    for pool in self.pools for extent in pool.extents)
 
-    def fill_run(self, run: Area) -> None:
-        if not self.is_built:
-            if run.length:
-                self.take(run)
-            return
-        areas = self.it.free + [extent for pool in self.pools for extent in pool.extents]
-        for area in sorted(areas, key=lambda area: area.start):
-            if run.start <= area.start < run.end:
-                self.take(area)
-
     def take(self, area: Area) -> None:
         """Takes an area that is just where the next one goes."""
-        if not self.is_built:
-            self.script.obtain(area.length, self.key[0], location(area.start))
-            return
-        for piece in cut(area):
-            name = self.loader.spare_name(len(self.pieces))
-            self.loader.pool_names.add(name)
-            self.loader.built += 1
-            if self.loader.built > MOST_POOLS:
-                raise Fault("this can't be made: it takes more than %d cell pools for a while" % MOST_POOLS,
-                            self.loader.source, self.it.line)
-            self.pieces[piece] = name
-            size = min(piece.length, PAGE)
-            self.script.put("CPOOL BUILD,PCELLCT=%d,CSIZE=%d,CPID=%s,SP=%d,LOC=%d" % (
-                piece.length // size, size, name, self.key[0], location(piece.start)))
-
-    def give_back(self, area: Area) -> None:
-        """Makes free what take took; of a page in which nothing else is taken that's the page."""
-        if not self.is_built:
-            self.script.release(area, self.key[0])
-            return
-        for piece in [it for it in self.pieces if area.start <= it.start < area.end]:
-            name = self.pieces.pop(piece)
-            self.loader.pool_names.remove(name)
-            self.loader.built -= 1
-            self.script.put("CPOOL DELETE,CPID=%s" % name)
+        self.script.obtain(area.length, self.key[0], location(area.start))
 
     # Cell pools.
 
@@ -466,14 +485,12 @@ class Pages:
         if k:
             self.get(pool, self.unused[pool.name])
         end = page_end(extent.end) if has_whole_page(extent) else extent.end
-        self.give_back(Area(extent.start, end - extent.start))
+        self.script.release(Area(extent.start, end - extent.start), self.key[0])
         if k:
             self.get(pool, 1)
             self.unused[pool.name] = pool.secondary - 1
         else:
-            header = "" if pool.header is None else ",HDR='%s'" % pool.header
-            self.script.put("CPOOL BUILD,PCELLCT=%d,SCELLCT=%d,CSIZE=%d,CPID=%s,SP=%d,LOC=%d%s" % (
-                pool.primary, pool.secondary, pool.size, pool.name, pool.subpool, pool.location, header))
+            self.script.build(pool)
             self.unused[pool.name] = pool.primary
             self.loader.built += 1
         if end > extent.end:
@@ -493,13 +510,3 @@ class Pages:
         for cell in reversed(free[:len(free) - same]):
             self.script.put("CPOOL FREE,CPID=%s,CELL=X'%X'" % (pool.name, cell))
 
-
-def cut(area: Area) -> list[Area]:
-    """An area in pieces of less than a page within one page, and of at most 4096 whole pages."""
-    found, at = [], area.start
-    while at < area.end:
-        whole = (area.end - at) // PAGE * PAGE if at % PAGE == 0 else 0
-        length = min(whole, 4096 * PAGE) or min(area.end, at - at % PAGE + PAGE) - at
-        found.append(Area(at, length))
-        at += length
-    return found
