@@ -8,12 +8,13 @@ the end of the tasks that filled a number, and register 15.
 from __future__ import annotations
 
 import heapq
+from itertools import product
 from typing import Iterable, Optional
 
 from .building import Build, Builder, page_end, shape
 from .command import Fault
 from .family import Event, Family
-from .judge import MOST_POOLS, MOST_TASKS, Judge, refuse
+from .judge import MOST_POOLS, MOST_TASKS, Judge, Refused, refuse
 from .lines import fold
 from .maps import HIGH_START, LOW_START, PAGE, Area, CellPool, Map, Subpool
 from .places import Home, Key, Places, location, unassigned
@@ -82,7 +83,25 @@ class Loader:
         self.built = 0                           # cell pools that are there
 
     def load(self) -> list[str]:
+        """The script. Where it can't be made with all addresses had before the storage and with as much built by
+        BUILD alone as can be, other ways are tried; what's told is why the first one fails."""
+        faults: list[Fault] = []
+        has_homes, can_obtain = any(it.homes for it in self.family.words), any(self.first.values())
+        for is_late, is_build_last in product((False, True)[:1 + has_homes], (False, True)[:1 + can_obtain]):
+            loader = Loader(self.map, self.source)
+            loader.family.is_late, loader.family.is_build_last = is_late, is_build_last
+            try:
+                return loader.write()
+            except Refused:
+                raise
+            except Fault as fault:
+                faults.append(fault)
+        raise faults[0]
+
+    def write(self) -> list[str]:
         events = self.family.plan()
+        if sum(it.task == 1 for it in self.family.words) > 1:
+            self.define_names()
         for k, event in enumerate(events):
             kind, number = event
             if kind in ("create", "temp", "help"):
@@ -121,26 +140,39 @@ class Loader:
 
     # The words of tasks.
 
-    def words(self, task: int) -> None:
-        """Gives a task its words of registers 0 and 2 to 12; task 1 those of names too."""
-        words = self.places.words[task]
-        self.script.by(task)
-        if words[0]:
+    def define_names(self) -> None:
+        """Defines the names in their order, in which they get their words only by chance."""
+        for it in self.map.names:
+            self.script.obtain(8, 0, 24, ",ADDR=" + it.name)
+            self.script.release(Area(LOW_START, 8), 0)
+
+    def words(self, number: int) -> None:
+        """Gives a task a word of register 0, or addresses; task 1 those of names too."""
+        it = self.family.words[number]
+        self.script.by(it.task)
+        if it.length:
             self.script.put("STORAGE OBTAIN,LENGTH=(%d,%d),LOC=%d"
-                            % (words[0], words[0], self.places.window(words[0])[0]))
-            self.script.put("STORAGE RELEASE,LENGTH=%d,ADDR=(1)" % words[0])
-        names = [(it.name, it.word) for it in self.map.names] if task == 1 else []
-        self.addresses(task, names + [("(%d)" % k, words[k]) for k in range(2, 13) if words[k]])
+                            % (it.length, it.length, self.places.window(it.length)[0]))
+            self.script.put("STORAGE RELEASE,LENGTH=%d,ADDR=(1)" % it.length)
+        elif self.family.is_behind(it):
+            for (place, word), home in zip(it.addresses, it.homes):
+                self.word_at_home(it.task, place, word, home)
+        else:
+            self.addresses(it.task, it.addresses)
 
     def first_word(self, task: int) -> None:
         """Gives register 1 of a task the address that stays there."""
         home = self.places.homes.get(task)
         if home is None:
             self.addresses(task, [("(1)", self.first[task])])
-        elif home.pool is None:
-            self.area_word(task, self.first[task], home)
         else:
-            self.cell_word(task, self.first[task], home.pool)
+            self.word_at_home(task, "(1)", self.first[task], home)
+
+    def word_at_home(self, task: int, place: str, word: int, home: Home) -> None:
+        if home.pool is None:
+            self.area_word(task, place, word, home)
+        else:
+            self.cell_word(task, place, word, home.pool)
 
     def taken_free(self, key: Optional[Key], side: int) -> list[Area]:
         """Takes all free areas of a subpool on a side of the line, which the task that makes the requests
@@ -151,21 +183,21 @@ class Loader:
             self.script.obtain(area.length, key[0] if key else 0, side)
         return found
 
-    def area_word(self, task: int, word: int, home: Home) -> None:
+    def area_word(self, task: int, place: str, word: int, home: Home) -> None:
         """The address of a doubleword of a subpool that the task sees, or of its second half."""
         side, number = location(word), home.key[0]
         self.script.by(task)
         free = self.taken_free(home.key, side)
         self.script.release(Area(word - word % 8, 8), number)
         if home.is_half:
-            self.cell_address("(1)", word, number)
+            self.cell_address(place, word, number)
         else:
-            self.script.obtain(8, number, side)
+            self.script.obtain(8, number, side, ",ADDR=" + place)
         for area in free:
             for part in without(area, [word - 4] if home.is_half else []):
                 self.script.release(part, number)
 
-    def cell_word(self, task: int, word: int, pool: CellPool) -> None:
+    def cell_word(self, task: int, place: str, word: int, pool: CellPool) -> None:
         """The address of a cell: one that's in use is freed for a moment; for a free one, all before it are
         had, and freed again, the last first."""
         self.script.by(task)
@@ -173,8 +205,8 @@ class Loader:
         had = free[:free.index(word) + 1] if word in free else [word]
         if word not in free:
             self.script.put("CPOOL FREE,CPID=%s,CELL=X'%X'" % (pool.name, word))
-        for _ in had:
-            self.script.put("CPOOL GET,CPID=%s" % pool.name)
+        for cell in had:
+            self.script.put("CPOOL GET,CPID=%s%s" % (pool.name, ",CELL=" + place if cell == word else ""))
         for cell in reversed(had if word in free else []):
             self.script.put("CPOOL FREE,CPID=%s,CELL=X'%X'" % (pool.name, cell))
 
@@ -340,7 +372,7 @@ class Loader:
         steps = builder.plan()
         if steps is None:
             line = self.map.subpools[0].line if is_alone else its[0].line
-            if is_alone and len(wanted) == MOST_POOLS and not builder.has_last():
+            if is_alone and not self.first[1] and len(wanted) == MOST_POOLS and not builder.has_last():
                 refuse(self.source, line, "task 1 just built its %d cell pools, and without any one of them a lower "
                        "place than its own would fit, so that none was built last" % MOST_POOLS)
             raise Fault("this can't be made: no order of BUILDs is found that takes at most %d cell pools at once"
