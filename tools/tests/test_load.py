@@ -215,15 +215,17 @@ def test_cell_pools_of_task_1_come_back(vsm: str, seed: int) -> None:
     comes_back(vsm, WIDER, answer, "seed %d" % seed)
 
 
-@pytest.mark.parametrize("count, told", [(256, "no list of statements makes this: task 1 just built its 256 cell pools"),
-                                         (255, "this can't be made: no order of BUILDs is found")])
+@pytest.mark.parametrize("count, told", [
+    (256, "no list of statements makes this: task 1 just built its 256 cell pools"),
+    (255, "this can't be made: no order of BUILDs is found")])
 def test_cell_pools_none_of_which_comes_last(vsm: str, count: int, told: str) -> None:
     """Each is alone in its page, 8 bytes behind its begin: only areas can have been before them."""
     script = "".join(" STORAGE OBTAIN,LENGTH=8,ADDR=P\n CPOOL BUILD,PCELLCT=1,CSIZE=4088,CPID=C%d\n" % k
                      for k in range(count))
     script += "".join(" STORAGE RELEASE,LENGTH=8,ADDR=%d\n" % (maps.LOW_START + k * maps.PAGE) for k in range(count))
-    lines = list(bench.run(vsm, WIDER, (script + " MAP\n").encode()).answers[-1].rest)
-    comes_back(vsm, WIDER, bench.run(vsm, WIDER, (script + " MAP\n").encode()).answers[-1], "areas")
+    answer = bench.run(vsm, WIDER, (script + " MAP\n").encode()).answers[-1]
+    comes_back(vsm, WIDER, answer, "areas")
+    lines = list(answer.rest)
     lines[1] = "  R0" + " 00000000" * 8
     with pytest.raises(Fault, match=told):
         loading.Loader(maps.parse_map([line for line in lines if not line.startswith(" NAME")]), "map").load()

@@ -2,8 +2,9 @@
 
 It takes family's events in turn: ATTACHes, the words of tasks, and the storage of subpools. All storage of a
 subpool is made at once: its pages, as areas that fill them, while all lower ones are taken; the extents of cell
-pools, each where just its own storage is free; cells that are in use and free ones; the free areas. Last come
-the end of the tasks that filled a number, and register 15.
+pools, each where just its own storage is free; cells that are in use and free ones; the free areas. Where no
+task may obtain, cell pools are built in an order that building finds. Last come the end of the tasks that filled
+a number, and register 15.
 """
 from __future__ import annotations
 
