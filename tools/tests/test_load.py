@@ -215,6 +215,28 @@ def test_cell_pools_of_task_1_come_back(vsm: str, seed: int) -> None:
     comes_back(vsm, WIDER, answer, "seed %d" % seed)
 
 
+def test_cell_pools_of_several_tasks_that_only_build(vsm: str) -> None:
+    """Task 2 and 3 take turns, so that neither's can be built behind all of the other's."""
+    script = " ATTACH SZERO=NO\n" * 2 + "".join(
+        " RUN %d\n CPOOL BUILD,PCELLCT=1,CSIZE=%d,CPID=C%d\n" % (2 + k % 2, (1000, 4096, 3000)[k % 3], k)
+        for k in range(256))
+    script += "".join(" RUN %d\n CPOOL DELETE,CPID=C%d\n" % (2 + k % 2, k) for k in range(0, 256, 5))
+    script += "".join(" RUN %d\n CPOOL BUILD,PCELLCT=1,CSIZE=4000,CPID=D%d\n" % (2 + k % 2, k) for k in range(52))
+    answer = bench.run(vsm, WIDER, (script + " MAP\n").encode()).answers[-1]
+    assert sum(line.startswith(" CELLPOOL") for line in answer.rest) == 256
+    comes_back(vsm, WIDER, answer, "two tasks")
+
+
+def test_cell_pools_behind_an_area_of_another_task(vsm: str) -> None:
+    """Statements make this map; it's told that it can't be made, not that none do."""
+    script = " STORAGE OBTAIN,LENGTH=4096,ADDR=(2)\n ATTACH SZERO=NO\n RUN 2\n"
+    script += "".join(" CPOOL BUILD,PCELLCT=1,CSIZE=4096,CPID=C%d\n" % k for k in range(256))
+    script += " RUN 1\n STORAGE RELEASE,LENGTH=4096,ADDR=(2)\n"
+    answer = bench.run(vsm, WIDER, (script + " MAP\n").encode()).answers[-1]
+    with pytest.raises(Fault, match="this can't be made: no order of BUILDs is found"):
+        comes_back(vsm, WIDER, answer, "an area of task 1")
+
+
 @pytest.mark.parametrize("count, told", [
     (256, "no list of statements makes this: task 1 just built its 256 cell pools"),
     (255, "this can't be made: no order of BUILDs is found")])

@@ -13,7 +13,7 @@ from typing import Iterable, Optional
 
 from .judge import MOST_CELLS
 from .maps import PAGE, Area, CellPool
-from .places import location
+from .places import Key, location
 
 MOST_TRIES = 20000    # places that are looked for, in all
 
@@ -31,7 +31,7 @@ class Build:
     """A BUILD in a subpool: where it goes, the side of the line that it asks for, and the pool of the map;
     none for a filler."""
     area: Area
-    number: int
+    key: Key
     side: int
     pool: Optional[CellPool] = None
 
@@ -41,20 +41,20 @@ class Ground:
 
     def __init__(self, runs: list[Area], builds: Iterable[Build]) -> None:
         self.runs = sorted(runs, key=lambda run: run.start)
-        self.taken: dict[int, list[tuple[int, int]]] = {}
+        self.taken: dict[Key, list[tuple[int, int]]] = {}
         for it in builds:
             self.add(it)
 
     def add(self, it: Build) -> None:
-        insort(self.taken.setdefault(it.number, []), (it.area.start, it.area.end))
+        insort(self.taken.setdefault(it.key, []), (it.area.start, it.area.end))
 
     def remove(self, it: Build) -> None:
-        self.taken[it.number].remove((it.area.start, it.area.end))
+        self.taken[it.key].remove((it.area.start, it.area.end))
 
-    def gaps(self, number: int) -> list[Area]:
+    def gaps(self, key: Key) -> list[Area]:
         """The free areas of a subpool."""
         found, at = [], 0
-        for start, end in self.taken.get(number, ()):
+        for start, end in self.taken.get(key, ()):
             if page_start(start) > page_end(at):
                 found += [(at, page_end(at)), (page_start(start), start)]
             else:
@@ -78,9 +78,9 @@ class Ground:
                 found.append(Area(at, run.end - at))
         return found
 
-    def fit(self, number: int, length: int, side: int) -> Optional[Area]:
+    def fit(self, key: Key, length: int, side: int) -> Optional[Area]:
         """The free area or the run of pages where a BUILD goes, to its first byte."""
-        gaps, runs = self.gaps(number), self.unassigned()
+        gaps, runs = self.gaps(key), self.unassigned()
         for each in (31, 24) if side == 31 else (24,):
             for area in gaps + runs:
                 if area.length >= length and location(area.start) == each:
@@ -89,7 +89,7 @@ class Ground:
 
 
 class Builder:
-    """Looks for the order of the cell pools of a map that one task builds."""
+    """Looks for the order of the cell pools of some subpools."""
 
     def __init__(self, runs: list[Area], wanted: list[Build], most: int) -> None:
         """most: how many pools there may be at once, with the fillers."""
@@ -129,7 +129,7 @@ class Builder:
 
     def is_last(self, it: Build) -> bool:
         self.ground.remove(it)
-        place = self.ground.fit(it.number, it.area.length, it.side)
+        place = self.ground.fit(it.key, it.area.length, it.side)
         self.ground.add(it)
         return place is not None and place.start == it.area.start
 
@@ -147,11 +147,11 @@ class Builder:
         is_held = self.hold(it)
         while is_held and self.tries > 0:
             self.tries -= 1
-            place = self.ground.fit(it.number, it.area.length, it.side)
+            place = self.ground.fit(it.key, it.area.length, it.side)
             if place is not None and place.start == it.area.start:
                 return True
             hole = self.hole(it.area.start, place)
-            if hole is None or not all(self.fill(Build(part, it.number, location(part.start)))
+            if hole is None or not all(self.fill(Build(part, it.key, location(part.start)))
                                        for part in parts(hole)):
                 return False
         return False
@@ -171,7 +171,7 @@ class Builder:
         if it.area.start % PAGE == 0 or page_start(end - 1) <= it.area.start or not self.run_at(end - 1):
             return True
         before = len(self.there)
-        if end % PAGE == 0 or not self.fill(Build(Area(end, page_end(end) - end), it.number, location(end))):
+        if end % PAGE == 0 or not self.fill(Build(Area(end, page_end(end) - end), it.key, location(end))):
             return False
         for filler in self.there[before:-1]:
             self.ground.remove(filler)

@@ -78,6 +78,7 @@ class Family:
         self.words = places.all_words()
         self.is_late = False     # whether words are had behind the storage, where they can
         self.is_build_last = False     # whether BUILD alone comes behind tasks that obtain, in subpool 0 too
+        self.before: Order = {}                # what comes before what, when all is planned
         self.makers: dict[Key, Maker] = {}
         self.helpers: list[Helper] = []
         self.chains: dict[Key, list[int]] = {}
@@ -341,7 +342,8 @@ class Family:
             makers = dict(makers)
             makers[best[0]] = best[1]
             core = self.core(makers)
-        return self.in_turn(arranged(*self.needs()))
+        self.before = arranged(*self.needs())
+        return self.in_turn(self.before)
 
     def is_stuck(self, key: Key, core: set[Event]) -> bool:
         """Whether another maker of a subpool's storage could open a circle."""

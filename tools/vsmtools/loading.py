@@ -10,7 +10,7 @@ from __future__ import annotations
 
 import heapq
 from itertools import product
-from typing import Iterable, Optional
+from typing import Iterable, NoReturn, Optional
 
 from .building import Build, Builder, page_end, shape
 from .command import Fault
@@ -82,6 +82,7 @@ class Loader:
         self.made: set[Key] = set()              # subpools whose storage is made
         self.pool_names = {pool.name for pool in shown.cell_pools}
         self.built = 0                           # cell pools that are there
+        self.done: set[Event] = set()
 
     def load(self) -> list[str]:
         """The script. Where it can't be made with all addresses had before the storage and with as much built by
@@ -115,6 +116,7 @@ class Loader:
                 self.words(number)
             else:
                 self.first_word(number)
+            self.done.add(event)
         self.end()
         return self.script.lines
 
@@ -353,7 +355,7 @@ class Loader:
         if key in self.made:
             return
         if it.extents and self.family.makers[key].how == "build":
-            self.build(key)
+            self.build()
         elif it.extents:
             Pages(self, it).make()
         elif self.family.makers[key].how == "build":
@@ -363,31 +365,40 @@ class Loader:
             self.script.put("CPOOL DELETE,CPID=%s" % name)
         self.made.add(key)
 
-    def build(self, key: Key) -> None:
-        """Makes the cell pools of a subpool by BUILD and DELETE alone; where there's no other task, those of all
-        subpools."""
-        is_alone = len(self.map.tasks) == 1
-        its = [it for it in self.map.subpools if it.extents and (is_alone or (it.number, it.owner) == key)]
-        wanted = [Build(pool.extents[0], it.number, pool.location, pool) for it in its for pool in self.pools_of(it)]
+    def buildable(self) -> list[Key]:
+        """The subpools that can be made now, by BUILD and DELETE alone."""
+        return [key for k, key in enumerate(self.family.made) if key not in self.made
+                and self.family.makers[key].how == "build" and self.family.subpools[key].extents
+                and self.family.before["make", k] <= self.done]
+
+    def build(self) -> None:
+        """Makes the cell pools of all subpools that can be made now by BUILD and DELETE alone."""
+        keys = self.buildable()
+        its = [self.family.subpools[key] for key in keys]
+        wanted = [Build(pool.extents[0], key, pool.location, pool) for key, it in zip(keys, its)
+                  for pool in self.pools_of(it)]
         builder = Builder(self.unassigned(24) + self.unassigned(31), wanted, MOST_POOLS - self.built)
         steps = builder.plan()
         if steps is None:
-            line = self.map.subpools[0].line if is_alone else its[0].line
-            if is_alone and not self.first[1] and len(wanted) == MOST_POOLS and not builder.has_last():
-                refuse(self.source, line, "task 1 just built its %d cell pools, and without any one of them a lower "
-                       "place than its own would fit, so that none was built last" % MOST_POOLS)
-            raise Fault("this can't be made: no order of BUILDs is found that takes at most %d cell pools at once"
-                        % MOST_POOLS, self.source, line)
-        self.script.by(self.worker(key))
+            self.give_up(builder, its[0].line)
         for step in steps:
             self.build_step(step)
         self.built += len(wanted)
-        self.made.update((it.number, it.owner) for it in its)
+        self.made.update(keys)
+
+    def give_up(self, builder: Builder, line: int) -> NoReturn:
+        is_alone = len(self.map.tasks) == 1 and not self.first[1]
+        if is_alone and len(builder.wanted) == MOST_POOLS and not builder.has_last():
+            refuse(self.source, line, "task 1 just built its %d cell pools, and without any one of them a lower "
+                   "place than its own would fit, so that none was built last" % MOST_POOLS)
+        raise Fault("this can't be made: no order of BUILDs is found that takes at most %d cell pools at once"
+                    % MOST_POOLS, self.source, line)
 
     def build_step(self, step: list[Build]) -> None:
         """Builds a cell pool behind its fillers, which go again."""
         *fillers, last = step
         assert last.pool is not None
+        self.script.by(self.worker(last.key))
         names: dict[Build, str] = {}
         for filler in fillers:
             if filler in names:
@@ -402,7 +413,7 @@ class Loader:
         name, found = self.spare_name(), shape(filler.area.length)
         assert found is not None
         self.script.put("CPOOL BUILD,PCELLCT=%d,CSIZE=%d,CPID=%s,SP=%d,LOC=%d" % (
-            *found, name, filler.number, filler.side))
+            *found, name, filler.key[0], filler.side))
         self.pool_names.add(name)
         return name
 
