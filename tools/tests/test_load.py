@@ -14,6 +14,7 @@ from test_tools import scripts
 
 from vsmtools import bench, loading, maps
 from vsmtools.command import Fault
+from vsmtools.judge import MOST_POOLS
 
 TOOL = "vsm-load"
 SEEDS, EVERY = 20, 500
@@ -80,6 +81,7 @@ def test_maps_of_walks_come_back(vsm: str) -> None:
 # Scripts that have as many tasks and cell pools as there can be.
 
 WIDE = ["--low", "640", "--high", "256", "--history", "16"]
+WIDER = ["--low", "2048", "--high", "1024", "--history", "16"]
 
 
 def family_attach(chance: random.Random, style: str, known: int, owns: float) -> list[str]:
@@ -157,14 +159,98 @@ def test_256_cell_pools_of_tasks_that_only_build(vsm: str) -> None:
     comes_back(vsm, WIDE, answer, "256 cell pools")
 
 
+def address_script(seed: int) -> str:
+    """64 tasks with addresses in registers and names, in pages that other tasks fill before or behind."""
+    chance, known, lines = random.Random(seed), 1, []
+    style, owns = ("chain", "star", "bush", "mixed")[seed % 4], chance.choice((0.1, 0.4, 0.8))
+    stays = chance.choice((0.2, 0.5, 0.9))
+    while known < 64:
+        for _ in range(chance.choice((0, 1, 2, 4))):
+            subpool, side = chance.randint(0, 4), chance.choice((24, 31))
+            length, place = chance.choice((8, 40, 4096, 9000)), chance.choice(("P%d", "(%d)")) % chance.randint(2, 12)
+            lines += [" RUN %d" % chance.randint(max(1, known - 4), known), " STORAGE OBTAIN,LENGTH=%d,SP=%d,COND=YES,"
+                      "LOC=%d,ADDR=%s" % (length, subpool, side, place)]
+            if chance.random() > stays:
+                lines.append(" STORAGE RELEASE,LENGTH=%d,ADDR=(1),SP=%d,COND=YES" % (length, subpool))
+        lines += family_attach(chance, style, known, owns)
+        known += 1
+    return "".join(line + "\n" for line in lines)
+
+
+@pytest.mark.parametrize("seed", range(12))
+def test_addresses_of_64_tasks_come_back(vsm: str, seed: int) -> None:
+    answer = bench.run(vsm, WIDE, (address_script(seed) + " MAP\n").encode()).answers[-1]
+    comes_back(vsm, WIDE, answer, "seed %d" % seed)
+
+
 def test_cell_pools_of_task_1_that_take_more_for_a_while(vsm: str) -> None:
-    """Statements make this map; it's told that it can't be made, not that none do."""
     script = "".join(" CPOOL BUILD,PCELLCT=1,CSIZE=1000,CPID=C%d\n" % k for k in range(256))
     script += "".join(" CPOOL DELETE,CPID=C%d\n" % k for k in range(0, 256, 4))
     script += "".join(" CPOOL BUILD,PCELLCT=1,CSIZE=4096,CPID=D%d\n" % k for k in range(64))
     answer = bench.run(vsm, WIDE, (script + " MAP\n").encode()).answers[-1]
-    with pytest.raises(Fault, match="this can't be made: it takes more than 256 cell pools"):
-        comes_back(vsm, WIDE, answer, "256 cell pools")
+    comes_back(vsm, WIDE, answer, "256 cell pools")
+
+
+def pools_script(seed: int) -> str:
+    """Cell pools of task 1 that come and go, and then as many as there can be, or nearly."""
+    chance, there, lines = random.Random(seed), [], []
+    sizes = chance.choice(((1000, 4096), (8, 16, 400, 1000, 3000), (40, 48, 2000, 4088), (4000, 4096, 24)))
+    most, goes = chance.choice((256, 256, 256, 255, 254)), chance.choice((0.1, 0.3, 0.45))
+    sides, subpools = chance.choice(((24,), (24, 31))), chance.choice(((0,), (0, 5)))
+    steps = chance.choice((300, 700, 1500))
+    for k in range(steps + 2 * MOST_POOLS):
+        if there and (len(there) >= MOST_POOLS or k < steps and chance.random() < goes):
+            lines.append(" CPOOL DELETE,CPID=%s" % there.pop(chance.randrange(len(there))))
+        elif k < steps or len(there) < most:
+            there.append("C%d" % k)
+            lines.append(" CPOOL BUILD,PCELLCT=%d,CSIZE=%d,CPID=C%d,SP=%d,LOC=%d" % (
+                chance.choice((1, 1, 1, 3, 9)), chance.choice(sizes), k, chance.choice(subpools), chance.choice(sides)))
+    return "".join(line + "\n" for line in lines)
+
+
+@pytest.mark.parametrize("seed", range(8))
+def test_cell_pools_of_task_1_come_back(vsm: str, seed: int) -> None:
+    answer = bench.run(vsm, WIDER, (pools_script(seed) + " MAP\n").encode()).answers[-1]
+    assert sum(line.startswith(" CELLPOOL") for line in answer.rest) >= 250
+    comes_back(vsm, WIDER, answer, "seed %d" % seed)
+
+
+def test_cell_pools_of_several_tasks_that_only_build(vsm: str) -> None:
+    """Task 2 and 3 take turns, so that neither's can be built behind all of the other's."""
+    script = " ATTACH SZERO=NO\n" * 2 + "".join(
+        " RUN %d\n CPOOL BUILD,PCELLCT=1,CSIZE=%d,CPID=C%d\n" % (2 + k % 2, (1000, 4096, 3000)[k % 3], k)
+        for k in range(256))
+    script += "".join(" RUN %d\n CPOOL DELETE,CPID=C%d\n" % (2 + k % 2, k) for k in range(0, 256, 5))
+    script += "".join(" RUN %d\n CPOOL BUILD,PCELLCT=1,CSIZE=4000,CPID=D%d\n" % (2 + k % 2, k) for k in range(52))
+    answer = bench.run(vsm, WIDER, (script + " MAP\n").encode()).answers[-1]
+    assert sum(line.startswith(" CELLPOOL") for line in answer.rest) == 256
+    comes_back(vsm, WIDER, answer, "two tasks")
+
+
+def test_cell_pools_behind_an_area_of_another_task(vsm: str) -> None:
+    """Statements make this map; it's told that it can't be made, not that none do."""
+    script = " STORAGE OBTAIN,LENGTH=4096,ADDR=(2)\n ATTACH SZERO=NO\n RUN 2\n"
+    script += "".join(" CPOOL BUILD,PCELLCT=1,CSIZE=4096,CPID=C%d\n" % k for k in range(256))
+    script += " RUN 1\n STORAGE RELEASE,LENGTH=4096,ADDR=(2)\n"
+    answer = bench.run(vsm, WIDER, (script + " MAP\n").encode()).answers[-1]
+    with pytest.raises(Fault, match="this can't be made: no order of BUILDs is found"):
+        comes_back(vsm, WIDER, answer, "an area of task 1")
+
+
+@pytest.mark.parametrize("count, told", [
+    (256, "no list of statements makes this: task 1 just built its 256 cell pools"),
+    (255, "this can't be made: no order of BUILDs is found")])
+def test_cell_pools_none_of_which_comes_last(vsm: str, count: int, told: str) -> None:
+    """Each is alone in its page, 8 bytes behind its begin: only areas can have been before them."""
+    script = "".join(" STORAGE OBTAIN,LENGTH=8,ADDR=P\n CPOOL BUILD,PCELLCT=1,CSIZE=4088,CPID=C%d\n" % k
+                     for k in range(count))
+    script += "".join(" STORAGE RELEASE,LENGTH=8,ADDR=%d\n" % (maps.LOW_START + k * maps.PAGE) for k in range(count))
+    answer = bench.run(vsm, WIDER, (script + " MAP\n").encode()).answers[-1]
+    comes_back(vsm, WIDER, answer, "areas")
+    lines = list(answer.rest)
+    lines[1] = "  R0" + " 00000000" * 8
+    with pytest.raises(Fault, match=told):
+        loading.Loader(maps.parse_map([line for line in lines if not line.startswith(" NAME")]), "map").load()
 
 
 def test_words_that_only_cells_have(run: Callable, vsm: str) -> None:

@@ -1,13 +1,13 @@
 """In which order tasks are attached and storage is made so that all ends as a map shows it.
 
-An event is one of these, with a task's number, a helper's, or a subpool's place in `made`:
+An event is one of these, with a task's number, a helper's, or a place in `made` or `words`:
 
 - "create": the ATTACH of a task of the map;
 - "temp": that of a task that gives its number to register 1 of the one that attaches it, and ends;
 - "help", "done": the ATTACH and the end of a helper, which sees some subpools and makes their storage, so that
   the registers of the map's tasks stay as they are;
 - "make": all storage of a subpool is made, or the subpool, where it stays empty;
-- "words": a task gets its words, but that of register 1;
+- "words": a task gets a length in register 0, or the addresses in one subpool's pages, but that of register 1;
 - "first": a task gets the address in its register 1.
 
 What sets register 1 to another word comes before what sets it for the last time.
@@ -22,7 +22,7 @@ from typing import Iterable, NoReturn, Optional
 from .command import Fault
 from .judge import MOST_POOLS, MOST_TASKS, refuse
 from .maps import Map
-from .places import Key, Places
+from .places import Key, Places, Words
 
 Event = tuple[str, int]
 Order = dict[Event, set[Event]]     # for each event those that come before it
@@ -75,8 +75,10 @@ class Family:
         # Cell pools that take the place of others go into the least pages first.
         self.made.sort(key=lambda key: key not in own_work)
         self.at = {key: k for k, key in enumerate(self.made)}
-        self.wordy = [task for task in self.parent if places.has_words(task)]
-        self.early = {task: places.early(task) for task in self.wordy}
+        self.words = places.all_words()
+        self.is_late = False     # whether words are had behind the storage, where they can
+        self.is_build_last = False     # whether BUILD alone comes behind tasks that obtain, in subpool 0 too
+        self.before: Order = {}                # what comes before what, when all is planned
         self.makers: dict[Key, Maker] = {}
         self.helpers: list[Helper] = []
         self.chains: dict[Key, list[int]] = {}
@@ -119,7 +121,8 @@ class Family:
             able.append(above)
         found = [Maker(task, "self") for task in able if not self.is_too_early(task, key)]
         if key in self.own_work:
-            found.insert(len(found) if key[0] else 0, Maker(key[1], "build"))
+            is_last = key[0] or self.is_build_last
+            found.insert(len(found) if is_last else 0, Maker(key[1], "build"))
         found += [Maker(task, "help") for task in able]
         if not found:
             refuse(self.source, self.subpools[key].line,
@@ -139,8 +142,12 @@ class Family:
 
     def is_wanted(self, task: int, key: Key) -> bool:
         """Whether a task gets an address of a subpool's pages while they're unassigned."""
-        return key in self.early.get(task, ()) or (
+        return any(it.task == task and key in it.keys and not self.is_behind(it) for it in self.words) or (
             task not in self.places.homes and self.places.key_at(self.first[task]) == key)
+
+    def is_behind(self, it: Words) -> bool:
+        """Whether words are had behind the storage that they lie in."""
+        return self.is_late and bool(it.homes)
 
     def line_of(self, task: int) -> set[int]:
         """A task and all that it descends from."""
@@ -176,11 +183,13 @@ class Family:
             return self.parent[number]
         if kind in ("help", "done"):
             return self.helpers[number].actor
+        if kind == "words":
+            return self.words[number].task
         return self.makers[self.made[number]].task if kind == "make" else number
 
     def events(self) -> list[Event]:
         return ([("create", task) for task in self.parent if task != 1]
-                + [("temp", task) for task in self.temps] + [("words", task) for task in self.wordy]
+                + [("temp", task) for task in self.temps] + [("words", k) for k in range(len(self.words))]
                 + [("first", task) for task, word in self.first.items() if word > MOST_TASKS]
                 + [("make", k) for k in range(len(self.made))]
                 + [(kind, k) for k in range(len(self.helpers)) for kind in ("help", "done")])
@@ -268,9 +277,12 @@ class Family:
 
     def pages_needs(self, before: Order) -> None:
         """An address is had while its page is unassigned, or behind the storage that it lies in."""
-        for task, keys in self.early.items():
-            for key in keys:
-                before["make", self.at[key]].add(("words", task))
+        for k, it in enumerate(self.words):
+            for key in it.keys:
+                if self.is_behind(it):
+                    before["words", k].add(("make", self.at[key]))
+                else:
+                    before["make", self.at[key]].add(("words", k))
         for task, word in self.first.items():
             key = self.places.key_at(word)
             if word > MOST_TASKS and key is not None:
@@ -330,7 +342,8 @@ class Family:
             makers = dict(makers)
             makers[best[0]] = best[1]
             core = self.core(makers)
-        return self.in_turn(arranged(*self.needs()))
+        self.before = arranged(*self.needs())
+        return self.in_turn(self.before)
 
     def is_stuck(self, key: Key, core: set[Event]) -> bool:
         """Whether another maker of a subpool's storage could open a circle."""

@@ -15,9 +15,13 @@ def rounded(length: int) -> int:
     return -(-length // 8) * 8
 
 
+class Refused(Fault):
+    """No list of statements makes what a line of the map says."""
+
+
 def refuse(source: str, line: int, why: str) -> NoReturn:
     """That no list of statements makes what a line of the map says."""
-    raise Fault("no list of statements makes this: %s" % why, source, line)
+    raise Refused("no list of statements makes this: %s" % why, source, line)
 
 
 class Judge:

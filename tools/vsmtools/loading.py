@@ -2,26 +2,25 @@
 
 It takes family's events in turn: ATTACHes, the words of tasks, and the storage of subpools. All storage of a
 subpool is made at once: its pages, as areas that fill them, while all lower ones are taken; the extents of cell
-pools, each where just its own storage is free; cells that are in use and free ones; the free areas. Last come
-the end of the tasks that filled a number, and register 15.
+pools, each where just its own storage is free; cells that are in use and free ones; the free areas. Where no
+task may obtain, cell pools are built in an order that building finds. Last come the end of the tasks that filled
+a number, and register 15.
 """
 from __future__ import annotations
 
 import heapq
-from typing import Iterable, Optional
+from itertools import product
+from typing import Iterable, NoReturn, Optional
 
+from .building import Build, Builder, page_end, shape
 from .command import Fault
 from .family import Event, Family
-from .judge import MOST_POOLS, MOST_TASKS, Judge, refuse
+from .judge import MOST_POOLS, MOST_TASKS, Judge, Refused, refuse
 from .lines import fold
 from .maps import HIGH_START, LOW_START, PAGE, Area, CellPool, Map, Subpool
 from .places import Home, Key, Places, location, unassigned
 
 NO_LENGTH = 0xFFFFFFF8   # that has a place nowhere
-
-
-def page_end(address: int) -> int:
-    return -(-address // PAGE) * PAGE
 
 
 def has_whole_page(area: Area) -> bool:
@@ -58,6 +57,11 @@ class Script:
     def obtain(self, length: int, subpool: int, side: int, more: str = "") -> None:
         self.put("STORAGE OBTAIN,LENGTH=%d,SP=%d,LOC=%d%s" % (length, subpool, side, more))
 
+    def build(self, pool: CellPool) -> None:
+        header = "" if pool.header is None else ",HDR='%s'" % pool.header
+        self.put("CPOOL BUILD,PCELLCT=%d,SCELLCT=%d,CSIZE=%d,CPID=%s,SP=%d,LOC=%d%s" % (
+            pool.primary, pool.secondary, pool.size, pool.name, pool.subpool, pool.location, header))
+
     def release(self, area: Area, subpool: int) -> None:
         self.put("STORAGE RELEASE,LENGTH=%d,ADDR=X'%X',SP=%d" % (area.length, area.start, subpool))
 
@@ -78,9 +82,28 @@ class Loader:
         self.made: set[Key] = set()              # subpools whose storage is made
         self.pool_names = {pool.name for pool in shown.cell_pools}
         self.built = 0                           # cell pools that are there
+        self.done: set[Event] = set()
 
     def load(self) -> list[str]:
+        """The script. Where it can't be made with all addresses had before the storage and with as much built by
+        BUILD alone as can be, other ways are tried; what's told is why the first one fails."""
+        faults: list[Fault] = []
+        has_homes, can_obtain = any(it.homes for it in self.family.words), any(self.first.values())
+        for is_late, is_build_last in product((False, True)[:1 + has_homes], (False, True)[:1 + can_obtain]):
+            loader = Loader(self.map, self.source)
+            loader.family.is_late, loader.family.is_build_last = is_late, is_build_last
+            try:
+                return loader.write()
+            except Refused:
+                raise
+            except Fault as fault:
+                faults.append(fault)
+        raise faults[0]
+
+    def write(self) -> list[str]:
         events = self.family.plan()
+        if sum(it.task == 1 for it in self.family.words) > 1:
+            self.define_names()
         for k, event in enumerate(events):
             kind, number = event
             if kind in ("create", "temp", "help"):
@@ -93,12 +116,16 @@ class Loader:
                 self.words(number)
             else:
                 self.first_word(number)
+            self.done.add(event)
         self.end()
         return self.script.lines
 
+    def pools_of(self, it: Subpool) -> list[CellPool]:
+        return [pool for pool in self.map.cell_pools if (pool.subpool, pool.owner) == (it.number, it.owner)]
+
     def is_own_work(self, it: Subpool) -> bool:
         """Whether a subpool has just cell pools as BUILD makes them."""
-        pools = [pool for pool in self.map.cell_pools if (pool.subpool, pool.owner) == (it.number, it.owner)]
+        pools = self.pools_of(it)
         extents = [pool.extents[0] for pool in pools]
         return (all(len(pool.extents) == 1 and pool.free_cells == pool.cells for pool in pools)
                 and sum(area.length for area in extents + it.free) == sum(area.length for area in it.extents))
@@ -116,26 +143,39 @@ class Loader:
 
     # The words of tasks.
 
-    def words(self, task: int) -> None:
-        """Gives a task its words of registers 0 and 2 to 12; task 1 those of names too."""
-        words = self.places.words[task]
-        self.script.by(task)
-        if words[0]:
+    def define_names(self) -> None:
+        """Defines the names in their order, in which they get their words only by chance."""
+        for it in self.map.names:
+            self.script.obtain(8, 0, 24, ",ADDR=" + it.name)
+            self.script.release(Area(LOW_START, 8), 0)
+
+    def words(self, number: int) -> None:
+        """Gives a task a word of register 0, or addresses; task 1 those of names too."""
+        it = self.family.words[number]
+        self.script.by(it.task)
+        if it.length:
             self.script.put("STORAGE OBTAIN,LENGTH=(%d,%d),LOC=%d"
-                            % (words[0], words[0], self.places.window(words[0])[0]))
-            self.script.put("STORAGE RELEASE,LENGTH=%d,ADDR=(1)" % words[0])
-        names = [(it.name, it.word) for it in self.map.names] if task == 1 else []
-        self.addresses(task, names + [("(%d)" % k, words[k]) for k in range(2, 13) if words[k]])
+                            % (it.length, it.length, self.places.window(it.length)[0]))
+            self.script.put("STORAGE RELEASE,LENGTH=%d,ADDR=(1)" % it.length)
+        elif self.family.is_behind(it):
+            for (place, word), home in zip(it.addresses, it.homes):
+                self.word_at_home(it.task, place, word, home)
+        else:
+            self.addresses(it.task, it.addresses)
 
     def first_word(self, task: int) -> None:
         """Gives register 1 of a task the address that stays there."""
         home = self.places.homes.get(task)
         if home is None:
             self.addresses(task, [("(1)", self.first[task])])
-        elif home.pool is None:
-            self.area_word(task, self.first[task], home)
         else:
-            self.cell_word(task, self.first[task], home.pool)
+            self.word_at_home(task, "(1)", self.first[task], home)
+
+    def word_at_home(self, task: int, place: str, word: int, home: Home) -> None:
+        if home.pool is None:
+            self.area_word(task, place, word, home)
+        else:
+            self.cell_word(task, place, word, home.pool)
 
     def taken_free(self, key: Optional[Key], side: int) -> list[Area]:
         """Takes all free areas of a subpool on a side of the line, which the task that makes the requests
@@ -146,21 +186,21 @@ class Loader:
             self.script.obtain(area.length, key[0] if key else 0, side)
         return found
 
-    def area_word(self, task: int, word: int, home: Home) -> None:
+    def area_word(self, task: int, place: str, word: int, home: Home) -> None:
         """The address of a doubleword of a subpool that the task sees, or of its second half."""
         side, number = location(word), home.key[0]
         self.script.by(task)
         free = self.taken_free(home.key, side)
         self.script.release(Area(word - word % 8, 8), number)
         if home.is_half:
-            self.cell_address("(1)", word, number)
+            self.cell_address(place, word, number)
         else:
-            self.script.obtain(8, number, side)
+            self.script.obtain(8, number, side, ",ADDR=" + place)
         for area in free:
             for part in without(area, [word - 4] if home.is_half else []):
                 self.script.release(part, number)
 
-    def cell_word(self, task: int, word: int, pool: CellPool) -> None:
+    def cell_word(self, task: int, place: str, word: int, pool: CellPool) -> None:
         """The address of a cell: one that's in use is freed for a moment; for a free one, all before it are
         had, and freed again, the last first."""
         self.script.by(task)
@@ -168,8 +208,8 @@ class Loader:
         had = free[:free.index(word) + 1] if word in free else [word]
         if word not in free:
             self.script.put("CPOOL FREE,CPID=%s,CELL=X'%X'" % (pool.name, word))
-        for _ in had:
-            self.script.put("CPOOL GET,CPID=%s" % pool.name)
+        for cell in had:
+            self.script.put("CPOOL GET,CPID=%s%s" % (pool.name, ",CELL=" + place if cell == word else ""))
         for cell in reversed(had if word in free else []):
             self.script.put("CPOOL FREE,CPID=%s,CELL=X'%X'" % (pool.name, cell))
 
@@ -312,7 +352,11 @@ class Loader:
         """Makes all storage of a subpool, or one that stays empty."""
         it = self.map.subpool(*key)
         assert it is not None
-        if it.extents:
+        if key in self.made:
+            return
+        if it.extents and self.family.makers[key].how == "build":
+            self.build()
+        elif it.extents:
             Pages(self, it).make()
         elif self.family.makers[key].how == "build":
             self.script.by(self.worker(key))
@@ -320,6 +364,62 @@ class Loader:
             self.script.put("CPOOL BUILD,PCELLCT=1,CSIZE=8,CPID=%s,SP=%d,LOC=31" % (name, key[0]))
             self.script.put("CPOOL DELETE,CPID=%s" % name)
         self.made.add(key)
+
+    def buildable(self) -> list[Key]:
+        """The subpools that can be made now, by BUILD and DELETE alone."""
+        return [key for k, key in enumerate(self.family.made) if key not in self.made
+                and self.family.makers[key].how == "build" and self.family.subpools[key].extents
+                and self.family.before["make", k] <= self.done]
+
+    def build(self) -> None:
+        """Makes the cell pools of all subpools that can be made now by BUILD and DELETE alone."""
+        keys = self.buildable()
+        its = [self.family.subpools[key] for key in keys]
+        wanted = [Build(pool.extents[0], key, pool.location, pool) for key, it in zip(keys, its)
+                  for pool in self.pools_of(it)]
+        builder = Builder(self.unassigned(24) + self.unassigned(31), wanted, MOST_POOLS - self.built)
+        steps = builder.plan()
+        if steps is None:
+            self.give_up(builder, its[0].line)
+        for step in steps:
+            self.build_step(step)
+        self.built += len(wanted)
+        self.made.update(keys)
+
+    def give_up(self, builder: Builder, line: int) -> NoReturn:
+        is_alone = len(self.map.tasks) == 1 and not self.first[1]
+        if is_alone and len(builder.wanted) == MOST_POOLS and not builder.has_last():
+            refuse(self.source, line, "task 1 just built its %d cell pools, and without any one of them a lower "
+                   "place than its own would fit, so that none was built last" % MOST_POOLS)
+        raise Fault("this can't be made: no order of BUILDs is found that takes at most %d cell pools at once"
+                    % MOST_POOLS, self.source, line)
+
+    def build_step(self, step: list[Build]) -> None:
+        """Builds a cell pool behind its fillers, which go again."""
+        *fillers, last = step
+        assert last.pool is not None
+        self.script.by(self.worker(last.key))
+        names: dict[Build, str] = {}
+        for filler in fillers:
+            if filler in names:
+                self.delete(names.pop(filler))
+            else:
+                names[filler] = self.build_filler(filler)
+        self.script.build(last.pool)
+        for name in names.values():
+            self.delete(name)
+
+    def build_filler(self, filler: Build) -> str:
+        name, found = self.spare_name(), shape(filler.area.length)
+        assert found is not None
+        self.script.put("CPOOL BUILD,PCELLCT=%d,CSIZE=%d,CPID=%s,SP=%d,LOC=%d" % (
+            *found, name, filler.key[0], filler.side))
+        self.pool_names.add(name)
+        return name
+
+    def delete(self, name: str) -> None:
+        self.script.put("CPOOL DELETE,CPID=%s" % name)
+        self.pool_names.remove(name)
 
     def end(self) -> None:
         for number in sorted(self.fillers):
@@ -332,20 +432,16 @@ class Loader:
 
 
 class Pages:
-    """Makes all storage of a subpool: its pages, and what lies in them.
+    """Makes all storage of a subpool by a task that may obtain: its pages, and what lies in them.
 
-    All unassigned pages are first taken by areas, its own up to the last of them. Where its maker may not
-    obtain ("build"), they're taken by cell pools that only BUILD and DELETE touch; these are cut where a free
-    area or an extent of the map begins.
+    All unassigned pages are first taken by areas, its own up to the last of them.
     """
 
     def __init__(self, loader: Loader, it: Subpool) -> None:
         self.loader, self.map, self.script, self.it = loader, loader.map, loader.script, it
         self.key = (it.number, it.owner)
-        self.is_built = loader.family.makers[self.key].how == "build"
-        self.pools = [pool for pool in self.map.cell_pools if (pool.subpool, pool.owner) == self.key]
+        self.pools = loader.pools_of(it)
         self.gaps: list[Area] = []
-        self.pieces: dict[Area, str] = {}
         self.unused = {pool.name: 0 for pool in self.pools}
 
     def make(self) -> None:
@@ -356,7 +452,7 @@ class Pages:
         for pool in self.pools:
             self.make_free_cells(pool)
         for area in self.it.free + self.gaps:
-            self.give_back(area)
+            self.script.release(area, self.key[0])
 
     # All pages.
 
@@ -379,7 +475,8 @@ class Pages:
             if at < run.start:
                 self.gaps.append(Area(at, run.start - at))
                 self.take(self.gaps[-1])
-            self.fill_run(run)
+            if run.length:
+                self.take(run)
             at = run.end
 
     def is_high_full(self) -> bool:
@@ -387,43 +484,9 @@ class Pages:
         return any(pool.location == 31 and extent.start < HIGH_START
                    for pool in self.pools for extent in pool.extents)
 
-    def fill_run(self, run: Area) -> None:
-        if not self.is_built:
-            if run.length:
-                self.take(run)
-            return
-        areas = self.it.free + [extent for pool in self.pools for extent in pool.extents]
-        for area in sorted(areas, key=lambda area: area.start):
-            if run.start <= area.start < run.end:
-                self.take(area)
-
     def take(self, area: Area) -> None:
         """Takes an area that is just where the next one goes."""
-        if not self.is_built:
-            self.script.obtain(area.length, self.key[0], location(area.start))
-            return
-        for piece in cut(area):
-            name = self.loader.spare_name(len(self.pieces))
-            self.loader.pool_names.add(name)
-            self.loader.built += 1
-            if self.loader.built > MOST_POOLS:
-                raise Fault("this can't be made: it takes more than %d cell pools for a while" % MOST_POOLS,
-                            self.loader.source, self.it.line)
-            self.pieces[piece] = name
-            size = min(piece.length, PAGE)
-            self.script.put("CPOOL BUILD,PCELLCT=%d,CSIZE=%d,CPID=%s,SP=%d,LOC=%d" % (
-                piece.length // size, size, name, self.key[0], location(piece.start)))
-
-    def give_back(self, area: Area) -> None:
-        """Makes free what take took; of a page in which nothing else is taken that's the page."""
-        if not self.is_built:
-            self.script.release(area, self.key[0])
-            return
-        for piece in [it for it in self.pieces if area.start <= it.start < area.end]:
-            name = self.pieces.pop(piece)
-            self.loader.pool_names.remove(name)
-            self.loader.built -= 1
-            self.script.put("CPOOL DELETE,CPID=%s" % name)
+        self.script.obtain(area.length, self.key[0], location(area.start))
 
     # Cell pools.
 
@@ -466,14 +529,12 @@ class Pages:
         if k:
             self.get(pool, self.unused[pool.name])
         end = page_end(extent.end) if has_whole_page(extent) else extent.end
-        self.give_back(Area(extent.start, end - extent.start))
+        self.script.release(Area(extent.start, end - extent.start), self.key[0])
         if k:
             self.get(pool, 1)
             self.unused[pool.name] = pool.secondary - 1
         else:
-            header = "" if pool.header is None else ",HDR='%s'" % pool.header
-            self.script.put("CPOOL BUILD,PCELLCT=%d,SCELLCT=%d,CSIZE=%d,CPID=%s,SP=%d,LOC=%d%s" % (
-                pool.primary, pool.secondary, pool.size, pool.name, pool.subpool, pool.location, header))
+            self.script.build(pool)
             self.unused[pool.name] = pool.primary
             self.loader.built += 1
         if end > extent.end:
@@ -493,13 +554,3 @@ class Pages:
         for cell in reversed(free[:len(free) - same]):
             self.script.put("CPOOL FREE,CPID=%s,CELL=X'%X'" % (pool.name, cell))
 
-
-def cut(area: Area) -> list[Area]:
-    """An area in pieces of less than a page within one page, and of at most 4096 whole pages."""
-    found, at = [], area.start
-    while at < area.end:
-        whole = (area.end - at) // PAGE * PAGE if at % PAGE == 0 else 0
-        length = min(whole, 4096 * PAGE) or min(area.end, at - at % PAGE + PAGE) - at
-        found.append(Area(at, length))
-        at += length
-    return found

@@ -23,6 +23,20 @@ class Home:
     pool: Optional[CellPool] = None
 
 
+@dataclass
+class Words:
+    """What a task gets at one time: a length in register 0, or addresses in pages of one subpool or of none.
+
+    `keys` are the subpools whose pages have to be unassigned then. Where each address has a home, it can be had
+    behind the storage too.
+    """
+    task: int
+    length: int
+    addresses: list[tuple[str, int]]
+    keys: set[Key]
+    homes: list[Home]
+
+
 def location(address: int) -> int:
     return 31 if address >= HIGH_START else 24
 
@@ -36,7 +50,8 @@ class Places:
         self.extents = sorted((area.start, area.end, (it.number, it.owner))
                               for it in shown.subpools for area in it.extents)
         self.starts = [start for start, _, _ in self.extents]
-        self.homes = {task: home for task in self.words if (home := self.home(task)) is not None}
+        self.homes = {task: home for task, words in self.words.items()
+                      if (home := self.home(task, words[1])) is not None}
 
     def key_at(self, address: int) -> Optional[Key]:
         """The subpool whose page has an address."""
@@ -48,8 +63,7 @@ class Places:
         it = self.map
         return (it.low_assigned, it.high_assigned) == (it.low_pages, it.high_pages)
 
-    def home(self, task: int) -> Optional[Home]:
-        word = self.words[task][1]
+    def home(self, task: int, word: int) -> Optional[Home]:
         key = self.key_at(word)
         if word <= MOST_TASKS or key is None:
             return None
@@ -65,12 +79,25 @@ class Places:
         is_free = any(area.start <= word < area.end for area in it.free)
         return Home(key, word % 8 != 0) if is_free or word % 8 == 0 else None
 
-    def early(self, task: int) -> set[Key]:
-        """The subpools whose storage can't be there yet when a task gets its words but that of register 1."""
-        words = self.words[task]
-        addresses = words[2:13] + ([it.word for it in self.map.names] if task == 1 else [])
-        found = {key for word in addresses if word and (key := self.key_at(word)) is not None}
-        return found | (self.window(words[0])[1] if words[0] else set())
+    def all_words(self) -> list[Words]:
+        """The words of all tasks but those of registers 1 and 15, and those of names."""
+        found: list[Words] = []
+        for task, words in self.words.items():
+            if words[0]:
+                found.append(Words(task, words[0], [], self.window(words[0])[1], []))
+            names = [(it.name, it.word) for it in self.map.names] if task == 1 else []
+            found += self.address_words(task, names + [("(%d)" % k, words[k]) for k in range(2, 13) if words[k]])
+        return found
+
+    def address_words(self, task: int, addresses: list[tuple[str, int]]) -> list[Words]:
+        """The addresses that a task gets, apart by the subpool whose pages have them and whether they've homes."""
+        groups: dict[tuple[Optional[Key], bool], Words] = {}
+        for place, word in addresses:
+            key, home = self.key_at(word), self.home(task, word)
+            it = groups.setdefault((key, home is not None), Words(task, 0, [], {key} if key else set(), []))
+            it.addresses.append((place, word))
+            it.homes += [home] if home else []
+        return list(groups.values())
 
     def window(self, length: int) -> tuple[int, set[Key]]:
         """The side of the line where an area can be had with fewest subpools in its way, and these."""
@@ -83,10 +110,6 @@ class Places:
                     if not best[0] or len(found) < len(best[1]):
                         best = side, found
         return best
-
-    def has_words(self, task: int) -> bool:
-        words = self.words[task]
-        return bool(words[0] or any(words[2:13]) or task == 1 and self.map.names)
 
 
 def unassigned(shown: Map, assigned: Iterable[Area], side: int) -> list[Area]:
