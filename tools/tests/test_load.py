@@ -28,6 +28,16 @@ def map_behind(vsm: str, options: list[str], script: str) -> list[str]:
     return list(answers[-1].rest[:-1])
 
 
+def mapped(vsm: str, options: list[str], script: str) -> bench.Answer:
+    """The answer to a MAP behind a script, some statements of which may be refused."""
+    return bench.run(vsm, options, (script + " MAP\n").encode()).answers[-1]
+
+
+def count_of(answer: bench.Answer, word: str) -> int:
+    """How many lines of a map begin with a word."""
+    return sum(line.startswith(word) for line in answer.rest)
+
+
 def comes_back(vsm: str, options: list[str], answer: bench.Answer, what: str) -> None:
     """That the script of a map makes it."""
     script = loading.Loader(maps.parse_map(answer.rest), what).load()
@@ -129,8 +139,8 @@ def family_script(seed: int) -> str:
 
 @pytest.mark.parametrize("seed", range(16))
 def test_maps_of_64_tasks_come_back(vsm: str, seed: int) -> None:
-    answer = bench.run(vsm, WIDE, (family_script(seed) + " MAP\n").encode()).answers[-1]
-    assert sum(line.startswith(" TASK") for line in answer.rest) >= 60
+    answer = mapped(vsm, WIDE, family_script(seed))
+    assert count_of(answer, " TASK") >= 60
     comes_back(vsm, WIDE, answer, "seed %d" % seed)
 
 
@@ -143,7 +153,7 @@ def test_storage_of_64_tasks_that_cannot_obtain(vsm: str, attach: str) -> None:
     for task in range(1, 64):
         step = attach % task if "%d" in attach else attach
         script += step.split("\n")[0] + "\n STORAGE OBTAIN,LENGTH=40,SP=5\n" + step
-    answer = bench.run(vsm, WIDE, (script + " MAP\n").encode()).answers[-1]
+    answer = mapped(vsm, WIDE, script)
     assert " TASK 64 PARENT" in "\n".join(answer.rest) and not any(it.endswith("SP=5") for it in answer.rest)
     comes_back(vsm, WIDE, answer, "64 tasks")
 
@@ -154,8 +164,8 @@ def test_256_cell_pools_of_tasks_that_only_build(vsm: str) -> None:
         " CPOOL BUILD,PCELLCT=1,CSIZE=%d,CPID=C%d%s,SP=5\n" % (40 + 8 * k, task, "ABCDEF"[k]) for k in range(6))
         + " CPOOL DELETE,CPID=C%dA\n CPOOL DELETE,CPID=C%dD\n" % (task, task) for task in range(2, 65))
     script += " RUN 2\n" + "".join(" CPOOL BUILD,PCELLCT=9,CSIZE=500,CPID=D%d,SP=5\n" % k for k in range(4))
-    answer = bench.run(vsm, WIDE, (script + " MAP\n").encode()).answers[-1]
-    assert sum(line.startswith(" CELLPOOL") for line in answer.rest) == 256
+    answer = mapped(vsm, WIDE, script)
+    assert count_of(answer, " CELLPOOL") == 256
     comes_back(vsm, WIDE, answer, "256 cell pools")
 
 
@@ -179,7 +189,7 @@ def address_script(seed: int) -> str:
 
 @pytest.mark.parametrize("seed", range(12))
 def test_addresses_of_64_tasks_come_back(vsm: str, seed: int) -> None:
-    answer = bench.run(vsm, WIDE, (address_script(seed) + " MAP\n").encode()).answers[-1]
+    answer = mapped(vsm, WIDE, address_script(seed))
     comes_back(vsm, WIDE, answer, "seed %d" % seed)
 
 
@@ -187,7 +197,7 @@ def test_cell_pools_of_task_1_that_take_more_for_a_while(vsm: str) -> None:
     script = "".join(" CPOOL BUILD,PCELLCT=1,CSIZE=1000,CPID=C%d\n" % k for k in range(256))
     script += "".join(" CPOOL DELETE,CPID=C%d\n" % k for k in range(0, 256, 4))
     script += "".join(" CPOOL BUILD,PCELLCT=1,CSIZE=4096,CPID=D%d\n" % k for k in range(64))
-    answer = bench.run(vsm, WIDE, (script + " MAP\n").encode()).answers[-1]
+    answer = mapped(vsm, WIDE, script)
     comes_back(vsm, WIDE, answer, "256 cell pools")
 
 
@@ -210,8 +220,8 @@ def pools_script(seed: int) -> str:
 
 @pytest.mark.parametrize("seed", range(8))
 def test_cell_pools_of_task_1_come_back(vsm: str, seed: int) -> None:
-    answer = bench.run(vsm, WIDER, (pools_script(seed) + " MAP\n").encode()).answers[-1]
-    assert sum(line.startswith(" CELLPOOL") for line in answer.rest) >= 250
+    answer = mapped(vsm, WIDER, pools_script(seed))
+    assert count_of(answer, " CELLPOOL") >= 250
     comes_back(vsm, WIDER, answer, "seed %d" % seed)
 
 
@@ -222,8 +232,8 @@ def test_cell_pools_of_several_tasks_that_only_build(vsm: str) -> None:
         for k in range(256))
     script += "".join(" RUN %d\n CPOOL DELETE,CPID=C%d\n" % (2 + k % 2, k) for k in range(0, 256, 5))
     script += "".join(" RUN %d\n CPOOL BUILD,PCELLCT=1,CSIZE=4000,CPID=D%d\n" % (2 + k % 2, k) for k in range(52))
-    answer = bench.run(vsm, WIDER, (script + " MAP\n").encode()).answers[-1]
-    assert sum(line.startswith(" CELLPOOL") for line in answer.rest) == 256
+    answer = mapped(vsm, WIDER, script)
+    assert count_of(answer, " CELLPOOL") == 256
     comes_back(vsm, WIDER, answer, "two tasks")
 
 
@@ -232,7 +242,7 @@ def test_cell_pools_behind_an_area_of_another_task(vsm: str) -> None:
     script = " STORAGE OBTAIN,LENGTH=4096,ADDR=(2)\n ATTACH SZERO=NO\n RUN 2\n"
     script += "".join(" CPOOL BUILD,PCELLCT=1,CSIZE=4096,CPID=C%d\n" % k for k in range(256))
     script += " RUN 1\n STORAGE RELEASE,LENGTH=4096,ADDR=(2)\n"
-    answer = bench.run(vsm, WIDER, (script + " MAP\n").encode()).answers[-1]
+    answer = mapped(vsm, WIDER, script)
     with pytest.raises(Fault, match="this can't be made: no order of BUILDs is found"):
         comes_back(vsm, WIDER, answer, "an area of task 1")
 
@@ -245,7 +255,7 @@ def test_cell_pools_none_of_which_comes_last(vsm: str, count: int, told: str) ->
     script = "".join(" STORAGE OBTAIN,LENGTH=8,ADDR=P\n CPOOL BUILD,PCELLCT=1,CSIZE=4088,CPID=C%d\n" % k
                      for k in range(count))
     script += "".join(" STORAGE RELEASE,LENGTH=8,ADDR=%d\n" % (maps.LOW_START + k * maps.PAGE) for k in range(count))
-    answer = bench.run(vsm, WIDER, (script + " MAP\n").encode()).answers[-1]
+    answer = mapped(vsm, WIDER, script)
     comes_back(vsm, WIDER, answer, "areas")
     lines = list(answer.rest)
     lines[1] = "  R0" + " 00000000" * 8
