@@ -4,7 +4,8 @@ ghost use Rattle.vsm_elements.specs.Ownership.{Leaves, Apart};
 ghost use Rattle.row_table.specs.Rows.{either_of, IsInRange};
 ghost use Rattle.subpool_set.specs.Pools.{no_queues, sight_with, pools_with, sight_given, pools_given, sight_of_pool};
 ghost use Rattle.subpool_set.specs.Pools.{sight_without, pool_alone};
-ghost use Rattle.subpool_set.specs.Kept.{AreWords};
+ghost use Rattle.row_table.specs.RowTable.{row};
+ghost use Rattle.subpool_set.specs.Kept.{owner_in, AreWords};
 ghost use Rattle.subpool_set.specs.QueueElements.{AreApart, AreApartTogether};
 
 use crate::parked::ParkedPool;
@@ -12,7 +13,7 @@ use crate::queues::Queues;
 use crate::sweeps::{park_rows, rename_rows};
 use descriptor_queue::Extents;
 use free_queue::FreeQueue;
-use row_table::RowTable;
+use row_table::{Row, RowTable};
 use vsm_elements::{Elements, Id};
 
 /// The name of a subpool: the id of its element, which it keeps while it is parked and when it is given away.
@@ -82,8 +83,31 @@ impl SubpoolSet {
         let row = self
             .rows
             .find(elements, u32::from(task), u32::from(number))?;
-        let own = self.rows.find(elements, row.words[2], u32::from(number))?;
+        let own = self.own_row(elements, row, task, number)?;
         Some(own.id)
+    }
+
+    // The own row of the subpool that the task sees by this row: the same one, where the task is its owner.
+    fn own_row(&self, elements: &Elements, seen: Row, task: u8, number: u8) -> Option<Row>
+        requires set { IsSubpoolSet elements.now self.now }
+        requires seen { row elements.now self.now.rows task number ≡ Some seen }
+        ensures { result ≡ row elements.now self.now.rows (owner_in seen) number }
+    {
+        if seen.words[2] == u32::from(task) {
+            return Some(seen);
+        }
+        self.rows.find(elements, seen.words[2], u32::from(number))
+    }
+
+    // The task that owns the subpool, and its number.
+    fn owner_and_number(&self, elements: &Elements, id: PoolId) -> (u8, u8)
+        requires set { IsSubpoolSet elements.now self.now }
+        requires pool { IsPool elements.now self.now id }
+        ensures owner { result.0 ≡ owner_of elements.now id }
+        ensures number { result.1 ≡ number_of elements.now id }
+    {
+        let words = self.rows.words(elements, id);
+        (words[2] as u8, words[1] as u8)
     }
 
     /// The task that owns the subpool.
@@ -135,8 +159,7 @@ impl SubpoolSet {
         ensures ids { (i : ℕ) → among i (owned elements.new self.now) ≡ among i (owned elements.old self.now) }
         ensures spares { elements.new.spare ≡ elements.old.spare }
     {
-        let owner = self.owner(elements, id);
-        let number = self.number(elements, id);
+        let (owner, number) = self.owner_and_number(elements, id);
         let words = row_words(owner, number, owner, queues);
         self.rows.set_row(elements, id, words);
     }

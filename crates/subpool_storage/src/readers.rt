@@ -5,6 +5,7 @@ ghost use Rattle.run_set.specs.Fits.{Fits, IsLeastFit, IsLongest};
 ghost use Rattle.descriptor_queue.specs.Extents.{extents as extents_in, has_page as extents_have, owned as extents_own};
 ghost use Rattle.descriptor_queue.specs.Extents.{IsExtents};
 ghost use Rattle.free_queue.specs.FreeQueue.{areas, is_free, owned as areas_own, IsFreeQueue};
+ghost use Rattle.subpool_set.specs.SubpoolSet.{IsPool, number_of, owner_of};
 ghost use Rattle.subpool_storage.specs.Subpools.{is_there};
 ghost use Rattle.subpool_storage.specs.Extents.{extents, free_areas};
 ghost use Rattle.subpool_storage.specs.SubpoolStorage.{subpools_of, hold, Stands};
@@ -12,7 +13,7 @@ ghost use Rattle.subpool_storage.specs.SubpoolStorage.{subpools_of, hold, Stands
 use crate::storage::SubpoolStorage;
 use descriptor_queue::{Extents, Page};
 use free_queue::{Area, Cover, FreeQueue};
-use subpool_set::Queues;
+use subpool_set::{PoolId, Queues};
 use vsm_elements::Elements;
 use vsm_model::Subpool;
 
@@ -44,13 +45,29 @@ impl SubpoolStorage {
         ensures held { (i : ℕ) → times i (extents_own elements.now result.extents) ≤ hold elements.now self.now i }
         ensures areas_held { (i : ℕ) → times i (areas_own elements.now result.free) ≤ hold elements.now self.now i }
     {
-        if self.has_subpool(elements, subpool) {
-            let id = self.id(elements, subpool);
-            return self.set.queues(elements, id);
+        match self.find(elements, subpool) {
+            Some(id) => self.set.queues(elements, id),
+            None => Queues {
+                extents: Extents::new(),
+                free: FreeQueue::new(),
+            },
         }
-        Queues {
-            extents: Extents::new(),
-            free: FreeQueue::new(),
+    }
+
+    // The name of the subpool, if it's there.
+    fn find(&self, elements: &Elements, subpool: Subpool) -> Option<PoolId>
+        requires { Stands elements.now self.now }
+        ensures pool { IfSome result (λ id. IsPool elements.now self.now.set id) }
+        ensures number { IfSome result (λ id. number_of elements.now id ≡ subpool.number) }
+        ensures owner { IfSome result (λ id. owner_of elements.now id ≡ subpool.owner) }
+        ensures there { IfSome result (λ _. is_there (subpools_of elements.now self.now) subpool ≡ true) }
+        ensures absent { IfNone result (is_there (subpools_of elements.now self.now) subpool ≡ false) }
+    {
+        let id = self.set.visible(elements, subpool.owner, subpool.number)?;
+        if self.set.owner(elements, id) == subpool.owner {
+            Some(id)
+        } else {
+            None
         }
     }
 

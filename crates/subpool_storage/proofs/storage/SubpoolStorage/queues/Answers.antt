@@ -10,38 +10,38 @@ use Rattle.subpool_storage.proofs.ExtentLemmas.{extents_held, free_held, none_he
 use Rattle.free_queue.specs.FreeQueue
 use Rattle.subpool_storage.proofs.storage.SubpoolStorage.queues.Goals as goal
 
-pub returns-then-has_subpool-clause-extents : goal.returns-then-has_subpool-clause-extents
-returns-then-has_subpool-clause-extents c =
-    let there : pool c.args.elements.now c.args.self.now.set c.args.subpool.number c.args.subpool.owner ≡ Some (record { id = c.id-id.result; queues = c.queues.result }) = pool_there c.args.elements.now c.args.self.now.set c.args.subpool.number c.args.subpool.owner c.id-id.result c.queues.result c.id-id.ensures.number c.id-id.ensures.owner c.queues.ensures in
-    (both_stand c.args.elements.now c.args.elements.now c.args.self.now c.args.subpool c.id-id.result c.queues.result c.requires there).extents
+pub returns-in-Some-clause-extents : goal.returns-in-Some-clause-extents
+returns-in-Some-clause-extents c =
+    let there : pool c.args.elements.now c.args.self.now.set c.args.subpool.number c.args.subpool.owner ≡ Some (record { id = c.in-Some.id; queues = c.queues.result }) = pool_there c.args.elements.now c.args.self.now.set c.args.subpool.number c.args.subpool.owner c.in-Some.id c.queues.result c.in-Some.ensures.number c.in-Some.ensures.owner c.queues.ensures in
+    (both_stand c.args.elements.now c.args.elements.now c.args.self.now c.args.subpool c.in-Some.id c.queues.result c.requires there).extents
 
-pub returns-then-has_subpool-clause-free : goal.returns-then-has_subpool-clause-free
-returns-then-has_subpool-clause-free c =
-    let there : pool c.args.elements.now c.args.self.now.set c.args.subpool.number c.args.subpool.owner ≡ Some (record { id = c.id-id.result; queues = c.queues.result }) = pool_there c.args.elements.now c.args.self.now.set c.args.subpool.number c.args.subpool.owner c.id-id.result c.queues.result c.id-id.ensures.number c.id-id.ensures.owner c.queues.ensures in
-    (both_stand c.args.elements.now c.args.elements.now c.args.self.now c.args.subpool c.id-id.result c.queues.result c.requires there).free
+pub returns-in-Some-clause-free : goal.returns-in-Some-clause-free
+returns-in-Some-clause-free c =
+    let there : pool c.args.elements.now c.args.self.now.set c.args.subpool.number c.args.subpool.owner ≡ Some (record { id = c.in-Some.id; queues = c.queues.result }) = pool_there c.args.elements.now c.args.self.now.set c.args.subpool.number c.args.subpool.owner c.in-Some.id c.queues.result c.in-Some.ensures.number c.in-Some.ensures.owner c.queues.ensures in
+    (both_stand c.args.elements.now c.args.elements.now c.args.self.now c.args.subpool c.in-Some.id c.queues.result c.requires there).free
 
-pub returns-clause-pages : goal.returns-clause-pages
-returns-clause-pages c p =
-    let gone : is_there (subpools_of c.args.elements.now c.args.self.now) c.args.subpool ≡ false = sym c.has_subpool.ensures ∙ c.if-has_subpool.false in
+pub returns-in-None-clause-pages : goal.returns-in-None-clause-pages
+returns-in-None-clause-pages c p =
+    let gone : is_there (subpools_of c.args.elements.now c.args.self.now) c.args.subpool ≡ false = c.in-None.ensures.absent in
     ap (contains p) (c.new.ensures.empty c.args.elements.now) ∙ sym ((none_there c.args.elements.now c.args.self.now c.args.subpool c.requires gone).0 p)
 
-pub returns-clause-areas : goal.returns-clause-areas
-returns-clause-areas c d =
-    let gone : is_there (subpools_of c.args.elements.now c.args.self.now) c.args.subpool ≡ false = sym c.has_subpool.ensures ∙ c.if-has_subpool.false in
-    ap (contains d) (c.new-2.ensures.empty c.args.elements.now) ∙ sym ((none_there c.args.elements.now c.args.self.now c.args.subpool c.requires gone).1 d)
+pub returns-in-None-clause-areas : goal.returns-in-None-clause-areas
+returns-in-None-clause-areas c d =
+    let gone : is_there (subpools_of c.args.elements.now c.args.self.now) c.args.subpool ≡ false = c.in-None.ensures.absent in
+    ap (contains d) (c.new-in-None.ensures.empty c.args.elements.now) ∙ sym ((none_there c.args.elements.now c.args.self.now c.args.subpool c.requires gone).1 d)
 
-pub returns-then-has_subpool-clause-held : goal.returns-then-has_subpool-clause-held
-returns-then-has_subpool-clause-held c i =
-    let there : pool c.args.elements.now c.args.self.now.set c.args.subpool.number c.args.subpool.owner ≡ Some (record { id = c.id-id.result; queues = c.queues.result }) = pool_there c.args.elements.now c.args.self.now.set c.args.subpool.number c.args.subpool.owner c.id-id.result c.queues.result c.id-id.ensures.number c.id-id.ensures.owner c.queues.ensures in
-    extents_held c.args.elements.now c.args.self.now c.args.subpool.number c.args.subpool.owner (record { id = c.id-id.result; queues = c.queues.result }) c.requires there i
+pub returns-in-Some-clause-held : goal.returns-in-Some-clause-held
+returns-in-Some-clause-held c i =
+    let there : pool c.args.elements.now c.args.self.now.set c.args.subpool.number c.args.subpool.owner ≡ Some (record { id = c.in-Some.id; queues = c.queues.result }) = pool_there c.args.elements.now c.args.self.now.set c.args.subpool.number c.args.subpool.owner c.in-Some.id c.queues.result c.in-Some.ensures.number c.in-Some.ensures.owner c.queues.ensures in
+    extents_held c.args.elements.now c.args.self.now c.args.subpool.number c.args.subpool.owner (record { id = c.in-Some.id; queues = c.queues.result }) c.requires there i
 
-pub returns-clause-held : goal.returns-clause-held
-returns-clause-held c i = none_held c.args.elements.now c.args.self.now (owned c.args.elements.now c.new.result) (c.new.ensures.owned c.args.elements.now) i
+pub returns-in-None-clause-held : goal.returns-in-None-clause-held
+returns-in-None-clause-held c i = none_held c.args.elements.now c.args.self.now (owned c.args.elements.now c.new.result) (c.new.ensures.owned c.args.elements.now) i
 
-pub returns-then-has_subpool-clause-areas_held : goal.returns-then-has_subpool-clause-areas_held
-returns-then-has_subpool-clause-areas_held c i =
-    let there : pool c.args.elements.now c.args.self.now.set c.args.subpool.number c.args.subpool.owner ≡ Some (record { id = c.id-id.result; queues = c.queues.result }) = pool_there c.args.elements.now c.args.self.now.set c.args.subpool.number c.args.subpool.owner c.id-id.result c.queues.result c.id-id.ensures.number c.id-id.ensures.owner c.queues.ensures in
-    free_held c.args.elements.now c.args.self.now c.args.subpool.number c.args.subpool.owner (record { id = c.id-id.result; queues = c.queues.result }) c.requires there i
+pub returns-in-Some-clause-areas_held : goal.returns-in-Some-clause-areas_held
+returns-in-Some-clause-areas_held c i =
+    let there : pool c.args.elements.now c.args.self.now.set c.args.subpool.number c.args.subpool.owner ≡ Some (record { id = c.in-Some.id; queues = c.queues.result }) = pool_there c.args.elements.now c.args.self.now.set c.args.subpool.number c.args.subpool.owner c.in-Some.id c.queues.result c.in-Some.ensures.number c.in-Some.ensures.owner c.queues.ensures in
+    free_held c.args.elements.now c.args.self.now c.args.subpool.number c.args.subpool.owner (record { id = c.in-Some.id; queues = c.queues.result }) c.requires there i
 
-pub returns-clause-areas_held : goal.returns-clause-areas_held
-returns-clause-areas_held c i = none_held c.args.elements.now c.args.self.now (FreeQueue.owned c.args.elements.now c.new-2.result) (c.new-2.ensures.owned c.args.elements.now) i
+pub returns-in-None-clause-areas_held : goal.returns-in-None-clause-areas_held
+returns-in-None-clause-areas_held c i = none_held c.args.elements.now c.args.self.now (FreeQueue.owned c.args.elements.now c.new-in-None.result) (c.new-in-None.ensures.owned c.args.elements.now) i
