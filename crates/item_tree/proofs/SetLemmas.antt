@@ -1,6 +1,6 @@
 -- An item of a tree by its id: what it says, and that it is written.
-use Rattle.std.proofs.Common.{◌≡◌, ◌≢◌, ℕ, ◌≤◌, Bool, true, false, inl, inr, List, [], ◌∷◌, ◌++◌, length, drop, get_or, Some, None, refl, sym, ap, ◌∙◌, IsSome, subst, append_assoc}
-use Rattle.std.specs.Prelude.{if◌then◌else◌}
+use Rattle.std.proofs.Common.{◌≡◌, ◌≢◌, ℕ, suc, ◌+◌, ◌≤◌, Bool, true, false, inl, inr, List, [], ◌∷◌, ◌++◌, length, drop, get_or, Some, None, refl, sym, ap, ◌∙◌, IsSome, subst, arith, append_assoc}
+use Rattle.std.specs.Prelude.{if◌then◌else◌, slice_set}
 use Rattle.std.proofs.lemmas.Bool.Decides.{eqb_tells}
 use Rattle.vsm_elements.specs.declared.element.Element.{Element}
 use Rattle.vsm_elements.specs.Store.{Store, at, among, Distinct, Updates}
@@ -180,6 +180,23 @@ writes s t h x i m e a v f same up spare =
       spare = spare;
       as_many = up.as_many;
     }
+
+-- the words of a node, where its item has another word, and what its item has
+
+pub set_behind : (ws vs : List ℕ) (k v : ℕ) → ws ≡ get_or ws 0 0 ∷ drop 1 ws → drop 1 ws ≡ vs → slice_set ws (1 + k) v ≡ get_or ws 0 0 ∷ slice_set vs k v
+set_behind ws vs k v whole e =
+    let one : 1 + k ≡ suc k = omega arith in
+    ap (λ (z : List ℕ). slice_set z (1 + k) v) whole ∙ ap (λ (i : ℕ). slice_set (get_or ws 0 0 ∷ drop 1 ws) i v) one ∙ ap (λ (z : List ℕ). get_or ws 0 0 ∷ slice_set z k v) e
+
+pub got_behind : (ws vs : List ℕ) (k : ℕ) → ws ≡ get_or ws 0 0 ∷ drop 1 ws → drop 1 ws ≡ vs → get_or ws (1 + k) 0 ≡ get_or vs k 0
+got_behind ws vs k whole e =
+    let one : 1 + k ≡ suc k = omega arith in
+    ap (λ (z : List ℕ). get_or z (1 + k) 0) whole ∙ ap (λ (i : ℕ). get_or (get_or ws 0 0 ∷ drop 1 ws) i 0) one ∙ ap (λ (z : List ℕ). get_or z k 0) e
+
+pub later : (x : ℕ) (vs : List ℕ) (k : ℕ) → get_or vs k 0 ≡ get_or (x ∷ vs) (1 + k) 0
+later x vs k =
+    let one : suc k ≡ 1 + k = omega arith in
+    ap (λ (i : ℕ). get_or (x ∷ vs) i 0) one
 
 -- each item's element has its words
 

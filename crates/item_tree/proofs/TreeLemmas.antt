@@ -188,10 +188,3 @@ module _ (s t : Store) (left : ItemTree) (item : Item) (right : ItemTree)
         spare = spare;
         as_many = up.as_many;
       }
-
-pub some_items : (s : Store) (h : ItemTree) → IsTree s h → 0 < h.root → 0 < length (items s h)
-unfolding IsTree items
-some_items s h x some = go (grown s limit h.root) x where
-  go : (y : Shape) → IsTreeOf s h.root y → 0 < length (items_in y)
-  go leaf t = absurd (omega (arith, t.root, some))
-  go (node l id w q) t = omega (arith, length-append (items_in l) (record { id = id; words = w } ∷ items_in q))

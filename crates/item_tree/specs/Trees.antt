@@ -1,5 +1,5 @@
 -- What a contract sees of a tree: its items in order, and its elements in the order of their items.
-use Rattle.std.specs.Prelude.{◌≡◌, ℕ, ◌+◌, false, List, [], ◌∷◌, ◌++◌, IsSome, length, drop}
+use Rattle.std.specs.Prelude.{◌≡◌, ℕ, ◌+◌, false, List, [], ◌∷◌, ◌++◌, IsSome, length, drop, slice_index_or}
 use Rattle.vsm_elements.specs.Store.{Store, at, made, among, Distinct}
 use Rattle.vsm_elements.specs.Chain.{element}
 use Rattle.item_tree.specs.declared.item.Item.{Item}
@@ -19,6 +19,14 @@ owned s h = ids_in (grown s limit h.root)
 -- the tree stands in these elements
 unfoldable pub IsTree : Store → ItemTree → Type 0
 IsTree s h = IsTreeOf s h.root (grown s limit h.root)
+
+-- the words of the item of this id
+abbrev pub words_at : Store → ℕ → List ℕ
+words_at s id = drop 1 ((element s id).words)
+
+-- and its key
+abbrev pub key_at : Store → ℕ → ℕ
+key_at s id = slice_index_or (words_at s id) 0 0
 
 -- how many items there are
 abbrev pub count : Store → ItemTree → ℕ

@@ -1,11 +1,12 @@
-ghost use Rattle.std.specs.Prelude.{◌≡◌, ℕ, ◌<◌, ◌++◌, [], None, IsSome, Some, drop, ◌^◌, length, true, false};
+ghost use Rattle.std.specs.Prelude.{◌≡◌, ℕ, ◌<◌, ◌++◌, ◌∷◌, [], None, IsSome, Some, drop, ◌^◌, true, false};
+ghost use Rattle.std.specs.Prelude.{slice_set, slice_index_or};
 ghost use Rattle.vsm_elements.specs.Store.{Store, at, among, Distinct};
 ghost use Rattle.vsm_elements.specs.Ownership.{Leaves};
 ghost use Rattle.vsm_elements.specs.Chain.{element};
 ghost use Rattle.item_tree.specs.Items.{key, item_in, item_from, item_upto, item_named, id_or, Ascends};
 
 use crate::item::Item;
-use crate::shape::{last_six, seven};
+use crate::shape::{last_six, with_rest, with_word};
 use vsm_elements::{Element, Elements, Id};
 
 /// The head of a list of items, kept in elements as a search tree: their keys ascend.
@@ -23,7 +24,8 @@ fn rank(id: Id) -> u32 {
 }
 
 impl ItemTree {
-    ghost use Rattle.item_tree.specs.Trees.{items, owned, IsTree, Merges, Splits, Puts, Takes, Writes};
+    ghost use Rattle.item_tree.specs.Trees.{items, owned, words_at, key_at, IsTree};
+    ghost use Rattle.item_tree.specs.Trees.{Merges, Splits, Puts, Takes, Writes};
 
     // The items of both, those of the other tree behind.
     pub(crate) fn merge(self, elements: &mut Elements, other: ItemTree) -> ItemTree
@@ -159,15 +161,6 @@ impl ItemTree {
         Some(self.get(elements, id))
     }
 
-    /// Whether there is no item.
-    pub fn is_empty(self, elements: &Elements) -> bool
-        requires tree { IsTree elements.now self }
-        ensures empty { result ≡ true → items elements.now self ≡ [] }
-        ensures some { result ≡ false → 0 < length (items elements.now self) }
-    {
-        self.root == 0
-    }
-
     /// A live element that isn't the tree's becomes an item, under a key that none has.
     pub fn put(&mut self, elements: &mut Elements, item: Item)
         requires tree { IsTree elements.old self.old }
@@ -213,20 +206,41 @@ impl ItemTree {
         }
     }
 
-    /// The item of this id has these words. They have its key.
-    pub fn set(self, elements: &mut Elements, id: Id, words: [u32; 6])
+    /// The item of this id has these words behind its key, which stays.
+    pub fn set_rest(self, elements: &mut Elements, id: Id, rest: [u32; 5])
         requires tree { IsTree elements.old self }
         requires there { among id (owned elements.old self) ≡ true }
-        ensures { Writes elements.old elements.new self id words }
+        ensures { Writes elements.old elements.new self id (key_at elements.old id ∷ rest) }
     {
         let old = elements.get(id);
         elements.set(
             id,
             Element {
                 next: old.next,
-                words: seven(old.words[0], words),
+                words: with_rest(old.words, rest),
             },
         );
+    }
+
+    /// The item of this id has another word at a place. Its old one is answered.
+    pub fn swap_word(self, elements: &mut Elements, id: Id, k: usize, word: u32) -> u32
+        requires tree { IsTree elements.old self }
+        requires there { among id (owned elements.old self) ≡ true }
+        requires place { k < 6 }
+        ensures writes { Writes elements.old elements.new self id (slice_set (words_at elements.old id) k word) }
+        ensures answer { result ≡ slice_index_or (words_at elements.old id) k 0 }
+        ensures here { slice_index_or (slice_set (words_at elements.old id) k word) k 0 ≡ word }
+    {
+        let old = elements.get(id);
+        let words = with_word(old.words, k, word);
+        elements.set(
+            id,
+            Element {
+                next: old.next,
+                words,
+            },
+        );
+        old.words[1 + k]
     }
 
     /// Gives back every element of the tree.

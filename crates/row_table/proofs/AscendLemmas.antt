@@ -1,14 +1,12 @@
 -- Rows that ascend: what stands under a key, by where it stands.
-use Rattle.std.proofs.Common.{◌≡◌, ℕ, ◌+◌, ◌<◌, true, false, ◌⊎◌, inl, inr, List, [], ◌∷◌, ◌++◌, length, take, drop, Option, Some, None, refl, sym, ap, ◌∙◌, subst, arith}
-use Rattle.std.specs.Prelude.{slice_get, map, if◌then◌else◌}
-use Rattle.std.proofs.lemmas.List.{take_all}
+use Rattle.std.proofs.Common.{◌≡◌, ℕ, true, false, ◌⊎◌, inl, inr, List, [], ◌∷◌, ◌++◌, Option, Some, None, refl, sym, ap, ◌∙◌}
+use Rattle.std.specs.Prelude.{map, if◌then◌else◌}
 use Rattle.vsm_elements.specs.Chain.{Link}
 use Rattle.row_table.specs.declared.row.Row.{Row}
-use Rattle.row_table.specs.Rows.{word, comes_before, is_under, row_in, Single, AllBehind, AllBefore, NoneBehind, Ascends, RowsBehind, AreInOrder, row_among}
+use Rattle.row_table.specs.Rows.{comes_before, is_under, row_in, Single, AllBehind, AllBefore, NoneBehind, Ascends, RowsBehind, AreInOrder, row_among}
 use Rattle.row_table.specs.RowTable.{row_of}
-use Rattle.row_table.proofs.RowLemmas.{either, not_both, same_parts, same_by, same_self, first, second, none_by, none_join, row_here, row_behind}
+use Rattle.row_table.proofs.RowLemmas.{either, not_both, same_parts, same_by, first, second, none_by}
 use Rattle.row_table.proofs.NextLemmas.{before_more, not_before, before_or}
-use Rattle.row_table.proofs.PlaceLemmas.{parts, drop_link}
 
 -- a link that comes behind a key, or before it, is under another
 pub other_behind : (a b : ℕ) (n : Link) → comes_before a b (first n) (second n) ≡ true → is_under a b n.words ≡ false

@@ -1,10 +1,10 @@
 -- What the calls on a tree are on its rows.
-use Rattle.std.proofs.Common.{◌≡◌, ◌≢◌, ℕ, suc, ◌+◌, ◌<◌, ◌≤◌, Bool, true, false, ◌==◌, ◌⊎◌, inl, inr, List, [], ◌∷◌, ◌++◌, length, take, drop, Option, Some, None, IsSome, refl, sym, ap, ◌∙◌, subst, arith}
-use Rattle.std.specs.Prelude.{if◌then◌else◌, map, option_map, slice_get}
+use Rattle.std.proofs.Common.{◌≡◌, ℕ, ◌+◌, ◌<◌, ◌≤◌, Bool, true, false, ◌==◌, inl, inr, List, [], ◌∷◌, ◌++◌, drop, Option, Some, None, IsSome, refl, sym, ap, ◌∙◌, subst, arith}
+use Rattle.std.specs.Prelude.{if◌then◌else◌, map, option_map}
 use Rattle.std.proofs.lemmas.Bool.Decides.{eqb_tells}
 use Rattle.vsm_elements.specs.declared.element.Element.{Element}
 use Rattle.vsm_elements.specs.Store.{Store, at, among, Updates}
-use Rattle.vsm_elements.specs.Chain.{Link, element}
+use Rattle.vsm_elements.specs.Chain.{Link}
 use Rattle.vsm_elements.specs.Ownership.{Leaves}
 use Rattle.vsm_elements.proofs.StoreLemmas.{among_first, among_later}
 use Rattle.vsm_elements.proofs.ChainFrame.{gone}
@@ -12,20 +12,19 @@ use Rattle.item_tree.specs.declared.item.Item.{Item}
 use Rattle.item_tree.specs.declared.tree.ItemTree.{ItemTree}
 use Rattle.item_tree.specs.Items.{key, item_in, item_from, AllBelow, AllFrom}
 use Rattle.item_tree.specs.Items
-use Rattle.item_tree.specs.Trees.{items, owned, IsTree, IsPut, Puts, Takes, IsSet, Writes}
-use Rattle.item_tree.proofs.OrderLemmas.{in_none_below, in_behind, in_here, from_here}
+use Rattle.item_tree.specs.Trees.{items, owned, IsTree, IsPut, Puts, Takes, Writes}
+use Rattle.item_tree.proofs.OrderLemmas.{in_none_below, in_behind, in_here}
 use Rattle.item_tree.proofs.SetLemmas.{stored}
 use Rattle.item_tree.proofs.ShapeLemmas.{id_of}
-use Rattle.item_tree.proofs.TreeLemmas.{owned_live, owned_ids, no_items, tree_kept, items_kept, owned_kept}
+use Rattle.item_tree.proofs.TreeLemmas.{owned_ids, tree_kept, items_kept, owned_kept}
 use Rattle.item_tree.proofs.Lists.{out_cons, out_of_cons}
 use Rattle.row_table.specs.declared.row.Row.{Row}
 use Rattle.row_table.specs.Rows.{word, same_key, is_under, row_in, Single, Ascends}
-use Rattle.row_table.specs.RowTable.{row_of}
 use Rattle.row_table.specs.Keys.{key_of, seven, row_in_item, link_in, links}
 use Rattle.row_table.specs.Kept.{IsKept}
-use Rattle.row_table.proofs.RowLemmas.{not_both, if_true, if_false, same_by, same_sym, same_parts, row_gone, row_put}
+use Rattle.row_table.proofs.RowLemmas.{not_both, if_true, same_sym, same_parts, row_gone, row_put}
 use Rattle.row_table.proofs.AscendLemmas.{single}
-use Rattle.row_table.proofs.KeyLemmas.{false_by, key_parts, key_whole, row_by_item, links_ascend, map_parts, some_item, some_low, none_item}
+use Rattle.row_table.proofs.KeyLemmas.{false_by, key_parts, row_by_item, links_ascend, map_parts}
 use Rattle.row_table.proofs.TableLemmas.{stored_in}
 
 -- a row is taken out

@@ -1,5 +1,5 @@
 -- Rows as items: what stands under two numbers, and that the rows ascend.
-use Rattle.std.proofs.Common.{◌≡◌, ◌≢◌, ℕ, ◌+◌, ◌*◌, ◌/◌, ◌%◌, ◌<◌, ◌≤◌, Bool, true, false, ◌==◌, ◌⊎◌, inl, inr, List, [], ◌∷◌, ◌++◌, length, drop, Option, Some, None, IsSome, refl, sym, ap, ◌∙◌, subst, arith}
+use Rattle.std.proofs.Common.{◌≡◌, ℕ, ◌+◌, ◌/◌, ◌%◌, ◌<◌, ◌≤◌, Bool, true, false, ◌==◌, ◌⊎◌, inl, inr, List, [], ◌∷◌, ◌++◌, length, Option, Some, None, IsSome, refl, sym, ap, ◌∙◌, subst, arith}
 use Rattle.std.specs.Prelude.{if◌then◌else◌, map, option_map}
 use Rattle.std.proofs.lemmas.Bool.Decides.{eqb_tells}
 use Rattle.vsm_elements.specs.Store.{Store}
@@ -12,7 +12,7 @@ use Rattle.item_tree.specs.Trees.{items, owned}
 use Rattle.item_tree.proofs.ShapeLemmas.{id_of}
 use Rattle.item_tree.proofs.TreeLemmas.{owned_ids}
 use Rattle.row_table.specs.declared.row.Row.{Row}
-use Rattle.row_table.specs.Rows.{word, same_key, is_under, row_in, comes_before, AllBehind, Ascends}
+use Rattle.row_table.specs.Rows.{word, is_under, row_in, AllBehind, Ascends}
 use Rattle.row_table.specs.Keys.{key_of, seven, row_in_item, link_in, links}
 use Rattle.row_table.proofs.RowLemmas.{not_both, same_by, same_parts, row_later, differs}
 use Rattle.row_table.proofs.NextLemmas.{says_before}

@@ -1,12 +1,12 @@
 -- A row is written by its id.
-use Rattle.std.proofs.Common.{◌≡◌, ℕ, ◌<◌, Bool, true, false, List, drop, Option, Some, None, IsSome, refl, sym, ap, ◌∙◌, subst}
-use Rattle.std.specs.Prelude.{if◌then◌else◌, option_map}
+use Rattle.std.proofs.Common.{◌≡◌, ℕ, zero, suc, ◌-◌, ◌<◌, ◌≤◌, Bool, true, false, List, [], ◌∷◌, drop, Option, Some, None, IsSome, refl, sym, ap, ◌∙◌, subst, arith, get_or-set_other}
+use Rattle.std.specs.Prelude.{if◌then◌else◌, option_map, slice_set}
 use Rattle.vsm_elements.specs.Store.{Store, among}
 use Rattle.vsm_elements.specs.Chain.{element}
 use Rattle.item_tree.specs.declared.item.Item.{Item}
 use Rattle.item_tree.specs.declared.tree.ItemTree.{ItemTree}
 use Rattle.item_tree.specs.Items.{key, item_in}
-use Rattle.item_tree.specs.Trees.{items, owned, Writes}
+use Rattle.item_tree.specs.Trees.{items, owned, words_at, Writes}
 use Rattle.item_tree.proofs.SetLemmas.{stored}
 use Rattle.row_table.specs.declared.row.Row.{Row}
 use Rattle.row_table.specs.Rows.{word, is_under, row_in}
@@ -24,9 +24,13 @@ none_is id e = cc
 inside : (i j : ℕ) → Some i ≡ Some j → i ≡ j
 inside i j e = cc
 
-row_of_id : (o : Option Row) (id : ℕ) → option_map (λ (r : Row). r.id) o ≡ Some id → (r : Row) × ((o ≡ Some r) × (r.id ≡ id))
+pub row_of_id : (o : Option Row) (id : ℕ) → option_map (λ (r : Row). r.id) o ≡ Some id → (r : Row) × ((o ≡ Some r) × (r.id ≡ id))
 row_of_id None id e = absurd (none_is id e)
 row_of_id (Some r) id e = (r, (refl, inside r.id id e))
+
+-- the item that an element is
+abbrev pub item_at : Store → ℕ → Item
+item_at s id = record { id = id; words = drop 1 ((element s id).words) }
 
 -- the item whose id is that of the row under the key of these words
 module _ (s : Store) (h : ItemTree) (id : ℕ) (words : List ℕ) (kept : IsKept s h)
@@ -83,3 +87,62 @@ module _ (s : Store) (h : ItemTree) (id : ℕ) (words : List ℕ) (kept : IsKept
             twice : (z : Bool) (p q r : Option Row) → (if z then p else (if z then q else r)) ≡ (if z then p else r)
             twice true p q r = refl
             twice false p q r = refl
+
+-- A word of a row behind its key is the item's at the place before.
+
+seven_set : (w : List ℕ) (p v : ℕ) → 2 ≤ p → seven (slice_set w (p - 1) v) ≡ slice_set (seven w) p v
+seven_set w zero v h = absurd (omega arith)
+seven_set w (suc zero) v h = absurd (omega arith)
+seven_set w (suc (suc k)) v h =
+    let e : suc (suc k) - 1 ≡ suc k = omega arith in
+    ap (λ (z : ℕ). seven (slice_set w z v)) e ∙ go w where
+      go : (w : List ℕ) → seven (slice_set w (suc k) v) ≡ slice_set (seven w) (suc (suc k)) v
+      go [] = refl
+      go (x ∷ xs) = refl
+
+seven_at : (w : List ℕ) (p : ℕ) → 2 ≤ p → word w (p - 1) ≡ word (seven w) p
+seven_at w zero h = absurd (omega arith)
+seven_at w (suc zero) h = absurd (omega arith)
+seven_at w (suc (suc k)) h =
+    let e : suc (suc k) - 1 ≡ suc k = omega arith in
+    ap (word w) e ∙ go w where
+      go : (w : List ℕ) → word w (suc k) ≡ word (seven w) (suc (suc k))
+      go [] = refl
+      go (x ∷ xs) = refl
+
+pub swapped_answer : (s : Store) (id p x : ℕ) → 2 ≤ p → x ≡ word (words_at s id) (p - 1) → x ≡ word (seven (words_at s id)) p
+swapped_answer s id p x low e = e ∙ seven_at (words_at s id) p low
+
+pub swapped_here : (s : Store) (id p v : ℕ) → 2 ≤ p → word (slice_set (words_at s id) (p - 1) v) (p - 1) ≡ v → word (slice_set (seven (words_at s id)) p v) p ≡ v
+swapped_here s id p v low e =
+    ap (λ (z : List ℕ). word z p) (sym (seven_set (words_at s id) p v low)) ∙ sym (seven_at (slice_set (words_at s id) (p - 1) v) p low) ∙ e
+
+-- the row of an id gets another word
+module _ (s : Store) (h : ItemTree) (id p v : ℕ) (kept : IsKept s h)
+    (own : row_in (word (seven (words_at s id)) 0) (word (seven (words_at s id)) 1) (links s h) ≡ Some (record { id = id; words = seven (words_at s id) }))
+    (low : 2 ≤ p) (t : Store) (w : Writes s t h id (slice_set (words_at s id) (p - 1) v)) where
+  abbrev was : List ℕ
+  was = seven (words_at s id)
+
+  abbrev words' : List ℕ
+  words' = slice_set was p v
+
+  first : word words' 0 ≡ word was 0
+  first = get_or-set_other was p 0 v 0 (λ e. omega (arith, e, low))
+
+  second : word words' 1 ≡ word was 1
+  second = get_or-set_other was p 1 v 0 (λ e. omega (arith, e, low))
+
+  there' : option_map (λ (r : Row). r.id) (row_in (word words' 0) (word words' 1) (links s h)) ≡ Some id
+  there' =
+      ap (λ (z : ℕ). option_map (λ (r : Row). r.id) (row_in z (word words' 1) (links s h))) first
+      ∙ ap (λ (z : ℕ). option_map (λ (r : Row). r.id) (row_in (word was 0) z (links s h))) second ∙ ap (option_map (λ (r : Row). r.id)) own
+
+  same_key' : word (slice_set (words_at s id) (p - 1) v) 0 ≡ word (words_at s id) 0
+  same_key' = get_or-set_other (words_at s id) (p - 1) 0 v 0 (λ e. omega (arith, e, low))
+
+  pub swapped_kept : IsKept t h
+  swapped_kept = named_kept s h id words' kept there' (item_at s id) refl refl t (slice_set (words_at s id) (p - 1) v) same_key' (seven_set (words_at s id) p v low) w
+
+  pub swapped_rows : (x y : ℕ) → row_in x y (links t h) ≡ (if is_under x y words' then Some (record { id = id; words = words' }) else row_in x y (links s h))
+  swapped_rows = named_rows s h id words' kept there' (item_at s id) refl refl t (slice_set (words_at s id) (p - 1) v) same_key' (seven_set (words_at s id) p v low) w

@@ -1,14 +1,14 @@
 -- Walks over the rows: the first one, and the one behind a place.
-use Rattle.std.proofs.Common.{◌≡◌, ◌≢◌, ℕ, zero, suc, ◌+◌, ◌<◌, ◌≤◌, ◌%◌, ◌/◌, Bool, true, false, inl, inr, List, [], ◌∷◌, ◌++◌, length, take, drop, get_or, Option, Some, None, IsSome, refl, sym, ap, ◌∙◌, subst, append_assoc, arith}
+use Rattle.std.proofs.Common.{◌≡◌, ◌≢◌, ℕ, zero, suc, ◌+◌, ◌<◌, ◌≤◌, ◌%◌, ◌/◌, Bool, true, inl, inr, List, [], ◌∷◌, ◌++◌, length, take, drop, get_or, Option, Some, None, IsSome, refl, sym, ap, ◌∙◌, subst, append_assoc, arith}
 use Rattle.std.specs.Prelude.{if◌then◌else◌, map, option_map, slice_get}
 use Rattle.std.proofs.lemmas.List.{take_more, take-append-drop}
-use Rattle.std.proofs.lemmas.Bool.Decides.{eqb_tells, leb_tells}
+use Rattle.std.proofs.lemmas.Bool.Decides.{leb_tells}
 use Rattle.vsm_elements.specs.Store.{Store, at, among}
 use Rattle.vsm_elements.specs.Chain.{Link, element, last_or}
 use Rattle.item_tree.specs.declared.item.Item.{Item}
 use Rattle.item_tree.specs.declared.tree.ItemTree.{ItemTree}
 use Rattle.item_tree.specs.Items.{key, item_in, item_from, AllBelow, AllFrom, Ascends}
-use Rattle.item_tree.specs.Trees.{items, owned, IsTree}
+use Rattle.item_tree.specs.Trees.{items, owned}
 use Rattle.item_tree.proofs.Lists.{in_middle}
 use Rattle.item_tree.proofs.ShapeLemmas.{id_of, ids_append, positive}
 use Rattle.item_tree.proofs.OrderLemmas.{below_more, below_join, below_middle, ascends_right, from_here, in_here}
@@ -16,8 +16,8 @@ use Rattle.item_tree.proofs.SetLemmas.{AllStored, stored}
 use Rattle.item_tree.proofs.TreeLemmas.{owned_ids, length-tree, small_tree}
 use Rattle.row_table.specs.declared.row.Row.{Row}
 use Rattle.row_table.specs.Rows.{word, row_in}
-use Rattle.row_table.specs.Keys.{key_of, seven, row_in_item, link_in, links}
-use Rattle.row_table.specs.Kept.{IsKept, StandsAt, link_of}
+use Rattle.row_table.specs.Keys.{row_in_item, link_in, links}
+use Rattle.row_table.specs.Kept.{IsKept, StandsAt}
 use Rattle.row_table.specs.RowTable.{row_of}
 use Rattle.row_table.proofs.PlaceLemmas.{last_or-append, next_place}
 use Rattle.row_table.proofs.KeyLemmas.{key_whole, row_by_item, map_parts, length-links}

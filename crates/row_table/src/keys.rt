@@ -1,7 +1,7 @@
 //! Rows as items of a tree. An item's key is the place of the row's two numbers in their order: the second number
 //! counts 256 times the first, which is below that.
 
-ghost use Rattle.std.specs.Prelude.{◌≡◌, ◌^◌, ◌<◌, ◌∷◌, drop};
+ghost use Rattle.std.specs.Prelude.{◌≡◌, ℕ, ◌^◌, ◌<◌, ◌∷◌, drop};
 ghost use Rattle.row_table.specs.Rows.{word, IsInRange};
 ghost use Rattle.row_table.specs.Keys.{key_of, six, seven, row_in_item};
 
@@ -58,10 +58,11 @@ pub(crate) fn item_words(words: [u32; 7]) -> [u32; 6]
     [key, words[2], words[3], words[4], words[5], words[6]]
 }
 
-// The six words of a row under a key.
-pub(crate) fn with_key(key: u32, words: [u32; 7]) -> [u32; 6]
-    ensures words { result ≡ key ∷ drop 2 words }
-    ensures back { key ≡ key_of (word words 0) (word words 1) → word words 0 < 256 → seven result ≡ words }
+// The words of a row behind its key.
+pub(crate) fn words_behind_key(words: [u32; 7]) -> [u32; 5]
+    ensures words { result ≡ drop 2 words }
+    ensures back { (key : ℕ) → key ≡ key_of (word words 0) (word words 1) → word words 0 < 256
+        → seven (key ∷ result) ≡ words }
 {
-    [key, words[2], words[3], words[4], words[5], words[6]]
+    [words[2], words[3], words[4], words[5], words[6]]
 }

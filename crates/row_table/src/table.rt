@@ -1,10 +1,10 @@
-ghost use Rattle.std.specs.Prelude.{true, ◌≡◌, ℕ, ◌+◌, ◌<◌, ◌++◌, ◌∷◌, ◌||◌, ◌⊎◌, [], length, Some, None, IsSome};
-ghost use Rattle.std.specs.Prelude.{IfSome, IfNone, option_map, slice_index_or, if◌then◌else◌};
+ghost use Rattle.std.specs.Prelude.{true, ◌≡◌, ℕ, ◌+◌, ◌<◌, ◌≤◌, ◌++◌, ◌∷◌, ◌||◌, ◌⊎◌, [], length, Some, None, IsSome};
+ghost use Rattle.std.specs.Prelude.{IfSome, IfNone, option_map, slice_index_or, slice_set, if◌then◌else◌};
 ghost use Rattle.vsm_elements.specs.Store.{Store, among};
 ghost use Rattle.vsm_elements.specs.Ownership.{Leaves, Apart};
 ghost use Rattle.row_table.specs.Rows.{word, same_key, is_under, either_of, IsInRange};
 
-use crate::keys::{key_of, row_of, row_words, with_key};
+use crate::keys::{key_of, row_of, row_words, words_behind_key};
 use crate::row::Row;
 use item_tree::ItemTree;
 use vsm_elements::{Element, Elements, Id};
@@ -105,8 +105,25 @@ impl RowTable {
         ensures owned { Leaves elements.old elements.new (owned elements.old self.now) (owned elements.new self.now) }
         ensures spares { elements.new.spare ≡ elements.old.spare }
     {
-        let item = self.tree.get(elements, id);
-        self.tree.set(elements, id, with_key(item.words[0], words));
+        self.tree.set_rest(elements, id, words_behind_key(words));
+    }
+
+    /// The row of this id gets another word behind its key. Its old one is answered.
+    pub fn swap_word(&self, elements: &mut Elements, id: Id, place: usize, value: u32) -> u32
+        requires table { IsTable elements.old self.now }
+        requires row { IsRow elements.old self.now id }
+        requires place { (2 ≤ place) × (place < 7) }
+        ensures table { IsTable elements.new self.now }
+        ensures answer { result ≡ word (words_of elements.old id) place }
+        ensures rows { (a b : ℕ) → row elements.new self.now a b
+            ≡ (if is_under a b (slice_set (words_of elements.old id) place value)
+            then Some (record { id = id; words = slice_set (words_of elements.old id) place value })
+            else row elements.old self.now a b) }
+        ensures here { word (slice_set (words_of elements.old id) place value) place ≡ value }
+        ensures owned { Leaves elements.old elements.new (owned elements.old self.now) (owned elements.new self.now) }
+        ensures spares { elements.new.spare ≡ elements.old.spare }
+    {
+        self.tree.swap_word(elements, id, place - 1, value)
     }
 
     /// The row under these two numbers gets other words, and keeps its element. Where its key changes, the new

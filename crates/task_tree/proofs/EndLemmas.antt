@@ -80,3 +80,9 @@ module _ (f rest : Rows) (task : ℕ) (tree : IsTree f) (there : IsSome (parents
     | inl e ↦ absurd (ne (eqb_same t task e))
     | inr e ↦ ap is_some (ended_parents t ∙ if_false (t == task) None (parents_in f t) e) ∙ h
   ]
+
+  pub ended_rows : (t : ℕ) → t ≢ task → (k : ℕ) → rest t k ≡ f t k
+  ended_rows t ne k = elim (either (t == task)) [
+    | inl e ↦ absurd (ne (eqb_same t task e))
+    | inr e ↦ away t k e
+  ]

@@ -38,10 +38,15 @@ pub record IsTree (f : Rows) : Type 0 where
   pub parents : (t p : ℕ) → parents_in f t ≡ Some p → p ≢ 0 → IsSome (parents_in f p)
   pub depths : ∥ HasDepths (parents_in f) ∥₁
 
-pub record IsKept (s : Store) (q : RowTable) (current : ℕ) : Type 0 where
+-- the ids of a task's four rows, quarter by quarter
+abbrev pub AreQuarters : Rows → ℕ → List ℕ → Type 0
+AreQuarters f task ids = (k : ℕ) → k < 4 → option_map (λ r. r.id) (f task k) ≡ Some (slice_index_or ids k 0)
+
+pub record IsKept (s : Store) (q : RowTable) (current : ℕ) (ids : List ℕ) : Type 0 where
   pub table : IsTable s q
   pub tree : IsTree (row s q)
   pub running : IsSome (parents_in (row s q) current)
+  pub quarters : AreQuarters (row s q) current ids
 
 pub record AreParked (s : Store) (q : RowTable) : Type 0 where
   pub table : IsTable s q

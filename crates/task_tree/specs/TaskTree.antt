@@ -25,7 +25,7 @@ unfoldable pub owned : Store → TaskTree → List ℕ
 owned s q = RowTable.owned s q.rows
 
 unfoldable pub IsTaskTree : Store → TaskTree → Type 0
-IsTaskTree s q = IsKept s q.rows q.current
+IsTaskTree s q = IsKept s q.rows q.current q.quarters
 
 -- tasks that were taken out
 

@@ -1,14 +1,14 @@
 //! The four rows of a task.
 
 ghost use Rattle.std.specs.Prelude.{◌≡◌, ◌≢◌, ℕ, ◌+◌, ◌<◌, ◌≤◌, ◌++◌, ◌==◌, ◌&&◌, nat_lt, length, Some, None, IsSome};
-ghost use Rattle.std.specs.Prelude.{IfNone, IfSome, if◌then◌else◌};
+ghost use Rattle.std.specs.Prelude.{IfNone, IfSome, option_map, if◌then◌else◌};
 ghost use Rattle.vsm_elements.specs.Ownership.{Leaves, Apart};
 ghost use Rattle.row_table.specs.Rows.{same_key};
 ghost use Rattle.row_table.specs.RowTable.{row, owned, IsTable};
-ghost use Rattle.task_tree.specs.Kept.{parents_in, words_at, zero_words, AreTasks};
+ghost use Rattle.task_tree.specs.Kept.{parents_in, words_at, zero_words, AreTasks, AreQuarters};
 
 use row_table::RowTable;
-use vsm_elements::Elements;
+use vsm_elements::{Elements, Id};
 
 // The parent of a task that is there.
 pub(crate) fn parent_in(rows: &RowTable, elements: &Elements, task: u32) -> Option<u32>
@@ -17,6 +17,31 @@ pub(crate) fn parent_in(rows: &RowTable, elements: &Elements, task: u32) -> Opti
 {
     let row = rows.find(elements, task, 0)?;
     Some(row.words[2])
+}
+
+// The id of a row that is there.
+fn id_at(rows: &RowTable, elements: &Elements, task: u32, quarter: u32) -> Id
+    requires table { IsTable elements.now rows.now }
+    requires there { IsSome (row elements.now rows.now task quarter) }
+    ensures { option_map (λ r. r.id) (row elements.now rows.now task quarter) ≡ Some result }
+{
+    match rows.find(elements, task, quarter) {
+        Some(row) => row.id,
+        None => unreachable!(),
+    }
+}
+
+// The ids of a task's four rows.
+pub(crate) fn quarters_of(rows: &RowTable, elements: &Elements, task: u32) -> [Id; 4]
+    requires table { IsTable elements.now rows.now }
+    requires there { (k : ℕ) → k < 4 → IsSome (row elements.now rows.now task k) }
+    ensures { AreQuarters (row elements.now rows.now) task result }
+{
+    let first = id_at(rows, elements, task, 0);
+    let second = id_at(rows, elements, task, 1);
+    let third = id_at(rows, elements, task, 2);
+    let fourth = id_at(rows, elements, task, 3);
+    [first, second, third, fourth]
 }
 
 // The task's rows move to another table.
@@ -78,6 +103,7 @@ pub(crate) fn add_task(rows: &mut RowTable, elements: &mut Elements, task: u32, 
     ensures rows { (a b : ℕ) → words_at (row elements.new rows.new) a b
         ≡ (if (a == task) && nat_lt b 4 then Some (zero_words task b parent)
         else words_at (row elements.old rows.old) a b) }
+    ensures others { (a b : ℕ) → a ≢ task → row elements.new rows.new a b ≡ row elements.old rows.old a b }
     ensures owned { Leaves elements.old elements.new (owned elements.old rows.old) (owned elements.new rows.new) }
     ensures spares { elements.new.spare + 4 ≡ elements.old.spare }
 {

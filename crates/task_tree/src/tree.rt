@@ -1,15 +1,16 @@
 ghost use Rattle.std.specs.Prelude.{◌≡◌, ◌≢◌, ℕ, ◌+◌, ◌<◌, ◌≤◌, ◌++◌, ◌==◌, ◌&&◌, ◌⊎◌, [], Some, None, IsSome};
-ghost use Rattle.std.specs.Prelude.{is_some, Ok, Err, IfOk, IfErr, slice_get, slice_set, slice_index_or};
+ghost use Rattle.std.specs.Prelude.{is_some, Ok, Err, IfOk, IfErr, slice_get, option_map};
 ghost use Rattle.std.specs.Prelude.{if◌then◌else◌};
 ghost use Rattle.vsm_elements.specs.Ownership.{Leaves, Apart};
 ghost use Rattle.row_table.specs.Rows.{either_of};
+ghost use Rattle.row_table.specs.RowTable.{row};
 ghost use Rattle.task_tree.specs.Tasks.{IsBelow, IsLeastFree, IsTaken, IsLeft, parents_with, tasks_in};
 
 use crate::faults::TreeFault;
-use crate::moves::{add_task, move_task, orphan, parent_in, remove_task};
+use crate::moves::{add_task, move_task, orphan, parent_in, quarters_of, remove_task};
 use crate::parked::ParkedTasks;
 use row_table::RowTable;
-use vsm_elements::Elements;
+use vsm_elements::{Elements, Id};
 
 /// The head of the tree of tasks, and the task that makes the requests.
 ///
@@ -19,6 +20,8 @@ use vsm_elements::Elements;
 pub struct TaskTree {
     rows: RowTable,
     current: u8,
+    // The ids of the current task's four rows.
+    quarters: [Id; 4],
 }
 
 #[tactic(auto, unfolding(
@@ -51,6 +54,7 @@ impl TaskTree {
         ensures words { (t r : ℕ) → word elements.now self.new t r ≡ word elements.now self.old t r }
         ensures owned { owned elements.now self.new ≡ owned elements.now self.old }
     {
+        self.quarters = quarters_of(&self.rows, elements, u32::from(task));
         self.current = task;
     }
 
@@ -128,14 +132,32 @@ impl TaskTree {
         Some(parent as u8)
     }
 
+    // The id of the row of a quarter of a task's registers. The current task's is not looked for.
+    fn quarter_id(&self, elements: &Elements, task: u8, quarter: u8) -> Option<Id>
+        requires tree { IsTaskTree elements.now self.now }
+        requires quarter { quarter < 4 }
+        ensures { result ≡ option_map (λ r. r.id) (row elements.now self.now.rows task quarter) }
+    {
+        if task != self.current {
+            return match self
+                .rows
+                .find(elements, u32::from(task), u32::from(quarter))
+            {
+                Some(row) => Some(row.id),
+                None => None,
+            };
+        }
+        Some(self.quarters[usize::from(quarter)])
+    }
+
     /// The word of a register from 0 to 15; 0 where there is no such task.
     pub fn register(&self, elements: &Elements, task: u8, r: u8) -> u32
         requires tree { IsTaskTree elements.now self.now }
         requires register { r < 16 }
         ensures { result ≡ word elements.now self.now task r }
     {
-        match self.rows.find(elements, u32::from(task), u32::from(r / 4)) {
-            Some(row) => row.words[3 + usize::from(r % 4)],
+        match self.quarter_id(elements, task, r / 4) {
+            Some(id) => self.rows.words(elements, id)[3 + usize::from(r % 4)],
             None => 0,
         }
     }
@@ -253,7 +275,12 @@ impl TaskTree {
     {
         let mut rows = RowTable::new();
         add_task(&mut rows, elements, 1, 0);
-        TaskTree { rows, current: 1 }
+        let quarters = quarters_of(&rows, elements, 1);
+        TaskTree {
+            rows,
+            current: 1,
+            quarters,
+        }
     }
 
     /// The `i`-th task in ascending order, from 0 on; `None` past the last.
@@ -286,27 +313,10 @@ impl TaskTree {
         ensures owned { Leaves elements.old elements.new (owned elements.old self.now) (owned elements.new self.now) }
         ensures spares { elements.new.spare ≡ elements.old.spare }
     {
-        let quarter = r / 4;
-        let k = r % 4;
-        let Some(row) = self
-            .rows
-            .find(elements, u32::from(task), u32::from(quarter))
-        else {
+        let Some(id) = self.quarter_id(elements, task, r / 4) else {
             return 0;
         };
-        let words = with_register(row.words, k, value);
-        self.rows.set_row(elements, row.id, words);
-        row.words[3 + usize::from(k)]
+        let place = 3 + usize::from(r % 4);
+        self.rows.swap_word(elements, id, place, value)
     }
-}
-
-// The words of a row with another word in one of its registers.
-fn with_register(words: [u32; 7], k: u8, value: u32) -> [u32; 7]
-    requires { k < 4 }
-    ensures set { result ≡ slice_set words (3 + k) value }
-    ensures here { slice_index_or result (3 + k) 0 ≡ value }
-{
-    let mut words = words;
-    words[3 + usize::from(k)] = value;
-    words
 }

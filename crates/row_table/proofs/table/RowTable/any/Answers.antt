@@ -1,10 +1,10 @@
-use Rattle.std.proofs.Common.{◌≡◌, List, ap, sym, ◌∙◌}
+use Rattle.std.proofs.Common.{List, ap, sym, ◌∙◌}
 use Rattle.std.specs.Prelude.{map}
 use Rattle.item_tree.specs.declared.item.Item.{Item}
 use Rattle.item_tree.specs.Trees.{items}
 use Rattle.item_tree.proofs.ShapeLemmas.{id_of}
 use Rattle.item_tree.proofs.TreeLemmas.{owned_ids}
-use Rattle.row_table.specs.RowTable.{row, owned, IsTable}
+use Rattle.row_table.specs.RowTable.{row, owned}
 use Rattle.row_table.specs.Rows.{row_in}
 use Rattle.row_table.specs.Keys.{link_in}
 use Rattle.row_table.proofs.WalkLemmas.{first_none, first_row}

@@ -1,10 +1,10 @@
-use Rattle.std.proofs.Common.{◌≡◌, ℕ, List, Option, Some, ap, sym, subst, ◌∙◌, ◌∷◌}
+use Rattle.std.proofs.Common.{ℕ, List, Option, Some, ap, subst, ◌∙◌, ◌∷◌}
 use Rattle.std.specs.Prelude.{if◌then◌else◌}
 use Rattle.vsm_elements.specs.Store.{among}
 use Rattle.vsm_elements.specs.Ownership.{Leaves}
 use Rattle.row_table.specs.declared.row.Row.{Row}
 use Rattle.row_table.specs.Rows.{word, is_under}
-use Rattle.row_table.specs.RowTable.{row, owned, IsTable}
+use Rattle.row_table.specs.RowTable.{owned}
 use Rattle.row_table.proofs.TableLemmas.{tables_kept, tables_stand}
 use Rattle.row_table.proofs.CallLemmas.{fresh_out, fresh_same, taken_first}
 use Rattle.row_table.proofs.table.RowTable.insert.Goals as goal

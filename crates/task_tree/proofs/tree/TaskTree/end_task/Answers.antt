@@ -3,7 +3,8 @@ use Rattle.std.specs.Prelude.{if◌then◌else◌}
 use Rattle.row_table.specs.RowTable.{row}
 use Rattle.task_tree.specs.Kept.{Rows}
 use Rattle.task_tree.specs.TaskTree.{parent, word, current, owned, IsTaskTree}
-use Rattle.task_tree.proofs.EndLemmas.{ended_tree, ended_running}
+use Rattle.task_tree.proofs.EndLemmas.{ended_tree, ended_running, ended_rows}
+use Rattle.task_tree.proofs.QuarterLemmas.{same_quarters}
 use Rattle.task_tree.proofs.tree.TaskTree.end_task.Goals as goal
 
 gone_by : (f g : Rows) (x t : ℕ) → x ≡ t → ((a b : ℕ) → g a b ≡ (if (a == x) && nat_lt b 4 then None else f a b))
@@ -20,4 +21,5 @@ returns-clause-tree c =
       table = c.remove_task.ensures.table;
       tree = ended_tree old new c.args.task c.requires.tree.tree c.requires.there c.requires.other c.requires.childless left;
       running = ended_running old new c.args.task c.requires.tree.tree c.requires.there c.requires.other c.requires.childless left c.args.self.now.current c.requires.idle c.requires.tree.running;
+      quarters = same_quarters old new c.args.self.now.current c.args.self.now.quarters (ended_rows old new c.args.task c.requires.tree.tree c.requires.there c.requires.other c.requires.childless left c.args.self.now.current c.requires.idle) c.requires.tree.quarters;
     }

@@ -10,4 +10,5 @@ returns-clause-tree c = record {
   table = c.add_task.ensures.table;
   tree = first_tree (row c.args.elements.now c.new-rows.result) (row c.add_task.new.elements c.add_task.new.rows) (c.new-rows.ensures.empty c.args.elements.now) c.add_task.ensures.rows;
   running = ap is_some (first_parents (row c.args.elements.now c.new-rows.result) (row c.add_task.new.elements c.add_task.new.rows) (c.new-rows.ensures.empty c.args.elements.now) c.add_task.ensures.rows 1);
+  quarters = c.quarters_of-quarters.ensures;
 }
