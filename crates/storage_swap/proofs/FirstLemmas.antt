@@ -1,12 +1,13 @@
--- The first record of a chain changes sides.
-use Rattle.std.proofs.Common.{◌≡◌, ℕ, ◌+◌, ◌-◌, ◌≤◌, if◌then◌else◌, List, [], ◌∷◌, map, drop, Option, Some, None, refl, sym, ap, ◌∙◌, arith, subst}
+-- The first record of a chain changes sides, and goes to another chain.
+use Rattle.std.proofs.Common.{◌≡◌, ℕ, zero, suc, ◌+◌, ◌-◌, ◌<◌, ◌≤◌, if◌then◌else◌, inl, inr, List, [], ◌∷◌, ◌++◌, map, drop, Option, Some, None, IsSome, refl, sym, ap, ◌∙◌, arith, subst}
 use Rattle.std.specs.Prelude.{slice_get, unwrap_or, ◌/◌}
-use Rattle.vsm_elements.specs.Store.{Store}
-use Rattle.vsm_elements.specs.Chain.{Link, links, owned, ids, IsChain}
-use Rattle.vsm_elements.specs.Ownership.{Leaves}
+use Rattle.vsm_elements.specs.Store.{Store, at}
+use Rattle.vsm_elements.specs.Chain.{Link, links, follow, owned, ids, IsChain}
+use Rattle.vsm_elements.specs.Ownership.{Leaves, Apart}
 use Rattle.vsm_elements.specs.declared.chain.Chain.{Chain}
 use Rattle.vsm_elements.specs.Owners.{times, Moves}
-use Rattle.vsm_elements.proofs.MoveLemmas.{moves-of, moves-follow, moves-by, moves-like, once-after, rest-same, chain-live, chain-kept}
+use Rattle.vsm_elements.proofs.TimesLemmas.{times-append}
+use Rattle.vsm_elements.proofs.MoveLemmas.{none-or-some, moves-of, moves-follow, moves-by, moves-like, once-after, rest-same, chain-live, chain-kept, apart-from}
 use Rattle.raw_region.specs.Frames.{PageFrame}
 use Rattle.raw_region.specs.Pages.{byte_at}
 use Rattle.subpool_storage.specs.declared.storage.SubpoolStorage.{SubpoolStorage}
@@ -18,7 +19,7 @@ use Rattle.storage_changes.proofs.Cases.{walk-same}
 use Rattle.storage_exchange.specs.declared.storage.Parts.{Parts}
 use Rattle.storage_exchange.specs.Storage.{hold_with, state_of, walk_of, StandsWith}
 use Rattle.storage_exchange.specs.Exchange.{Exchanges}
-use Rattle.storage_swap.specs.Beside.{record_at, records_of, hold_beside, Beside, SwapsFirst}
+use Rattle.storage_swap.specs.Beside.{record_at, records_of, hold_both, BesideBoth, SwapsFirst}
 use Rattle.storage_swap.proofs.KeptLemmas.{over, kept-hold-with, kept-stands, kept-state, kept-unassigned, kept-parked}
 
 pub first-link : (ns : List Link) (n : Link) → slice_get ns 0 ≡ Some n → ns ≡ n ∷ drop 1 ns
@@ -38,64 +39,96 @@ pub kept-walk : (p : Parts) (q : SubpoolStorage) (e : Store) (k : StandsWith p q
 kept-walk p q e k f g m once same given kept = walk-same (walk_of (over p e) given q kept) (walk_of p given q kept) (kept-state p q e k f g m once)
     (λ a. ap (λ b. if b then byte_at p.region a else None) (kept-unassigned p q e k f g m once (a / 4096))) (λ a. refl) (kept-parked p q e k f g m once) (ap (λ (n : ℕ). n - kept) same)
 
--- the chain stays beside the exchange
-pub first-kept : (p m : Parts) (given given' : List PageFrame) (q q' : SubpoolStorage) (c : Chain) (r : Record) → Beside p q c → Exchanges p m given given' q q' r → IsChain m.elements c
-first-kept p m given given' q q' c r b x = (chain-kept p.elements m.elements c b.chain (λ i h. rest-same p.elements m.elements (hold_with p q) (hold_with m q') x.moves (λ j. times j (owned p.elements c)) b.once (chain-live p.elements c b.chain) i h)).0
+-- the exchange leaves both chains, of which one has the record
+module _ (p m : Parts) (given given' : List PageFrame) (q q' : SubpoolStorage) (c d : Chain) (b : BesideBoth p q c d) (r : Record) (x : Exchanges p m given given' q q' r) where
+  abbrev both-ids : ℕ → ℕ
+  both-ids i = times i (owned p.elements c) + times i (owned p.elements d)
 
-module _ (p m : Parts) (e : Store) (given given' : List PageFrame) (q q' : SubpoolStorage) (c : Chain) (b : Beside p q c) (n n' : Link) (got : slice_get (links p.elements c) 0 ≡ Some n) (x : Exchanges p m given given' q q' (record_at n))
-    (is : record_at n' ≡ turned (state_of p) (record_at n)) (chain : IsChain e c) (written : links e c ≡ n' ∷ drop 1 (links m.elements c)) (id : n'.id ≡ n.id) (f : Leaves m.elements e (owned m.elements c) (owned e c)) (spares : e.spare ≡ m.elements.spare) where
-  abbrev chain_ids : ℕ → ℕ
-  chain_ids i = times i (owned p.elements c)
+  both-live : (i : ℕ) → 0 < both-ids i → IsSome (at p.elements i)
+  both-live i h = elim (none-or-some (times i (owned p.elements c))) [
+    | inl z ↦ chain-live p.elements d b.done i (omega (arith, h, z))
+    | inr z ↦ chain-live p.elements c b.chain i z
+  ]
 
-  in-order : (i : ℕ) → hold_with p q i + chain_ids i ≤ 1
-  in-order i = b.once i
+  both-same : (i : ℕ) → 0 < both-ids i → at m.elements i ≡ at p.elements i
+  both-same = rest-same p.elements m.elements (hold_with p q) (hold_with m q') x.moves both-ids b.once both-live
 
-  kept-chain : IsChain m.elements c × (links m.elements c ≡ links p.elements c)
-  kept-chain = chain-kept p.elements m.elements c b.chain (λ i h. rest-same p.elements m.elements (hold_with p q) (hold_with m q') x.moves chain_ids in-order (chain-live p.elements c b.chain) i h)
+  first-kept : IsChain m.elements c × (links m.elements c ≡ links p.elements c)
+  first-kept = chain-kept p.elements m.elements c b.chain (λ i h. both-same i (omega (arith, h)))
 
-  once-mid : (i : ℕ) → hold_with m q' i + chain_ids i ≤ 1
-  once-mid i = once-after p.elements m.elements (hold_with p q) (hold_with m q') x.moves chain_ids in-order (chain-live p.elements c b.chain) x.stands.once i
+  done-kept : IsChain m.elements d × (links m.elements d ≡ links p.elements d)
+  done-kept = chain-kept p.elements m.elements d b.done (λ i h. both-same i (omega (arith, h)))
 
-  ids-mid : owned m.elements c ≡ owned p.elements c
-  ids-mid = ap ids kept-chain.1
+  first-ids : (i : ℕ) → times i (owned m.elements c) ≡ times i (owned p.elements c)
+  first-ids i = ap (λ (ns : List Link). times i (ids ns)) first-kept.1
 
-  ids-new : owned e c ≡ owned p.elements c
-  ids-new =
-      ap ids written ∙ ap (λ (z : List Link). n'.id ∷ ids (drop 1 z)) kept-chain.1 ∙ ap (λ (z : ℕ). z ∷ ids (drop 1 (links p.elements c))) id
-      ∙ sym (ap ids (first-link (links p.elements c) n got))
+  done-ids : (i : ℕ) → times i (owned m.elements d) ≡ times i (owned p.elements d)
+  done-ids i = ap (λ (ns : List Link). times i (ids ns)) done-kept.1
 
-  written-moves : Moves m.elements e chain_ids chain_ids
-  written-moves = moves-like m.elements e (λ i. times i (owned m.elements c)) (λ i. times i (owned e c)) chain_ids chain_ids (moves-of m.elements e (owned m.elements c) (owned e c) f) (λ i. ap (times i) (sym ids-mid)) (λ i. ap (times i) (sym ids-new))
+  once-mid : (i : ℕ) → hold_with m q' i + both-ids i ≤ 1
+  once-mid i = once-after p.elements m.elements (hold_with p q) (hold_with m q') x.moves both-ids b.once both-live x.stands.once i
 
-  once-written : (i : ℕ) → chain_ids i + hold_with m q' i ≤ 1
-  once-written i = omega (arith, once-mid i)
+  pub first-chain : 0 < c.count → IsChain m.elements c × (0 < c.count)
+  first-chain some = (first-kept.0, some)
 
-  new-hold : (i : ℕ) → hold_with (over m e) q' i ≡ hold_with m q' i
-  new-hold = kept-hold-with m q' e x.stands chain_ids chain_ids written-moves once-written
+  pub done-chain : IsChain m.elements d
+  done-chain = done-kept.0
 
-  pub swaps-first : (r : Record) (rs : List Record) → records_of p.elements c ≡ r ∷ rs → SwapsFirst p (over m e) given given' q q' c r rs
-  swaps-first r rs l = record {
-    beside = record { stands = kept-stands m q' e x.stands chain_ids chain_ids written-moves once-written; chain = chain; once = λ i. omega (arith, new-hold i, once-mid i, ap (times i) ids-new) };
-    moves = moves-follow p.elements m.elements e (hold_beside p q c) (λ i. hold_with m q' i + chain_ids i) (hold_beside (over m e) q' c)
-        (moves-by p.elements m.elements (hold_with p q) (hold_with m q') (hold_beside p q c) (λ i. hold_with m q' i + chain_ids i) x.moves (λ i. omega arith) (λ i. omega arith))
-        (moves-by m.elements e chain_ids chain_ids (λ i. hold_with m q' i + chain_ids i) (hold_beside (over m e) q' c) written-moves (λ i. omega arith) (λ i. omega (arith, new-hold i, ap (times i) ids-new)));
-    records = ap (map record_at) written ∙ ap (λ (z : List Link). record_at n' ∷ map record_at (drop 1 z)) kept-chain.1 ∙ ap (λ (z : Record). z ∷ map record_at (drop 1 (links p.elements c))) (is ∙ ap (turned (state_of p)) first.0) ∙ ap (λ (z : List Record). turned (state_of p) r ∷ z) first.1;
-    same_ids = ids-new;
-    steps = λ kept le h. go kept le h;
-    as_many = f.as_many ∙ x.as_many;
-    out = x.out;
-    tables = x.tables;
-    frames = x.frames;
-    places = x.places;
-  } where
-    first : (record_at n ≡ r) × (map record_at (drop 1 (links p.elements c)) ≡ rs)
-    first = first-record p.elements c n r rs got l
+  pub both-apart : Apart (owned m.elements c) (owned m.elements d)
+  both-apart = apart-from (owned m.elements c) (owned m.elements d) (λ i. omega (arith, once-mid i, first-ids i, done-ids i))
 
-    go : (kept : ℕ) → kept ≤ p.elements.spare → Fits (walk_of p given q kept) r → (kept ≤ e.spare) × (walk_of (over m e) given' q' kept ≡ step (walk_of p given q kept) r)
-    go kept le h =
-        let P : Record → Type 0 = λ z. Fits (walk_of p given q kept) z in
-        let s : (kept ≤ m.elements.spare) × (walk_of m given' q' kept ≡ step (walk_of p given q kept) (record_at n)) = x.steps kept le (subst P (sym first.0) h) in
-        (omega (arith, s.0, spares), kept-walk m q' e x.stands chain_ids chain_ids written-moves once-written spares given' kept ∙ s.1 ∙ ap (step (walk_of p given q kept)) first.0)
+  -- it gets the turned words, and goes before those that are done
+  module _ (e : Store) (c' d' : Chain) (n n' : Link) (got : slice_get (links p.elements c) 0 ≡ Some n) (of : record_at n ≡ r)
+      (is : record_at n' ≡ turned (state_of p) r) (id : n'.id ≡ n.id) (chains : IsChain e c' × IsChain e d') (behind : links e c' ≡ drop 1 (links m.elements c)) (front : links e d' ≡ n' ∷ links m.elements d)
+      (f : Leaves m.elements e (owned m.elements c ++ owned m.elements d) (owned e c' ++ owned e d')) (spares : e.spare ≡ m.elements.spare) where
+    abbrev new-ids : ℕ → ℕ
+    new-ids i = times i (owned e c') + times i (owned e d')
+
+    moved : Moves m.elements e both-ids new-ids
+    moved = moves-like m.elements e (λ i. times i (owned m.elements c ++ owned m.elements d)) (λ i. times i (owned e c' ++ owned e d')) both-ids new-ids (moves-of m.elements e (owned m.elements c ++ owned m.elements d) (owned e c' ++ owned e d') f)
+        (λ i. omega (arith, times-append i (owned m.elements c) (owned m.elements d), first-ids i, done-ids i)) (λ i. sym (times-append i (owned e c') (owned e d')))
+
+    once-moved : (i : ℕ) → both-ids i + hold_with m q' i ≤ 1
+    once-moved i = omega (arith, once-mid i)
+
+    new-hold : (i : ℕ) → hold_with (over m e) q' i ≡ hold_with m q' i
+    new-hold = kept-hold-with m q' e x.stands both-ids new-ids moved once-moved
+
+    -- both chains together have the same elements
+    same-count : (i : ℕ) → new-ids i ≡ both-ids i
+    same-count i =
+        let a : times i (owned e c') ≡ times i (ids (drop 1 (links p.elements c))) = ap (λ (ns : List Link). times i (ids ns)) behind ∙ ap (λ (ns : List Link). times i (ids (drop 1 ns))) first-kept.1 in
+        let k : times i (owned e d') ≡ times i (n.id ∷ ids (links m.elements d)) = ap (λ (ns : List Link). times i (ids ns)) front ∙ ap (λ (j : ℕ). times i (j ∷ ids (links m.elements d))) id in
+        let l : times i (owned p.elements c) ≡ times i (n.id ∷ ids (drop 1 (links p.elements c))) = ap (λ (ns : List Link). times i (ids ns)) (first-link (links p.elements c) n got) in
+        omega (arith, a, k, l, done-ids i)
+
+    swaps-first : (rs : List Record) → records_of p.elements c ≡ r ∷ rs → SwapsFirst p (over m e) given given' q q' c c' d d' r rs
+    swaps-first rs l = record {
+      beside = record { stands = kept-stands m q' e x.stands both-ids new-ids moved once-moved; chain = chains.0; done = chains.1; once = λ i. omega (arith, new-hold i, same-count i, once-mid i) };
+      moves = moves-follow p.elements m.elements e (hold_both p q c d) (λ i. hold_with m q' i + both-ids i) (hold_both (over m e) q' c' d')
+          (moves-by p.elements m.elements (hold_with p q) (hold_with m q') (hold_both p q c d) (λ i. hold_with m q' i + both-ids i) x.moves (λ i. omega arith) (λ i. omega arith))
+          (moves-by m.elements e both-ids new-ids (λ i. hold_with m q' i + both-ids i) (hold_both (over m e) q' c' d') moved (λ i. omega arith) (λ i. omega (arith, new-hold i)));
+      rest = ap (map record_at) behind ∙ ap (λ (z : List Link). map record_at (drop 1 z)) first-kept.1 ∙ (first-record p.elements c n r rs got l).1;
+      done = ap (map record_at) front ∙ ap (λ (z : List Link). record_at n' ∷ map record_at z) done-kept.1 ∙ ap (λ (z : Record). z ∷ records_of p.elements d) is;
+      steps = λ kept le h. (let s : (kept ≤ m.elements.spare) × (walk_of m given' q' kept ≡ step (walk_of p given q kept) r) = x.steps kept le h in
+          (omega (arith, s.0, spares), kept-walk m q' e x.stands both-ids new-ids moved once-moved spares given' kept ∙ s.1));
+      as_many = f.as_many ∙ x.as_many;
+      out = x.out;
+      tables = x.tables;
+      frames = x.frames;
+      places = x.places;
+    }
+
+    pub swaps-any : (r' : Record) (rs : List Record) → records_of p.elements c ≡ r' ∷ rs → SwapsFirst p (over m e) given given' q q' c c' d d' r' rs
+    swaps-any r' rs l =
+        let same : r ≡ r' = sym of ∙ (first-record p.elements c n r' rs got l).0 in
+        let P : Record → Type 0 = λ z. SwapsFirst p (over m e) given given' q q' c c' d d' z rs in
+        subst P same (swaps-first rs (l ∙ ap (λ (z : Record). z ∷ rs) (sym same)))
+
+-- a chain with a first link has some
+pub some-first : (s : Store) (first count : ℕ) (n : Link) → slice_get (follow s first count) 0 ≡ Some n → 0 < count
+some-first s first zero n e = cc
+some-first s first (suc k) n e = omega arith
 
 -- what the exchange of the first record asks
 pub first-asks : (p : Parts) (given : List PageFrame) (q : SubpoolStorage) (c : Chain) (n : Link) → slice_get (links p.elements c) 0 ≡ Some n

@@ -44,9 +44,9 @@ not-brought p c fit page e = none-if (held_at c.frames page) (λ h. not-false ((
 pub can-enter : (p : Parts) (c : TheChange) → Ready p c → Fit (state_of p) (means p.elements c) → CanEnter p.region c.frames
 can-enter p c r fit page h = (r.places page h, r.frameless page (fresh-page p c fit page h))
 
--- the blank elements are given back, and the frames stand in the tables
-module _ (p : Parts) (c : TheChange) (r : Ready p c) (fit : Fit (state_of p) (means p.elements c)) (e : Store) (region : Tables) (given : List PageFrame)
-    (f : Leaves p.elements e (owned p.elements c.blanks) []) (spares : e.spare ≡ p.elements.spare + c.blanks.count)
+-- so many blank elements are given back that as many are spare as the change had, the others stay aside, and the frames stand in the tables
+module _ (p : Parts) (c : TheChange) (r : Ready p c) (fit : Fit (state_of p) (means p.elements c)) (e : Store) (aside : Chain) (region : Tables) (given : List PageFrame)
+    (aside-chain : IsChain e aside) (f : Leaves p.elements e (owned p.elements c.blanks) (owned e aside)) (spares : aside.count + e.spare ≡ c.blanks.count + p.elements.spare) (enough : c.blanks.count ≤ e.spare)
     (pages : (x : ℕ) → bytes_at region x ≡ option_or (held_at c.frames x) (bytes_at p.region x)) (tables : SameTables p.region region) (out : region.out + length c.frames ≡ p.region.out) (empty : given ≡ []) (counts : SameFrames p.region region) where
   abbrev m : Parts
   m = record p { elements = e; region = region }
@@ -54,26 +54,26 @@ module _ (p : Parts) (c : TheChange) (r : Ready p c) (fit : Fit (state_of p) (me
   abbrev blanks_ids : ℕ → ℕ
   blanks_ids i = times i (owned p.elements c.blanks)
 
-  abbrev no_ids : ℕ → ℕ
-  no_ids i = 0
+  abbrev aside_ids : ℕ → ℕ
+  aside_ids i = times i (owned e aside)
 
-  melted : Moves p.elements e blanks_ids no_ids
-  melted = moves-of p.elements e (owned p.elements c.blanks) [] f
+  melted : Moves p.elements e blanks_ids aside_ids
+  melted = moves-of p.elements e (owned p.elements c.blanks) (owned e aside) f
 
   apart-blanks : (i : ℕ) → blanks_ids i + hold_with p c.parked i ≤ 1
   apart-blanks i = omega (arith, r.once i)
 
   records-kept : IsChain e c.records × (links e c.records ≡ links p.elements c.records)
-  records-kept = chain-kept p.elements e c.records r.records (λ i h. rest-same p.elements e blanks_ids no_ids melted (λ j. times j (owned p.elements c.records)) (λ j. omega (arith, r.once j)) (chain-live p.elements c.records r.records) i h)
+  records-kept = chain-kept p.elements e c.records r.records (λ i h. rest-same p.elements e blanks_ids aside_ids melted (λ j. times j (owned p.elements c.records)) (λ j. omega (arith, r.once j)) (chain-live p.elements c.records r.records) i h)
 
   same-hold : (i : ℕ) → hold_with m c.parked i ≡ hold_with p c.parked i
-  same-hold = kept-hold-with p c.parked e r.stands blanks_ids no_ids melted apart-blanks
+  same-hold = kept-hold-with p c.parked e r.stands blanks_ids aside_ids melted apart-blanks
 
   pub beside : Beside m c.parked c.records
-  beside = record { stands = region-stands-with (over p e) c.parked region (kept-stands p c.parked e r.stands blanks_ids no_ids melted apart-blanks); chain = records-kept.0; once = λ i. omega (arith, r.once i, same-hold i, ap (λ (ns : List Link). times i (ids ns)) records-kept.1) }
+  beside = record { stands = region-stands-with (over p e) c.parked region (kept-stands p c.parked e r.stands blanks_ids aside_ids melted apart-blanks); chain = records-kept.0; once = λ i. omega (arith, r.once i, same-hold i, ap (λ (ns : List Link). times i (ids ns)) records-kept.1) }
 
   same-unassigned : (x : ℕ) → (state_of m).unassigned x ≡ (state_of p).unassigned x
-  same-unassigned x = kept-unassigned p c.parked e r.stands blanks_ids no_ids melted apart-blanks x
+  same-unassigned x = kept-unassigned p c.parked e r.stands blanks_ids aside_ids melted apart-blanks x
 
   same-bytes : (a : ℕ) → (state_of m).bytes a ≡ (state_of p).bytes a
   same-bytes a = ap (λ (b : Bool). if b then None else byte_at region a) (same-unassigned (a / 4096)) ∙ go ((state_of p).unassigned (a / 4096)) refl where
@@ -88,14 +88,14 @@ module _ (p : Parts) (c : TheChange) (r : Ready p c) (fit : Fit (state_of p) (me
     go false u = sym (ap (λ (b : Option (List ℕ)). byte_of b (a % 4096)) (not-brought p c fit (a / 4096) u))
 
   abbrev kept : ℕ
-  kept = p.elements.spare
+  kept = e.spare - c.blanks.count
 
   starts : walk_of m given c.parked kept ≡ outset (state_of p) (means p.elements c)
   starts =
-      let s : state_of (over p e) ≡ state_of p = kept-state p c.parked e r.stands blanks_ids no_ids melted apart-blanks in
+      let s : state_of (over p e) ≡ state_of p = kept-state p c.parked e r.stands blanks_ids aside_ids melted apart-blanks in
       walk-same (walk_of m given c.parked kept) (outset (state_of p) (means p.elements c))
       (state-same (state_of m) (state_of p) (ap (λ (z : StorageState). z.tasks) s) (ap (λ (z : StorageState). z.subpools) s) same-unassigned same-bytes)
-      all-brought (λ a. ap (λ (z : List PageFrame). byte_held z a) empty) (kept-parked p c.parked e r.stands blanks_ids no_ids melted apart-blanks) (omega (arith, spares))
+      all-brought (λ a. ap (λ (z : List PageFrame). byte_held z a) empty) (kept-parked p c.parked e r.stands blanks_ids aside_ids melted apart-blanks) (omega (arith, enough))
 
   same-records : records_of e c.records ≡ records_of p.elements c.records
   same-records = ap (map record_at) records-kept.1
@@ -107,15 +107,41 @@ module _ (p : Parts) (c : TheChange) (r : Ready p c) (fit : Fit (state_of p) (me
       subst P (sym starts) (subst Q (sym same-records) fit.in_turn)
 
   pub fits-turn : (k : ℕ) × (k ≤ e.spare) × FitInTurn (walk_of m given c.parked k) (records_of e c.records)
-  fits-turn = (kept, omega (arith, spares), fit-here)
+  fits-turn = (kept, omega arith, fit-here)
 
-  -- all records change sides, and blank elements are taken
+  -- no element is aside and in a record, the storage or a parked subpool
+  aside-once : (i : ℕ) → aside_ids i + hold_beside m c.parked c.records i ≤ 1
+  aside-once i =
+      let rest : ℕ → ℕ = λ j. hold_with p c.parked j + times j (owned p.elements c.records) in
+      omega (arith, once-after p.elements e blanks_ids aside_ids melted rest (λ j. omega (arith, r.once j)) live (chain-once e aside aside-chain) i, same-hold i, ap (λ (ns : List Link). times i (ids ns)) records-kept.1) where
+        live : (i : ℕ) → 0 < hold_with p c.parked i + times i (owned p.elements c.records) → IsSome (at p.elements i)
+        live i h = elim (none-or-some (hold_with p c.parked i)) [
+          | inl z ↦ chain-live p.elements c.records r.records i (omega (arith, h, z))
+          | inr z ↦ with-live p c.parked r.stands i z
+        ]
+
+  -- all records change sides, and as many elements are spare as before
   module _ (s : Parts) (given' : List PageFrame) (parked' : TheParked) (records' : Chain) (w : SwapsAll m s given given' c.parked parked' c.records records') where
     steps : (kept ≤ s.elements.spare) × (walk_of s given' parked' kept ≡ walk (walk_of m given c.parked kept) (records_of e c.records)) × (records_of s.elements records' ≡ back_onto (walk_of m given c.parked kept) [] (records_of e c.records))
-    steps = w.steps kept (omega (arith, spares)) fit-here
+    steps = w.steps kept (omega arith) fit-here
 
-    pub room : p.elements.spare ≤ s.elements.spare
-    room = steps.0
+    aside-kept : IsChain s.elements aside × (links s.elements aside ≡ links e aside)
+    aside-kept = chain-kept e s.elements aside aside-chain (λ i h. rest-same e s.elements (hold_beside m c.parked c.records) (hold_beside s parked' records') w.moves aside_ids (λ j. omega (arith, aside-once j)) (chain-live e aside aside-chain) i h)
+
+    pub stays-aside : IsChain s.elements aside
+    stays-aside = aside-kept.0
+
+    pub room : p.elements.spare ≤ s.elements.spare + aside.count
+    room = omega (arith, steps.0, spares, enough)
+
+    abbrev still_ids : ℕ → ℕ
+    still_ids i = times i (owned s.elements aside)
+
+    still-same : (i : ℕ) → still_ids i ≡ aside_ids i
+    still-same i = ap (λ (ns : List Link). times i (ids ns)) aside-kept.1
+
+    still-once : (i : ℕ) → still_ids i + hold_beside s parked' records' i ≤ 1
+    still-once i = omega (arith, still-same i, once-after e s.elements (hold_beside m c.parked c.records) (hold_beside s parked' records') w.moves aside_ids (λ j. omega (arith, aside-once j)) (chain-live e aside aside-chain) w.beside.once i)
 
     arrives : walk_of s given' parked' kept ≡ arrival (state_of p) (means p.elements c)
     arrives = steps.1 ∙ ap (λ (v : Walk). walk v (records_of e c.records)) starts ∙ ap (walk (outset (state_of p) (means p.elements c))) same-records
@@ -123,30 +149,30 @@ module _ (p : Parts) (c : TheChange) (r : Ready p c) (fit : Fit (state_of p) (me
     turns : records_of s.elements records' ≡ (inverse (state_of p) (means p.elements c)).records
     turns = steps.2 ∙ ap (λ (v : Walk). back_onto v [] (records_of e c.records)) starts ∙ ap (back_onto (outset (state_of p) (means p.elements c)) []) same-records
 
-    module _ (end : Store) (blanks' : Chain) (chain : IsChain end blanks') (g : Leaves s.elements end [] (owned end blanks')) (spare : end.spare ≡ kept) (count : blanks'.count + kept ≡ s.elements.spare) where
+    module _ (end : Store) (blanks' : Chain) (chain : IsChain end blanks') (g : Leaves s.elements end (owned s.elements aside) (owned end blanks')) (spare : end.spare ≡ p.elements.spare) (count : blanks'.count + p.elements.spare ≡ aside.count + s.elements.spare) where
       abbrev t : Parts
       t = over s end
 
       abbrev d : TheChange
       d = record { records = records'; blanks = blanks'; frames = given'; parked = parked' }
 
-      filled : Moves s.elements end no_ids (λ i. times i (owned end blanks'))
-      filled = moves-of s.elements end [] (owned end blanks') g
+      filled : Moves s.elements end still_ids (λ i. times i (owned end blanks'))
+      filled = moves-of s.elements end (owned s.elements aside) (owned end blanks') g
 
-      apart-none : (i : ℕ) → no_ids i + hold_with s parked' i ≤ 1
-      apart-none i = omega (arith, w.beside.once i)
+      apart-still : (i : ℕ) → still_ids i + hold_with s parked' i ≤ 1
+      apart-still i = omega (arith, still-once i)
 
       end-hold : (i : ℕ) → hold_with t parked' i ≡ hold_with s parked' i
-      end-hold = kept-hold-with s parked' end w.beside.stands no_ids (λ i. times i (owned end blanks')) filled apart-none
+      end-hold = kept-hold-with s parked' end w.beside.stands still_ids (λ i. times i (owned end blanks')) filled apart-still
 
       turned-kept : IsChain end records' × (links end records' ≡ links s.elements records')
-      turned-kept = chain-kept s.elements end records' w.beside.chain (λ i h. rest-same s.elements end no_ids (λ j. times j (owned end blanks')) filled (λ j. times j (owned s.elements records')) (λ j. omega (arith, w.beside.once j)) (chain-live s.elements records' w.beside.chain) i h)
+      turned-kept = chain-kept s.elements end records' w.beside.chain (λ i h. rest-same s.elements end still_ids (λ j. times j (owned end blanks')) filled (λ j. times j (owned s.elements records')) (λ j. omega (arith, still-once j)) (chain-live s.elements records' w.beside.chain) i h)
 
       turned-ids : (i : ℕ) → times i (owned end records') ≡ times i (owned s.elements records')
       turned-ids i = ap (λ (ns : List Link). times i (ids ns)) turned-kept.1
 
       end-once : (i : ℕ) → times i (owned end blanks') + hold_beside s parked' records' i ≤ 1
-      end-once = once-after s.elements end no_ids (λ j. times j (owned end blanks')) filled (hold_beside s parked' records') (λ j. omega (arith, w.beside.once j)) live (chain-once end blanks' chain) where
+      end-once = once-after s.elements end still_ids (λ j. times j (owned end blanks')) filled (hold_beside s parked' records') still-once live (chain-once end blanks' chain) where
         live : (i : ℕ) → 0 < hold_beside s parked' records' i → IsSome (at s.elements i)
         live i h = elim (none-or-some (hold_with s parked' i)) [
           | inl z ↦ chain-live s.elements records' w.beside.chain i (omega (arith, h, z))
@@ -154,11 +180,11 @@ module _ (p : Parts) (c : TheChange) (r : Ready p c) (fit : Fit (state_of p) (me
         ]
 
       end-state : state_of t ≡ state_of s
-      end-state = kept-state s parked' end w.beside.stands no_ids (λ i. times i (owned end blanks')) filled apart-none
+      end-state = kept-state s parked' end w.beside.stands still_ids (λ i. times i (owned end blanks')) filled apart-still
 
       end-frameless : (page : ℕ) → (state_of t).unassigned page ≡ true → bytes_at s.region page ≡ None
       end-frameless page h =
-          let u : (state_of s).unassigned page ≡ true = sym (kept-unassigned s parked' end w.beside.stands no_ids (λ i. times i (owned end blanks')) filled apart-none page) ∙ h in
+          let u : (state_of s).unassigned page ≡ true = sym (kept-unassigned s parked' end w.beside.stands still_ids (λ i. times i (owned end blanks')) filled apart-still page) ∙ h in
           let v : (state_of s).unassigned ((4096 * page) / 4096) ≡ true = ap (λ (x : ℕ). (state_of s).unassigned x) (first-address page) ∙ u in
           let b : (if (state_of s).unassigned ((4096 * page) / 4096) then byte_at s.region (4096 * page) else None) ≡ None = ap (λ (z : Walk). z.brought (4096 * page)) arrives ∙ fit.brought (4096 * page) in
           page-none s.region page (sym (ap (λ (y : Bool). if y then byte_at s.region (4096 * page) else None) v) ∙ b)
@@ -168,7 +194,7 @@ module _ (p : Parts) (c : TheChange) (r : Ready p c) (fit : Fit (state_of p) (me
 
       ready-after : Ready t d
       ready-after = record {
-        stands = kept-stands s parked' end w.beside.stands no_ids (λ i. times i (owned end blanks')) filled apart-none;
+        stands = kept-stands s parked' end w.beside.stands still_ids (λ i. times i (owned end blanks')) filled apart-still;
         records = turned-kept.0;
         blanks = chain;
         once = λ i. omega (arith, end-once i, end-hold i, turned-ids i);
@@ -183,10 +209,11 @@ module _ (p : Parts) (c : TheChange) (r : Ready p c) (fit : Fit (state_of p) (me
         after = ready-after;
         shows = end-state ∙ ap (λ (v : Walk). v.state) arrives;
         turned = λ i. record { records = (ap (map record_at) turned-kept.1 ∙ turns) i; blanks = blanks-is i; frames = (arrives i).given; parked = (end-parked ∙ ap (λ (z : Walk). z.parked) arrives) i };
-        moves = moves-follow p.elements e end (both_hold p c) (hold_beside m c.parked c.records) (both_hold t d)
-            (moves-by p.elements e blanks_ids no_ids (both_hold p c) (hold_beside m c.parked c.records) melted (λ i. omega arith) (λ i. omega (arith, same-hold i, ap (λ (ns : List Link). times i (ids ns)) records-kept.1)))
-            (moves-follow e s.elements end (hold_beside m c.parked c.records) (hold_beside s parked' records') (both_hold t d) w.moves
-            (moves-by s.elements end no_ids (λ i. times i (owned end blanks')) (hold_beside s parked' records') (both_hold t d) filled (λ i. omega arith) (λ i. omega (arith, end-hold i, turned-ids i))));
+        moves = moves-follow p.elements e end (both_hold p c) (λ i. aside_ids i + hold_beside m c.parked c.records i) (both_hold t d)
+            (moves-by p.elements e blanks_ids aside_ids (both_hold p c) (λ i. aside_ids i + hold_beside m c.parked c.records i) melted (λ i. omega arith) (λ i. omega (arith, same-hold i, ap (λ (ns : List Link). times i (ids ns)) records-kept.1)))
+            (moves-follow e s.elements end (λ i. aside_ids i + hold_beside m c.parked c.records i) (λ i. still_ids i + hold_beside s parked' records' i) (both_hold t d)
+            (moves-by e s.elements (hold_beside m c.parked c.records) (hold_beside s parked' records') (λ i. aside_ids i + hold_beside m c.parked c.records i) (λ i. still_ids i + hold_beside s parked' records' i) w.moves (λ i. omega arith) (λ i. omega (arith, still-same i)))
+            (moves-by s.elements end still_ids (λ i. times i (owned end blanks')) (λ i. still_ids i + hold_beside s parked' records' i) (both_hold t d) filled (λ i. omega arith) (λ i. omega (arith, end-hold i, turned-ids i))));
         spare = spare;
         as_many = g.as_many ∙ w.as_many ∙ f.as_many;
         out = omega (arith, w.out, out, ap length empty);
@@ -194,7 +221,7 @@ module _ (p : Parts) (c : TheChange) (r : Ready p c) (fit : Fit (state_of p) (me
         frames = record { spare = w.frames.spare ∙ counts.spare; made = w.frames.made ∙ counts.made };
       } where
         end-parked : subpools_of end parked' ≡ subpools_of s.elements parked'
-        end-parked = kept-parked s parked' end w.beside.stands no_ids (λ i. times i (owned end blanks')) filled apart-none
+        end-parked = kept-parked s parked' end w.beside.stands still_ids (λ i. times i (owned end blanks')) filled apart-still
 
         blanks-is : blanks'.count ≡ (arrival (state_of p) (means p.elements c)).spare
-        blanks-is = (let k : s.elements.spare - kept ≡ (arrival (state_of p) (means p.elements c)).spare = ap (λ (v : Walk). v.spare) arrives in omega (arith, count, k))
+        blanks-is = (let k : s.elements.spare - kept ≡ (arrival (state_of p) (means p.elements c)).spare = ap (λ (v : Walk). v.spare) arrives in omega (arith, count, k, spares, enough, steps.0))

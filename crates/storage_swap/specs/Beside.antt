@@ -33,14 +33,25 @@ pub record Beside (p : Parts) (q : SubpoolStorage) (c : Chain) : Type 0 where
   pub chain : IsChain p.elements c
   pub once : (i : ℕ) → hold_beside p q c i ≤ 1
 
--- the first record changed sides with the storage, and nothing else; no element was made
-pub record SwapsFirst (p t : Parts) (given given' : List PageFrame) (q q' : SubpoolStorage) (c : Chain) (r : Record)
-    (rs : List Record) : Type 0 where
-  pub beside : Beside t q' c
-  pub moves : Moves p.elements t.elements (hold_beside p q c) (hold_beside t q' c)
+-- how often they and two chains hold one
+abbrev pub hold_both : Parts → SubpoolStorage → Chain → Chain → ℕ → ℕ
+hold_both p q c d i = hold_with p q i + (times i (owned p.elements c) + times i (owned p.elements d))
+
+-- the storage stands with the parked subpools, and two chains beside them
+pub record BesideBoth (p : Parts) (q : SubpoolStorage) (c d : Chain) : Type 0 where
+  pub stands : StandsWith p q
+  pub chain : IsChain p.elements c
+  pub done : IsChain p.elements d
+  pub once : (i : ℕ) → hold_both p q c d i ≤ 1
+
+-- the first record changed sides with the storage, and went before those that are done; no element was made
+pub record SwapsFirst (p t : Parts) (given given' : List PageFrame) (q q' : SubpoolStorage) (c c' d d' : Chain)
+    (r : Record) (rs : List Record) : Type 0 where
+  pub beside : BesideBoth t q' c' d'
+  pub moves : Moves p.elements t.elements (hold_both p q c d) (hold_both t q' c' d')
   pub as_many : made t.elements ≡ made p.elements
-  pub records : records_of t.elements c ≡ turned (state_of p) r ∷ rs
-  pub same_ids : owned t.elements c ≡ owned p.elements c
+  pub rest : records_of t.elements c' ≡ rs
+  pub done : records_of t.elements d' ≡ turned (state_of p) r ∷ records_of p.elements d
   pub steps :
       (kept : ℕ) → kept ≤ p.elements.spare → Fits (walk_of p given q kept) r
       → (kept ≤ t.elements.spare) × (walk_of t given' q' kept ≡ step (walk_of p given q kept) r)

@@ -8,7 +8,7 @@ ghost use Rattle.storage_changes.specs.Changes.{Fit};
 ghost use Rattle.storage_exchange.specs.Storage.{state_of};
 ghost use Rattle.storage_swap.specs.Swap.{held_by, means, Ready, Swaps, Discards};
 
-use crate::records::{fill, swap_records};
+use crate::records::{give_back, settle, swap_records};
 use raw_region::Parked;
 use std::mem;
 use storage_exchange::Parts;
@@ -38,8 +38,8 @@ impl Change {
         ensures { Swaps storage.old self.old storage.new self.new }
     {
         let kept = storage.elements.spare();
-        let blanks = mem::replace(&mut self.blanks, Chain::new());
-        blanks.discard(&mut storage.elements);
+        let needed = self.blanks.count;
+        give_back(&mut storage.elements, &mut self.blanks, needed);
         let frames = mem::replace(&mut self.frames, Parked::empty());
         storage.region.restore(frames);
         swap_records(
@@ -48,7 +48,7 @@ impl Change {
             &mut self.parked,
             &mut self.records,
         );
-        self.blanks = fill(&mut storage.elements, kept);
+        settle(&mut storage.elements, &mut self.blanks, kept);
     }
 
     /// Gives back every element and every frame of the change, those of the subpools that it has parked among them.

@@ -21,7 +21,7 @@ ghost use Rattle.storage_swap.specs.Reserve.{Grown, Reserves, elements_for, empt
 
 use crate::chains::take_records;
 use crate::change::Change;
-use crate::records::fill;
+use crate::records::settle;
 use descriptor_queue::Extents;
 use raw_region::{Parked, Region};
 use run_set::Run;
@@ -184,7 +184,9 @@ pub(crate) fn take_blanks(elements: &mut Elements, n: u32) -> Chain
     ensures spare { elements.new.spare + n ≡ elements.old.spare }
 {
     let keep = elements.spare() - n;
-    fill(elements, keep)
+    let mut blanks = Chain::new();
+    settle(elements, &mut blanks, keep);
+    blanks
 }
 
 // An empty subpool of this name; none where none is emptied.
