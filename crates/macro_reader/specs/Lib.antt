@@ -20,3 +20,4 @@ pub mod Continuation
 pub mod Scripts
 pub mod Roles
 pub mod Modes
+pub mod Rooms

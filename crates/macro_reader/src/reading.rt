@@ -4,6 +4,8 @@ ghost use Rattle.std.specs.Prelude.{◌≡◌, ◌≤◌, [], ◌∷◌, ◌++�
 ghost use Rattle.macro_reader.specs.Columns.{Line, is_continued};
 ghost use Rattle.macro_reader.specs.Scripts.{Answer, Answers, IsBehind, IsValidFed, told_by, told_at_end, moved};
 ghost use Rattle.macro_reader.specs.Scripts.{behind_break, awaiting};
+ghost use Rattle.macro_reader.specs.Rooms.{told_with, IsValidWith};
+ghost use Rattle.macro_statements.specs.Requests.{asked_in};
 ghost use Rattle.macro_reader.specs.Modes.{mode_of, due_of, most_lines};
 ghost use Rattle.macro_reader.specs.Roles.{IsStand};
 ghost use Rattle.macro_reader.specs.declared.modes.OpenStatement.{OpenStatement};
@@ -11,7 +13,7 @@ ghost use Rattle.macro_reader.specs.declared.modes.Mode.TheVariants.{Awaiting, G
 
 use crate::columns::{is_continued, is_skipped, used};
 use crate::modes::{Due, Mode, OpenStatement};
-use macro_statements::{FaultKind, Request, statement_with};
+use macro_statements::{FaultKind, Request, statement_into};
 use std::marker::Model;
 use std::mem;
 
@@ -160,17 +162,18 @@ impl Reader {
 
     /// Takes the next line of a script, without its line feed. Columns 73 on aren't read.
     ///
-    /// Answers a request where the line ends a statement that asks for one, `More` where no answer is due, and the
-    /// first fault of a statement that is wrong. A line whose column 72 isn't blank is continued by the next line,
+    /// Puts a request into a room where the line ends a statement that asks for one, and answers the number of the
+    /// statement's first line then, from 1; nothing where no answer is due; and the first fault of a statement that is
+    /// wrong. A line whose column 72 isn't blank is continued by the next line,
     /// which is used from column 16 on; a statement has at most nine continuation lines. Where a rule of continuation
     /// is broken the fault is `Continuation`, whatever else is wrong with the statement, and it comes at the line that
     /// breaks the rule; the lines behind that are dropped as long as the line before has a column 72 that isn't blank.
     /// Each other fault comes at the statement's last line. After a fault the reader awaits the next statement. (High
     /// Level Assembler Language Reference, "Assembler language coding conventions".)
-    pub fn next(&mut self, line: &[u8]) -> Result<Fed, Fault>
+    pub fn next_into(&mut self, line: &[u8], request: &mut Request) -> Result<Option<u32>, Fault>
         ensures answers { (lines : List Line) (answers : List Answer) → IsBehind lines answers self.old
-            → IsBehind (lines ++ line.now ∷ []) (answers ++ told_by result) self.new }
-        ensures valid { IsValidFed result }
+            → IsBehind (lines ++ line.now ∷ []) (answers ++ told_with result (asked_in request.new)) self.new }
+        ensures valid { IsValidWith result (asked_in request.new) }
     {
         let number = self.count.saturating_add(1);
         let mut mode = self.mode;
@@ -179,15 +182,31 @@ impl Reader {
         self.mode = mode;
         let open = &self.statement;
         let kind = match due {
-            Due::Nothing => return Ok(Fed::More),
-            Due::Whole => match statement_with(open.head, open.gathered.text.as_slice()) {
-                Ok(request) => return Ok(Fed::Ready(request, open.number)),
-                Err(kind) => kind,
-            },
+            Due::Nothing => return Ok(None),
+            Due::Whole => {
+                match statement_into(open.head, open.gathered.text.as_slice(), request) {
+                    Ok(()) => return Ok(Some(open.number)),
+                    Err(kind) => kind,
+                }
+            }
             Due::Broken => FaultKind::Continuation,
         };
         let line = open.number;
         Err(Fault { kind, line })
+    }
+
+    /// Takes the next line in the same way, and answers the request itself, or `More` where no answer is due.
+    pub fn next(&mut self, line: &[u8]) -> Result<Fed, Fault>
+        ensures answers { (lines : List Line) (answers : List Answer) → IsBehind lines answers self.old
+            → IsBehind (lines ++ line.now ∷ []) (answers ++ told_by result) self.new }
+        ensures valid { IsValidFed result }
+    {
+        let mut request = Request::Map;
+        match self.next_into(line, &mut request) {
+            Ok(None) => Ok(Fed::More),
+            Ok(Some(number)) => Ok(Fed::Ready(request, number)),
+            Err(fault) => Err(fault),
+        }
     }
 
     /// Ends the script. The reader then is as new, but that the count of its lines goes on.

@@ -1,7 +1,7 @@
 -- The requests that operand fields spell are those that are valid.
 use Rattle.std.proofs.Common.{◌≡◌, ℕ, ◌^◌, ◌<◌, ◌≤◌, ◌↔◌, Bool, true, false, ◌&&◌, List, [], ◌∷◌, length, Option, Some, None, Result, Ok, Err, is_some, nat_le, codes, option_and_then, if◌then◌else◌, decimal, arith, refl, ap, sym, subst, ◌∙◌, ◌+◌, ◌⊎◌, inl, inr}
 use Rattle.std.specs.Option.{IfSome, option_map}
-use Rattle.std.specs.Prelude.{IfOk}
+use Rattle.std.specs.Prelude.{OnOk}
 use Rattle.std.proofs.lemmas.Bool.Decides.{nat_tests}
 use Rattle.std.proofs.lemmas.List.{length-append}
 use Rattle.operand_texts.specs.Field.{outside, is_balanced, operands}
@@ -14,7 +14,8 @@ use Rattle.macro_operands.specs.declared.faults.FaultKind.{FaultKind}
 use Rattle.macro_operands.specs.declared.faults.FaultKind.TheVariants as fault
 use Rattle.macro_operands.specs.declared.rows.Behind.TheVariants as behind
 use Rattle.macro_operands.specs.declared.rows.Kind.TheVariants as kind
-use Rattle.macro_requests.specs.Requests.{obtain, release, whole, build, get, free, delete, WrittenSubpools, IsSubpools, attach, detach, run, end_task, poke, Asked, act, peek, map_asked, back, forward, IsValidAsked, AskedHasBytes, HasRoom, seen, asked_in}
+use Rattle.macro_requests.specs.Requests.{obtain, release, whole, build, get, free, delete, WrittenSubpools, IsSubpools, attach, detach, run, end_task, poke, Asked, act, peek, map_asked, back, forward, IsValidAsked, AskedHasBytes, HasRoom, asked_in}
+use Rattle.macro_statements.specs.Rooms.{left}
 use Rattle.macro_statements.specs.Forms.{obtaining, releasing}
 use Rattle.macro_statements.specs.Storage.{storage_macro}
 use Rattle.macro_statements.specs.Getmain as getmain
@@ -344,7 +345,7 @@ valid_request_is_spelled asked b = (
   λ s. spelled_request_is_valid s.0 s.1 asked s.2,
 )
 
--- so is what the code answers
-pub read_is_valid : (o : Operation) (os : List (List ℕ)) (r : Result Request FaultKind) → seen r ≡ asked_of o os → IfOk r (λ q. IsValidAsked (asked_in q))
-read_is_valid o os (Ok q) h = asked_valid o os (asked_in q) (sym h)
-read_is_valid o os (Err wrong) h = tt
+-- so is what the code leaves in a room
+pub left_is_valid : (o : Operation) (os : List (List ℕ)) (r : Result (Unit {0}) FaultKind) (q : Request) → left r q ≡ asked_of o os → OnOk r (IsValidAsked (asked_in q))
+left_is_valid o os (Ok u) q h = asked_valid o os (asked_in q) (sym h)
+left_is_valid o os (Err wrong) q h = tt

@@ -21,3 +21,4 @@ pub mod Run
 pub mod Statements
 pub mod Slots
 pub use Rattle.macro_requests.specs.Validity
+pub mod Rooms

@@ -2,7 +2,8 @@
 
 ghost use Rattle.std.specs.Prelude.{◌≡◌, ◌<◌, length};
 ghost use Rattle.operand_texts.specs.Field.{operands};
-ghost use Rattle.macro_requests.specs.Requests.{asked_in, seen, subpools_in};
+ghost use Rattle.macro_requests.specs.Requests.{asked_in, subpools_in};
+ghost use Rattle.macro_statements.specs.Rooms.{left};
 ghost use Rattle.macro_operands.specs.Slots.{slots_in, slot, as_value};
 ghost use Rattle.macro_statements.specs.Slots.{attach_by};
 ghost use Rattle.macro_statements.specs.Attach.{subpools_by, attach_of};
@@ -49,26 +50,29 @@ fn subpools_at(said: &[Option<Said>], number: usize, list: usize) -> Subpools
 }
 
 /// What ATTACH asks for by what was read.
-fn attach_by(said: &[Option<Said>]) -> Request
+fn attach_by(said: &[Option<Said>], request: &mut Request)
     requires { length said.now ≡ 9 }
-    ensures { asked_in result ≡ attach_by (slots_in said.now) }
+    ensures { asked_in request.new ≡ attach_by (slots_in said.now) }
 {
-    Request::Act(Statement::Attach {
+    *request = Request::Act(Statement::Attach {
         given: subpools_at(said, 1, 2),
         shared: subpools_at(said, 3, 4),
         shares_zero: condition_at(said, 5).unwrap_or(true),
-    })
+    });
 }
 
 /// ATTACH with its operand field.
-pub(crate) fn attach(field: &[u8]) -> Result<Request, FaultKind>
-    ensures { seen result ≡ attach_of (operands field.now) }
+pub(crate) fn attach(field: &[u8], request: &mut Request) -> Result<(), FaultKind>
+    ensures { left result request.new ≡ attach_of (operands field.now) }
 {
     let mut said = [
         NOTHING, NOTHING, NOTHING, NOTHING, NOTHING, NOTHING, NOTHING, NOTHING, NOTHING,
     ];
     match read(&ATTACH, some_field(field), &mut said) {
-        Ok(said) => Ok(attach_by(said)),
+        Ok(said) => {
+            attach_by(said, request);
+            Ok(())
+        }
         Err(fault) => Err(fault),
     }
 }

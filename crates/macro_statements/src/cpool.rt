@@ -3,7 +3,7 @@
 ghost use Rattle.std.specs.Prelude.{◌≡◌, length};
 ghost use Rattle.operand_texts.specs.Field.{operands};
 ghost use Rattle.macro_operands.specs.Slots.{row_in, slots_in};
-ghost use Rattle.macro_requests.specs.Requests.{seen};
+ghost use Rattle.macro_statements.specs.Rooms.{left};
 ghost use Rattle.macro_statements.specs.Cpool.{pool_form_of, pool_form_row, pool_by, cpool_of};
 ghost use Rattle.macro_statements.specs.declared.cpool.PoolForm.TheVariants.{Build, Get, Free, Delete};
 
@@ -93,9 +93,9 @@ fn row_of(form: PoolForm) -> OperandRow
 }
 
 /// What BUILD asks for by what was read.
-fn build_by(said: &[Option<Said>]) -> Result<Request, FaultKind>
+fn build_by(said: &[Option<Said>], request: &mut Request) -> Result<(), FaultKind>
     requires { length said.now ≡ 12 }
-    ensures { seen result ≡ pool_by Build (slots_in said.now) }
+    ensures { left result request.new ≡ pool_by Build (slots_in said.now) }
 {
     let Some(name) = name_at(said, 0) else {
         return Err(FaultKind::Missing);
@@ -106,7 +106,7 @@ fn build_by(said: &[Option<Said>]) -> Result<Request, FaultKind>
     let Some(size) = value_at(said, 3) else {
         return Err(FaultKind::Missing);
     };
-    Ok(Request::Act(Statement::Build(NewCellPool {
+    *request = Request::Act(Statement::Build(NewCellPool {
         name,
         header: header_at(said, 6),
         primary,
@@ -114,52 +114,60 @@ fn build_by(said: &[Option<Said>]) -> Result<Request, FaultKind>
         size,
         subpool: subpool_at(said, 4),
         location: location_at(said, 5).unwrap_or(Location::Caller),
-    })))
+    }));
+    Ok(())
 }
 
 /// What GET asks for by what was read.
-fn get_by(said: &[Option<Said>]) -> Result<Request, FaultKind>
+fn get_by(said: &[Option<Said>], request: &mut Request) -> Result<(), FaultKind>
     requires { length said.now ≡ 12 }
-    ensures { seen result ≡ pool_by Get (slots_in said.now) }
+    ensures { left result request.new ≡ pool_by Get (slots_in said.now) }
 {
     let Some(pool) = name_at(said, 0) else {
         return Err(FaultKind::Missing);
     };
-    Ok(Request::Act(Statement::GetCell {
+    *request = Request::Act(Statement::GetCell {
         pool,
         place: place_at(said, 8),
         conditional: condition_at(said, 7).unwrap_or(false),
-    }))
+    });
+    Ok(())
 }
 
 /// What FREE asks for by what was read.
-fn free_by(said: &[Option<Said>]) -> Result<Request, FaultKind>
+fn free_by(said: &[Option<Said>], request: &mut Request) -> Result<(), FaultKind>
     requires { length said.now ≡ 12 }
-    ensures { seen result ≡ pool_by Free (slots_in said.now) }
+    ensures { left result request.new ≡ pool_by Free (slots_in said.now) }
 {
     let Some(pool) = name_at(said, 0) else {
         return Err(FaultKind::Missing);
     };
     match value_at(said, 8) {
-        Some(cell) => Ok(Request::Act(Statement::FreeCell { pool, cell })),
+        Some(cell) => {
+            *request = Request::Act(Statement::FreeCell { pool, cell });
+            Ok(())
+        }
         None => Err(FaultKind::Missing),
     }
 }
 
 /// What DELETE asks for by what was read.
-fn delete_by(said: &[Option<Said>]) -> Result<Request, FaultKind>
+fn delete_by(said: &[Option<Said>], request: &mut Request) -> Result<(), FaultKind>
     requires { length said.now ≡ 12 }
-    ensures { seen result ≡ pool_by Delete (slots_in said.now) }
+    ensures { left result request.new ≡ pool_by Delete (slots_in said.now) }
 {
     match name_at(said, 0) {
-        Some(pool) => Ok(Request::Act(Statement::DeletePool { pool })),
+        Some(pool) => {
+            *request = Request::Act(Statement::DeletePool { pool });
+            Ok(())
+        }
         None => Err(FaultKind::Missing),
     }
 }
 
 /// CPOOL with its operand field, whose first operand is a form's word.
-pub(crate) fn cpool(field: &[u8]) -> Result<Request, FaultKind>
-    ensures { seen result ≡ cpool_of (operands field.now) }
+pub(crate) fn cpool(field: &[u8], request: &mut Request) -> Result<(), FaultKind>
+    ensures { left result request.new ≡ cpool_of (operands field.now) }
 {
     if field.is_empty() {
         return Err(FaultKind::Missing);
@@ -174,9 +182,9 @@ pub(crate) fn cpool(field: &[u8]) -> Result<Request, FaultKind>
     ];
     let said = read(&row_of(form), behind, &mut said)?;
     match form {
-        PoolForm::Build => build_by(said),
-        PoolForm::Get => get_by(said),
-        PoolForm::Free => free_by(said),
-        PoolForm::Delete => delete_by(said),
+        PoolForm::Build => build_by(said, request),
+        PoolForm::Get => get_by(said, request),
+        PoolForm::Free => free_by(said, request),
+        PoolForm::Delete => delete_by(said, request),
     }
 }

@@ -2,7 +2,7 @@
 
 ghost use Rattle.std.specs.Prelude.{◌≡◌, length};
 ghost use Rattle.operand_texts.specs.Field.{operands};
-ghost use Rattle.macro_requests.specs.Requests.{seen};
+ghost use Rattle.macro_statements.specs.Rooms.{left};
 ghost use Rattle.macro_operands.specs.Slots.{slots_in};
 ghost use Rattle.macro_statements.specs.Slots.{detach_by};
 ghost use Rattle.macro_statements.specs.Detach.{detach_of};
@@ -25,23 +25,26 @@ pub const DETACH: OperandRow = OperandRow {
 };
 
 /// What DETACH asks for by what was read.
-fn detach_by(said: &[Option<Said>]) -> Result<Request, FaultKind>
+fn detach_by(said: &[Option<Said>], request: &mut Request) -> Result<(), FaultKind>
     requires { length said.now ≡ 4 }
-    ensures { seen result ≡ detach_by (slots_in said.now) }
+    ensures { left result request.new ≡ detach_by (slots_in said.now) }
 {
     match value_at(said, 0) {
-        Some(task) => Ok(Request::Act(Statement::Detach { task })),
+        Some(task) => {
+            *request = Request::Act(Statement::Detach { task });
+            Ok(())
+        }
         None => Err(FaultKind::Missing),
     }
 }
 
 /// DETACH with its operand field.
-pub(crate) fn detach(field: &[u8]) -> Result<Request, FaultKind>
-    ensures { seen result ≡ detach_of (operands field.now) }
+pub(crate) fn detach(field: &[u8], request: &mut Request) -> Result<(), FaultKind>
+    ensures { left result request.new ≡ detach_of (operands field.now) }
 {
     let mut said = [NOTHING, NOTHING, NOTHING, NOTHING];
     match read(&DETACH, some_field(field), &mut said) {
-        Ok(said) => detach_by(said),
+        Ok(said) => detach_by(said, request),
         Err(fault) => Err(fault),
     }
 }

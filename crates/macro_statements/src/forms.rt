@@ -7,12 +7,13 @@ ghost use Rattle.operand_texts.specs.Field.{operands, operands_behind};
 ghost use Rattle.operand_texts.specs.Words.{is_word};
 ghost use Rattle.operand_texts.specs.Written.{written_in};
 ghost use Rattle.macro_operands.specs.Slots.{slots_in, slot, row_in, as_value, as_place, as_condition};
-ghost use Rattle.macro_requests.specs.Requests.{seen, length_in};
+ghost use Rattle.macro_requests.specs.Requests.{length_in};
 ghost use Rattle.macro_statements.specs.Forms.{as_length, subpool_by, usual_location, form_by};
 ghost use Rattle.macro_statements.specs.Forms.{lacks_place, has_whole, release_with, is_storage_row};
 ghost use Rattle.macro_statements.specs.Forms.{obtain_by, release_by, form_with, form_for, no_form_fault};
 ghost use Rattle.macro_statements.specs.Forms.{macro_of};
 ghost use Rattle.macro_statements.specs.Slots.{form_in, macro_in};
+ghost use Rattle.macro_statements.specs.Rooms.{left};
 
 use macro_operands::FaultKind;
 use macro_operands::operands::{operand_at, read, unknown_fault};
@@ -188,9 +189,9 @@ fn has_whole(family: Family) -> bool
 }
 
 /// What a form that obtains storage asks for by what was read.
-fn obtain_by(form: Form, said: &[Option<Said>]) -> Result<Request, FaultKind>
+fn obtain_by(form: Form, said: &[Option<Said>], request: &mut Request) -> Result<(), FaultKind>
     requires { length said.now ≡ 9 }
-    ensures { seen result ≡ obtain_by form (slots_in said.now) }
+    ensures { left result request.new ≡ obtain_by form (slots_in said.now) }
 {
     if lacks_place(form.family, said, 2) {
         return Err(FaultKind::Missing);
@@ -198,53 +199,58 @@ fn obtain_by(form: Form, said: &[Option<Said>]) -> Result<Request, FaultKind>
     let Some(length) = length_at(said, 0) else {
         return Err(FaultKind::Missing);
     };
-    Ok(Request::Act(Statement::Obtain {
+    *request = Request::Act(Statement::Obtain {
         length,
         subpool: subpool_at(said, 1),
         place: place_at(said, 2),
         boundary: boundary_at(said, 3).unwrap_or(Boundary::Doubleword),
         location: location_at(said, 4).unwrap_or(usual_location(form.family)),
         form: form_by(form, said, 5),
-    }))
+    });
+    Ok(())
 }
 
 /// What a form that releases storage asks for by what was read, where that is no length: all of a subpool.
 #[inline(never)]
-fn whole_by(form: Form, said: &[Option<Said>]) -> Result<Request, FaultKind>
+fn whole_by(form: Form, said: &[Option<Said>], request: &mut Request) -> Result<(), FaultKind>
     requires { length said.now ≡ 9 }
-    ensures { seen result ≡ release_with None (as_value (slot (slots_in said.now) 2))
+    ensures { left result request.new ≡ release_with None (as_value (slot (slots_in said.now) 2))
         (as_value (slot (slots_in said.now) 1)) (form_by form (as_condition (slot (slots_in said.now) 5))) }
 {
     if value_at(said, 2).is_some() {
         return Err(FaultKind::Missing);
     }
     match value_at(said, 1) {
-        Some(subpool) if has_whole(form.family) => Ok(Request::Act(Statement::Whole {
-            subpool,
-            form: form_by(form, said, 5),
-        })),
+        Some(subpool) if has_whole(form.family) => {
+            *request = Request::Act(Statement::Whole {
+                subpool,
+                form: form_by(form, said, 5),
+            });
+            Ok(())
+        }
         Some(_) => Err(FaultKind::Missing),
         None => Err(FaultKind::Missing),
     }
 }
 
 /// What a form that releases storage asks for by what was read: an area, or all of a subpool.
-fn release_by(form: Form, said: &[Option<Said>]) -> Result<Request, FaultKind>
+fn release_by(form: Form, said: &[Option<Said>], request: &mut Request) -> Result<(), FaultKind>
     requires { length said.now ≡ 9 }
-    ensures { seen result ≡ release_by form (slots_in said.now) }
+    ensures { left result request.new ≡ release_by form (slots_in said.now) }
 {
     let Some(length) = value_at(said, 0) else {
-        return whole_by(form, said);
+        return whole_by(form, said, request);
     };
     let Some(address) = value_at(said, 2) else {
         return Err(FaultKind::Missing);
     };
-    Ok(Request::Act(Statement::Release {
+    *request = Request::Act(Statement::Release {
         length,
         address,
         subpool: subpool_at(said, 1),
         form: form_by(form, said, 5),
-    }))
+    });
+    Ok(())
 }
 
 /// The form of a word, in either case.
@@ -304,9 +310,13 @@ fn form_in_field<'a>(
 }
 
 /// A macro with its operand field, whose first operand is a form's word.
-pub(crate) fn request_of(storage_macro: &StorageMacro, field: &[u8]) -> Result<Request, FaultKind>
+pub(crate) fn request_of(
+    storage_macro: &StorageMacro,
+    field: &[u8],
+    request: &mut Request,
+) -> Result<(), FaultKind>
     requires { IsTrue (list_all (λ f. is_storage_row f.row) (macro_in storage_macro.now).forms) }
-    ensures { seen result ≡ macro_of (macro_in storage_macro.now) (operands field.now) }
+    ensures { left result request.new ≡ macro_of (macro_in storage_macro.now) (operands field.now) }
 {
     let (form, behind) = form_in_field(storage_macro, field)?;
     let mut said = [
@@ -314,8 +324,8 @@ pub(crate) fn request_of(storage_macro: &StorageMacro, field: &[u8]) -> Result<R
     ];
     let said = read(form.row, behind, &mut said)?;
     if form.obtains {
-        obtain_by(form.form, said)
+        obtain_by(form.form, said, request)
     } else {
-        release_by(form.form, said)
+        release_by(form.form, said, request)
     }
 }

@@ -20,4 +20,4 @@ pub use macro_operands::FaultKind;
 pub use macro_requests::{
     Boundary, Family, Form, Header, Length, Location, NewCellPool, Request, Statement, Subpools,
 };
-pub use statements::{Head, head_of, statement_with};
+pub use statements::{Head, head_of, statement_into, statement_with};

@@ -2,7 +2,7 @@
 
 ghost use Rattle.std.specs.Prelude.{◌≡◌, length};
 ghost use Rattle.operand_texts.specs.Field.{operands};
-ghost use Rattle.macro_requests.specs.Requests.{seen};
+ghost use Rattle.macro_statements.specs.Rooms.{left};
 ghost use Rattle.macro_operands.specs.Slots.{slots_in};
 ghost use Rattle.macro_statements.specs.Slots.{peek_by};
 ghost use Rattle.macro_statements.specs.Peek.{peek_of};
@@ -20,9 +20,9 @@ pub const PEEK: OperandRow = OperandRow {
 };
 
 /// What PEEK asks for by what was read.
-fn peek_by(said: &[Option<Said>]) -> Result<Request, FaultKind>
+fn peek_by(said: &[Option<Said>], request: &mut Request) -> Result<(), FaultKind>
     requires { length said.now ≡ 2 }
-    ensures { seen result ≡ peek_by (slots_in said.now) }
+    ensures { left result request.new ≡ peek_by (slots_in said.now) }
 {
     let Some(addr) = value_at(said, 0) else {
         return Err(FaultKind::Missing);
@@ -30,16 +30,17 @@ fn peek_by(said: &[Option<Said>]) -> Result<Request, FaultKind>
     let Some(len) = size_at(said, 1) else {
         return Err(FaultKind::Missing);
     };
-    Ok(Request::Peek { addr, len })
+    *request = Request::Peek { addr, len };
+    Ok(())
 }
 
 /// PEEK with its operand field.
-pub(crate) fn peek(field: &[u8]) -> Result<Request, FaultKind>
-    ensures { seen result ≡ peek_of (operands field.now) }
+pub(crate) fn peek(field: &[u8], request: &mut Request) -> Result<(), FaultKind>
+    ensures { left result request.new ≡ peek_of (operands field.now) }
 {
     let mut said = [NOTHING, NOTHING];
     match read(&PEEK, some_field(field), &mut said) {
-        Ok(said) => peek_by(said),
+        Ok(said) => peek_by(said, request),
         Err(fault) => Err(fault),
     }
 }

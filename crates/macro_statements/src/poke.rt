@@ -2,7 +2,7 @@
 
 ghost use Rattle.std.specs.Prelude.{◌≡◌, length};
 ghost use Rattle.operand_texts.specs.Field.{operands};
-ghost use Rattle.macro_requests.specs.Requests.{seen};
+ghost use Rattle.macro_statements.specs.Rooms.{left};
 ghost use Rattle.macro_operands.specs.Slots.{slots_in};
 ghost use Rattle.macro_statements.specs.Slots.{poke_by};
 ghost use Rattle.macro_statements.specs.Poke.{poke_of};
@@ -20,9 +20,9 @@ pub const POKE: OperandRow = OperandRow {
 };
 
 /// What POKE asks for by what was read.
-fn poke_by(said: &[Option<Said>]) -> Result<Request, FaultKind>
+fn poke_by(said: &[Option<Said>], request: &mut Request) -> Result<(), FaultKind>
     requires { length said.now ≡ 2 }
-    ensures { seen result ≡ poke_by (slots_in said.now) }
+    ensures { left result request.new ≡ poke_by (slots_in said.now) }
 {
     let Some(address) = value_at(said, 0) else {
         return Err(FaultKind::Missing);
@@ -30,16 +30,17 @@ fn poke_by(said: &[Option<Said>]) -> Result<Request, FaultKind>
     let Some(content) = content_at(said, 1) else {
         return Err(FaultKind::Missing);
     };
-    Ok(Request::Act(Statement::Poke { address, content }))
+    *request = Request::Act(Statement::Poke { address, content });
+    Ok(())
 }
 
 /// POKE with its operand field.
-pub(crate) fn poke(field: &[u8]) -> Result<Request, FaultKind>
-    ensures { seen result ≡ poke_of (operands field.now) }
+pub(crate) fn poke(field: &[u8], request: &mut Request) -> Result<(), FaultKind>
+    ensures { left result request.new ≡ poke_of (operands field.now) }
 {
     let mut said = [NOTHING, NOTHING];
     match read(&POKE, some_field(field), &mut said) {
-        Ok(said) => poke_by(said),
+        Ok(said) => poke_by(said, request),
         Err(fault) => Err(fault),
     }
 }

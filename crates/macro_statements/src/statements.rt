@@ -1,11 +1,12 @@
 //! The request of a statement.
 
-ghost use Rattle.std.specs.Prelude.{◌≡◌, ◌≤◌, ℕ, List, length, IfOk};
+ghost use Rattle.std.specs.Prelude.{◌≡◌, ◌≤◌, ℕ, List, length, IfOk, OnOk};
 ghost use Rattle.operand_texts.specs.Field.{operands};
 ghost use Rattle.macro_requests.specs.Requests.{seen, asked_in, IsValidAsked};
 ghost use Rattle.macro_statements.specs.Statements.{operation_of, asked_of, from_operation, from_operands};
 ghost use Rattle.macro_statements.specs.Statements.{behind_of, operands_in};
 ghost use Rattle.macro_statements.specs.Statements.{IsHead, is_misplaced, statement_with};
+ghost use Rattle.macro_statements.specs.Rooms.{left};
 
 use crate::attach::attach;
 use crate::cpool::cpool;
@@ -86,24 +87,36 @@ fn operation_of(text: &[u8]) -> Option<Operation>
     }
 }
 
-/// What an operation asks for with this operand field.
-fn asked_of(operation: Operation, field: &[u8]) -> Result<Request, FaultKind>
-    ensures { seen result ≡ asked_of operation (operands field.now) }
+/// Puts what an operation asks for with this operand field into a room.
+fn asked_of(operation: Operation, field: &[u8], request: &mut Request) -> Result<(), FaultKind>
+    ensures { left result request.new ≡ asked_of operation (operands field.now) }
 {
     match operation {
-        Operation::Storage => request_of(&STORAGE, field),
-        Operation::Getmain => request_of(&GETMAIN, field),
-        Operation::Freemain => request_of(&FREEMAIN, field),
-        Operation::Cpool => cpool(field),
-        Operation::Attach => attach(field),
-        Operation::Detach => detach(field),
-        Operation::Run => run(field),
-        Operation::EndTask => Ok(Request::Act(Statement::EndTask)),
-        Operation::Poke => poke(field),
-        Operation::Peek => peek(field),
-        Operation::Map => Ok(Request::Map),
-        Operation::Back => Ok(Request::Back(count_in(field)?)),
-        Operation::Forward => Ok(Request::Forward(count_in(field)?)),
+        Operation::Storage => request_of(&STORAGE, field, request),
+        Operation::Getmain => request_of(&GETMAIN, field, request),
+        Operation::Freemain => request_of(&FREEMAIN, field, request),
+        Operation::Cpool => cpool(field, request),
+        Operation::Attach => attach(field, request),
+        Operation::Detach => detach(field, request),
+        Operation::Run => run(field, request),
+        Operation::EndTask => {
+            *request = Request::Act(Statement::EndTask);
+            Ok(())
+        }
+        Operation::Poke => poke(field, request),
+        Operation::Peek => peek(field, request),
+        Operation::Map => {
+            *request = Request::Map;
+            Ok(())
+        }
+        Operation::Back => {
+            *request = Request::Back(count_in(field)?);
+            Ok(())
+        }
+        Operation::Forward => {
+            *request = Request::Forward(count_in(field)?);
+            Ok(())
+        }
     }
 }
 
@@ -175,15 +188,15 @@ pub fn head_of(card: &[u8]) -> (Head, &[u8])
     (head, rest)
 }
 
-/// The request of a statement whose first line says this, and whose operand field is this text.
+/// Puts the request of a statement, whose first line says this and whose operand field is this text, into a room.
 ///
 /// Else the first fault, in this order: `Column` where the first line is misplaced; `Operation` where its operation
 /// isn't known; `Operand` where an apostrophe or parenthesis of the field isn't closed or is closed too often; and then
 /// that of the leftmost operand that has one, or `Missing`.
 #[inline(never)]
-pub fn statement_with(head: Head, text: &[u8]) -> Result<Request, FaultKind>
-    ensures value { (card : List ℕ) → IsHead head card → seen result ≡ statement_with card text.now }
-    ensures valid { IfOk result (λ r. IsValidAsked (asked_in r)) }
+pub fn statement_into(head: Head, text: &[u8], request: &mut Request) -> Result<(), FaultKind>
+    ensures value { (card : List ℕ) → IsHead head card → left result request.new ≡ statement_with card text.now }
+    ensures valid { OnOk result (IsValidAsked (asked_in request.new)) }
 {
     if head.misplaced {
         return Err(FaultKind::Column);
@@ -194,5 +207,17 @@ pub fn statement_with(head: Head, text: &[u8]) -> Result<Request, FaultKind>
     if !is_balanced(text) {
         return Err(FaultKind::Operand);
     }
-    asked_of(operation, text)
+    asked_of(operation, text, request)
+}
+
+/// The same, with the request as the answer.
+pub fn statement_with(head: Head, text: &[u8]) -> Result<Request, FaultKind>
+    ensures value { (card : List ℕ) → IsHead head card → seen result ≡ statement_with card text.now }
+    ensures valid { IfOk result (λ r. IsValidAsked (asked_in r)) }
+{
+    let mut request = Request::Map;
+    match statement_into(head, text, &mut request) {
+        Ok(()) => Ok(request),
+        Err(fault) => Err(fault),
+    }
 }

@@ -2,7 +2,8 @@
 ghost use Rattle.std.specs.Prelude.{◌≡◌, ◌≤◌, Ok, length};
 ghost use Rattle.macro_statements.specs.Requests.{act, peek, back, forward, act_in, asked_in, written_in, IsValidAct};
 ghost use Rattle.macro_statements.specs.Requests.{IsValidAsked};
-ghost use Rattle.macro_reader.specs.Scripts.{told_by, told_at_end, IsValidFed};
+ghost use Rattle.macro_reader.specs.Scripts.{told_at_end};
+ghost use Rattle.macro_reader.specs.Rooms.{told_with, IsValidWith};
 ghost use Rattle.bench_core.specs.Stands.{bench_of, settings_in};
 ghost use Rattle.script_steps.specs.Answers.{Responds, Tells, told_count, told_refused, IsToldAlone};
 ghost use Rattle.bench_core.specs.Machine.{shown_at};
@@ -11,7 +12,7 @@ ghost use Rattle.script_steps.specs.Responses.{reading_response};
 use crate::responses::{Response, Told};
 use arrayvec::ArrayVec;
 use bench_core::Bench;
-use macro_reader::{Fault, Fed, Request, Statement, Value};
+use macro_reader::{Fault, Request, Statement, Value};
 
 /// Bytes in room for as many as a PEEK may show, which is 256.
 fn with_room(bytes: &[u8]) -> ArrayVec<u8, 256>
@@ -88,15 +89,16 @@ fn respond(bench: &mut Bench, request: &Request) -> Response
     }
 }
 
-/// The response to what a line brought, with the number of the statement's first line.
-pub(crate) fn tell(bench: &mut Bench, fed: &Result<Fed, Fault>) -> Told
-    requires { IsValidFed fed.now }
-    ensures tells { Tells (settings_in bench.old) (bench_of bench.old) (told_by fed.now) result (bench_of bench.new) }
+/// The response to what a line brought: a request, which is in a room, with the number of the statement's first line.
+pub(crate) fn tell(bench: &mut Bench, fed: Result<Option<u32>, Fault>, request: &Request) -> Told
+    requires { IsValidWith fed (asked_in request.now) }
+    ensures tells { Tells (settings_in bench.old) (bench_of bench.old) (told_with fed (asked_in request.now)) result
+        (bench_of bench.new) }
     ensures settings { settings_in bench.new ≡ settings_in bench.old }
 {
     match fed {
-        Ok(Fed::More) => None,
-        Ok(Fed::Ready(request, line)) => Some((*line, respond(bench, request))),
+        Ok(None) => None,
+        Ok(Some(line)) => Some((line, respond(bench, request))),
         Err(fault) => Some((fault.line, Response::Fault(fault.kind))),
     }
 }

@@ -16,7 +16,7 @@ use crate::session::{LINE_BYTES, LINES, Session, TooLong};
 use crate::totals::RunTotals;
 use arrayvec::ArrayVec;
 use bench_core::Bench;
-use macro_reader::Reader;
+use macro_reader::{Reader, Request};
 
 /// What the end of a script brings: the totals, the bench as it is then, and the responses to a last line without a
 /// line feed and to a statement that is still open.
@@ -70,7 +70,9 @@ fn take_last(reader: &mut Reader, bench: &mut Bench, kept: &[u8], size: u32) -> 
     if size == 0 {
         return None;
     }
-    tell(bench, &reader.next(kept))
+    let mut request = Request::Map;
+    let fed = reader.next_into(kept, &mut request);
+    tell(bench, fed, &request)
 }
 
 impl Session {
@@ -121,7 +123,9 @@ impl Session {
             × Brings settings answers more result × Took settings (given ++ 10 ∷ []) (answers ++ more) self.new }
     {
         let line = columns(self.kept.as_slice(), self.length);
-        let told = tell(&mut self.bench, &self.reader.next(line));
+        let mut request = Request::Map;
+        let fed = self.reader.next_into(line, &mut request);
+        let told = tell(&mut self.bench, fed, &request);
         self.kept.clear();
         self.length = 0;
         self.lines += 1;

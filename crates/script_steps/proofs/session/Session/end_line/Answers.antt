@@ -1,7 +1,9 @@
 use Rattle.std.proofs.Common.{◌≡◌, ◌+◌, ◌∙◌, ◌++◌, ◌∷◌, [], map, ap, sym, subst, refl, arith}
 use Rattle.std.proofs.lemmas.List.{length_push, length-append, map_push, map-append}
 use Rattle.vsm_model.specs.Standing.{nothing_stands}
-use Rattle.macro_reader.specs.Scripts.{IsBehind, told_by}
+use Rattle.macro_statements.specs.Requests.{asked_in}
+use Rattle.macro_reader.specs.Scripts.{IsBehind}
+use Rattle.macro_reader.specs.Rooms.{told_with}
 use Rattle.script_steps.specs.Answers.{Tells}
 use Rattle.script_steps.specs.Script.{columns}
 use Rattle.bench_core.specs.Stands.{bench_of}
@@ -12,7 +14,7 @@ use Rattle.script_steps.proofs.session.Session.end_line.Goals as goal
 
 pub returns : goal.returns
 returns c = λ settings given answers h.
-    let told = told_by c.next.result in
+    let told = told_with c.next_into-fed.result (asked_in c.next_into-fed.new.request) in
     let old = bench_of c.args.self.now.bench in
     let new = bench_of c.tell-told.new.bench in
     let tells : Tells settings old told c.tell-told.result new = subst (λ s. Tells s old told c.tell-told.result new) h.under c.tell-told.ensures.tells in
@@ -31,9 +33,9 @@ returns c = λ settings given answers h.
         count = ap (λ n. n + 1) h.count ∙ sym (length_push h.lines h.rest);
         long = refl;
         kept = c.clear.ensures;
-        told = subst (λ ls. IsBehind ls (answers_of (answers ++ t.more)) c.next.new.self) lines
-            (subst (λ xs. IsBehind (map columns h.lines ++ c.columns-line.result.now ∷ []) xs c.next.new.self) all
-            (c.next.ensures.answers (map columns h.lines) (answers_of answers) h.told));
+        told = subst (λ ls. IsBehind ls (answers_of (answers ++ t.more)) c.next_into-fed.new.self) lines
+            (subst (λ xs. IsBehind (map columns h.lines ++ c.columns-line.result.now ∷ []) xs c.next_into-fed.new.self) all
+            (c.next_into-fed.ensures.answers (map columns h.lines) (answers_of answers) h.told));
         led = t.led;
         under = c.tell-told.ensures.settings ∙ h.under;
         statements = (let e = length-append answers t.more in omega (arith, e, h.statements, c.told_count.ensures.count, t.count));

@@ -9,8 +9,8 @@ use Rattle.macro_reader.specs.declared.modes.OpenStatement.{OpenStatement}
 use Rattle.macro_reader.specs.declared.modes.Due.{Due}
 use Rattle.macro_reader.specs.declared.modes.Due.TheVariants as due
 use Rattle.macro_reader.proofs.Lines.{behind_push}
-use Rattle.macro_reader.proofs.reading.Reader.next.Goals as goal
-use Rattle.macro_reader.proofs.reading.Reader.next.Goals.{in-Whole+in-Err, in-Broken}
+use Rattle.macro_reader.proofs.reading.Reader.next_into.Goals as goal
+use Rattle.macro_reader.proofs.reading.Reader.next_into.Goals.{in-Whole+in-Err, in-Broken}
 
 -- what a line makes due
 abbrev answer : OpenStatement → Result Asked FaultKind → List Answer
