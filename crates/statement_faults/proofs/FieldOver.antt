@@ -7,7 +7,7 @@ use Rattle.macro_operands.specs.declared.faults.FaultKind.{FaultKind}
 use Rattle.macro_statements.specs.Statements.{statement_with, from_operands}
 use Rattle.macro_reader.specs.Continuation.{Joined, no_field, begun, with_line, with_lines}
 use Rattle.statement_faults.specs.Operands.{IsWrongOperand}
-use Rattle.statement_faults.specs.Places.{added, places_of, card_in, joined_of, IsFieldOver, is_of_operand}
+use Rattle.statement_faults.specs.Places.{added, places_of, card_in, first_card, further_cards, joined_of, IsFieldOver, is_of_operand}
 use Rattle.statement_faults.specs.declared.gathered.Field.{Field}
 use Rattle.statement_faults.specs.declared.gathered.TextPlace.{TextPlace}
 use Rattle.statement_faults.specs.declared.lines.SourceLine.{SourceLine}
@@ -53,7 +53,7 @@ same_joined : (j k : Joined) → Some j ≡ Some k → j ≡ k
 same_joined j k h = cc
 
 -- the caret of a fault of an operand
-pub marks : (card : List ℕ) (cards : List (List ℕ)) (kind : FaultKind) (f : Field) (broken : Option TextPlace) (text : List ℕ) (from to : ℕ) (place : TextPlace)
+marks : (card : List ℕ) (cards : List (List ℕ)) (kind : FaultKind) (f : Field) (broken : Option TextPlace) (text : List ℕ) (from to : ℕ) (place : TextPlace)
     → (broken ≡ None → IsFieldOver card cards f) → IfSome broken (λ p. with_lines (begun card) cards ≡ None) → text ≡ f.text.items
     → (statement_with card text ≡ Err kind → IsWrongOperand card text kind from to)
     → (is_of_operand kind ≡ true → from < length f.text.items → slice_get f.places.items from ≡ Some place)
@@ -67,3 +67,21 @@ marks card cards kind f None text from to place whole breaks is wrong there j h 
       subst (λ t. IsWrongOperand card t kind from to) mine (wrong (ap (λ t. statement_with card t) mine ∙ e)),
       λ less. ap (λ ps. slice_get ps from) (sym over.places) ∙ there k (subst (λ t. from < length t) same less),
     )
+
+abbrev Marks : List ℕ → List (List ℕ) → FaultKind → ℕ → ℕ → TextPlace → Type 0
+Marks card cards kind from to place =
+    (j : Joined) → with_lines (begun card) cards ≡ Some j → statement_with card j.text ≡ Err kind → is_of_operand kind ≡ true
+    → IsWrongOperand card j.text kind from to × (from < length j.text → slice_get (places_of card cards) from ≡ Some place)
+
+-- by the lines of a script
+pub caret_marks : (script : List ℕ) (lines more : List SourceLine) (card : List ℕ) (kind : FaultKind) (f : Field) (broken : Option TextPlace) (text : List ℕ)
+    (from to : ℕ) (place : TextPlace) → card ≡ first_card script lines → more ≡ drop 1 lines
+    → (broken ≡ None → IsFieldOver card (map (card_in script) more) f)
+    → IfSome broken (λ p. with_lines (begun card) (map (card_in script) more) ≡ None) → text ≡ f.text.items
+    → (statement_with card text ≡ Err kind → IsWrongOperand card text kind from to)
+    → (is_of_operand kind ≡ true → from < length f.text.items → slice_get f.places.items from ≡ Some place)
+    → Marks (first_card script lines) (further_cards script lines) kind from to place
+caret_marks script lines more card kind f broken text from to place first further whole breaks is wrong there =
+    subst (λ k. Marks k (further_cards script lines) kind from to place) first
+    (subst (λ ls. Marks card (map (card_in script) ls) kind from to place) further
+    (marks card (map (card_in script) more) kind f broken text from to place whole breaks is wrong there))

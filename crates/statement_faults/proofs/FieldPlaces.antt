@@ -56,13 +56,24 @@ joins_push j k l (c ∷ cards) card h e =
       | Some m ↦ λ x. joins_push m k l cards card x e
     ] h
 
+one_added : (line : ℕ) (j l : Joined) (r : Option Joined) → r ≡ Some l
+    → elim r [ None ↦ [] | Some m ↦ added line 16 j m ++ added_by (line + 1) m [] ] ≡ added line 16 j l
+one_added line j l None e = cc
+one_added line j l (Some m) e = let same : m ≡ l = cc in append-nil (added line 16 j m) ∙ ap (λ (n : Joined). added line 16 j n) same
+
+first_added : (line : ℕ) (j k l : Joined) → j ≡ k → added line 16 j l ≡ added (line + 0) 16 k l
+first_added line j k l e = ap (λ n. added n 16 j l) (sym (add-zero line)) ∙ ap (λ (m : Joined). added (line + 0) 16 m l) e
+
+more_added : (a b c : List TextPlace) (n o : ℕ) (k l : Joined) → b ≡ c ++ added n 16 k l → n ≡ o → a ++ b ≡ (a ++ c) ++ added o 16 k l
+more_added a b c n o k l h e =
+    ap (λ t. a ++ t) h ∙ ap (λ i. a ++ (c ++ added i 16 k l)) e ∙ sym (append_assoc a c (added o 16 k l))
+
 added_push : (line : ℕ) (j k l : Joined) (cards : List (List ℕ)) (card : List ℕ) → with_lines j cards ≡ Some k → with_line k card ≡ Some l
     → added_by line j (cards ++ card ∷ []) ≡ added_by line j cards ++ added (line + length cards) 16 k l
 added_push line j k l [] card h e =
     let same : j ≡ k = cc in
     let here : with_line j card ≡ Some l = rw same e in
-    ap (λ (r : Option Joined). elim r [ None ↦ [] | Some m ↦ added line 16 j m ++ added_by (line + 1) m [] ]) here
-    ∙ append-nil (added line 16 j l) ∙ ap (λ n. added n 16 j l) (sym (add-zero line)) ∙ ap (λ m. added (line + 0) 16 m l) same
+    one_added line j l (with_line j card) here ∙ first_added line j k l same
 added_push line j k l (c ∷ cards) card h e =
     elim (with_line j c) as (λ r. elim r [ None ↦ None | Some m ↦ with_lines m cards ] ≡ Some k
     → elim r [ None ↦ [] | Some m ↦ added line 16 j m ++ added_by (line + 1) m (cards ++ card ∷ []) ]
@@ -70,19 +81,16 @@ added_push line j k l (c ∷ cards) card h e =
       | None ↦ λ x. cc
       | Some m ↦ λ x.
           let more : line + 1 + length cards ≡ line + length (c ∷ cards) = omega arith in
-          ap (λ t. added line 16 j m ++ t) (added_push (line + 1) m k l cards card x e)
-          ∙ ap (λ n. added line 16 j m ++ (added_by (line + 1) m cards ++ added n 16 k l)) more
-          ∙ sym (append_assoc (added line 16 j m) (added_by (line + 1) m cards) (added (line + length (c ∷ cards)) 16 k l))
+          more_added (added line 16 j m) (added_by (line + 1) m (cards ++ card ∷ [])) (added_by (line + 1) m cards) (line + 1 + length cards)
+          (line + length (c ∷ cards)) k l (added_push (line + 1) m k l cards card x e) more
     ] h
 
 pub places_push : (first : List ℕ) (k l : Joined) (cards : List (List ℕ)) (card : List ℕ) → with_lines (begun first) cards ≡ Some k
     → with_line k card ≡ Some l → places_of first (cards ++ card ∷ []) ≡ places_of first cards ++ added (length cards + 1) 16 k l
 places_push first k l cards card h e =
-    let front = added 0 (72 - length (from_operands first)) no_field (begun first) in
     let more : 1 + length cards ≡ length cards + 1 = omega arith in
-    ap (λ t. front ++ t) (added_push 1 (begun first) k l cards card h e)
-    ∙ ap (λ n. front ++ (added_by 1 (begun first) cards ++ added n 16 k l)) more
-    ∙ sym (append_assoc front (added_by 1 (begun first) cards) (added (length cards + 1) 16 k l))
+    more_added (added 0 (72 - length (from_operands first)) no_field (begun first)) (added_by 1 (begun first) (cards ++ card ∷ []))
+    (added_by 1 (begun first) cards) (1 + length cards) (length cards + 1) k l (added_push 1 (begun first) k l cards card h e) more
 
 -- and one that breaks a rule
 pub joins_broken : (j k : Joined) (cards : List (List ℕ)) (card : List ℕ) (more : List (List ℕ)) → with_lines j cards ≡ Some k → with_line k card ≡ None

@@ -148,7 +148,6 @@ fn place_for(
 }
 
 /// Where a statement of these lines is wrong, which has a fault of this kind.
-#[tactic(auto, using(crate::proofs::FieldOver::marks))]
 pub fn caret_of(script: &[u8], lines: &[SourceLine], kind: FaultKind) -> Caret
     requires { length lines.now ≤ 10 }
     ensures { MarksOperand (first_card script.now lines.now) (further_cards script.now lines.now) kind result }

@@ -1,12 +1,24 @@
 //! The operand with which a statement has its fault.
 ghost use Rattle.std.specs.Prelude.{◌≡◌, ◌≢◌, ◌<◌, ◌≤◌, ◌^◌, ◌+◌, ℕ, true, false, Err, length, take};
 ghost use Rattle.std.specs.Prelude.{if◌then◌else◌};
+ghost use Rattle.macro_statements.specs.Requests.{seen};
 ghost use Rattle.macro_statements.specs.Statements.{statement_with};
 ghost use Rattle.statement_faults.specs.Operands.{is_end, IsWrongOperand, Starts, nesting_behind};
 ghost use Rattle.operand_texts.specs.Field.{outside, separates};
 
-use macro_statements::{FaultKind, head_of, statement_with};
+use macro_statements::{FaultKind, Request, head_of, statement_with};
 use operand_texts::nesting::Nesting;
+
+/// Whether this fault was found in place of a request.
+fn is_fault(read: &Result<Request, FaultKind>, kind: FaultKind) -> bool
+    ensures yes { result ≡ true → seen read.now ≡ Err kind }
+    ensures no { result ≡ false → seen read.now ≢ Err kind }
+{
+    match read {
+        Ok(_) => false,
+        Err(found) => *found == kind,
+    }
+}
 
 /// Whether a statement has this fault, whose first line has these columns and whose field is this text.
 fn has_fault(card: &[u8], text: &[u8], kind: FaultKind) -> bool
@@ -14,10 +26,7 @@ fn has_fault(card: &[u8], text: &[u8], kind: FaultKind) -> bool
     ensures no { result ≡ false → statement_with card.now text.now ≢ Err kind }
 {
     let (head, _) = head_of(card);
-    match statement_with(head, text) {
-        Ok(_) => false,
-        Err(found) => found == kind,
-    }
+    is_fault(&statement_with(head, text), kind)
 }
 
 /// Whether an operand ends in front of a byte that stands so.
