@@ -10,11 +10,11 @@ from typing import Callable
 
 import pytest
 from conftest import TOP, one_line
+from load_scripts import WIDE, WIDER, address_script, family_script, pools_script, told
 from test_tools import scripts
 
 from vsmtools import bench, loading, maps
 from vsmtools.command import Fault
-from vsmtools.judge import MOST_POOLS
 
 TOOL = "vsm-load"
 SEEDS, EVERY = 20, 500
@@ -88,55 +88,6 @@ def test_maps_of_walks_come_back(vsm: str) -> None:
     assert made == SEEDS * 5000 // EVERY
 
 
-# Scripts that have as many tasks and cell pools as there can be.
-
-WIDE = ["--low", "640", "--high", "256", "--history", "16"]
-WIDER = ["--low", "2048", "--high", "1024", "--history", "16"]
-
-
-def family_attach(chance: random.Random, style: str, known: int, owns: float) -> list[str]:
-    """An ATTACH in a chain, a star, a bush or anywhere, with a gift and a share now and then."""
-    task = {"chain": known, "star": 1, "bush": chance.randint(max(1, known // 3), known // 2 + 1),
-            "mixed": chance.randint(1, known)}[style]
-    given, shared = chance.sample(range(1, 5), 2)
-    return [" RUN %d" % task, " ATTACH EP=A%s%s%s" % (
-        ",GSPV=%d" % given if chance.random() < owns else "", ",SHSPV=%d" % shared if chance.random() < 0.5 else "",
-        ",SZERO=NO" if chance.random() < owns else "")]
-
-
-def family_request(chance: random.Random) -> str:
-    """A request for storage or a cell."""
-    subpool, pool, name = chance.randint(0, 4), "C%d" % chance.randrange(300), "P%d" % chance.randrange(9)
-    side, length = chance.choice((24, 31)), chance.choice((8, 24, 400, 4096, 5000))
-    return chance.choice((
-        " STORAGE OBTAIN,LENGTH=%d,SP=%d,COND=YES,LOC=%d" % (length, subpool, side),
-        " STORAGE OBTAIN,LENGTH=%d,SP=%d,COND=YES,LOC=%d,ADDR=%s" % (length, subpool, side,
-                                                                     chance.choice((name, "(5)", "(9)"))),
-        " STORAGE RELEASE,LENGTH=8,ADDR=%s,SP=%d,COND=YES" % (chance.choice((name, "(5)", "(1)")), subpool),
-        " GETMAIN VRC,LV=(%d,8),SP=%d" % (chance.choice((16, 9000, 30000)), subpool),
-        " CPOOL BUILD,PCELLCT=%d,CSIZE=%d,CPID=%s,SP=%d,LOC=%d" % (
-            chance.choice((1, 3, 9)), chance.choice((4, 12, 100, 1000)), pool, subpool, side),
-        " CPOOL GET,CPID=%s%s" % (pool, chance.choice(("", ",CELL=(7)"))),
-        " CPOOL DELETE,CPID=%s" % pool))
-
-
-def family_script(seed: int) -> str:
-    """Tasks until there are 64, some of which end again, and what they request meanwhile."""
-    chance, known, lines = random.Random(seed), 1, []
-    style, owns = ("chain", "star", "bush", "mixed")[seed % 4], chance.choice((0.1, 0.4, 0.8))
-    works, ends = chance.choice((0.1, 0.3, 0.45)), chance.choice((0, 0, 0.01, 0.04))
-    for _ in range(400):
-        kind = chance.random()
-        if kind < 0.45:
-            lines += family_attach(chance, style, known, owns)
-            known = min(64, known + 1)
-        elif kind < 0.45 + works:
-            lines += [" RUN %d" % chance.randint(1, known)] + [family_request(chance) for _ in range(2)]
-        elif kind > 1 - ends:
-            lines += [" RUN %d" % chance.randint(1, known), chance.choice((" ENDTASK", " DETACH (1)"))]
-    return "".join(line + "\n" for line in lines)
-
-
 @pytest.mark.parametrize("seed", range(16))
 def test_maps_of_64_tasks_come_back(vsm: str, seed: int) -> None:
     answer = mapped(vsm, WIDE, family_script(seed))
@@ -169,24 +120,6 @@ def test_256_cell_pools_of_tasks_that_only_build(vsm: str) -> None:
     comes_back(vsm, WIDE, answer, "256 cell pools")
 
 
-def address_script(seed: int) -> str:
-    """64 tasks with addresses in registers and names, in pages that other tasks fill before or behind."""
-    chance, known, lines = random.Random(seed), 1, []
-    style, owns = ("chain", "star", "bush", "mixed")[seed % 4], chance.choice((0.1, 0.4, 0.8))
-    stays = chance.choice((0.2, 0.5, 0.9))
-    while known < 64:
-        for _ in range(chance.choice((0, 1, 2, 4))):
-            subpool, side = chance.randint(0, 4), chance.choice((24, 31))
-            length, place = chance.choice((8, 40, 4096, 9000)), chance.choice(("P%d", "(%d)")) % chance.randint(2, 12)
-            lines += [" RUN %d" % chance.randint(max(1, known - 4), known), " STORAGE OBTAIN,LENGTH=%d,SP=%d,COND=YES,"
-                      "LOC=%d,ADDR=%s" % (length, subpool, side, place)]
-            if chance.random() > stays:
-                lines.append(" STORAGE RELEASE,LENGTH=%d,ADDR=(1),SP=%d,COND=YES" % (length, subpool))
-        lines += family_attach(chance, style, known, owns)
-        known += 1
-    return "".join(line + "\n" for line in lines)
-
-
 @pytest.mark.parametrize("seed", range(12))
 def test_addresses_of_64_tasks_come_back(vsm: str, seed: int) -> None:
     answer = mapped(vsm, WIDE, address_script(seed))
@@ -199,23 +132,6 @@ def test_cell_pools_of_task_1_that_take_more_for_a_while(vsm: str) -> None:
     script += "".join(" CPOOL BUILD,PCELLCT=1,CSIZE=4096,CPID=D%d\n" % k for k in range(64))
     answer = mapped(vsm, WIDE, script)
     comes_back(vsm, WIDE, answer, "256 cell pools")
-
-
-def pools_script(seed: int) -> str:
-    """Cell pools of task 1 that come and go, and then as many as there can be, or nearly."""
-    chance, there, lines = random.Random(seed), [], []
-    sizes = chance.choice(((1000, 4096), (8, 16, 400, 1000, 3000), (40, 48, 2000, 4088), (4000, 4096, 24)))
-    most, goes = chance.choice((256, 256, 256, 255, 254)), chance.choice((0.1, 0.3, 0.45))
-    sides, subpools = chance.choice(((24,), (24, 31))), chance.choice(((0,), (0, 5)))
-    steps = chance.choice((300, 700, 1500))
-    for k in range(steps + 2 * MOST_POOLS):
-        if there and (len(there) >= MOST_POOLS or k < steps and chance.random() < goes):
-            lines.append(" CPOOL DELETE,CPID=%s" % there.pop(chance.randrange(len(there))))
-        elif k < steps or len(there) < most:
-            there.append("C%d" % k)
-            lines.append(" CPOOL BUILD,PCELLCT=%d,CSIZE=%d,CPID=C%d,SP=%d,LOC=%d" % (
-                chance.choice((1, 1, 1, 3, 9)), chance.choice(sizes), k, chance.choice(subpools), chance.choice(sides)))
-    return "".join(line + "\n" for line in lines)
 
 
 @pytest.mark.parametrize("seed", range(8))
@@ -238,29 +154,33 @@ def test_cell_pools_of_several_tasks_that_only_build(vsm: str) -> None:
 
 
 def test_cell_pools_behind_an_area_of_another_task(vsm: str) -> None:
-    """Statements make this map; it's told that it can't be made, not that none do."""
     script = " STORAGE OBTAIN,LENGTH=4096,ADDR=(2)\n ATTACH SZERO=NO\n RUN 2\n"
     script += "".join(" CPOOL BUILD,PCELLCT=1,CSIZE=4096,CPID=C%d\n" % k for k in range(256))
     script += " RUN 1\n STORAGE RELEASE,LENGTH=4096,ADDR=(2)\n"
     answer = mapped(vsm, WIDER, script)
-    with pytest.raises(Fault, match="this can't be made: no order of BUILDs is found"):
-        comes_back(vsm, WIDER, answer, "an area of task 1")
+    comes_back(vsm, WIDER, answer, "an area of task 1")
 
 
-@pytest.mark.parametrize("count, told", [
-    (256, "no list of statements makes this: task 1 just built its 256 cell pools"),
-    (255, "this can't be made: no order of BUILDs is found")])
-def test_cell_pools_none_of_which_comes_last(vsm: str, count: int, told: str) -> None:
-    """Each is alone in its page, 8 bytes behind its begin: only areas can have been before them."""
+def lone_pools(vsm: str, count: int) -> list[str]:
+    """A map of task 1 with register 1 0: each cell pool is alone in its page, 8 bytes behind its begin."""
     script = "".join(" STORAGE OBTAIN,LENGTH=8,ADDR=P\n CPOOL BUILD,PCELLCT=1,CSIZE=4088,CPID=C%d\n" % k
                      for k in range(count))
     script += "".join(" STORAGE RELEASE,LENGTH=8,ADDR=%d\n" % (maps.LOW_START + k * maps.PAGE) for k in range(count))
-    answer = mapped(vsm, WIDER, script)
-    comes_back(vsm, WIDER, answer, "areas")
-    lines = list(answer.rest)
+    lines = [line for line in mapped(vsm, WIDER, script).rest if not line.startswith(" NAME")]
     lines[1] = "  R0" + " 00000000" * 8
-    with pytest.raises(Fault, match=told):
-        loading.Loader(maps.parse_map([line for line in lines if not line.startswith(" NAME")]), "map").load()
+    return lines
+
+
+def test_cell_pools_none_of_which_comes_last(vsm: str) -> None:
+    with pytest.raises(Fault, match="no list of statements makes this: whichever of 256 cell pools"):
+        loading.Loader(maps.parse_map(lone_pools(vsm, 256)), "map").load()
+
+
+def test_cell_pools_that_come_from_the_highest_to_the_lowest(vsm: str) -> None:
+    """More than half as many as there can be, and a filler for each is too many: before each come just 8 bytes."""
+    lines = lone_pools(vsm, 130)
+    script = loading.Loader(maps.parse_map(lines), "map").load()
+    assert map_behind(vsm, WIDER, "".join(line + "\n" for line in script)) == lines[:-1]
 
 
 def test_words_that_only_cells_have(run: Callable, vsm: str) -> None:
@@ -279,6 +199,13 @@ def test_the_map_alone_and_by_a_file(run: Callable, vsm: str, tmp_path: Path) ->
     by_file, by_pipe = run(TOOL, "--vsm", vsm, path), run(TOOL, "--vsm", vsm, "-", given=lines.encode())
     whole = run(TOOL, "--vsm", vsm, "--map", 11, given=CELLS.encode())
     assert by_file.returncode == 0 and by_file.stdout == by_pipe.stdout == whole.stdout
+
+
+@pytest.mark.parametrize("kind, first, last", [
+    ("building", 0, 2), ("building", 2, 4), ("lists", 0, 8), ("small", 0, 100), ("family", 2021, 2022)])
+def test_maps_of_generated_scripts_come_back(vsm: str, kind: str, first: int, last: int) -> None:
+    for seed in range(first, last):
+        assert told(vsm, kind, seed) is None, seed
 
 
 # What is no map.

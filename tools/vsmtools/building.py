@@ -2,20 +2,27 @@
 
 A BUILD goes to the lowest place that fits, so that fillers, which are pools too, take all lower ones for a moment.
 The order is looked for from the map backwards: a pool that can come last, then one that can come last but one,
-and so on; the fewer are left, the more fillers there may be.
+and so on; the fewer are left, the more fillers there may be. It's never wrong to take one that can come last: any
+part of what can be made can be made too, by DELETE.
+
+Where none of some pools can come last, nothing makes them (`core`). For a pool to come, each lower gap of its length
+has to have a filler, and a gap right before it one that ends there, for which in turn each lower gap of its own
+length had to have one. A filler lies in one gap at most, since a pool that takes a new page begins with it. Say that
+each of the pools lacks room for one or the other, and look at the last BUILD of a list that lacked it: all others of
+these pools are there then, or the filler right before them is, with a gap behind it that's longer than itself. So
+the gaps that were too many are there too; but where two around such a pool became one, since what is built is no
+longer than that filler: then those that were too many for the lowest such filler are there, lower, and long enough.
 """
 from __future__ import annotations
 
 from bisect import insort
 from dataclasses import dataclass
 from functools import lru_cache
-from typing import Iterable, Optional
+from typing import Iterable, NamedTuple, Optional
 
-from .judge import MOST_CELLS
+from .judge import MOST_CELLS, MOST_POOLS
 from .maps import PAGE, Area, CellPool
 from .places import Key, location
-
-MOST_TRIES = 20000    # places that are looked for, in all
 
 
 def page_start(address: int) -> int:
@@ -36,23 +43,46 @@ class Build:
     pool: Optional[CellPool] = None
 
 
+class Step(NamedTuple):
+    """A BUILD, or the DELETE of what a BUILD made."""
+    is_built: bool
+    build: Build
+
+
+class Turn(NamedTuple):
+    """A pool, and what is built and deleted so that it comes behind all others."""
+    last: Build
+    steps: list[Step]
+
+
 class Ground:
     """The pages that no subpool had before, and what is built there."""
 
     def __init__(self, runs: list[Area], builds: Iterable[Build]) -> None:
         self.runs = sorted(runs, key=lambda run: run.start)
         self.taken: dict[Key, list[tuple[int, int]]] = {}
+        self.spans: list[tuple[int, int]] = []       # the pages of each pool
+        self.known: dict[Key, list[Area]] = {}       # the free areas of subpools, as far as they were asked for
         for it in builds:
             self.add(it)
 
     def add(self, it: Build) -> None:
         insort(self.taken.setdefault(it.key, []), (it.area.start, it.area.end))
+        insort(self.spans, (page_start(it.area.start), page_end(it.area.end)))
+        self.known.pop(it.key, None)
 
     def remove(self, it: Build) -> None:
         self.taken[it.key].remove((it.area.start, it.area.end))
+        self.spans.remove((page_start(it.area.start), page_end(it.area.end)))
+        self.known.pop(it.key, None)
 
     def gaps(self, key: Key) -> list[Area]:
         """The free areas of a subpool."""
+        if key not in self.known:
+            self.known[key] = self.gaps_now(key)
+        return self.known[key]
+
+    def gaps_now(self, key: Key) -> list[Area]:
         found, at = [], 0
         for start, end in self.taken.get(key, ()):
             if page_start(start) > page_end(at):
@@ -62,13 +92,20 @@ class Ground:
             at = end
         return [Area(start, end - start) for start, end in found + [(at, page_end(at))] if start < end]
 
+    def is_own(self, key: Key, address: int) -> bool:
+        """Whether the page of an address is a subpool's."""
+        page = page_start(address)
+        return any(start < page + PAGE and page < end for start, end in self.taken.get(key, ()))
+
     def unassigned(self) -> list[Area]:
         """The runs of unassigned pages."""
-        spans = sorted((page_start(start), page_end(end)) for taken in self.taken.values() for start, end in taken)
+        spans = self.spans
         found: list[Area] = []
         k = 0
         for run in self.runs:
             at = run.start
+            while k < len(spans) and spans[k][1] <= at:
+                k += 1
             while k < len(spans) and spans[k][0] < run.end:
                 if spans[k][0] > at:
                     found.append(Area(at, spans[k][0] - at))
@@ -80,9 +117,13 @@ class Ground:
 
     def fit(self, key: Key, length: int, side: int) -> Optional[Area]:
         """The free area or the run of pages where a BUILD goes, to its first byte."""
-        gaps, runs = self.gaps(key), self.unassigned()
+        gaps, runs = [area for area in self.gaps(key) if area.length >= length], None
         for each in (31, 24) if side == 31 else (24,):
-            for area in gaps + runs:
+            for area in gaps:
+                if location(area.start) == each:
+                    return area
+            runs = self.unassigned() if runs is None else runs
+            for area in runs:
                 if area.length >= length and location(area.start) == each:
                     return area
         return None
@@ -91,62 +132,150 @@ class Ground:
 class Builder:
     """Looks for the order of the cell pools of some subpools."""
 
-    def __init__(self, runs: list[Area], wanted: list[Build], most: int) -> None:
-        """most: how many pools there may be at once, with the fillers."""
+    def __init__(self, runs: list[Area], wanted: list[Build], most: int, is_walled: bool = False) -> None:
+        """most: how many pools there may be at once, with the fillers. is_walled: whether areas of other tasks
+        take all pages but those of a pool while it's built."""
         # What goes below the line only where there is no place above comes while that is easy to fill: first.
-        self.wanted = sorted(wanted, key=lambda it: (location(it.area.start) != 31, it.area.start))
-        self.ground, self.most = Ground(runs, wanted), most
-        self.tries = MOST_TRIES
-        self.seen: set[frozenset[int]] = set()
-        self.found: list[Build] = []     # the fillers of one pool, as they are built and deleted
-        self.there: list[Build] = []     # those of them that are there
-        self.room = 0                    # for so many
+        self.wanted = sorted(wanted, key=lambda it: (location(it.area.start) != 31, -it.area.start))
+        self.ground, self.most, self.is_walled = Ground(runs, wanted), most, is_walled
+        self.steps: list[Step] = []      # for one pool
+        self.there: list[Build] = []     # its fillers that are there
+        self.room = 0                    # for so many, and one more before it comes
+        self.tries = 0                   # so many may be built for it
+        self.holding: list[Build] = []   # those that hold its last page
 
-    def plan(self) -> Optional[list[list[Build]]]:
-        """The pools in turn, each behind the fillers that it needs; None where no order is found."""
-        return self.steps(self.wanted)
-
-    def steps(self, left: list[Build]) -> Optional[list[list[Build]]]:
-        """The turns of the pools that are left, of which one comes last."""
-        known = frozenset(it.area.start for it in left)
-        if not left or known in self.seen:
-            return None if left else []
-        self.seen.add(known)
-        for last in left:
-            if self.tries <= 0:
+    def plan(self) -> Optional[list[Step]]:
+        """What is built and deleted in turn; None where no order is found."""
+        turns: list[Turn] = []
+        left, at = self.wanted, 0
+        while left:
+            turn, at = self.last_of(left, at)
+            if turn is None:
                 return None
-            self.ground.remove(last)
-            fillers = self.fillers(last, self.most - len(left))
-            before = None if fillers is None else self.steps([it for it in left if it is not last])
-            self.ground.add(last)
-            if fillers is not None and before is not None:
-                return before + [[*fillers, last]]
+            turns.append(turn)
+            left = left[:at] + left[at + 1:]
+        return [step for turn in reversed(turns) for step in turn.steps]
+
+    def last_of(self, left: list[Build], first: int) -> tuple[Optional[Turn], int]:
+        """A pool that can come last, from the first place on; it's taken from the ground."""
+        room = self.most - len(left)
+        for k in range(len(left)):
+            at = (first + k) % len(left)
+            it = left[at]
+            self.ground.remove(it)
+            steps = self.steps_to(it, room) if self.least(it, room) <= room else None
+            if steps is not None:
+                return Turn(it, steps), at
+            self.ground.add(it)
+        return None, 0
+
+    # What a pool needs, which isn't on the ground.
+
+    def least(self, it: Build, most: int) -> int:
+        """How many fillers have to be there at once for a pool, or a lower number above the most."""
+        start = it.area.start
+        lower, behind = self.places(it, most)
+        fronts = self.front(it)
+        if not fronts and not self.ground.is_own(it.key, start):
+            return lower + min(behind, 1)
+        count = lower + len(fronts) + self.needs_holder(it)
+        if fronts and not self.needs_holder(it) and count <= most:
+            count = max(count, self.places(fronts[0], most)[0])
+        return count
+
+    def own_gap(self, it: Build) -> Optional[Area]:
+        """The gap that a pool's place is in, or that ends where its page begins, if that isn't the subpool's yet."""
+        start, page = it.area.start, page_start(it.area.start)
+        return next((gap for gap in self.ground.gaps(it.key) if gap.start <= start < gap.end
+                     or gap.end == page < start and not self.ground.is_own(it.key, start)), None)
+
+    def front(self, it: Build) -> list[Build]:
+        """What can be right before a pool, as long as can be."""
+        start, gap = it.area.start, self.own_gap(it)
+        begin = gap.start if gap else page_start(start)
+        return [Build(Area(begin, start - begin), it.key, location(begin))] if begin < start else []
+
+    def places(self, it: Build, most: int) -> tuple[int, int]:
+        """In how many gaps before a pool's own it would fit, and in how many behind; some of them, where there are
+        more than the most."""
+        start, side, own = it.area.start, location(it.area.start), self.own_gap(it)
+        lower = behind = 0
+        for gap in self.ground.gaps(it.key):
+            if gap.length >= it.area.length and location(gap.start) in (side, it.side) and gap != own:
+                is_lower = location(gap.start) != side or gap.start < start
+                lower, behind = lower + is_lower, behind + (not is_lower)
+                if lower > most:
+                    break
+        return lower, behind
+
+    def needs_holder(self, it: Build) -> bool:
+        """Whether a pool begins within a page and ends in the next one, which has to be the subpool's already."""
+        end = it.area.end
+        return it.area.start % PAGE != 0 and page_start(end - 1) > it.area.start and (
+            not self.ground.is_own(it.key, end - 1))
+
+    def holders(self, it: Build) -> list[list[Build]]:
+        """What may be behind a pool while it comes, so that its last page is the subpool's already; or in its place
+        while the filler before it comes. Of each length that fits one gap less than a shorter one, or leaves room
+        for one before it that does."""
+        start, end = it.area.start, it.area.end
+        found = [] if self.needs_holder(it) else [[]]
+        if self.ground.is_own(it.key, end - 1):
+            return found
+        last = page_end(end)
+        most = last - (start if page_start(end - 1) < start else end)
+        steps = {0} | {gap.length for gap in self.ground.gaps(it.key)}
+        lengths = {most, last - end} | {length + 8 for length in steps}
+        lengths |= {last - first - length - 8 for length in steps for first in {page_start(start), last - PAGE}}
+        return found + [[Build(Area(last - length, length), it.key, location(end - 1))]
+                        for length in sorted(lengths, reverse=True) if 0 < length <= most]
+
+    def steps_to(self, it: Build, room: int) -> Optional[list[Step]]:
+        """The steps so that a BUILD goes to its place; None where they take too many fillers. These are deleted
+        behind it."""
+        if self.is_walled:
+            first = page_start(it.area.start)
+            self.ground.runs = [Area(first, page_end(it.area.end) - first)]
+        for holders in self.holders(it):
+            self.steps, self.there, self.room, self.tries = [], [], room, 3 * room + 9
+            self.holding = holders
+            is_reached = self.hold(it, holders) and self.reach(it)
+            self.holding = []
+            if is_reached and len(self.there) > room:
+                self.thin_out(it)
+            is_reached = is_reached and len(self.there) <= room
+            found = self.steps + [Step(True, it)] + [Step(False, filler) for filler in self.there]
+            for filler in self.there:
+                self.ground.remove(filler)
+            if is_reached:
+                return found
         return None
 
-    def has_last(self) -> bool:
-        """Whether a pool of the map can be built last of all."""
-        return any(self.is_last(it) for it in self.wanted)
+    def thin_out(self, it: Build) -> None:
+        """Deletes what isn't needed any more when a pool comes."""
+        for filler in [filler for filler in self.there if filler not in self.holding]:
+            self.delete(filler)
+            if not self.is_next(it):
+                self.ground.add(filler)
+                self.there.append(filler)
+                self.steps.pop()
 
-    def is_last(self, it: Build) -> bool:
-        self.ground.remove(it)
+    def is_next(self, it: Build) -> bool:
+        """Whether a BUILD goes to its place."""
         place = self.ground.fit(it.key, it.area.length, it.side)
-        self.ground.add(it)
         return place is not None and place.start == it.area.start
 
-    def fillers(self, it: Build, room: int) -> Optional[list[Build]]:
-        """What has to be there for a moment so that a BUILD goes to its place; None where that's too much. What
-        stands there again is deleted then."""
-        self.found, self.there, self.room = [], [], room
-        is_reached = self.reach(it)
-        for filler in self.there:
-            self.ground.remove(filler)
-        return self.found if is_reached else None
+    def delete(self, filler: Build) -> None:
+        self.ground.remove(filler)
+        self.there.remove(filler)
+        self.steps.append(Step(False, filler))
 
     def reach(self, it: Build) -> bool:
         """Fills lower places until a BUILD goes to its own."""
-        is_held = self.hold(it)
-        while is_held and self.tries > 0:
-            self.tries -= 1
+        while True:
+            for filler in list(self.there):
+                if filler.key == it.key and filler.area.start < it.area.end and it.area.start < filler.area.end:
+                    self.delete(filler)
             place = self.ground.fit(it.key, it.area.length, it.side)
             if place is not None and place.start == it.area.start:
                 return True
@@ -154,29 +283,31 @@ class Builder:
             if hole is None or not all(self.fill(Build(part, it.key, location(part.start)))
                                        for part in parts(hole)):
                 return False
-        return False
 
     def fill(self, filler: Build) -> bool:
-        if len(self.there) >= self.room or not self.reach(filler) or len(self.there) >= self.room:
+        self.tries -= 1
+        if self.tries < 0 or not self.reach(filler):
+            return False
+        if len(self.there) > self.room:
+            self.thin_out(filler)
+        if len(self.there) > self.room:
             return False
         self.ground.add(filler)
-        self.found.append(filler)
+        self.steps.append(Step(True, filler))
         self.there.append(filler)
         return True
 
-    def hold(self, it: Build) -> bool:
-        """Has something behind a pool that begins within a page and ends in the next one, so that this one is
-        the subpool's already."""
-        end = it.area.end
-        if it.area.start % PAGE == 0 or page_start(end - 1) <= it.area.start or not self.run_at(end - 1):
-            return True
-        before = len(self.there)
-        if end % PAGE == 0 or not self.fill(Build(Area(end, page_end(end) - end), it.key, location(end))):
-            return False
-        for filler in self.there[before:-1]:
-            self.ground.remove(filler)
-            self.found.append(filler)
-        del self.there[before:-1]
+    def hold(self, it: Build, holders: list[Build]) -> bool:
+        """Builds what holds the last page of a pool, and deletes what was needed for that."""
+        for holder in holders:
+            if not self.fill(holder):
+                return False
+            for filler in self.there[:-1]:
+                self.delete(filler)
+            if holder.area.start < it.area.end:
+                if not all(self.fill(filler) for filler in self.front(it)):
+                    return False
+                self.delete(holder)
         return True
 
     def run_at(self, address: int) -> Optional[Area]:
@@ -192,6 +323,23 @@ class Builder:
         if place is not None and place.start < wanted < place.end:
             return Area(place.start, wanted - place.start)
         return place
+
+
+def core(wanted: list[Build]) -> list[Build]:
+    """Pools that no list of BUILDs and DELETEs makes, even if no other page is unassigned; none where it isn't
+    certain."""
+    builder = Builder([], wanted, MOST_POOLS)
+    left, is_changed = builder.wanted, True
+    while is_changed:
+        is_changed = False
+        for it in left:
+            room = MOST_POOLS - len(left)
+            builder.ground.remove(it)
+            if builder.least(it, room) <= room:
+                left, is_changed = [other for other in left if other is not it], True
+            else:
+                builder.ground.add(it)
+    return left
 
 
 @lru_cache(maxsize=4096)

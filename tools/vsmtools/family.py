@@ -28,6 +28,7 @@ Event = tuple[str, int]
 Order = dict[Event, set[Event]]     # for each event those that come before it
 RANKS = {kind: k for k, kind in enumerate(("done", "words", "first", "create", "temp", "make", "help"))}
 FEW_ORDERS, MOST_ORDERS = 300, 700    # that are tried for one choice of makers, and for the ATTACHes alone
+MOST_CHOICES = 400                    # of makers that are tried, where those that leave fewer circles lead nowhere
 
 
 @dataclass(frozen=True)
@@ -74,8 +75,10 @@ class Family:
         self.made = [key for key, it in self.subpools.items() if it.extents or self.is_unmade(key)]
         # Cell pools that take the place of others go into the least pages first.
         self.made.sort(key=lambda key: key not in own_work)
+        self.all_made = self.made
         self.at = {key: k for k, key in enumerate(self.made)}
         self.words = places.all_words()
+        self.tried = 0           # choices of makers
         self.is_late = False     # whether words are had behind the storage, where they can
         self.is_build_last = False     # whether BUILD alone comes behind tasks that obtain, in subpool 0 too
         self.before: Order = {}                # what comes before what, when all is planned
@@ -266,6 +269,7 @@ class Family:
         if self.made:
             self.pages_needs(before)
         self.last_events(before)
+        self.empty_needs(before)
         return before, free
 
     def helpers_needs(self, before: Order) -> None:
@@ -278,25 +282,36 @@ class Family:
     def pages_needs(self, before: Order) -> None:
         """An address is had while its page is unassigned, or behind the storage that it lies in."""
         for k, it in enumerate(self.words):
-            for key in it.keys:
+            for key in it.keys & set(self.at):
                 if self.is_behind(it):
                     before["words", k].add(("make", self.at[key]))
                 else:
                     before["make", self.at[key]].add(("words", k))
         for task, word in self.first.items():
             key = self.places.key_at(word)
-            if word > MOST_TASKS and key is not None:
+            if word > MOST_TASKS and key is not None and key in self.at:
                 if task in self.places.homes:
                     before["first", task].add(("make", self.at[key]))
                 else:
                     before["make", self.at[key]].add(("first", task))
-        if self.places.is_full() or len(self.map.cell_pools) == MOST_POOLS:
-            # A subpool that stays empty needs a page and a cell pool for a moment, where it isn't given.
-            empty = {("make", k) for k, key in enumerate(self.made) if not self.subpools[key].extents
-                     and self.makers[key].how == "build"}
-            for k, key in enumerate(self.made):
-                if self.subpools[key].extents:
-                    before["make", k] |= empty
+
+    def empty_needs(self, before: Order) -> None:
+        """A subpool that stays empty and isn't given needs a page and a cell pool for a moment: where the map has
+        none left, those of one subpool that's made behind."""
+        empty = {("make", k) for k, key in enumerate(self.made) if not self.subpools[key].extents
+                 and self.makers[key].how == "build"}
+        pooled = {(pool.subpool, pool.owner) for pool in self.map.cell_pools}
+        wanted = [{key for key, it in self.subpools.items() if it.extents}] if self.places.is_full() else []
+        wanted += [pooled] if len(self.map.cell_pools) == MOST_POOLS else []
+        if not (empty and wanted) or len(self.made) < len(self.all_made):
+            return
+        known = set().union(*(closure(before, event, set()) for event in empty))
+        place = {event: k for k, event in enumerate(sort(before))}
+        for keys in wanted:
+            makes = [("make", self.at[key]) for key in keys]
+            ready = [event for event in makes if event in place and event not in known]
+            for event in [max(ready, key=lambda event: place[event])] if ready else makes:
+                before[event] |= empty
 
     def last_events(self, before: Order) -> None:
         """Where a task's register 1 is set for the last time, all else that sets it came before."""
@@ -335,15 +350,47 @@ class Family:
                     or self.better(makers, len(core), [it for it in changes if it[1].how == "help"]))
             if best is None:
                 if not stuck:
-                    self.give_up()
+                    makers = self.search(options, {})
+                    break
                 settled.add(stuck[0])
                 helps = [(stuck[0], it) for it in options[stuck[0]] if it.how == "help"]
                 best = self.better(makers, 1 << 30, helps) or (stuck[0], makers[stuck[0]])
             makers = dict(makers)
             makers[best[0]] = best[1]
             core = self.core(makers)
+        self.choose(makers)
         self.before = arranged(*self.needs())
         return self.in_turn(self.before)
+
+    def search(self, options: dict[Key, list[Maker]], fixed: dict[Key, Maker]) -> dict[Key, Maker]:
+        """Who makes what: makers are fixed subpool by subpool, those that are stuck first, and others tried where
+        these alone wait for each other in circles."""
+        self.tried += 1
+        makers = {key: fixed.get(key, choices[0]) for key, choices in options.items()}
+        core = self.core(makers)
+        if not core:
+            return makers
+        left = [key for key in self.made if key not in fixed]
+        stuck = [key for key in left if self.is_stuck(key, core)] or left
+        if stuck and not self.has_circles(fixed):
+            key = min(stuck, key=lambda key: len(options[key]))
+            for maker in sorted(options[key], key=lambda it: len(self.core({**makers, key: it}))):
+                if self.tried <= MOST_CHOICES:
+                    found = self.search(options, {**fixed, key: maker})
+                    if found:
+                        return found
+        if not fixed:
+            self.give_up()
+        return {}
+
+    def has_circles(self, fixed: dict[Key, Maker]) -> bool:
+        """Whether some subpools can't be made so, whoever makes the others."""
+        made, at = self.made, self.at
+        self.made = list(fixed)
+        self.at = {key: k for k, key in enumerate(self.made)}
+        found = self.core(fixed)
+        self.made, self.at = made, at
+        return bool(found)
 
     def is_stuck(self, key: Key, core: set[Event]) -> bool:
         """Whether another maker of a subpool's storage could open a circle."""

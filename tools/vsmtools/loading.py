@@ -3,28 +3,34 @@
 It takes family's events in turn: ATTACHes, the words of tasks, and the storage of subpools. All storage of a
 subpool is made at once: its pages, as areas that fill them, while all lower ones are taken; the extents of cell
 pools, each where just its own storage is free; cells that are in use and free ones; the free areas. Where no
-task may obtain, cell pools are built in an order that building finds. Last come the end of the tasks that filled
-a number, and register 15.
+task may obtain, cell pools are built in an order that building finds, behind walls where they need them. Last come
+the end of the tasks that filled a number, and register 15.
 """
 from __future__ import annotations
 
 import heapq
 from itertools import product
-from typing import Iterable, NoReturn, Optional
+from typing import Iterable, Optional
 
-from .building import Build, Builder, page_end, shape
+from .building import Build, Builder, Step, core, page_end, shape
 from .command import Fault
 from .family import Event, Family
 from .judge import MOST_POOLS, MOST_TASKS, Judge, Refused, refuse
 from .lines import fold
 from .maps import HIGH_START, LOW_START, PAGE, Area, CellPool, Map, Subpool
-from .places import Home, Key, Places, location, unassigned
+from .places import Home, Key, Places, Words, location, unassigned
+from .walls import Walls
 
 NO_LENGTH = 0xFFFFFFF8   # that has a place nowhere
 
 
 def has_whole_page(area: Area) -> bool:
     return page_end(area.start) + PAGE <= area.end
+
+
+def has_low_extent(pool: CellPool) -> bool:
+    """Whether an extent lies below the line that goes there only where there's no place above."""
+    return pool.location == 31 and any(extent.start < HIGH_START for extent in pool.extents)
 
 
 def without(area: Area, holes: Iterable[int]) -> list[Area]:
@@ -83,42 +89,76 @@ class Loader:
         self.pool_names = {pool.name for pool in shown.cell_pools}
         self.built = 0                           # cell pools that are there
         self.done: set[Event] = set()
+        self.walls = Walls(self, {})
 
     def load(self) -> list[str]:
         """The script. Where it can't be made with all addresses had before the storage and with as much built by
         BUILD alone as can be, other ways are tried; what's told is why the first one fails."""
         faults: list[Fault] = []
         has_homes, can_obtain = any(it.homes for it in self.family.words), any(self.first.values())
-        for is_late, is_build_last in product((False, True)[:1 + has_homes], (False, True)[:1 + can_obtain]):
+        for is_late, is_last, is_walled in product(*((False, True)[:1 + can] for can in (
+                has_homes, can_obtain, can_obtain))):
             loader = Loader(self.map, self.source)
-            loader.family.is_late, loader.family.is_build_last = is_late, is_build_last
+            loader.family.is_late, loader.family.is_build_last = is_late, is_last
             try:
-                return loader.write()
+                return loader.write(is_walled)
             except Refused:
                 raise
             except Fault as fault:
                 faults.append(fault)
+        self.judge_pools()
         raise faults[0]
 
-    def write(self) -> list[str]:
+    def write(self, is_walled: bool) -> list[str]:
         events = self.family.plan()
         if sum(it.task == 1 for it in self.family.words) > 1:
             self.define_names()
+        if is_walled:
+            self.walls = Walls(self, self.wall_ends())
         for k, event in enumerate(events):
-            kind, number = event
-            if kind in ("create", "temp", "help"):
-                self.attach(event, events[k + 1:])
-            elif kind == "done":
-                self.end_helper(number)
-            elif kind == "make":
-                self.make(self.family.made[number])
-            elif kind == "words":
-                self.words(number)
-            else:
-                self.first_word(number)
+            if event[0] in ("create", "temp", "help", "words", "first"):
+                self.walls.close(self.family.actor(event))
+            self.carry_out(event, events[k + 1:])
             self.done.add(event)
         self.end()
         return self.script.lines
+
+    def carry_out(self, event: Event, later: list[Event]) -> None:
+        kind, number = event
+        if kind in ("create", "temp", "help"):
+            self.attach(event, later)
+        elif kind == "done":
+            self.end_helper(number)
+        elif kind == "make":
+            self.make(self.family.made[number])
+        elif kind == "words":
+            self.words(number)
+        else:
+            self.first_word(number)
+
+    def wall_ends(self) -> dict[int, int]:
+        """Up to where pages are kept from cell pools that BUILD alone makes."""
+        runs = [area for key, maker in self.family.makers.items() if maker.how == "build"
+                for area in self.family.subpools[key].extents]
+        ends = {side: max([area.end for area in runs if location(area.start) == side], default=0)
+                for side in (24, 31)}
+        if any(has_low_extent(pool) for pool in self.map.cell_pools):
+            ends[31] = HIGH_START + self.map.high_pages * PAGE
+        return ends
+
+    def judge_pools(self) -> None:
+        """That cell pools can be made whose subpool no task ever sees that could obtain there: one whose register
+        1 is 0 attached none and got no area, and none could give it the subpool."""
+        forced = [it for it in self.map.subpools if not self.first[it.owner] and (
+            it.number == 0 or it.owner == 1 or any(self.family.parent[it.owner] in other.sharers
+                                                   for other in self.map.subpools if other.number == it.number))]
+        found = core([Build(pool.extents[0], (it.number, it.owner), pool.location, pool)
+                      for it in forced for pool in self.pools_of(it)])
+        if found:
+            least = min(found, key=lambda it: it.area.start)
+            line = next(pool.line for pool in self.map.cell_pools if pool is least.pool)
+            refuse(self.source, line, "whichever of %d cell pools that just BUILD can have made came last, more lower "
+                   "places would be free for it than other cell pools can fill" % len(found))
 
     def pools_of(self, it: Subpool) -> list[CellPool]:
         return [pool for pool in self.map.cell_pools if (pool.subpool, pool.owner) == (it.number, it.owner)]
@@ -138,8 +178,8 @@ class Loader:
 
     def unassigned(self, side: int) -> list[Area]:
         """The runs of pages of a side of the line that no subpool has so far."""
-        return unassigned(self.map, (area for it in self.map.subpools if (it.number, it.owner) in self.made
-                                     for area in it.extents), side)
+        return unassigned(self.map, [area for it in self.map.subpools if (it.number, it.owner) in self.made
+                                     for area in it.extents] + self.walls.areas(), side)
 
     # The words of tasks.
 
@@ -152,6 +192,7 @@ class Loader:
     def words(self, number: int) -> None:
         """Gives a task a word of register 0, or addresses; task 1 those of names too."""
         it = self.family.words[number]
+        self.open_for(it)
         self.script.by(it.task)
         if it.length:
             self.script.put("STORAGE OBTAIN,LENGTH=(%d,%d),LOC=%d"
@@ -163,11 +204,19 @@ class Loader:
         else:
             self.addresses(it.task, it.addresses)
 
+    def open_for(self, it: Words) -> None:
+        """Releases the pages where a task gets words."""
+        if it.length:
+            self.walls.open_side(self.places.window(it.length)[0])
+        elif not self.family.is_behind(it):
+            self.walls.open(Area(word - word % 8, 8) for _, word in it.addresses)
+
     def first_word(self, task: int) -> None:
         """Gives register 1 of a task the address that stays there."""
         home = self.places.homes.get(task)
         if home is None:
-            self.addresses(task, [("(1)", self.first[task])])
+            self.walls.open([Area(self.first[task] - self.first[task] % 8, 8)])
+            self.addresses(task, [("(1)", self.first[task])], bool(self.walls.ends))
         else:
             self.word_at_home(task, "(1)", self.first[task], home)
 
@@ -213,17 +262,21 @@ class Loader:
         for cell in reversed(had if word in free else []):
             self.script.put("CPOOL FREE,CPID=%s,CELL=X'%X'" % (pool.name, cell))
 
-    def addresses(self, task: int, wanted: list[tuple[str, int]]) -> None:
+    def zero(self, task: int) -> Key:
+        """The subpool 0 of a task."""
+        return next((it.number, it.owner) for it in self.map.subpools
+                    if it.number == 0 and task in (it.owner, *it.sharers))
+
+    def addresses(self, task: int, wanted: list[tuple[str, int]], is_wall: bool = False) -> None:
         """Gives names and registers addresses whose pages are unassigned; what is obtained for that goes
-        again.
+        again, or becomes walls.
 
         All up to the last one is filled, so that only the doubleword that's wanted is free.
         """
         if not wanted:
             return
         self.script.by(task)
-        zero = next((it.number, it.owner) for it in self.map.subpools
-                    if it.number == 0 and task in (it.owner, *it.sharers))
+        zero = self.zero(task)
         free: list[Area] = []
         filled: list[Area] = []
         for side in (24, 31):
@@ -242,6 +295,10 @@ class Loader:
                 self.script.obtain(8, 0, location(word))
             else:
                 holes.append(word - 4)
+        if is_wall and not holes:
+            for area in filled:
+                self.walls.keep(area, task)
+            filled = []
         for area in filled + free:
             for part in without(area, holes):
                 self.script.release(part, 0)
@@ -327,6 +384,7 @@ class Loader:
         lists = [sorted({key[0] for key in keys} - {0}) for keys in (gives, shares)]
         is_listed = any(len(numbers) > 1 for numbers in lists)
         places = [area.start for it in self.map.subpools if (it.number, it.owner) in self.made for area in it.extents]
+        places += [area.start for area in self.walls.areas()]
         at = places[0] if places else LOW_START
         if is_listed and not places:
             self.script.obtain(256, 0, 24)
@@ -357,8 +415,10 @@ class Loader:
         if it.extents and self.family.makers[key].how == "build":
             self.build()
         elif it.extents:
+            self.walls.open(it.extents)
             Pages(self, it).make()
         elif self.family.makers[key].how == "build":
+            self.walls.open(Area(area.end - PAGE, PAGE) for area in self.walls.areas()[-1:])
             self.script.by(self.worker(key))
             name = self.spare_name()
             self.script.put("CPOOL BUILD,PCELLCT=1,CSIZE=8,CPID=%s,SP=%d,LOC=31" % (name, key[0]))
@@ -377,37 +437,41 @@ class Loader:
         its = [self.family.subpools[key] for key in keys]
         wanted = [Build(pool.extents[0], key, pool.location, pool) for key, it in zip(keys, its)
                   for pool in self.pools_of(it)]
-        builder = Builder(self.unassigned(24) + self.unassigned(31), wanted, MOST_POOLS - self.built)
+        is_walled = self.close_walls()
+        builder = Builder(self.unassigned(24) + self.unassigned(31), wanted, MOST_POOLS - self.built, is_walled)
         steps = builder.plan()
         if steps is None:
-            self.give_up(builder, its[0].line)
-        for step in steps:
-            self.build_step(step)
+            raise Fault("this can't be made: no order of BUILDs is found that takes at most %d cell pools at once"
+                        % MOST_POOLS, self.source, its[0].line)
+        self.build_steps(steps)
         self.built += len(wanted)
         self.made.update(keys)
 
-    def give_up(self, builder: Builder, line: int) -> NoReturn:
-        is_alone = len(self.map.tasks) == 1 and not self.first[1]
-        if is_alone and len(builder.wanted) == MOST_POOLS and not builder.has_last():
-            refuse(self.source, line, "task 1 just built its %d cell pools, and without any one of them a lower "
-                   "place than its own would fit, so that none was built last" % MOST_POOLS)
-        raise Fault("this can't be made: no order of BUILDs is found that takes at most %d cell pools at once"
-                    % MOST_POOLS, self.source, line)
+    def close_walls(self) -> bool:
+        """Whether areas of tasks are in all pages that are unassigned, as far as cell pools go."""
+        able = next((task for task in self.alive_of_map() if self.first[task] and self.family.last(task)
+                     not in self.done), None)
+        if able:
+            self.walls.close(able)
+        return bool(self.walls.held) and not any(run.start < end for side, end in self.walls.ends.items()
+                                                 for run in self.unassigned(side))
 
-    def build_step(self, step: list[Build]) -> None:
-        """Builds a cell pool behind its fillers, which go again."""
-        *fillers, last = step
-        assert last.pool is not None
-        self.script.by(self.worker(last.key))
+    def alive_of_map(self) -> list[int]:
+        return [1] + sorted(self.created)
+
+    def build_steps(self, steps: list[Step]) -> None:
+        """Builds cell pools behind their fillers, which go again."""
         names: dict[Build, str] = {}
-        for filler in fillers:
-            if filler in names:
-                self.delete(names.pop(filler))
+        for is_built, it in steps:
+            if is_built:
+                self.walls.open([it.area])
+            self.script.by(self.worker(it.key))
+            if not is_built:
+                self.delete(names.pop(it))
+            elif it.pool is None:
+                names[it] = self.build_filler(it)
             else:
-                names[filler] = self.build_filler(filler)
-        self.script.build(last.pool)
-        for name in names.values():
-            self.delete(name)
+                self.script.build(it.pool)
 
     def build_filler(self, filler: Build) -> str:
         name, found = self.spare_name(), shape(filler.area.length)
@@ -424,6 +488,7 @@ class Loader:
     def end(self) -> None:
         for number in sorted(self.fillers):
             self.end_filler(number)
+        self.walls.open_all()
         for task in self.map.tasks:
             if task.registers[15]:
                 self.script.by(task.number)
@@ -460,7 +525,7 @@ class Pages:
         for side in (24, 31):
             runs = [run for run in self.it.extents if location(run.start) == side]
             whole = self.loader.unassigned(side)
-            if side == 31 and self.is_high_full():
+            if side == 31 and any(has_low_extent(pool) for pool in self.pools):
                 last = max((run.end for run in whole), default=0)
             else:
                 last = max((run.end for run in runs), default=0)
@@ -478,11 +543,6 @@ class Pages:
             if run.length:
                 self.take(run)
             at = run.end
-
-    def is_high_full(self) -> bool:
-        """Whether an extent lies below the line that goes there only where there's no place above."""
-        return any(pool.location == 31 and extent.start < HIGH_START
-                   for pool in self.pools for extent in pool.extents)
 
     def take(self, area: Area) -> None:
         """Takes an area that is just where the next one goes."""

@@ -1,0 +1,82 @@
+"""The order of cell pools that BUILD and DELETE alone make, against all lists of them in a small region."""
+from __future__ import annotations
+
+from itertools import chain, combinations
+from typing import Iterator, Optional
+
+import pytest
+from vsmtools import building
+from vsmtools.building import Build, Builder, core
+from vsmtools.maps import Area
+
+Pool = tuple[int, int]            # from one doubleword up to another
+State = frozenset[Pool]
+KEY = (0, 1)
+
+
+class Region:
+    """A region of few pages of few doublewords, with few cell pools at once; areas can keep pages from these."""
+
+    def __init__(self, words: int, pages: int, most: int) -> None:
+        self.words, self.pages, self.most = words, pages, most
+        self.longest = 2 * words
+
+    def own(self, state: State) -> set[int]:
+        return {page for start, end in state for page in range(start // self.words, (end - 1) // self.words + 1)}
+
+    def place(self, state: State, length: int, kept: set[int]) -> Optional[int]:
+        """Where a BUILD goes: the lowest free area of the subpool, or the lowest run of pages that aren't kept."""
+        own, taken = self.own(state), {word for start, end in state for word in range(start, end)}
+        free = {word for word in range(self.words * self.pages) if word // self.words in own} - taken
+        open_pages = set(range(self.pages)) - own - kept
+        whole = {word for word in range(self.words * self.pages) if word // self.words in open_pages}
+        for words in (free, whole):
+            for start in sorted(words):
+                if (words is free or start % self.words == 0) and set(range(start, start + length)) <= words:
+                    return start
+        return None
+
+    def nexts(self, state: State) -> Iterator[State]:
+        """What one BUILD or DELETE makes."""
+        yield from (state - {pool} for pool in state)
+        left = sorted(set(range(self.pages)) - self.own(state))
+        for kept in chain.from_iterable(combinations(left, count) for count in range(len(left) + 1)):
+            for length in range(1, self.longest + 1) if len(state) < self.most else ():
+                start = self.place(state, length, set(kept))
+                if start is not None:
+                    yield state | {(start, start + length)}
+
+    def made(self) -> set[State]:
+        """All that lists of BUILDs and DELETEs make."""
+        found, left = {State()}, [State()]
+        while left:
+            for state in self.nexts(left.pop()):
+                if state not in found:
+                    found.add(state)
+                    left.append(state)
+        return found
+
+    def maps(self, start: int, most: int) -> Iterator[tuple[Pool, ...]]:
+        """All sets of pools; one that takes a new page begins with it."""
+        yield ()
+        for begin in range(start, self.words * self.pages) if most else ():
+            for end in range(begin + 1, min(begin + self.longest, self.words * self.pages) + 1):
+                if begin % self.words == 0 or -(-begin // self.words) * self.words + self.words > end:
+                    yield from (((begin, end), *rest) for rest in self.maps(end, most - 1))
+
+
+@pytest.mark.parametrize("words, pages, most, missed", [(4, 3, 2, 0), (4, 2, 3, 1), (4, 2, 4, 0)])
+def test_all_maps_of_a_small_region(monkeypatch: pytest.MonkeyPatch, words: int, pages: int, most: int,
+                                    missed: int) -> None:
+    """What is refused isn't made, what is planned is, and few others are missed."""
+    monkeypatch.setattr(building, "PAGE", 8 * words)
+    monkeypatch.setattr(building, "MOST_POOLS", most)
+    region, count = Region(words, pages, most), 0
+    made = region.made()
+    for pools in region.maps(0, most):
+        builds = [Build(Area(8 * start, 8 * (end - start)), KEY, 24) for start, end in pools]
+        is_planned = Builder([], builds, most, True).plan() is not None
+        assert State(pools) not in made if core(builds) else True, pools
+        assert State(pools) in made if is_planned else True, pools
+        count += State(pools) in made and not is_planned
+    assert count == missed
