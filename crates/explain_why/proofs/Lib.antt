@@ -1,2 +1,4 @@
--- Lemmas on what is told of first causes.
+-- Lemmas on what is told of first causes, and on which statement that is.
 pub mod FirstCause
+pub mod Reading
+pub mod Found

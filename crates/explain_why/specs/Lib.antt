@@ -1,1 +1,3 @@
+pub mod Ahead
 pub mod Told
+pub mod Explained

@@ -1,4 +1,11 @@
 //! The statement that begins at a place of a script, read before it's carried out.
+ghost use Rattle.std.specs.Prelude.{◌≡◌, ◌+◌, ◌<◌, ◌≤◌, List, [], ◌∷◌, ◌++◌, drop, length, take};
+ghost use Rattle.std.specs.Str.Lines.{strip_carriage_return};
+ghost use Rattle.macro_reader.specs.Columns.{Line};
+ghost use Rattle.macro_reader.specs.Scripts.{IsBehind};
+ghost use Rattle.script_steps.specs.Script.{columns};
+ghost use Rattle.explain_why.specs.Ahead.{Brought, IsAhead, IsReadAs};
+
 use macro_reader::{FaultKind, Fed, Reader, Request, Stand};
 use script_steps::before_feed;
 
@@ -22,13 +29,17 @@ pub(crate) struct Ahead {
 }
 
 /// The first 80 bytes of a line.
-fn front(line: &[u8]) -> &[u8] {
+fn front(line: &[u8]) -> &[u8]
+    ensures { result.now ≡ take 80 line.now }
+{
     let count = line.len().min(80);
     &line[..count]
 }
 
 /// A line without a carriage return at its end.
-fn strip(line: &[u8]) -> &[u8] {
+fn strip(line: &[u8]) -> &[u8]
+    ensures { result.now ≡ strip_carriage_return line.now }
+{
     let n = line.len();
     if n > 0 && line[n - 1] == b'\r' {
         &line[..n - 1]
@@ -38,7 +49,9 @@ fn strip(line: &[u8]) -> &[u8] {
 }
 
 /// Columns 1 to 80 of a line, without a carriage return at its end where it is no longer.
-fn columns(line: &[u8]) -> &[u8] {
+fn columns(line: &[u8]) -> &[u8]
+    ensures { result.now ≡ columns line.now }
+{
     if line.len() > 80 {
         front(line)
     } else {
@@ -46,19 +59,31 @@ fn columns(line: &[u8]) -> &[u8] {
     }
 }
 
-/// What stands behind the byte at this place; nothing where there is no such byte.
-pub(crate) fn behind(text: &[u8], place: usize) -> &[u8] {
-    match text.get(place..) {
-        Some(rest) => match rest.get(1..) {
-            Some(behind) => behind,
-            None => b"",
-        },
-        None => b"",
+/// The first line of a text, of so many bytes, as it's read.
+fn line_of(text: &[u8], size: usize) -> &[u8]
+    requires { size ≤ length text.now }
+    ensures { IsReadAs text.now size result.now }
+{
+    if size == text.len() {
+        front(text)
+    } else {
+        columns(&text[..size])
     }
 }
 
+/// What stands behind the byte at this place.
+fn behind(text: &[u8], place: usize) -> &[u8]
+    requires { place < length text.now }
+    ensures { result.now ≡ drop (place + 1) text.now }
+{
+    &text[place + 1..]
+}
+
 /// What a line brought to a reader that awaited a statement or had one open; `None` where the statement goes on.
-fn brought(reader: &mut Reader, line: &[u8]) -> Option<Asked> {
+fn brought(reader: &mut Reader, line: &[u8]) -> Option<Asked>
+    ensures { (lines : List Line) → IsBehind lines [] reader.old
+        → Brought (lines ++ line.now ∷ []) reader.new result }
+{
     match reader.next(line) {
         Ok(Fed::Ready(request, _)) => Some(Asked::Request(request)),
         Err(fault) => Some(Asked::Fault(fault.kind)),
@@ -69,20 +94,15 @@ fn brought(reader: &mut Reader, line: &[u8]) -> Option<Asked> {
     }
 }
 
-/// Reads the statement that begins at a place of the script, at most ten lines.
-pub(crate) fn read_ahead(script: &[u8], at: usize) -> Ahead {
+/// Reads the statement that a text begins with, at most ten lines.
+pub(crate) fn read_ahead(text: &[u8]) -> Ahead
+    ensures { IsAhead text.now result }
+{
     let mut reader = Reader::new();
-    let mut rest = match script.get(at..) {
-        Some(rest) => rest,
-        None => b"",
-    };
+    let mut rest = text;
     for lines in 1..11 {
         let size = before_feed(rest);
-        let line = if size == rest.len() {
-            front(rest)
-        } else {
-            columns(&rest[..size])
-        };
+        let line = line_of(rest, size);
         if let Some(asked) = brought(&mut reader, line) {
             return Ahead { asked, lines };
         }
@@ -98,7 +118,9 @@ pub(crate) fn read_ahead(script: &[u8], at: usize) -> Ahead {
 }
 
 /// A statement that is still open behind so many lines.
-fn open_behind(lines: u32) -> Ahead {
+fn open_behind(lines: u32) -> Ahead
+    ensures { result ≡ record { asked = Asked.Open; lines = lines } }
+{
     Ahead {
         asked: Asked::Open,
         lines,

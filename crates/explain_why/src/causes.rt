@@ -39,7 +39,8 @@ pub(crate) fn put_reasons<W: Write>(
                 gathered,
                 writer,
                 bench.kept(),
-                [" change is kept", " changes are kept"],
+                " change is kept",
+                " changes are kept",
             );
         }
         Request::Forward(n) => {
@@ -48,7 +49,8 @@ pub(crate) fn put_reasons<W: Write>(
                 gathered,
                 writer,
                 bench.undone(),
-                [" change is undone", " changes are undone"],
+                " change is undone",
+                " changes are undone",
             );
         }
     }
@@ -86,8 +88,8 @@ fn put_peek<W: Write>(
 }
 
 /// Puts how many changes a step can go over, with the words for one and for more.
-fn put_step<W: Write>(gathered: &mut Gathered, writer: &mut W, n: u32, words: [&str; 2]) {
-    let text = if n == 1 { words[0] } else { words[1] };
+fn put_step<W: Write>(gathered: &mut Gathered, writer: &mut W, n: u32, one: &str, more: &str) {
+    let text = if n == 1 { one } else { more };
     put_line(gathered, writer, &[Piece::Number(n), Piece::Text(text)]);
 }
 

@@ -3,7 +3,7 @@ use bench_core::NewFault;
 use script_steps::TooLong;
 
 /// What keeps a line from being explained.
-#[derive(Clone, Copy, Debug, PartialEq, Eq)]
+#[derive(Clone, Copy)]
 pub enum WhyFault {
     /// There is no bench under these settings, or no memory for one.
     New(NewFault),

@@ -1,8 +1,12 @@
 //! Why a line of a script is answered as it is.
-ghost use Rattle.std.specs.Prelude.{◌≡◌, ◌≤◌, IfOk, IfSome, length};
+ghost use Rattle.std.specs.Prelude.{◌≡◌, ◌≤◌, [], IfOk, IfSome, OnOk, drop, length};
+ghost use Rattle.vsm_model.specs.declared.limits.Settings.{Settings};
 ghost use Rattle.script_steps.specs.Script.{NoFeed};
+ghost use Rattle.script_steps.specs.Taken.{Took};
 ghost use Rattle.bench_core.specs.Stands.{bench_of, settings_in};
 ghost use Rattle.place_reasons.specs.Told.{PutsSome};
+ghost use Rattle.explain_why.specs.Explained.{IsExplained, IsFound, IsPlaceOf, IsStatementAt, TakesLine};
+ghost use Rattle.explain_why.specs.Explained.{WritesAhead};
 ghost use Rattle.explain_why.specs.Told.{TellsAhead};
 
 use crate::ahead::{Ahead, Asked, read_ahead};
@@ -28,6 +32,32 @@ struct Place {
     ahead: Ahead,
 }
 
+/// What stands in a script from a place on.
+fn rest_from(script: &[u8], at: usize) -> &[u8]
+    requires { at ≤ length script.now }
+    ensures { result.now ≡ drop at script.now }
+{
+    &script[at..]
+}
+
+/// The statement that begins at a place and on a line of this number, where it has a line of that number.
+fn statement_at(script: &[u8], at: usize, first: u32, line: u32) -> Result<Option<Place>, WhyFault>
+    requires { at ≤ length script.now }
+    ensures { IfOk result (λ found. IfSome found (IsStatementAt script.now at first line)) }
+{
+    if line < first || line - first >= STATEMENT_LINES {
+        return Ok(None);
+    }
+    let ahead = read_ahead(rest_from(script, at));
+    if line - first >= ahead.lines {
+        return Ok(None);
+    }
+    match ahead.asked {
+        Asked::Aside => Err(WhyFault::Aside),
+        _ => Ok(Some(Place { at, first, ahead })),
+    }
+}
+
 /// The statement of this line, where it begins at this place, before which the session stands.
 fn place_of(
     session: &Session,
@@ -35,24 +65,34 @@ fn place_of(
     at: usize,
     line: u32,
 ) -> Result<Option<Place>, WhyFault>
-    ensures { IfOk result (λ found. IfSome found (λ place. place.at ≡ at)) }
+    requires { at ≤ length script.now }
+    ensures { IfOk result (λ found. IfSome found (IsPlaceOf session.now script.now at line)) }
 {
     let first = session.lines() + 1;
     match session.stand() {
-        Stand::Awaiting => (),
-        Stand::Dropping if first == line => return Err(WhyFault::Dropped),
-        _ => return Ok(None),
+        Stand::Awaiting => statement_at(script, at, first, line),
+        Stand::Dropping if first == line => Err(WhyFault::Dropped),
+        _ => Ok(None),
     }
-    if line < first || line - first >= STATEMENT_LINES {
-        return Ok(None);
-    }
-    let ahead = read_ahead(script, at);
-    if line - first >= ahead.lines {
-        return Ok(None);
-    }
-    match ahead.asked {
-        Asked::Aside => Err(WhyFault::Aside),
-        _ => Ok(Some(Place { at, first, ahead })),
+}
+
+/// Takes the line that begins at a place of the script, and gives the place of the next.
+fn take_next<P: Watch>(
+    session: &mut Session,
+    script: &[u8],
+    at: usize,
+    watch: &mut P,
+) -> Result<usize, WhyFault>
+    requires { at ≤ length script.now }
+    ensures { IfOk result (TakesLine script.now at session.old session.new) }
+{
+    match session.take_line(script, at) {
+        Ok(Some(step)) => {
+            watch.line(session.lines());
+            Ok(step.next)
+        }
+        Ok(None) => Err(WhyFault::NoLine(session.lines() + 1)),
+        Err(_) => Err(WhyFault::TooLong),
     }
 }
 
@@ -63,7 +103,9 @@ fn seek<P: Watch>(
     line: u32,
     watch: &mut P,
 ) -> Result<Place, WhyFault>
-    ensures { IfOk result (λ place. place.at ≤ length script.now) }
+    ensures within { IfOk result (λ place. place.at ≤ length script.now) }
+    ensures found { (settings : Settings) → Took settings [] [] session.old
+        → IfOk result (IsFound settings script.now line session.new) }
 {
     let mut at = 0;
     for _ in 0..LINES {
@@ -73,11 +115,7 @@ fn seek<P: Watch>(
         if let Some(place) = place_of(session, script, at, line)? {
             return Ok(place);
         }
-        let Some(step) = session.take_line(script, at)? else {
-            return Err(WhyFault::NoLine(session.lines() + 1));
-        };
-        watch.line(session.lines());
-        at = step.next;
+        at = take_next(session, script, at, watch)?;
     }
     Err(WhyFault::TooLong)
 }
@@ -166,6 +204,67 @@ fn put_why<W: Write>(
     }
 }
 
+/// Puts that a statement got no memory, where that is its answer.
+fn put_no_memory<W: Write>(gathered: &mut Gathered, writer: &mut W, response: &Response)
+    ensures { PutsSome (W.contents writer.old) (W.contents writer.new) gathered.old gathered.new }
+{
+    if let Response::Refused(Refusal::NoMemory) = response {
+        gathered.put(
+            writer,
+            b"  no rule refuses it: the program got no memory for it, and that alone is why\n",
+        );
+    }
+}
+
+/// Puts the text of an answer.
+fn put_answered<W: Write>(gathered: &mut Gathered, writer: &mut W, response: &Response)
+    ensures { PutsSome (W.contents writer.old) (W.contents writer.new) gathered.old gathered.new }
+{
+    gathered.put(writer, b"  answered: ");
+    put_response(gathered, writer, response);
+    gathered.put(writer, b"\n");
+}
+
+/// Puts an answer, and says whether it's a refusal.
+fn put_answer<W: Write>(
+    gathered: &mut Gathered,
+    writer: &mut W,
+    response: &Option<Response>,
+) -> bool
+    ensures { PutsSome (W.contents writer.old) (W.contents writer.new) gathered.old gathered.new }
+{
+    let Some(response) = response else {
+        gathered.put(writer, b"  answered: nothing\n");
+        return false;
+    };
+    put_no_memory(gathered, writer, response);
+    put_answered(gathered, writer, response);
+    response.is_refused()
+}
+
+/// Writes why the statement at a place, before which the session stands, is answered as it is. `true` where it's
+/// refused.
+fn tell<W: Write>(
+    session: Session,
+    script: &[u8],
+    line: u32,
+    place: &Place,
+    out: &mut W,
+) -> Result<bool, WhyFault>
+    requires { place.now.at ≤ length script.now }
+    ensures { OnOk result (WritesAhead (settings_in session.bench) (bench_of session.bench).present
+        place.now.ahead.asked (W.contents out.old) (W.contents out.new)) }
+{
+    let mut gathered = Gathered::new();
+    put_why(&mut gathered, out, session.bench(), line, place);
+    let response = answer(session, script, place.at)?;
+    let refused = put_answer(&mut gathered, out, &response);
+    match gathered.finish(out) {
+        Ok(()) => Ok(refused),
+        Err(_) => Err(WhyFault::Write),
+    }
+}
+
 /// Writes why the statement of a line, its first or a later one, is answered as it is: what it asks for in the state
 /// before it, what decides, and the answer. `true` where that is a refusal.
 ///
@@ -180,41 +279,14 @@ pub fn why<W: Write, P: Watch>(
     line: u32,
     out: &mut W,
     watch: &mut P,
-) -> Result<bool, WhyFault> {
+) -> Result<bool, WhyFault>
+    ensures { OnOk result (IsExplained settings script.now line (W.contents out.old) (W.contents out.new)) }
+{
     let bench = match Bench::new(alloc, settings) {
         Ok(bench) => bench,
         Err(fault) => return Err(WhyFault::New(fault)),
     };
     let mut session = Session::new(bench);
     let place = seek(&mut session, script, line, watch)?;
-    let mut gathered = Gathered::new();
-    put_why(&mut gathered, out, session.bench(), line, &place);
-    let response = answer(session, script, place.at)?;
-    let refused = put_answer(&mut gathered, out, &response);
-    match gathered.finish(out) {
-        Ok(()) => Ok(refused),
-        Err(_) => Err(WhyFault::Write),
-    }
-}
-
-/// Puts an answer, and says whether it's a refusal.
-fn put_answer<W: Write>(
-    gathered: &mut Gathered,
-    writer: &mut W,
-    response: &Option<Response>,
-) -> bool {
-    let Some(response) = response else {
-        gathered.put(writer, b"  answered: nothing\n");
-        return false;
-    };
-    if let Response::Refused(Refusal::NoMemory) = response {
-        gathered.put(
-            writer,
-            b"  no rule refuses it: the program got no memory for it, and that alone is why\n",
-        );
-    }
-    gathered.put(writer, b"  answered: ");
-    put_response(gathered, writer, response);
-    gathered.put(writer, b"\n");
-    response.is_refused()
+    tell(session, script, line, &place, out)
 }

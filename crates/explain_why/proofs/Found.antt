@@ -1,0 +1,182 @@
+-- The statement of a line, where it's found, and that it's told.
+use Rattle.std.proofs.Common.{◌≡◌, ◌≢◌, inl, inr, ℕ, zero, suc, ◌+◌, ◌-◌, ◌<◌, ◌≤◌, List, [], ◌∷◌, ◌++◌, length, map, take, get_or, Option, Some, None, Result, Ok, Err, IfOk, IfSome, refl, sym, ap, subst, ◌∙◌, arith, zero-add}
+use Rattle.std.specs.Prelude.{OnOk}
+use Rattle.std.proofs.lemmas.List.{length-append, length-take-le}
+use Rattle.std.proofs.KnownBytes.{Appends-nil}
+use Rattle.std.specs.Io.KnownBytes.{Appends}
+use Rattle.std.specs.List.{flat_map}
+use Rattle.vsm_model.specs.declared.limits.Settings.{Settings}
+use Rattle.vsm_model.specs.Names.{NamedState}
+use Rattle.vsm_model.specs.Standing.{nothing_stands}
+use Rattle.macro_reader.specs.Roles.{IsStand}
+use Rattle.macro_reader.specs.Scripts.{Between, Mode, awaiting, dropping, gathering}
+use Rattle.macro_reader.specs.declared.reading.Stand.TheVariants as stand
+use Rattle.macro_statements.specs.Requests.{Asked, asked_in, act, peek, map_asked, back, forward}
+use Rattle.bench_core.specs.Stands.{bench_of, settings_in}
+use Rattle.script_steps.specs.Output.{Marked, alone_now, stands_all}
+use Rattle.script_steps.specs.Script.{NoFeed, Within, columns, with_feed}
+use Rattle.script_steps.specs.Steps.{BringsStep, StepsOver}
+use Rattle.script_steps.specs.Taken.{Took, answers_of}
+use Rattle.script_steps.specs.declared.session.Session.{Session}
+use Rattle.script_steps.specs.declared.steps.Step.{Step}
+use Rattle.script_steps.proofs.Standings.{stands_for}
+use Rattle.text_output.specs.Writing.{Holds, IsEmpty}
+use Rattle.text_output.specs.declared.writing.Gathered.{Gathered}
+use Rattle.text_output.proofs.Gathering.{empty_holds}
+use Rattle.place_reasons.specs.Told.{PutsSome}
+use Rattle.cause_reasons.specs.Told.{PutsOneOf}
+use Rattle.cause_reasons.specs.Words.{Words, cause_words}
+use Rattle.cause_reasons.proofs.OneOf.{one_then}
+use Rattle.explain_why.specs.Explained.{IsExplained, IsFound, IsLineStart, IsPlaceOf, IsStatementAt, TakesLine, WritesAhead, WritesOneOf, WritesRequest}
+use Rattle.explain_why.specs.Told.{TellsAhead, TellsRequest}
+use Rattle.explain_why.specs.declared.ahead.Asked as ahead
+use Rattle.explain_why.specs.declared.ahead.Asked.TheVariants as variant
+use Rattle.explain_why.specs.declared.faults.WhyFault.{WhyFault}
+use Rattle.explain_why.specs.declared.lines.Place.{Place}
+
+-- ---- what stands before a line is whole lines
+
+each_at : (xs : List ℕ) (n : ℕ) → n < length xs → NoFeed xs → get_or xs n 0 ≢ 10
+each_at [] n inside h = absurd (omega arith)
+each_at (x ∷ xs) zero inside h = h.0
+each_at (x ∷ xs) (suc n) inside h = each_at xs n (omega arith) h.1
+
+at_behind : (xs ys : List ℕ) (n : ℕ) → get_or (xs ++ ys) (length xs + n) 0 ≡ get_or ys n 0
+at_behind [] ys n = ap (λ (k : ℕ). get_or ys k 0) (zero-add n)
+at_behind (x ∷ xs) ys n =
+    let more : length (x ∷ xs) + n ≡ suc (length xs + n) = omega arith in ap (λ (k : ℕ). get_or (x ∷ (xs ++ ys)) k 0) more ∙ at_behind xs ys n
+
+at_front : (n i : ℕ) (xs : List ℕ) → i < n → get_or (take n xs) i 0 ≡ get_or xs i 0
+at_front zero i xs h = absurd (omega arith)
+at_front (suc n) i [] h = refl
+at_front (suc n) zero (x ∷ xs) h = refl
+at_front (suc n) (suc i) (x ∷ xs) h = at_front n i xs (omega arith)
+
+-- a text whose last byte is a line feed has no other text without one at its end
+pub none_behind : (script : List ℕ) (at : ℕ) (front rest : List ℕ) → at ≤ length script → IsLineStart script at → take at script ≡ front ++ rest → NoFeed rest → rest ≡ []
+none_behind script at front [] inside start cut plain = refl
+none_behind script at front (r ∷ rs) inside start cut plain =
+    let size : length (take at script) ≡ at = length-take-le at script inside in
+    let both = length-append front (r ∷ rs) in
+    let total : at ≡ length front + suc (length rs) = omega (arith, size, ap (λ (xs : List ℕ). length xs) cut, both) in
+    elim start [
+      | inl none ↦ absurd (omega (arith, total, none))
+      | inr feed ↦
+          let last : at - 1 ≡ length front + length rs = omega (arith, total) in
+          absurd (each_at (r ∷ rs) (length rs) (omega arith) plain
+          (sym (at_behind front (r ∷ rs) (length rs)) ∙ ap (λ xs. get_or xs (length front + length rs) 0) (sym cut)
+          ∙ at_front at (length front + length rs) script (omega (arith, total)) ∙ ap (λ k. get_or script k 0) (sym last) ∙ feed))
+    ]
+
+-- ---- a statement of the line
+
+awaits : (m : Mode) → IsStand m stand.Awaiting → m ≡ awaiting
+awaits awaiting h = refl
+awaits dropping h = absurd (let f : stand.Awaiting ≡ stand.Dropping = h in cc)
+awaits (gathering n card j count) h = absurd (let f : stand.Awaiting ≡ stand.Gathering = h in cc)
+
+pub place_found : (s : Session) (script : List ℕ) (at line first : ℕ) (r : Result (Option Place) WhyFault) → first ≡ s.lines + 1 → IsStand s.reader.mode stand.Awaiting →
+    IfOk r (λ found. IfSome found (IsStatementAt script at first line)) → IfOk r (λ found. IfSome found (IsPlaceOf s script at line))
+place_found s script at line first (Ok (Some place)) is stands found =
+    record { awaits = awaits s.reader.mode stands; statement = subst (λ n. IsStatementAt script at n line place) is found }
+place_found s script at line first (Ok None) is stands found = found
+place_found s script at line first (Err fault) is stands found = found
+
+-- ---- one line more is taken
+
+pub line_taken : (script : List ℕ) (at : ℕ) (old new : Session) (told : Option Step) (step : Step) → told ≡ Some step → StepsOver script at (Ok told) →
+    ((settings : Settings) (answers : List Marked) → Took settings (take at script) answers old → BringsStep settings script answers new (Ok told)) →
+    TakesLine script at old new step.next
+line_taken script at old new told step is place brings =
+    let over : StepsOver script at (Ok (Some step)) = subst (λ (x : Option Step). StepsOver script at (Ok x)) is place in
+    record {
+      within = over.1.within;
+      starts = inr over.1.feed;
+      took = λ settings answers took.
+          let more : BringsStep settings script answers new (Ok (Some step)) =
+          subst (λ (x : Option Step). BringsStep settings script answers new (Ok x)) is (brings settings answers took) in (answers ++ more.0, more.2);
+    }
+
+-- the statement is found there
+pub found_at : (settings : Settings) (script : List ℕ) (at line : ℕ) (s : Session) (place : Place) → IsPlaceOf s script at line place → IsLineStart script at →
+    ((answers : List Marked) × Took settings (take at script) answers s) → IsFound settings script line s place
+found_at settings script at line s place its start (answers, took) =
+    let same = sym its.statement.begins in
+    record {
+      before = answers;
+      took = subst (λ k. Took settings (take k script) answers s) same took;
+      starts = subst (IsLineStart script) same start;
+      its = subst (λ k. IsPlaceOf s script k line place) same its;
+    }
+
+-- ---- what is put is written
+
+-- one of some words
+one_written : (words : Words) (old now later new : Option (List ℕ)) (a b c : Gathered) → IsEmpty a → PutsOneOf words old now a b → PutsSome now later b c →
+    ((first : Option (List ℕ)) (text : List ℕ) → Holds first later c text → Appends first new text) → WritesOneOf words old new
+one_written words old now later new a b c none one some finish =
+    let all = one_then words old now later a b c one some in
+    let front = all.3.0 in
+    let behind = all.3.1 in (
+      all.0,
+      all.1,
+      all.2,
+      (front, behind, finish old (front ++ (all.1 ++ behind)) (all.3.2 old [] (empty_holds old old a [] none (Appends-nil old)))),
+    )
+
+request_written : (settings : Settings) (m : NamedState) (x : Asked) (old now later new : Option (List ℕ)) (a b c : Gathered) → IsEmpty a →
+    TellsRequest settings m x old now a b → PutsSome now later b c →
+    ((first : Option (List ℕ)) (text : List ℕ) → Holds first later c text → Appends first new text) → WritesRequest settings m x old new
+request_written settings m (act x) old now later new a b c none told some finish =
+    λ valid service cause asked plain first has.
+    one_written (cause_words service cause) old now later new a b c none (told valid service cause asked plain first has) some finish
+request_written settings m (peek address len) old now later new a b c none told some finish = tt
+request_written settings m map_asked old now later new a b c none told some finish = tt
+request_written settings m (back n) old now later new a b c none told some finish = tt
+request_written settings m (forward n) old now later new a b c none told some finish = tt
+
+pub ahead_written : (settings : Settings) (m : NamedState) (x : ahead.Asked) (old now later new : Option (List ℕ)) (a b c : Gathered) → IsEmpty a →
+    TellsAhead settings m x old now a b → PutsSome now later b c →
+    ((first : Option (List ℕ)) (text : List ℕ) → Holds first later c text → Appends first new text) → WritesAhead settings m x old new
+ahead_written settings m (variant.Request request) old now later new a b c none told some finish =
+    request_written settings m (asked_in request) old now later new a b c none told some finish
+ahead_written settings m (variant.Fault kind) old now later new a b c none told some finish = tt
+ahead_written settings m variant.Open old now later new a b c none told some finish = tt
+ahead_written settings m variant.Aside old now later new a b c none told some finish = tt
+
+-- ---- and so the statement of the line is told
+
+pub on_ok : {X E : Type 0} (P Q : Type 0) (r : Result X E) → (P → Q) → OnOk r P → OnOk r Q
+on_ok P Q (Ok x) f h = f h
+on_ok P Q (Err e) f h = h
+
+pub explained : (settings : Settings) (script : List ℕ) (line : ℕ) (s : Session) (place : Place) (old new : Option (List ℕ)) → place.at ≤ length script →
+    IsFound settings script line s place → WritesAhead (settings_in s.bench) (bench_of s.bench).present place.ahead.asked old new →
+    IsExplained settings script line old new
+explained settings script line s place old new inside found told =
+    let took = found.took in
+    let its = found.its.statement in
+    let none : took.rest ≡ [] = none_behind script place.at (flat_map with_feed took.lines) took.rest inside found.starts took.within.cut took.within.unended.0 in
+    let read : Between awaiting (map columns took.lines) (answers_of found.before) =
+    subst (λ m. Between m (map columns took.lines) (answers_of found.before)) found.its.awaits took.told.between in
+    let present : (bench_of s.bench).present ≡ alone_now settings (stands_all settings nothing_stands found.before) =
+    (stands_for settings found.before (bench_of s.bench) took.led).present in
+    record {
+      place = place.at;
+      lines = took.lines;
+      within = subst (Within (take place.at script) took.lines) none took.within;
+      before = found.before;
+      parts = read.0;
+      reads = read.1;
+      met = took.led.met;
+      own = its.ahead.lines;
+      behind = its.ahead.behind;
+      next = its.ahead.first;
+      asked = place.ahead.asked;
+      asks = its.ahead.asks;
+      bears = its.bears;
+      from = omega (arith, its.from, took.count);
+      to = omega (arith, its.to, its.ahead.count, took.count);
+      tells = subst (λ m. WritesAhead settings m place.ahead.asked old new) present
+          (subst (λ k. WritesAhead k (bench_of s.bench).present place.ahead.asked old new) took.under told);
+    }

@@ -1,0 +1,100 @@
+-- What is written of the statement of a line, for a whole script.
+use Rattle.std.specs.Prelude.{◌≡◌, ◌⊎◌, ℕ, ◌+◌, ◌-◌, ◌<◌, ◌≤◌, true, false, nat_lt, List, [], ◌++◌, length}
+use Rattle.std.specs.Prelude.{Option, Some, drop, map, slice_get, slice_index, take}
+use Rattle.std.specs.Io.KnownBytes.{Appends}
+use Rattle.vsm_model.specs.declared.causes.Cause.{Cause}
+use Rattle.vsm_model.specs.declared.limits.Settings.{Settings}
+use Rattle.vsm_model.specs.Causes.{first_cause}
+use Rattle.vsm_model.specs.Names.{NamedState, is_one_too_many}
+use Rattle.vsm_model.specs.Services.{Service}
+use Rattle.vsm_model.specs.Standing.{nothing_stands}
+use Rattle.vsm_model.specs.Step.{causes}
+use Rattle.macro_reader.specs.Columns.{Line}
+use Rattle.macro_reader.specs.Scripts.{Part, Reads, awaiting}
+use Rattle.macro_statements.specs.Requests.{Act, Asked, act, asked_in, IsValidAct}
+use Rattle.vsm_machine.specs.Causes.{is_conditional_get}
+use Rattle.vsm_machine.specs.Machine.{name_asked, service_asked}
+use Rattle.script_steps.specs.Output.{Marked, AllMet, alone_now, stands_all}
+use Rattle.script_steps.specs.Script.{columns, Within}
+use Rattle.script_steps.specs.Taken.{Took, answers_of}
+use Rattle.script_steps.specs.declared.session.Session.{Session}
+use Rattle.cause_reasons.specs.Words.{Words, cause_words}
+use Rattle.explain_why.specs.Ahead.{AreFirst, Asks, IsAhead}
+use Rattle.explain_why.specs.declared.ahead.Asked as ahead
+use Rattle.explain_why.specs.declared.ahead.Asked.TheVariants as variant
+use Rattle.explain_why.specs.declared.lines.Place.{Place}
+
+-- What a writer holds grows by a text in which one of these stands.
+abbrev pub WritesOneOf : Words → Option (List ℕ) → Option (List ℕ) → Type 0
+WritesOneOf words old new =
+    (i : ℕ) × (its : List ℕ) × (slice_get words i ≡ Some its)
+    × ((front : List ℕ) × (behind : List ℕ) × Appends old new (front ++ (its ++ behind)))
+
+-- Where a statement in a state has a first cause by the definitions, why it's refused there or, but for a conditional
+-- GET, answered 4, and that has words, one of them is written.
+abbrev pub WritesFirstCause : Settings → NamedState → Act → Option (List ℕ) → Option (List ℕ) → Type 0
+WritesFirstCause settings m x old new =
+    (service : Service) (cause : Cause) → service_asked m x ≡ Some service → is_conditional_get service ≡ false
+    → first_cause (causes settings (is_one_too_many m.names (name_asked x)) m.storage service) ≡ Some cause
+    → nat_lt 0 (length (cause_words service cause)) ≡ true → WritesOneOf (cause_words service cause) old new
+
+-- Of a request that is a statement which can be written; of others nothing is said here.
+abbrev pub WritesRequest : Settings → NamedState → Asked → Option (List ℕ) → Option (List ℕ) → Type 0
+WritesRequest settings m (act x) old new = IsValidAct x → WritesFirstCause settings m x old new
+WritesRequest settings m _ old new = Unit {0}
+
+abbrev pub WritesAhead : Settings → NamedState → ahead.Asked → Option (List ℕ) → Option (List ℕ) → Type 0
+WritesAhead settings m (variant.Request request) old new = WritesRequest settings m (asked_in request) old new
+WritesAhead settings m _ old new = Unit {0}
+
+-- A line begins at this place of a script.
+abbrev pub IsLineStart : List ℕ → ℕ → Type 0
+IsLineStart script at = (at ≡ 0) ⊎ (slice_index script (at - 1) ≡ 10)
+
+-- A statement begins at this place, on a line of this number, and has a line of that number.
+pub record IsStatementAt (script : List ℕ) (at first line : ℕ) (place : Place) : Type 0 where
+  pub begins : place.at ≡ at
+  pub bears : place.ahead.asked ≡ variant.Aside → ⊥
+  pub ahead : IsAhead (drop at script) place.ahead
+  pub from : first ≤ line
+  pub to : line < first + place.ahead.lines
+
+-- The statement of a line begins at a place before which a session stands that awaits one.
+pub record IsPlaceOf (s : Session) (script : List ℕ) (at line : ℕ) (place : Place) : Type 0 where
+  pub awaits : s.reader.mode ≡ awaiting
+  pub statement : IsStatementAt script at (s.lines + 1) line place
+
+-- A line from a place on is taken, behind which the next begins.
+pub record TakesLine (script : List ℕ) (at : ℕ) (old new : Session) (next : ℕ) : Type 0 where
+  pub within : next ≤ length script
+  pub starts : IsLineStart script next
+  pub took : (settings : Settings) (answers : List Marked) → Took settings (take at script) answers old
+      → (all : List Marked) × Took settings (take next script) all new
+
+-- The statement of a line is found, before which a session has taken the script.
+pub record IsFound (settings : Settings) (script : List ℕ) (line : ℕ) (s : Session) (place : Place) : Type 0 where
+  pub before : List Marked
+  pub took : Took settings (take place.at script) before s
+  pub starts : IsLineStart script place.at
+  pub its : IsPlaceOf s script place.at line place
+
+-- The statement of a line in a script is told: the lines before it are whole parts, which were answered so; its own are
+-- the next, of which the line is one; and by what they ask for, what is written tells the statement's first cause in
+-- the state of the statements that stand before it, run alone.
+pub record IsExplained (settings : Settings) (script : List ℕ) (line : ℕ) (old new : Option (List ℕ)) : Type 0 where
+  pub place : ℕ
+  pub lines : List (List ℕ)
+  pub within : Within (take place script) lines []
+  pub before : List Marked
+  pub parts : List Part
+  pub reads : Reads (map columns lines) (answers_of before) parts
+  pub met : AllMet settings nothing_stands before
+  pub own : List Line
+  pub behind : List ℕ
+  pub next : AreFirst (drop place script) own behind
+  pub asked : ahead.Asked
+  pub asks : Asks own behind asked
+  pub bears : asked ≡ variant.Aside → ⊥
+  pub from : length lines < line
+  pub to : line ≤ length lines + length own
+  pub tells : WritesAhead settings (alone_now settings (stands_all settings nothing_stands before)) asked old new
