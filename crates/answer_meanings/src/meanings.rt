@@ -5,7 +5,7 @@ use std::io::Write;
 use text_output::Gathered;
 
 /// Why what an answer means can't be told.
-#[derive(Clone, Copy, Debug, PartialEq, Eq)]
+#[derive(Clone, Copy)]
 pub enum MeaningFault {
     /// There is no answer of this text.
     NoAnswer,

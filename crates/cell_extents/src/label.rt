@@ -9,7 +9,7 @@ use crate::settings::{Header, Name};
 use vsm_model::Residence;
 
 /// The words of a name: 63 bytes, three to a word.
-#[derive(Clone, Copy, Debug)]
+#[derive(Clone, Copy)]
 pub struct Label {
     /// The words of the bytes 0 to 20.
     pub first: [u32; 7],
@@ -20,7 +20,7 @@ pub struct Label {
 }
 
 /// The words of a header, the last of them in the form, of a side, and both counts.
-#[derive(Clone, Copy, Debug)]
+#[derive(Clone, Copy)]
 pub struct LabelForm {
     /// The words of the header's bytes 0 to 20, zeros where there is none.
     pub header: [u32; 7],

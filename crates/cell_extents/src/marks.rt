@@ -17,7 +17,7 @@ use crate::settings::Extent;
 use vsm_elements::{Chain, Elements};
 
 /// Where the mark of a cell stands: which item of the marks, and which bit of it.
-#[derive(Clone, Copy, Debug)]
+#[derive(Clone, Copy)]
 pub struct Mark {
     /// How many items of marks stand before its own.
     pub item: u32,

@@ -12,7 +12,7 @@ pub type Header = ArrayVec<u8, 24>;
 pub type CellId = Id;
 
 /// What a cell pool is built with beside its name and its header.
-#[derive(Clone, Copy, Debug, PartialEq, Eq)]
+#[derive(Clone, Copy)]
 pub struct CellSettings {
     /// The subpool that it lies in.
     pub subpool: Subpool,
@@ -27,7 +27,7 @@ pub struct CellSettings {
 }
 
 /// An extent of a cell pool.
-#[derive(Clone, Copy, Debug, PartialEq, Eq)]
+#[derive(Clone, Copy)]
 pub struct Extent {
     /// The address of its first cell.
     pub start: u32,

@@ -24,7 +24,7 @@ use subpool_storage::laws::cell_pools_are_named;
 use vsm_model::Cause;
 
 /// A cell pool that goes, with its extents. Nothing is changed yet.
-#[derive(Clone, Copy, Debug, PartialEq, Eq)]
+#[derive(Clone, Copy)]
 pub struct DeletePlan {
     pub pool: CellId,
 }

@@ -24,7 +24,7 @@ use vsm_model::Subpool;
 /// The head of all cell pools, each under its name.
 ///
 /// It is kept by value. Every call is handed the elements that it stands in, and changes those of its own alone.
-#[derive(Clone, Copy, Debug, PartialEq, Eq)]
+#[derive(Clone, Copy)]
 pub struct CellPools {
     pub(crate) table: ListTable,
 }

@@ -12,7 +12,7 @@ use vsm_elements::{Chain, Elements, Id};
 
 // A place before, between or behind some items of a pool's list: how many items stand before it, the id of the last of
 // these, or 0, and how many stand before the end of the walk.
-#[derive(Clone, Copy, Debug, PartialEq, Eq)]
+#[derive(Clone, Copy)]
 struct ItemPlace {
     list: Chain,
     index: u32,
@@ -22,13 +22,13 @@ struct ItemPlace {
 
 /// A place before, between or behind the extents of a pool, from which [`CellPools::next_extent`] goes on without a
 /// walk. It is one as long as the pools stay as they are.
-#[derive(Clone, Copy, Debug, PartialEq, Eq)]
+#[derive(Clone, Copy)]
 pub struct CellExtentPlace {
     items: ItemPlace,
 }
 
 /// A place before, between or behind the free cells of a pool, from which [`CellPools::next_cell`] goes on likewise.
-#[derive(Clone, Copy, Debug, PartialEq, Eq)]
+#[derive(Clone, Copy)]
 pub struct CellPlace {
     items: ItemPlace,
 }

@@ -3,7 +3,7 @@
 use bench_core::NewFault;
 
 /// Why a listing ended before the end of its script.
-#[derive(Clone, Copy, Debug, PartialEq, Eq)]
+#[derive(Clone, Copy)]
 pub enum ListFault {
     /// The bench can't be made. Nothing was written.
     New(NewFault),

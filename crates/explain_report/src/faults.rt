@@ -4,7 +4,7 @@ use bench_core::NewFault;
 use script_steps::TooLong;
 
 /// Why there is no report, or only the front of one.
-#[derive(Clone, Copy, Debug, PartialEq, Eq)]
+#[derive(Clone, Copy)]
 pub enum ReportFault {
     /// There is no bench under these settings, or no memory for one.
     New(NewFault),

@@ -14,7 +14,7 @@ use crate::walks::{extents_of, free_areas_of};
 use storage_core::{PoolPlace, Residence, Storage, Subpool};
 
 /// What a subpool has on one side of the 16 MB line.
-#[derive(Clone, Copy, Debug, PartialEq, Eq)]
+#[derive(Clone, Copy)]
 pub struct Share {
     /// Its pages of 4,096 bytes.
     pub pages: u32,
@@ -27,7 +27,7 @@ pub struct Share {
 }
 
 /// What a subpool has.
-#[derive(Clone, Copy, Debug, PartialEq, Eq)]
+#[derive(Clone, Copy)]
 pub struct SubpoolRow {
     pub subpool: Subpool,
     pub low: Share,

@@ -7,7 +7,7 @@ use storage_core::Run;
 
 /// How many numbers and how many runs there are, and the longest of these runs with its first number: the first of
 /// those that are as long.
-#[derive(Clone, Copy, Debug, PartialEq, Eq)]
+#[derive(Clone, Copy)]
 pub struct Tally {
     pub total: u32,
     pub count: u32,
@@ -16,7 +16,7 @@ pub struct Tally {
 }
 
 /// The runs below the 16 MB line, and those above it.
-#[derive(Clone, Copy, Debug, PartialEq, Eq)]
+#[derive(Clone, Copy)]
 pub struct SideTallies {
     pub low: Tally,
     pub high: Tally,

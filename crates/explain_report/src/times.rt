@@ -13,7 +13,7 @@ use storage_core::Storage;
 use storage_map::{Totals, totals};
 
 /// What a storage comes to at one time.
-#[derive(Clone, Copy, Debug, PartialEq, Eq)]
+#[derive(Clone, Copy)]
 pub struct Moment {
     /// The assigned pages of each region and all of its pages, and the bytes of assigned ones that are taken or free.
     pub totals: Totals,

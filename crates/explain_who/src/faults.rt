@@ -6,7 +6,7 @@ use std::alloc::AllocError;
 use text_output::WriteFault;
 
 /// Why `who` or `log` ended early.
-#[derive(Clone, Copy, Debug, PartialEq, Eq)]
+#[derive(Clone, Copy)]
 pub enum WhoFault {
     /// The bench can't be made. Nothing was written.
     New(NewFault),

@@ -9,14 +9,14 @@ use change_laws::maps::runs_are_shown;
 use storage_core::{Storage, Subpool};
 
 /// Runs of pages or of doublewords in short: how many numbers are in them, and how many runs there are.
-#[derive(Clone, Copy, Debug, PartialEq, Eq)]
+#[derive(Clone, Copy)]
 pub struct Runs {
     pub total: u32,
     pub count: u32,
 }
 
 /// What a subpool has.
-#[derive(Clone, Copy, Debug, PartialEq, Eq)]
+#[derive(Clone, Copy)]
 pub struct Holding {
     /// Its pages of 4,096 bytes, and its extents.
     pub pages: Runs,

@@ -12,7 +12,7 @@ use vsm_model::geometry::PAGE_BYTES;
 use vsm_model::{Cause, Subpool};
 
 /// What is asked for.
-#[derive(Clone, Copy, Debug, PartialEq, Eq)]
+#[derive(Clone, Copy)]
 pub enum Asked {
     /// Bytes from an address on: 256 at most are read.
     Bytes { address: u32, count: u16 },
@@ -27,7 +27,7 @@ pub enum Asked {
 }
 
 /// What is read.
-#[derive(Clone, Debug, PartialEq, Eq, Drop)]
+#[derive(Clone, Drop)]
 pub enum Seen {
     /// Nothing was asked for.
     Nothing,

@@ -7,7 +7,7 @@ use crate::tree::ItemTree;
 use vsm_elements::{Element, Elements};
 
 /// A node: its item, and the trees before and behind it.
-#[derive(Clone, Copy, Debug, PartialEq, Eq)]
+#[derive(Clone, Copy)]
 pub(crate) struct Node {
     pub(crate) left: ItemTree,
     pub(crate) item: Item,

@@ -10,7 +10,7 @@ use crate::shape::{last_six, with_rest, with_word};
 use vsm_elements::{Element, Elements, Id};
 
 /// The head of a list of items, kept in elements as a search tree: their keys ascend.
-#[derive(Clone, Copy, Debug, PartialEq, Eq)]
+#[derive(Clone, Copy)]
 pub struct ItemTree {
     pub(crate) root: Id,
 }

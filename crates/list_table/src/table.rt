@@ -10,7 +10,7 @@ use vsm_elements::{Chain, Elements, Id};
 ///
 /// It is kept by value. To change a list, a row is taken in hand by [`ListTable::row`], its list is changed as a
 /// [`Chain`], and [`ListTable::write`] puts the row back. A table that is no longer wanted is discarded.
-#[derive(Clone, Copy, Debug, PartialEq, Eq)]
+#[derive(Clone, Copy)]
 pub struct ListTable {
     pub(crate) chain: Chain,
 }

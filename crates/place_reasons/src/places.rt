@@ -11,7 +11,7 @@ use storage_core::{Lengths, Obtain, SideReason, Storage};
 use vsm_model::geometry::{LAST_SUBPOOL, PAGE_DOUBLEWORDS};
 
 /// What each side of the line that is looked at has for an area: above the line first, where it may be there.
-#[derive(Clone, Copy, Debug, PartialEq, Eq)]
+#[derive(Clone, Copy)]
 pub struct Sides {
     /// The doublewords that a place is looked for.
     pub count: u32,

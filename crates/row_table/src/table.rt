@@ -13,7 +13,7 @@ use vsm_elements::{Element, Elements, Id};
 ///
 /// It is kept by value. Every call is handed the elements that it stands in, and changes those of its own
 /// alone. A table that is no longer wanted is discarded: its elements stay live until then.
-#[derive(Clone, Copy, Debug, PartialEq, Eq)]
+#[derive(Clone, Copy)]
 pub struct RowTable {
     pub(crate) tree: ItemTree,
 }

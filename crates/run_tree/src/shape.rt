@@ -7,7 +7,7 @@ use crate::tree::RunTree;
 use vsm_elements::{Element, Elements, Id};
 
 /// A node: its run, its element, and the trees before and behind it.
-#[derive(Clone, Copy, Debug, PartialEq, Eq)]
+#[derive(Clone, Copy)]
 pub(crate) struct Node {
     pub(crate) left: RunTree,
     pub(crate) id: Id,
@@ -16,7 +16,7 @@ pub(crate) struct Node {
 }
 
 // How much room the longest run has, from its first number and from its first number on a page.
-#[derive(Clone, Copy, Debug, PartialEq, Eq)]
+#[derive(Clone, Copy)]
 pub(crate) struct Rooms {
     pub(crate) plain: u32,
     pub(crate) paged: u32,

@@ -16,7 +16,7 @@ pub struct RunTree {
 }
 
 /// Where a search came to, with the run before the place and the one at it, where there are such.
-#[derive(Clone, Copy, Debug, PartialEq, Eq)]
+#[derive(Clone, Copy)]
 pub struct Found {
     pub index: u32,
     pub before: Run,

@@ -8,7 +8,7 @@ use macro_reader::FaultKind;
 use vsm_model::Reply;
 
 /// What a bench responds to a statement of a script.
-#[derive(Clone, Debug, PartialEq, Eq, Drop)]
+#[derive(Clone, Drop)]
 pub enum Response {
     /// The reply of an accepted service.
     Replied(Reply),

@@ -13,7 +13,7 @@ pub const LINES: u32 = 1_048_576;
 pub(crate) const LINE_BYTES: u32 = 65_536;
 
 /// A byte of a script passes one of its bounds.
-#[derive(Clone, Copy, Debug, PartialEq, Eq)]
+#[derive(Clone, Copy)]
 pub struct TooLong;
 
 /// What is kept of a script between two pieces of it: its bench, its reader, and what stands of the line that has not

@@ -11,7 +11,7 @@ use crate::session::{LINES, Session, TooLong};
 use memchr::memchr;
 
 /// One line of a script: where it begins, where the next begins, and what it was answered.
-#[derive(Debug, PartialEq, Eq, Drop)]
+#[derive(Drop)]
 pub struct Step {
     /// The place of its first byte in the script.
     pub start: usize,

@@ -9,7 +9,7 @@ ghost use Rattle.statement_faults.specs.Roles.{brought_by, role_in};
 use macro_reader::{FaultKind, Stand};
 
 /// What a line is.
-#[derive(Clone, Copy, PartialEq, Eq)]
+#[derive(Clone, Copy)]
 pub enum Role {
     /// A comment or an empty line.
     Aside,

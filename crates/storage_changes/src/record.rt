@@ -8,7 +8,7 @@ use subpool_storage::CellId;
 use vsm_model::Subpool;
 
 /// The doublewords of an area become free storage of a subpool, or taken.
-#[derive(Clone, Copy, Debug, PartialEq, Eq)]
+#[derive(Clone, Copy)]
 pub struct AreaRecord {
     pub subpool: Subpool,
     /// In doublewords of 8 bytes.
@@ -17,7 +17,7 @@ pub struct AreaRecord {
 }
 
 /// The pages of a run become a subpool's, or leave it.
-#[derive(Clone, Copy, Debug, PartialEq, Eq)]
+#[derive(Clone, Copy)]
 pub struct ExtentRecord {
     pub subpool: Subpool,
     /// In pages of 4,096 bytes.
@@ -26,7 +26,7 @@ pub struct ExtentRecord {
 }
 
 /// The pages of a run are assigned, with the frames that the change brings, or become unassigned and leave it theirs.
-#[derive(Clone, Copy, Debug, PartialEq, Eq)]
+#[derive(Clone, Copy)]
 pub struct PagesRecord {
     /// In pages of 4,096 bytes.
     pub run: Run,
@@ -34,7 +34,7 @@ pub struct PagesRecord {
 }
 
 /// An empty subpool is there, which its owner alone sees, or it is gone.
-#[derive(Clone, Copy, Debug, PartialEq, Eq)]
+#[derive(Clone, Copy)]
 pub struct OwnRecord {
     pub subpool: Subpool,
     pub present: bool,
@@ -42,13 +42,13 @@ pub struct OwnRecord {
 
 /// The pages, the free storage and the cell pools of a subpool change places with what the change has parked under its
 /// name.
-#[derive(Clone, Copy, Debug, PartialEq, Eq)]
+#[derive(Clone, Copy)]
 pub struct QueuesRecord {
     pub subpool: Subpool,
 }
 
 /// A register of a task gets a word.
-#[derive(Clone, Copy, Debug, PartialEq, Eq)]
+#[derive(Clone, Copy)]
 pub struct RegisterRecord {
     pub task: u8,
     pub register: u8,
@@ -56,7 +56,7 @@ pub struct RegisterRecord {
 }
 
 /// Four registers of a task, from one on, get these words.
-#[derive(Clone, Copy, Debug, PartialEq, Eq)]
+#[derive(Clone, Copy)]
 pub struct RegistersRecord {
     pub task: u8,
     /// The first of the four, at most 12.
@@ -65,14 +65,14 @@ pub struct RegistersRecord {
 }
 
 /// The sixteen bytes of a block get these values. Block `b` has the addresses from `16 * b`.
-#[derive(Clone, Copy, Debug, PartialEq, Eq)]
+#[derive(Clone, Copy)]
 pub struct BytesRecord {
     pub block: u32,
     pub bytes: [u8; 16],
 }
 
 /// A task is there, below its parent and with registers of zeros, or it is gone.
-#[derive(Clone, Copy, Debug, PartialEq, Eq)]
+#[derive(Clone, Copy)]
 pub struct TaskRecord {
     pub task: u8,
     pub parent: u8,
@@ -80,13 +80,13 @@ pub struct TaskRecord {
 }
 
 /// This task makes the requests.
-#[derive(Clone, Copy, Debug, PartialEq, Eq)]
+#[derive(Clone, Copy)]
 pub struct TurnRecord {
     pub task: u8,
 }
 
 /// A task sees a subpool besides its owner, or doesn't any more.
-#[derive(Clone, Copy, Debug, PartialEq, Eq)]
+#[derive(Clone, Copy)]
 pub struct SharerRecord {
     pub subpool: Subpool,
     pub task: u8,
@@ -94,7 +94,7 @@ pub struct SharerRecord {
 }
 
 /// A subpool passes to another task, with its pages, its free storage and its cell pools, wherever it is named.
-#[derive(Clone, Copy, Debug, PartialEq, Eq)]
+#[derive(Clone, Copy)]
 pub struct PassRecord {
     pub subpool: Subpool,
     pub to: u8,
@@ -102,14 +102,14 @@ pub struct PassRecord {
 
 /// A cell pool is there, with its extents and its cells, or it is gone: it changes places with what the change has
 /// parked under its id.
-#[derive(Clone, Copy, Debug, PartialEq, Eq)]
+#[derive(Clone, Copy)]
 pub struct CellPoolRecord {
     pub pool: CellId,
     pub present: bool,
 }
 
 /// A cell pool has an extent more, or its last one is gone.
-#[derive(Clone, Copy, Debug, PartialEq, Eq)]
+#[derive(Clone, Copy)]
 pub struct CellExtentRecord {
     pub pool: CellId,
     /// The address of its first cell.
@@ -120,7 +120,7 @@ pub struct CellExtentRecord {
 }
 
 /// A cell of a cell pool is its first free one, or it isn't free any more.
-#[derive(Clone, Copy, Debug, PartialEq, Eq)]
+#[derive(Clone, Copy)]
 pub struct CellRecord {
     pub pool: CellId,
     /// Its address.
@@ -129,7 +129,7 @@ pub struct CellRecord {
 }
 
 /// Places of the storage that change together, with their other value.
-#[derive(Clone, Copy, Debug, PartialEq, Eq)]
+#[derive(Clone, Copy)]
 pub enum Record {
     Area(AreaRecord),
     Extent(ExtentRecord),

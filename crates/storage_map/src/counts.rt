@@ -1,7 +1,7 @@
 //! What a storage comes to.
 
 /// What the storage comes to: pages of 4,096 bytes, and bytes.
-#[derive(Clone, Copy, Debug, PartialEq, Eq)]
+#[derive(Clone, Copy, PartialEq, Eq)]
 pub struct Totals {
     /// The assigned pages below the 16 MB line.
     pub low_pages: u32,

@@ -19,7 +19,7 @@ use vsm_model::geometry::PAGE_DOUBLEWORDS;
 use vsm_model::{Obtain, Residence, Settings, Subpool};
 
 /// What one side of the line has for an area.
-#[derive(Clone, Copy, Debug, PartialEq, Eq)]
+#[derive(Clone, Copy)]
 pub struct SideReason {
     pub side: Residence,
     /// The least doubleword of the subpool's free storage at which the area fits.

@@ -7,7 +7,7 @@ ghost use Rattle.raw_region.specs.Pages.{AreAssigned};
 use storage_exchange::Parts;
 
 /// What a storage was made of.
-#[derive(Clone, Copy, Debug, PartialEq, Eq)]
+#[derive(Clone, Copy)]
 pub struct Released {
     /// Blocks of 128 elements, live and spare ones.
     pub blocks: u32,

@@ -17,7 +17,6 @@ use vsm_elements::Elements;
 /// Subpools that were taken out of a set, with their sight and their queues: a small set of their own.
 ///
 /// It is put back, joined to others or discarded, and has no drop: its elements would stay live.
-#[derive(Debug)]
 pub struct ParkedPool {
     pub(crate) set: SubpoolSet,
 }

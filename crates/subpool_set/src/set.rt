@@ -23,7 +23,7 @@ pub type PoolId = Id;
 ///
 /// A task sees at most one subpool of a number, and its owner sees it (z/OS MVS Programming: Assembler Services
 /// Guide, "Subpool handling"). Tasks are numbered from 1 to 64, subpools from 0 to 127. The set is kept by value.
-#[derive(Clone, Copy, Debug, PartialEq, Eq)]
+#[derive(Clone, Copy)]
 pub struct SubpoolSet {
     pub(crate) rows: RowTable,
 }

@@ -20,7 +20,7 @@ use vsm_model::Subpool;
 /// A subpool is named by its number and its owner. The head is kept by value; every changing call takes the elements
 /// first, and takes no memory: what it needs has to be spare. Runs are in pages of 4,096 bytes and areas in doublewords
 /// of 8, below and above the 16 MB line. (z/OS MVS Programming: Assembler Services Guide, "Subpool handling".)
-#[derive(Clone, Copy, Debug, PartialEq, Eq)]
+#[derive(Clone, Copy)]
 pub struct SubpoolStorage {
     pub(crate) set: SubpoolSet,
     pub(crate) cells: CellPools,

@@ -25,7 +25,7 @@ use subpool_storage::laws::cell_pools_are_named;
 use vsm_model::{Attach, Cause};
 
 /// A task that comes, below the current one. Nothing is changed yet.
-#[derive(Clone, Copy, Debug, PartialEq, Eq)]
+#[derive(Clone, Copy)]
 pub struct AttachPlan {
     /// The number of the task, from 1 to 64.
     pub task: u8,

@@ -42,7 +42,7 @@ use vsm_model::geometry::LAST_TASK;
 use vsm_model::{Cause, Reply, Subpool};
 
 /// A task that ends, with all below it. Nothing is changed yet.
-#[derive(Clone, Copy, Debug, PartialEq, Eq)]
+#[derive(Clone, Copy)]
 pub struct EndPlan {
     /// The task whose subtree ends.
     pub top: u8,

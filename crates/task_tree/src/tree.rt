@@ -16,7 +16,7 @@ use vsm_elements::{Elements, Id};
 ///
 /// Tasks are numbered from 1 to 64. Each but task 1 has a parent, and each has sixteen registers of a word. The head is
 /// kept by value.
-#[derive(Clone, Copy, Debug, PartialEq, Eq)]
+#[derive(Clone, Copy)]
 pub struct TaskTree {
     rows: RowTable,
     current: u8,

@@ -3,7 +3,7 @@ ghost use Rattle.std.specs.Prelude.{◌≡◌};
 ghost use Rattle.vsm_c.specs.Codes.{number_of};
 
 /// What a call answers; C gets its number.
-#[derive(Clone, Copy, Debug, PartialEq, Eq)]
+#[derive(Clone, Copy)]
 pub enum CallCode {
     /// 0: the text is that of the script, and a script that has ended has no statement that was refused.
     Served,

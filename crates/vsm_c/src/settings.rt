@@ -6,7 +6,7 @@ use vsm_model::{Residence, Settings};
 
 /// The settings that a caller wants, which may be any numbers.
 #[repr(C)]
-#[derive(Clone, Copy, Debug, PartialEq, Eq)]
+#[derive(Clone, Copy)]
 pub struct Wanted {
     /// The size of the region below the 16 MB line, in units of 1024 bytes.
     pub low: u32,

@@ -12,7 +12,7 @@ use macro_statements::Statement;
 use storage_core::{Cause, Obtain, Release, Service};
 
 /// A name in a value of the statement isn't defined.
-#[derive(Clone, Copy, Debug, PartialEq, Eq)]
+#[derive(Clone, Copy)]
 pub struct UnknownName;
 
 /// The same service in its unconditional form; a GET as it is.

@@ -5,7 +5,7 @@ use thiserror::Error;
 use vsm_model::Code;
 
 /// Why a statement is refused. A refused statement changes nothing.
-#[derive(Clone, Copy, Debug, PartialEq, Eq)]
+#[derive(Clone, Copy, PartialEq, Eq)]
 pub enum Refusal {
     /// A name that stands for a value isn't defined.
     Name,
