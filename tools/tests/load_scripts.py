@@ -9,13 +9,14 @@ from __future__ import annotations
 import os
 import random
 import sys
-from typing import Callable, Optional
+from typing import Callable, Iterable, Optional
 
 sys.dont_write_bytecode = True
 sys.path.insert(0, os.path.dirname(os.path.dirname(os.path.realpath(__file__))))
 from vsmtools import bench, loading, maps  # noqa: E402
 from vsmtools.command import Fault  # noqa: E402
 from vsmtools.judge import MOST_POOLS  # noqa: E402
+from vsmtools.lines import fold  # noqa: E402
 
 WIDE = ["--low", "640", "--high", "256", "--history", "16"]
 SMALL = ["--low", "16", "--high", "8", "--history", "16"]
@@ -111,7 +112,7 @@ class Requests:
         if task != self.task:
             self.lines.append(" RUN %d" % task)
             self.task = task
-        self.lines.append(" " + text)
+        self.lines += fold(" " + text) or []
 
     def text(self) -> str:
         return "".join(line + "\n" for line in self.lines)
@@ -214,6 +215,36 @@ def lists_request(chance: random.Random, most: int) -> str:
         "CPOOL BUILD,PCELLCT=1,CSIZE=%d,CPID=%s,SP=%d" % (chance.choice((8, 1000, 4096)), name, subpool)))
 
 
+def attached(requests: Requests, number: int, given: Iterable[int], shared: Iterable[int]) -> None:
+    """An ATTACH by task 1, with lists, of a task that gets the number of one that's there and ends."""
+    requests.by(1, "DETACH %d" % number)
+    for place, part in (("L", bytes(given)), ("X'6080'", bytes(shared))):
+        requests.by(1, "POKE %s,X'%02X%s'" % (place, len(part), part.hex().upper()))
+    requests.by(1, "ATTACH GSPL=L,SHSPL=X'6080'")
+
+
+def orders_script(seed: int) -> str:
+    """Children of task 1, in any order of their numbers: some share a subpool, until one gets it, for many numbers."""
+    chance, requests = random.Random(seed), Requests()
+    tasks, most = chance.choice((40, 55, 63)), chance.choice((4, 10, 20, 40, 60))
+    few, works, ends = chance.choice((4, 6, 10, 20, 40)), chance.choice((0, 0.1, 0.5)), chance.choice((0.5, 0.8, 1))
+    requests.by(1, "STORAGE OBTAIN,LENGTH=256,ADDR=L")
+    for _ in range(tasks):
+        requests.by(1, "ATTACH EP=FILLER")
+    numbers = chance.sample(range(2, tasks + 2), tasks)
+    lists: dict[int, tuple[list[int], list[int]]] = {number: ([], []) for number in numbers}
+    for subpool in range(1, most + 1):
+        is_shared = False
+        for place in sorted(chance.sample(range(tasks), min(few, tasks))):
+            is_shared = not is_shared or chance.random() > ends
+            lists[numbers[place]][is_shared].append(subpool)
+    for number in numbers:
+        attached(requests, number, *lists[number])
+        if chance.random() < works:
+            requests.by(chance.choice((1, number)), lists_request(chance, most))
+    return requests.text()
+
+
 def small_task(chance: random.Random) -> str:
     given, shared = chance.randint(1, 3), chance.randint(1, 3)
     return chance.choice((
@@ -247,7 +278,8 @@ def small_script(seed: int) -> str:
 
 KINDS: dict[str, tuple[Callable[[int], str], list[str]]] = {
     "family": (family_script, WIDE), "address": (address_script, WIDE), "pools": (pools_script, WIDER),
-    "building": (building_script, WIDER), "lists": (lists_script, WIDE), "small": (small_script, SMALL),
+    "building": (building_script, WIDER), "lists": (lists_script, WIDE), "orders": (orders_script, WIDE),
+    "small": (small_script, SMALL),
 }
 
 

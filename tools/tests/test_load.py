@@ -3,6 +3,7 @@ from __future__ import annotations
 
 import importlib.machinery
 import importlib.util
+import itertools
 import random
 import re
 from pathlib import Path
@@ -10,10 +11,10 @@ from typing import Callable
 
 import pytest
 from conftest import TOP, one_line
-from load_scripts import WIDE, WIDER, address_script, family_script, pools_script, told
+from load_scripts import WIDE, WIDER, Requests, address_script, attached, family_script, pools_script, told
 from test_tools import scripts
 
-from vsmtools import bench, loading, maps
+from vsmtools import bench, family, loading, maps
 from vsmtools.command import Fault
 
 TOOL = "vsm-load"
@@ -126,6 +127,81 @@ def test_addresses_of_64_tasks_come_back(vsm: str, seed: int) -> None:
     comes_back(vsm, WIDE, answer, "seed %d" % seed)
 
 
+def test_a_helper_before_the_last_of_64_tasks(vsm: str) -> None:
+    """Task 2's storage isn't its own work, and waits for task 64's address; so tasks 5 and 6, that lead there, come
+    before 3 and 4, whose numbers are lower."""
+    script = " ATTACH SZERO=NO\n ATTACH\n ATTACH\n ATTACH SHSPV=5\n ATTACH GSPV=5\n"
+    script += "".join(" RUN %d\n ATTACH\n" % task for task in range(6, 64))
+    script += " RUN 64\n STORAGE OBTAIN,LENGTH=8,ADDR=(2)\n STORAGE RELEASE,LENGTH=8,ADDR=(2)\n RUN 1\n DETACH 3\n"
+    script += " RUN 2\n ATTACH\n CPOOL BUILD,PCELLCT=2,CSIZE=4,CPID=C\n" + " CPOOL GET,CPID=C\n" * 2
+    script += " CPOOL DELETE,CPID=C\n RUN 3\n STORAGE OBTAIN,LENGTH=8\n ENDTASK\n"
+    script += " RUN 1\n ATTACH SHSPV=5\n DETACH 4\n ATTACH GSPV=5\n STORAGE OBTAIN,LENGTH=8\n"
+    answer = mapped(vsm, WIDE, script)
+    assert count_of(answer, " TASK") == 64
+    comes_back(vsm, WIDE, answer, "a helper")
+
+
+def test_orders_of_378_pairs(vsm: str) -> None:
+    """28 subpools of a number, each of which two children of task 1 had; what comes to mind first is wrong."""
+    steps = [(4, [], [1, 2]), (5, [1], []), (11, [2], []), (3, [], [1, 2]), (10, [1], []), (2, [2], [])]
+    for one, other in zip(range(12, 65, 2), range(13, 65, 2)):
+        steps += [(one, [], [1]), (other, [1], [])]
+    requests = Requests()
+    requests.by(1, "STORAGE OBTAIN,LENGTH=256,ADDR=L")
+    for _ in range(63):
+        requests.by(1, "ATTACH")
+    for number, given, shared in steps:
+        attached(requests, number, given, shared)
+    answer = mapped(vsm, WIDE, requests.text())
+    assert sum(line.startswith(" SUBPOOL 1 ") for line in answer.rest) == 28
+    comes_back(vsm, WIDE, answer, "28 subpools of a number")
+
+
+def test_440_makers_of_storage(vsm: str) -> None:
+    """Four pairs of tasks share 110 subpools each. The storage isn't the first one's work, as it waits for addresses
+    of ten tasks, one of which has the number that this one's register 1 has."""
+    requests = Requests()
+    requests.by(1, "STORAGE OBTAIN,LENGTH=256,ADDR=L")
+    requests.by(1, "POKE L,X'%s'" % bytes([110, *range(1, 111)]).hex().upper())
+    for _ in range(4):
+        requests.by(1, "ATTACH SZERO=NO")
+    for task in range(2, 6):
+        requests.by(task, "ATTACH SHSPL=L")
+    for first in range(10, 50, 10):
+        requests.by(1 + first // 10, "ATTACH")
+        requests.by(first, "ENDTASK")
+        requests.task = 1 + first // 10
+        for task in [1] + [first] * 9:
+            requests.by(task, "ATTACH")
+    for task, register in itertools.product(range(10, 50), range(2, 13)):
+        requests.by(task, "STORAGE OBTAIN,LENGTH=4096,ADDR=(%d)" % register)
+    requests.by(1, "STORAGE RELEASE,LENGTH=%d,ADDR=%d" % (440 * maps.PAGE, maps.LOW_START + maps.PAGE))
+    for task in range(6, 10):
+        for subpool in range(1, 111):
+            requests.by(task, "STORAGE OBTAIN,LENGTH=8,SP=%d" % subpool)
+        requests.by(task, "ATTACH")
+    answer = mapped(vsm, WIDER, requests.text())
+    assert sum(line.endswith((" 6", " 7", " 8", " 9")) for line in answer.rest) == 444
+    comes_back(vsm, WIDER, answer, "440 makers")
+
+
+def test_choices_against_all_orders() -> None:
+    """An order is found just where one of all orders of six events fits."""
+    chance, found = random.Random(1), [0, 0]
+    events: list[family.Event] = [("create", k) for k in range(6)]
+    for _ in range(300):
+        before: family.Order = {event: set() for event in events}
+        choices = [[[tuple(chance.sample(events, 2)) for _ in range(chance.randint(1, 3))] for _ in range(2)]
+                   for _ in range(chance.randint(2, 8))]
+        one, other = sorted(chance.sample(events, 2))
+        before[other].add(one)
+        fits = any(all(any(all(order.index(a) < order.index(b) for a, b in option) for option in options)
+                       for options in choices + [[[(one, other)]]]) for order in itertools.permutations(events))
+        assert (family.Choices(before, choices).take() is not None) == fits
+        found[fits] += 1
+    assert min(found) > 50
+
+
 def test_cell_pools_of_task_1_that_take_more_for_a_while(vsm: str) -> None:
     script = "".join(" CPOOL BUILD,PCELLCT=1,CSIZE=1000,CPID=C%d\n" % k for k in range(256))
     script += "".join(" CPOOL DELETE,CPID=C%d\n" % k for k in range(0, 256, 4))
@@ -202,7 +278,8 @@ def test_the_map_alone_and_by_a_file(run: Callable, vsm: str, tmp_path: Path) ->
 
 
 @pytest.mark.parametrize("kind, first, last", [
-    ("building", 0, 2), ("building", 2, 4), ("lists", 0, 8), ("small", 0, 100), ("family", 2021, 2022)])
+    ("building", 0, 2), ("building", 2, 4), ("lists", 0, 8), ("orders", 0, 2), ("small", 0, 100),
+    ("family", 2021, 2022)])
 def test_maps_of_generated_scripts_come_back(vsm: str, kind: str, first: int, last: int) -> None:
     for seed in range(first, last):
         assert told(vsm, kind, seed) is None, seed

@@ -16,8 +16,8 @@ from __future__ import annotations
 
 import heapq
 from dataclasses import dataclass, field
-from itertools import combinations
-from typing import Iterable, NoReturn, Optional
+from itertools import combinations, product
+from typing import Iterable, Optional
 
 from .command import Fault
 from .judge import MOST_POOLS, MOST_TASKS, refuse
@@ -26,9 +26,10 @@ from .places import Key, Places, Words
 
 Event = tuple[str, int]
 Order = dict[Event, set[Event]]     # for each event those that come before it
-RANKS = {kind: k for k, kind in enumerate(("done", "words", "first", "create", "temp", "make", "help"))}
-FEW_ORDERS, MOST_ORDERS = 300, 700    # that are tried for one choice of makers, and for the ATTACHes alone
-MOST_CHOICES = 400                    # of makers that are tried, where those that leave fewer circles lead nowhere
+Option = list[tuple[Event, Event]]  # pairs of events, the first of which comes before the second
+RANKS = {kind: k for k, kind in enumerate(("end", "mark", "done", "words", "first", "create", "temp", "make", "begin",
+                                           "help"))}
+FIRST_GO = 100     # so many dead ends are met before Choices begins anew
 
 
 @dataclass(frozen=True)
@@ -78,7 +79,8 @@ class Family:
         self.all_made = self.made
         self.at = {key: k for k, key in enumerate(self.made)}
         self.words = places.all_words()
-        self.tried = 0           # choices of makers
+        self.place: dict[Event, int] = {}      # the places of events in an order that is known
+        self.is_apart = False    # whether each subpool that a helper works for has a helper of its own
         self.is_late = False     # whether words are had behind the storage, where they can
         self.is_build_last = False     # whether BUILD alone comes behind tasks that obtain, in subpool 0 too
         self.before: Order = {}                # what comes before what, when all is planned
@@ -86,6 +88,8 @@ class Family:
         self.helpers: list[Helper] = []
         self.chains: dict[Key, list[int]] = {}
         self.twice: dict[int, list[Key]] = {}   # by task, subpools of a number that it would see at once
+        self.numbers: dict[int, int] = {}       # of the helpers' tasks
+        self.wants: Optional[dict[Key, set[int]]] = None
 
     def is_unmade(self, key: Key) -> bool:
         """Whether a subpool is empty, and no ATTACH has to make it."""
@@ -141,12 +145,17 @@ class Family:
         if task in path[:-1]:
             gates.add(path[path.index(task) + 1])
         gates = {gate for gate in gates if self.parent.get(gate) == task}
-        return any(gates & self.line_of(wanting) for wanting in self.parent if self.is_wanted(wanting, key))
+        return any(gates & self.line_of(wanting) for wanting in self.wanting().get(key, ()))
 
-    def is_wanted(self, task: int, key: Key) -> bool:
-        """Whether a task gets an address of a subpool's pages while they're unassigned."""
-        return any(it.task == task and key in it.keys and not self.is_behind(it) for it in self.words) or (
-            task not in self.places.homes and self.places.key_at(self.first[task]) == key)
+    def wanting(self) -> dict[Key, set[int]]:
+        """The tasks that get an address of a subpool's pages while they're unassigned."""
+        if self.wants is None:
+            self.wants = {}
+            for key, task in [(key, it.task) for it in self.words if not self.is_behind(it) for key in it.keys] + [
+                    (key, task) for task, word in self.first.items()
+                    if task not in self.places.homes and (key := self.places.key_at(word)) is not None]:
+                self.wants.setdefault(key, set()).add(task)
+        return self.wants
 
     def is_behind(self, it: Words) -> bool:
         """Whether words are had behind the storage that they lie in."""
@@ -163,7 +172,7 @@ class Family:
     def choose(self, makers: dict[Key, Maker]) -> None:
         """Takes who makes what, with the helpers and the gifts that this asks for."""
         self.makers, self.chains, self.twice = makers, {}, {}
-        helpers: dict[tuple[int, int], Helper] = {}
+        helpers: dict[tuple[int, int, Optional[Key]], Helper] = {}
         for key, chain in self.shortest.items():
             maker = makers.get(key)
             if maker and maker.task not in chain and maker.task not in self.subpools[key].sharers:
@@ -171,9 +180,9 @@ class Family:
             self.chains[key] = chain
             if maker and maker.how == "help":
                 at = chain.index(maker.task) + 1 if maker.task in chain else len(chain)
-                place = (maker.task, chain[at] if at < len(chain) else 0)
+                place = maker.task, chain[at] if at < len(chain) else 0, key if self.is_apart else None
                 if place not in helpers:
-                    helpers[place] = Helper(*place)
+                    helpers[place] = Helper(*place[:2])
                 helpers[place].serves.append(key)
         self.helpers = list(helpers.values())
 
@@ -230,22 +239,19 @@ class Family:
         return found
 
     def blocks(self, task: int, keys: list[Key]) -> list[list[Block]]:
-        """The blocks of a task for a subpool's number: the first ones, those in any order, and the last ones.
-
-        It first sees a subpool that it was given or shares, perhaps to the end; then those that it made and
-        gave; and last one that it made and has.
-        """
-        first, middle, last, is_to_the_end = [], [], [], False
-        for key in keys:
-            chain = self.chains[key]
-            if chain[0] != task:
-                first.append(self.block(key, task))
-                is_to_the_end = is_to_the_end or task not in chain[:-1]
-            else:
-                (last if len(chain) == 1 else middle).append(self.block(key, task))
-        if len(first) > 1 or is_to_the_end and len(keys) > 1:
+        """The blocks of a task for a subpool's number, as `parts` has them."""
+        found = self.parts(task, keys)
+        if len(found[0]) > 1 or len(keys) > 1 and any(task not in self.chains[key][:-1] for key in found[0]):
             self.twice.setdefault(task, []).extend(keys)
-        return [first, middle, last]
+        return [[self.block(key, task) for key in part] for part in found]
+
+    def parts(self, task: int, keys: list[Key]) -> list[list[Key]]:
+        """The subpools of a number that a task sees: first one that it was given or shares, perhaps to the end;
+        then those that it made and gave, in any order; and last one that it made and has."""
+        first = [key for key in keys if self.chains[key][0] != task]
+        own = [key for key in keys if key not in first]
+        return [first, [key for key in own if len(self.chains[key]) > 1],
+                [key for key in own if len(self.chains[key]) == 1]]
 
     def needs(self) -> tuple[Order, list[list[Block]]]:
         """For each event those that come before it, but for the blocks that come in any order; and these."""
@@ -300,18 +306,22 @@ class Family:
         none left, those of one subpool that's made behind."""
         empty = {("make", k) for k, key in enumerate(self.made) if not self.subpools[key].extents
                  and self.makers[key].how == "build"}
-        pooled = {(pool.subpool, pool.owner) for pool in self.map.cell_pools}
-        wanted = [{key for key, it in self.subpools.items() if it.extents}] if self.places.is_full() else []
-        wanted += [pooled] if len(self.map.cell_pools) == MOST_POOLS else []
+        wanted = self.scarce()
         if not (empty and wanted) or len(self.made) < len(self.all_made):
             return
         known = set().union(*(closure(before, event, set()) for event in empty))
-        place = {event: k for k, event in enumerate(sort(before))}
+        place = self.place if self.is_apart else {event: k for k, event in enumerate(sort(before))}
         for keys in wanted:
             makes = [("make", self.at[key]) for key in keys]
             ready = [event for event in makes if event in place and event not in known]
             for event in [max(ready, key=lambda event: place[event])] if ready else makes:
                 before[event] |= empty
+
+    def scarce(self) -> list[list[Key]]:
+        """The subpools one of which has to be made behind those that stay empty, for want of pages or cell pools."""
+        pooled = dict.fromkeys((pool.subpool, pool.owner) for pool in self.map.cell_pools)
+        wanted = [[key for key, it in self.subpools.items() if it.extents]] if self.places.is_full() else []
+        return wanted + ([list(pooled)] if len(self.map.cell_pools) == MOST_POOLS else [])
 
     def last_events(self, before: Order) -> None:
         """Where a task's register 1 is set for the last time, all else that sets it came before."""
@@ -327,126 +337,384 @@ class Family:
 
     # An order of all events.
 
-    def core(self, makers: dict[Key, Maker], orders: Optional[Orders] = None) -> set[Event]:
-        """The events that wait for each other in circles, where so and so make storage."""
-        self.choose(makers)
-        found = circles(arranged(*self.needs(), orders))
-        for task, keys in self.twice.items():
-            found.add(("create", task))
-            found.update(("make", self.at[key]) for key in keys if key in self.at)
-        return found
-
     def plan(self) -> list[Event]:
-        """An order of all events. Who makes what is changed until nothing goes round in a circle."""
+        """An order of all events: by the makers that are the best, or else by others."""
         self.judge()
         options = {key: self.choices(key) for key in self.made}
-        makers = {key: choices[0] for key, choices in options.items()}
-        settled: set[Key] = set()
-        core = self.core(makers)
-        while core:
-            stuck = [key for key in self.made if key not in settled and self.is_stuck(key, core)]
-            changes = [(key, it) for key in stuck for it in options[key]]
-            best = (self.better(makers, len(core), [it for it in changes if it[1].how != "help"])
-                    or self.better(makers, len(core), [it for it in changes if it[1].how == "help"]))
-            if best is None:
-                if not stuck:
-                    makers = self.search(options, {})
-                    break
-                settled.add(stuck[0])
-                helps = [(stuck[0], it) for it in options[stuck[0]] if it.how == "help"]
-                best = self.better(makers, 1 << 30, helps) or (stuck[0], makers[stuck[0]])
-            makers = dict(makers)
-            makers[best[0]] = best[1]
-            core = self.core(makers)
-        self.choose(makers)
-        self.before = arranged(*self.needs())
-        return self.in_turn(self.before)
+        self.choose({key: makers[0] for key, makers in options.items()})
+        self.before = arranged(*self.needs(), self.place)
+        if not self.twice and not circles(self.before):
+            order = in_turn(self.before)
+            if not self.crowd(order):
+                return order
+        return self.chosen(options)
 
-    def search(self, options: dict[Key, list[Maker]], fixed: dict[Key, Maker]) -> dict[Key, Maker]:
-        """Who makes what: makers are fixed subpool by subpool, those that are stuck first, and others tried where
-        these alone wait for each other in circles."""
-        self.tried += 1
-        makers = {key: fixed.get(key, choices[0]) for key, choices in options.items()}
-        core = self.core(makers)
-        if not core:
-            return makers
-        left = [key for key in self.made if key not in fixed]
-        stuck = [key for key in left if self.is_stuck(key, core)] or left
-        if stuck and not self.has_circles(fixed):
-            key = min(stuck, key=lambda key: len(options[key]))
-            for maker in sorted(options[key], key=lambda it: len(self.core({**makers, key: it}))):
-                if self.tried <= MOST_CHOICES:
-                    found = self.search(options, {**fixed, key: maker})
-                    if found:
-                        return found
-        if not fixed:
-            self.give_up()
-        return {}
+    def chosen(self, options: dict[Key, list[Maker]]) -> list[Event]:
+        """An order of all events, by the makers and orders that Course finds."""
+        course = Course(self, options)
+        order = course.find()
+        if order is None:
+            raise Fault("this can't be made: whatever task makes the storage, it waits for itself"
+                        + ", or for a further task, and there are %d" % MOST_TASKS * course.is_crowded,
+                        self.source, self.subpools[course.stuck].line if course.stuck else self.map.bytes_line)
+        self.place = {event: k for k, event in enumerate(order)}
+        self.is_apart = True
+        self.choose(course.makers)
+        self.before = arranged(*self.needs(), self.place)
+        own = {("help", self.at[helper.serves[0]]): k for k, helper in enumerate(self.helpers)}
+        self.numbers = {k: self.numbers[number] for (_, number), k in own.items()}
+        return [(kind, own["help", number]) if kind in ("help", "done") else (kind, number)
+                for kind, number in order if kind not in ("begin", "end", "mark")]
 
-    def has_circles(self, fixed: dict[Key, Maker]) -> bool:
-        """Whether some subpools can't be made so, whoever makes the others."""
-        made, at = self.made, self.at
-        self.made = list(fixed)
-        self.at = {key: k for k, key in enumerate(self.made)}
-        found = self.core(fixed)
-        self.made, self.at = made, at
-        return bool(found)
+    def crowd(self, order: list[Event]) -> list[Option]:
+        """Gives helpers their numbers; where there's none for one, what can be otherwise: some task comes behind its
+        end, or it isn't there together with another one, or with a task that passes and takes a number.
 
-    def is_stuck(self, key: Key, core: set[Event]) -> bool:
-        """Whether another maker of a subpool's storage could open a circle."""
-        chain = self.chains[key]
-        return ("make", self.at[key]) in core or len(chain) > len(self.shortest[key]) and (
-            ("create", chain[1]) in core)
-
-    def better(self, makers: dict[Key, Maker], least: int,
-               changes: Iterable[tuple[Key, Maker]]) -> Optional[tuple[Key, Maker]]:
-        """A change of makers that leaves fewest events in circles; None where none leaves less than so many."""
-        best = None
-        for key, maker in changes:
-            if maker == makers[key]:
-                continue
-            changed = dict(makers)
-            changed[key] = maker
-            count = len(self.core(changed))
-            if count < least:
-                best, least = (key, maker), count
-            if not count:
-                break
-        return best
+        Backwards in an order, a number that is free stays so until a helper has it, as the task of the map that
+        has it comes behind: so whichever of them a helper gets, the next one has as many to take.
+        """
+        free = set(range(2, MOST_TASKS + 1)) - set(self.parent)
+        place = {event: k for k, event in enumerate(order)}
+        passed = {self.first[task] for task in self.temps}     # these numbers aren't for each helper
+        there: set[int] = set()
+        for k, (kind, number) in reversed(list(enumerate(order))):
+            if kind == "create":
+                free.add(number)
+            elif kind == "help":
+                there.remove(number)
+                free.add(self.numbers[number])
+            elif kind == "done":
+                passing = [event for event in order[place["help", number]:k] if event[0] == "temp"]
+                able = free - {self.first[task] for _, task in passing}
+                if not able:
+                    others = [event for event in order[:k] if event[0] == "create"] + passing
+                    others += [("help", other) for other in there]
+                    return ([[(("done", number), other)] for other in others]
+                            + [[(event, ("help", number))] for event in passing]
+                            + [[(("done", other), ("help", number))] for other in there])
+                self.numbers[number] = min(able, key=lambda it: (it not in passed, it))
+                free.remove(self.numbers[number])
+                there.add(number)
+        return []
 
     def judge(self) -> None:
         """That some order of ATTACHes brings about who sees what, and which number is in register 1."""
-        made, at = self.made, self.at
-        self.made, self.at = [], {}
-        orders = Orders(MOST_ORDERS)
-        core = self.core({}, orders)
+        course = Course(self, {})
         if self.twice:
             task, keys = next(iter(self.twice.items()))
             refuse(self.source, self.line[task], "it would have to see two subpools %d at once" % keys[0][0])
-        if core and orders.tries > MOST_ORDERS:
-            raise Fault("this can't be made: none of %d orders of ATTACHes fits" % MOST_ORDERS,
-                        self.source, self.map.tasks[-1].line)
-        if core:
+        order = course.find()
+        if order is None:
             refuse(self.source, self.map.tasks[-1].line,
                    "each order of ATTACHes breaks what a subpool's sharers, its owner, "
                    "or a task's number in register 1 ask for")
+        self.place = {event: k for k, event in enumerate(order)}
+
+    def bare(self) -> Order:
+        """For each event but those for storage those that come before it, whatever makes that."""
+        made, at = self.made, self.at
+        self.made, self.at = [], {}
+        self.choose({})
+        before, _ = self.needs()
         self.made, self.at = made, at
+        return before
 
-    def give_up(self) -> NoReturn:
-        raise Fault("this can't be made: whatever task makes the storage, it waits for itself",
-                    self.source, self.map.bytes_line)
 
-    def in_turn(self, before: Order) -> list[Event]:
-        """All events, so that the helper that can be done with fewest tasks comes first."""
-        found: list[Event] = []
-        left = [("done", k) for k in range(len(self.helpers))]
-        while left:
-            parts = {end: closure(before, end, set(found)) for end in left}
-            end = min(left, key=lambda it: (sum(event[0] == "create" for event in parts[it]), it))
-            found += sort({event: before[event] & parts[end] for event in parts[end]})
-            left = [it for it in left if it not in parts[end]]
-        rest = set(before) - set(found)
-        return found + sort({event: before[event] & rest for event in rest})
+class Course:
+    """What comes before what whoever makes the storage, and what there is to choose: who makes it, and in which
+    order a task sees the subpools of a number that it makes and gives.
+
+    While a task sees a subpool is a block; where storage may be made in it, or it may end with no event, it has a
+    "begin" and an "end", which have a place in any order where nothing comes between. A helper is there for one
+    subpool alone, as that takes it the least time; "mark" comes behind one that stays empty and takes storage.
+    """
+
+    def __init__(self, family: Family, options: dict[Key, list[Maker]]) -> None:
+        self.family, self.is_crowded = family, False
+        self.stuck: Optional[Key] = None     # where there's no order, the subpool that nothing could make most often
+        self.before = family.bare()
+        self.makers: dict[Key, Maker] = {}
+        self.blocks: dict[tuple[Key, int], int] = {}
+        self.choices: list[list[Option]] = []
+        self.sights = family.sights()
+        self.above: dict[tuple[int, int], list[Key]] = {}      # subpools that a task may make and give
+        self.works: set[tuple[Key, int]] = set()               # blocks in which storage may be made
+        self.options = {key: [it for it in makers if self.is_possible(key, it)] for key, makers in options.items()}
+        for key, makers in self.options.items():
+            self.works.update((key, it.task) for it in makers)
+            for task in {it.task for it in makers if self.is_above(key, it)}:
+                self.above.setdefault((task, key[0]), []).append(key)
+        for place in {**self.sights, **self.above}:
+            self.see(place)
+        self.storage()
+        self.choices = [[self.option(key, it) for it in makers] for key, makers in self.options.items()] + self.choices
+
+    def is_above(self, key: Key, maker: Maker) -> bool:
+        return maker.task not in (*self.family.shortest[key], *self.family.subpools[key].sharers)
+
+    def is_possible(self, key: Key, maker: Maker) -> bool:
+        """Whether a task above the first owner can make a subpool: it or that one may see another to the end."""
+        chain, number, chains = self.family.shortest[key], key[0], self.family.shortest
+        own = self.sights.get((maker.task, number), [])
+        behind = [other for other in self.sights.get((chain[0], number), []) if other != key]
+        return not self.is_above(key, maker) or (
+            all(chains[other][0] == maker.task or maker.task in chains[other][:-1] for other in own)
+            and all(chains[other][0] == chain[0] for other in behind) and not (behind and len(chain) == 1))
+
+    def put(self, one: Event, other: Event) -> None:
+        if one != other:
+            self.before.setdefault(one, set())
+            self.before.setdefault(other, set()).add(one)
+
+    def own(self, kind: str, key: Key, task: int) -> Event:
+        """What a block begins or ends with, which is no event of another kind."""
+        return kind, self.blocks.setdefault((key, task), len(self.blocks))
+
+    def begin(self, key: Key, task: int) -> list[Event]:
+        """What comes first of a block."""
+        if (key, task) in self.works:
+            return [self.own("begin", key, task)]
+        block = self.family.block(key, task)
+        return sorted(block.events or block.all)
+
+    def end(self, key: Key, task: int) -> list[Event]:
+        """What comes last of a block."""
+        block, is_above = self.family.block(key, task), key in self.above.get((task, key[0]), ())
+        if block.gift and not is_above:
+            return [block.gift]
+        if (key, task) in self.works or (task, key[0]) in self.above:
+            return [self.own("end", key, task)]
+        return sorted(block.events)
+
+    def see(self, place: tuple[int, int]) -> None:
+        """The blocks of a task for a subpool's number."""
+        task, keys = place[0], self.sights.get(place, [])
+        first, middle, last = self.family.parts(task, keys)
+        middle += self.above.get(place, [])
+        for key in first + middle + last:
+            block = self.family.block(key, task) if key in keys else Block()
+            ends = set(self.end(key, task)) - block.events
+            begins = self.begin(key, task) if (key, task) in self.works else []
+            for pair in [*product(block.all, ends), *product(begins, block.all | ends)]:
+                self.put(*pair)
+        for one, other in [*product(first, middle + last), *product(middle, last)]:
+            for pair in product(self.end(one, task), self.begin(other, task)):
+                self.put(*pair)
+        for pair in combinations(middle, 2):
+            self.choices.append([[*product(self.end(one, task), self.begin(other, task))]
+                                 for one, other in (pair, pair[::-1])])
+
+    def storage(self) -> None:
+        """What storage comes behind words or before them, and behind subpools that stay empty."""
+        family, keys = self.family, self.options
+        marks = [("mark", family.at[key]) for key in keys if not family.subpools[key].extents]
+        self.before.update({event: set() for event in [("make", family.at[key]) for key in keys] + marks})
+        if keys:
+            family.pages_needs(self.before)
+        for wanted in family.scarce() if marks else ():
+            self.choices.append([[(mark, ("make", family.at[key])) for mark in marks] for key in wanted])
+
+    def option(self, key: Key, maker: Maker) -> Option:
+        """What comes before what where a task makes a subpool's storage."""
+        family, task, number = self.family, maker.task, self.family.at[key]
+        make, last = ("make", number), family.last(task)
+        event = ("help", number) if maker.how == "help" else make
+        found = [(self.own("begin", key, task), event)] + [(event, it) for it in self.end(key, task)]
+        found += [(("create", task), event)] if task != 1 else []
+        found += [(event, last)] if last and maker.how in ("self", "help") else []
+        found += [(event, make), (make, ("done", number))] if maker.how == "help" else []
+        found += [(make, ("mark", number))] if maker.how == "build" and not family.subpools[key].extents else []
+        chain = [task] * self.is_above(key, maker) + family.shortest[key]
+        if task in chain[:-1]:
+            found.append((event, ("create", chain[chain.index(task) + 1])))
+        return found + (self.given(key, task) if self.is_above(key, maker) else [])
+
+    def given(self, key: Key, task: int) -> Option:
+        """What comes before what where a task gives a subpool to the first that had to own it."""
+        chain, number = self.family.shortest[key], key[0]
+        owner = chain[0]
+        found = [(self.own("begin", key, task), ("create", owner)), (("create", owner), self.own("end", key, task))]
+        above = [other for other in self.above.get((owner, number), []) if other != key]
+        for other in [it for it in self.sights[owner, number] if it != key] + above:
+            found += product(self.end(key, owner), self.begin(other, owner))
+        if len(chain) == 1:
+            found += product([("create", self.family.shortest[other][0]) for other in above], self.end(key, owner))
+        return found
+
+    def find(self) -> Optional[list[Event]]:
+        """An order of all events; None where there's none. Where no number is left for a helper in the order that
+        comes of the choices, that's one more choice: each order leaves a number by one of these."""
+        for event in {event for options in self.choices for option in options for pair in option for event in pair}:
+            self.before.setdefault(event, set())
+        while not circles(self.before):
+            choices = Choices(self.before, self.choices)
+            taken = choices.take()
+            if taken is None:
+                self.stuck = max(zip(choices.ends, self.options), default=(0, None), key=lambda it: it[0])[1]
+                return None
+            found = {event: set(others) for event, others in self.before.items()}
+            for one, other in (pair for option in taken for pair in option):
+                found[other].add(one)
+            self.makers = dict(self.made_by(taken))
+            order = in_turn({event: others for event, others in found.items() if self.is_there(event)})
+            crowd = self.family.crowd(order)
+            if not crowd:
+                return order
+            self.is_crowded = True
+            self.choices.append(crowd)
+        return None
+
+    def made_by(self, taken: list[Option]) -> Iterable[tuple[Key, Maker]]:
+        for (key, makers), options, option in zip(self.options.items(), self.choices, taken):
+            yield key, next(maker for maker, it in zip(makers, options) if it is option)
+
+    def is_there(self, event: Event) -> bool:
+        """Whether an event is none of a helper that isn't needed."""
+        return event[0] not in ("help", "done") or self.makers[self.family.made[event[1]]].how == "help"
+
+
+class Choices:
+    """Takes one option of each choice, so that no event comes before itself.
+
+    In which order a task can attach others is the problem Intermezzo (something mustn't come between two others),
+    which is NP-complete, so no bound is known that is enough; the search is whole without one. An option is left where
+    it closes a circle with what is taken; one that follows from that is taken, as that closes no other; so is the last
+    one left. Else all are tried, of the choice that was a dead end most often. So as not to stay long behind a wrong
+    one, it begins anew behind some dead ends, each time twice as many: a go comes that meets all there are.
+    """
+
+    def __init__(self, before: Order, choices: list[list[Option]]) -> None:
+        events = {event: k for k, event in enumerate(dict.fromkeys(
+            event for options in choices for option in options for pair in option for event in pair))}
+        bits, known = ancestors(before, sort(before))
+        place = {bits[event].bit_length() - 1: k for event, k in events.items()}
+        found = [sum(1 << place[it] for it in ones(known[event]) if it in place) for event in events]
+        behind = [0] * len(found)
+        for k, earlier in enumerate(found):
+            for it in ones(earlier):
+                behind[it] |= 1 << k
+        self.first = Taken(found, behind, dict.fromkeys(range(len(choices)), 0))
+        self.given = choices
+        self.options = [[[(events[one], events[other]) for one, other in option] for option in options]
+                        for options in choices]
+        self.events = [sum(1 << event for event in {event for option in options for pair in option for event in pair})
+                       for options in self.options]
+        self.ends = [0] * len(choices)       # how often a choice was a dead end
+        self.most = FIRST_GO
+
+    def take(self) -> Optional[list[Option]]:
+        """An option of each choice; None where there are none that go together."""
+        while True:
+            found, is_whole = self.go()
+            if found or is_whole:
+                break
+            self.most *= 2
+        if not found:
+            return None
+        return [next(given for given, option in zip(*both) if found.has(option))
+                for both in zip(self.given, self.options)]
+
+    def go(self) -> tuple[Optional[Taken], bool]:
+        """What's taken of all choices, if that's found; else whether all were tried."""
+        state: Optional[Taken] = self.first.copy()
+        state.changed = -1
+        stack: list[tuple[Taken, Iterable[list[tuple[int, int]]]]] = []
+        ends = 0
+        while True:
+            if state and self.settle(state):
+                if not state.left:
+                    return state, True
+                k = max(state.left, key=lambda k: (self.ends[k], -state.left[k]))
+                stack.append((state, iter(self.options[k])))
+            else:
+                ends += 1
+                if ends > self.most:
+                    return None, False
+            state = next_state(stack)
+            if state is None and not stack:
+                return None, True
+
+    def settle(self, state: Taken) -> bool:
+        """Takes what follows, as long as something does; False where a choice has no option left."""
+        while state.changed:
+            changed, state.changed = state.changed, 0
+            for k in [k for k in state.left if self.events[k] & changed]:
+                options = [it for it in self.options[k] if not state.is_closed(it)]
+                state.left[k] = len(options)
+                if any(state.has(it) for it in options):
+                    del state.left[k]
+                elif len(options) < 2:
+                    if not (options and state.put(options[0])):
+                        self.ends[k] += 1
+                        return False
+                    del state.left[k]
+        return True
+
+
+@dataclass
+class Taken:
+    """Of each event the bits of those before it and behind it, by what is taken; how many options other choices have
+    left; and the bits of events before which more came to be known."""
+    known: list[int]
+    behind: list[int]
+    left: dict[int, int]
+    changed: int = 0
+
+    def has(self, option: list[tuple[int, int]]) -> bool:
+        """Whether an option follows."""
+        return all(self.known[other] >> one & 1 for one, other in option)
+
+    def is_closed(self, option: list[tuple[int, int]]) -> bool:
+        return any(self.known[one] >> other & 1 for one, other in option)
+
+    def put(self, option: list[tuple[int, int]]) -> bool:
+        """Takes an option, if there's no circle."""
+        for one, other in option:
+            if self.known[one] >> other & 1:
+                return False
+            if not self.known[other] >> one & 1:
+                earlier, later = self.known[one] | 1 << one, self.behind[other] | 1 << other
+                self.changed |= later
+                for k in ones(later):
+                    self.known[k] |= earlier
+                for k in ones(earlier):
+                    self.behind[k] |= later
+        return True
+
+    def copy(self) -> Taken:
+        return Taken(list(self.known), list(self.behind), dict(self.left))
+
+
+def next_state(stack: list[tuple[Taken, Iterable[list[tuple[int, int]]]]]) -> Optional[Taken]:
+    """What's taken with the next option that can be tried; None where there's none at all."""
+    while stack:
+        base, options = stack[-1]
+        for option in options:
+            state = base.copy()
+            if state.put(option):
+                return state
+        stack.pop()
+    return None
+
+
+def ones(bits: int) -> Iterable[int]:
+    """The places of the bits that are 1."""
+    while bits:
+        yield (bits & -bits).bit_length() - 1
+        bits &= bits - 1
+
+
+def in_turn(before: Order) -> list[Event]:
+    """All events, so that the helper that can be done with fewest tasks comes first."""
+    found: list[Event] = []
+    left = [event for event in before if event[0] == "done"]
+    while left:
+        parts = {end: closure(before, end, set(found)) for end in left}
+        end = min(left, key=lambda it: (sum(event[0] == "create" for event in parts[it]), it))
+        found += sort({event: before[event] & parts[end] for event in parts[end]})
+        left = [it for it in left if it not in parts[end]]
+    rest = set(before) - set(found)
+    return found + sort({event: before[event] & rest for event in rest})
 
 
 def follow(before: Order, one: Block, others: Iterable[Block]) -> None:
@@ -467,66 +735,21 @@ def closure(before: Order, end: Event, done: set[Event]) -> set[Event]:
     return found - done
 
 
-def arranged(before: Order, free: list[list[Block]], orders: Optional[Orders] = None) -> Order:
-    """The order with the blocks that come in any order put in one that fits the rest; with circles, where
-    there's none."""
+def arranged(before: Order, free: list[list[Block]], known: dict[Event, int]) -> Order:
+    """The order with the blocks that come in any order put in one that fits the rest, or in that of places that are
+    known; with circles, where neither does."""
+    found = before
     if circles(before):
-        return before
-    place = {event: k for k, event in enumerate(sort(before))}
-    found = {event: set(others) for event, others in before.items()}
-    for blocks in free:
-        blocks.sort(key=lambda block: place[block.gift] if block.gift else 0)
-        for one, other in zip(blocks, blocks[1:]):
-            follow(found, one, [other])
-    if circles(found):
-        pairs = [pair for blocks in free for pair in combinations(blocks, 2)]
-        return (orders or Orders()).find(before, pairs) or found
-    return found
-
-
-class Orders:
-    """The search for an order of blocks, pair by pair: what follows from those that are ordered is taken
-    first."""
-
-    def __init__(self, most: int = FEW_ORDERS) -> None:
-        self.tries, self.most = 0, most
-
-    def find(self, before: Order, pairs: list[tuple[Block, Block]]) -> Optional[Order]:
-        """An order with all pairs in one order or the other."""
+        return found
+    for place in ({event: k for k, event in enumerate(sort(before))}, known):
         found = {event: set(others) for event, others in before.items()}
-        left = self.forced(found, pairs)
-        self.tries += 1
-        if left is None or self.tries > self.most:
-            return None
-        if not left:
-            return found
-        for one, other in (left[0], left[0][::-1]):
-            changed = {event: set(others) for event, others in found.items()}
-            follow(changed, one, [other])
-            done = self.find(changed, left[1:])
-            if done is not None:
-                return done
-        return None
-
-    def forced(self, before: Order, pairs: list[tuple[Block, Block]]) -> Optional[list[tuple[Block, Block]]]:
-        """Orders the pairs that can be in one order alone; the others, or None where one can be in neither."""
-        left, is_changed = pairs, True
-        while is_changed:
-            events = sort(before)
-            if len(events) < len(before):
-                return None
-            known = ancestors(before, events)
-            left, is_changed, pairs = [], False, left
-            for one, other in pairs:
-                is_first, is_second = is_before(known, one, other), is_before(known, other, one)
-                if is_first and is_second:
-                    return None
-                if is_first or is_second:
-                    follow(before, *((one, [other]) if is_first else (other, [one])))
-                    is_changed = True
-                else:
-                    left.append((one, other))
-        return left
+        for blocks in free:
+            blocks.sort(key=lambda block: place.get(block.gift, 0) if block.gift else 0)
+            for one, other in zip(blocks, blocks[1:]):
+                follow(found, one, [other])
+        if not circles(found):
+            break
+    return found
 
 
 def ancestors(before: Order, events: list[Event]) -> tuple[dict[Event, int], dict[Event, int]]:
@@ -538,13 +761,6 @@ def ancestors(before: Order, events: list[Event]) -> tuple[dict[Event, int], dic
         for other in before[event]:
             found[event] |= found[other] | bits[other]
     return bits, found
-
-
-def is_before(known: tuple[dict[Event, int], dict[Event, int]], one: Block, other: Block) -> bool:
-    """Whether an event of a block has to come before one of another."""
-    bits, before = known
-    own = sum(bits[event] for event in one.all)
-    return any(before[event] & own for event in other.all)
 
 
 def circles(before: Order) -> set[Event]:

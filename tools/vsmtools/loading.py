@@ -15,7 +15,7 @@ from typing import Iterable, Optional
 from .building import Build, Builder, Step, core, page_end, shape
 from .command import Fault
 from .family import Event, Family
-from .judge import MOST_POOLS, MOST_TASKS, Judge, Refused, refuse
+from .judge import MOST_POOLS, Judge, Refused, refuse
 from .lines import fold
 from .maps import HIGH_START, LOW_START, PAGE, Area, CellPool, Map, Subpool
 from .places import Home, Key, Places, Words, location, unassigned
@@ -115,18 +115,18 @@ class Loader:
             self.define_names()
         if is_walled:
             self.walls = Walls(self, self.wall_ends())
-        for k, event in enumerate(events):
+        for event in events:
             if event[0] in ("create", "temp", "help", "words", "first"):
                 self.walls.close(self.family.actor(event))
-            self.carry_out(event, events[k + 1:])
+            self.carry_out(event)
             self.done.add(event)
         self.end()
         return self.script.lines
 
-    def carry_out(self, event: Event, later: list[Event]) -> None:
+    def carry_out(self, event: Event) -> None:
         kind, number = event
         if kind in ("create", "temp", "help"):
-            self.attach(event, later)
+            self.attach(event)
         elif kind == "done":
             self.end_helper(number)
         elif kind == "make":
@@ -321,13 +321,9 @@ class Loader:
 
     # Tasks.
 
-    def attach(self, event: Event, later: list[Event]) -> None:
+    def attach(self, event: Event) -> None:
         """One event, with the tasks that fill the numbers below its own."""
         actor, number = self.family.actor(event), self.wanted_number(event)
-        if number is None:
-            end = next(k for k, it in enumerate(later) if it == ("done", event[1]))
-            needed = {self.wanted_number(it) for it in later[:end]}
-            number = self.helper_number(actor, {it for it in needed if it})
         if number in self.fillers:
             self.end_filler(number)
         alive = self.alive()
@@ -351,23 +347,12 @@ class Loader:
                 [key for key, it in family.subpools.items() if number in it.sharers],
                 (0, number) in family.subpools)
 
-    def wanted_number(self, event: Event) -> Optional[int]:
+    def wanted_number(self, event: Event) -> int:
         kind, number = event
-        return number if kind == "create" else self.first[number] if kind == "temp" else None
+        return number if kind == "create" else self.first[number] if kind == "temp" else self.family.numbers[number]
 
     def alive(self) -> set[int]:
         return {1} | self.created | set(self.numbers.values()) | set(self.fillers)
-
-    def helper_number(self, actor: int, needed: set[int]) -> int:
-        alive = self.alive()
-        for number in range(2, MOST_TASKS + 1):
-            if number not in alive and number not in needed:
-                return number
-        for number in sorted(self.fillers, reverse=True):
-            if number not in needed:
-                return number
-        raise Fault("this can't be made: a further task is needed for a while, and there are %d" % MOST_TASKS,
-                    self.source, self.family.line[actor])
 
     def end_filler(self, number: int) -> None:
         self.script.by(number)
