@@ -65,7 +65,8 @@ class Region:
                     yield from (((begin, end), *rest) for rest in self.maps(end, most - 1))
 
 
-@pytest.mark.parametrize("words, pages, most, missed", [(4, 3, 2, 0), (4, 2, 3, 1), (4, 2, 4, 0)])
+@pytest.mark.parametrize("words, pages, most, missed", [(4, 3, 2, 0), (4, 2, 3, 0), (4, 2, 4, 0), (5, 2, 3, 0),
+                                                        (3, 4, 3, 61)])
 def test_all_maps_of_a_small_region(monkeypatch: pytest.MonkeyPatch, words: int, pages: int, most: int,
                                     missed: int) -> None:
     """What is refused isn't made, what is planned is, and few others are missed."""

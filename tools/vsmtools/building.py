@@ -7,21 +7,22 @@ part of what can be made can be made too, by DELETE.
 
 Where none of some pools can come last, nothing makes them (`core`). For a pool to come, each lower gap of its length
 has to have a filler, and a gap right before it one that ends there, for which in turn each lower gap of its own
-length had to have one. A filler lies in one gap at most, since a pool that takes a new page begins with it. Say that
-each of the pools lacks room for one or the other, and look at the last BUILD of a list that lacked it: all others of
-these pools are there then, or the filler right before them is, with a gap behind it that's longer than itself. So
-the gaps that were too many are there too; but where two around such a pool became one, since what is built is no
-longer than that filler: then those that were too many for the lowest such filler are there, lower, and long enough.
+length had to have one; the pages before it that are unassigned make that one longer. A filler lies in one gap at
+most, since a pool that takes a new page begins with it. Say that each of the pools lacks room for one or the other,
+and look at the last BUILD of a list that lacked it: all others of these pools are there then, or the filler right
+before them is, with a gap behind it that's longer than itself. So the gaps that were too many are there too; but
+where two around such a pool became one, since what is built is no longer than that filler: then those that were too
+many for the lowest such filler are there, lower, and long enough.
 """
 from __future__ import annotations
 
-from bisect import insort
+from bisect import bisect_left, insort
 from dataclasses import dataclass
 from functools import lru_cache
 from typing import Iterable, NamedTuple, Optional
 
 from .judge import MOST_CELLS, MOST_POOLS
-from .maps import PAGE, Area, CellPool
+from .maps import HIGH_START, PAGE, Area, CellPool
 from .places import Key, location
 
 
@@ -150,11 +151,30 @@ class Builder:
         left, at = self.wanted, 0
         while left:
             turn, at = self.last_of(left, at)
+            stays: list[Build] = []
+            if turn is None:
+                turn, at, stays = self.last_behind(left)
             if turn is None:
                 return None
             turns.append(turn)
-            left = left[:at] + left[at + 1:]
+            left = left[:at] + stays + left[at + 1:]
         return [step for turn in reversed(turns) for step in turn.steps]
+
+    def last_behind(self, left: list[Build]) -> tuple[Optional[Turn], int, list[Build]]:
+        """A pool that can come last if what is right before it was there before others; that is on the ground then,
+        in its place. As it begins lower, this ends. That it's never wrong isn't known, so it's done where nothing else
+        can come last."""
+        room = self.most - len(left) - 1
+        for at, it in enumerate(left):
+            self.ground.remove(it)
+            for filler in self.front(it):
+                self.ground.add(filler)
+                steps = self.steps_to(it, room) if self.places(it, room)[0] <= room else None
+                if steps is not None:
+                    return Turn(it, steps + [Step(False, filler)]), at, [filler]
+                self.ground.remove(filler)
+            self.ground.add(it)
+        return None, 0, []
 
     def last_of(self, left: list[Build], first: int) -> tuple[Optional[Turn], int]:
         """A pool that can come last, from the first place on; it's taken from the ground."""
@@ -190,10 +210,18 @@ class Builder:
                      or gap.end == page < start and not self.ground.is_own(it.key, start)), None)
 
     def front(self, it: Build) -> list[Build]:
-        """What can be right before a pool, as long as can be."""
+        """What can be right before a pool, as long as can be: from unassigned pages on, where its own is one."""
         start, gap = it.area.start, self.own_gap(it)
-        begin = gap.start if gap else page_start(start)
+        begin = gap.start if gap else self.lowest(page_start(start)) if start % PAGE else start
         return [Build(Area(begin, start - begin), it.key, location(begin))] if begin < start else []
+
+    def lowest(self, page: int) -> int:
+        """Where the unassigned pages begin that lead to one, or could, if no other subpool is made yet."""
+        k = bisect_left(self.ground.spans, (page, 0))
+        end = max(self.ground.spans[k - 1][1] if k else 0, HIGH_START if page >= HIGH_START else 0)
+        if self.ground.runs:
+            end = max(end, next((run.start for run in self.ground.runs if run.start <= page < run.end), page))
+        return end
 
     def places(self, it: Build, most: int) -> tuple[int, int]:
         """In how many gaps before a pool's own it would fit, and in how many behind; some of them, where there are
