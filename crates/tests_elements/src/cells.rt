@@ -3,6 +3,7 @@
 ghost use Rattle.std.specs.Prelude.{◌≡◌, IsSome};
 ghost use Rattle.cell_pool.specs.CellPools.{by_id, IsCellPools};
 
+use crate::checks::{all_given_back, holds, named, same, stocked};
 use cell_pool::{CellId, CellPools, CellSettings, Header, Name};
 use std::process::Abort;
 use std::test::Fail;
@@ -21,11 +22,9 @@ fn build(rt: &impl Abort, elements: &mut Elements, pools: &mut CellPools, text: 
     requires { IsCellPools elements.old pools.old }
     ensures { IsCellPools elements.new pools.new }
 {
-    let mut name = Name::new();
-    assert!(rt; name.try_push_str(text).is_ok());
+    let name = named(rt, text);
     assert!(rt; pools.find(elements, &name).is_none());
-    assert!(rt; elements.spare() >= 10);
-    assert!(rt; start <= 8192);
+    assert!(rt; elements.spare() >= 10 && start <= 8192);
     let settings = CellSettings {
         subpool: subpool((start / 4096) as u8),
         size: 16,
@@ -43,8 +42,7 @@ fn find(rt: &impl Abort, elements: &Elements, pools: &CellPools, text: &str) -> 
     requires { IsCellPools elements.now pools.now }
     ensures { IsSome (by_id elements.now pools.now result) }
 {
-    let mut name = Name::new();
-    assert!(rt; name.try_push_str(text).is_ok());
+    let name = named(rt, text);
     pools.find(elements, &name).expect(rt, "no cell pool")
 }
 
@@ -60,7 +58,7 @@ fn name_after(
         .pool_after(elements, behind)
         .expect(rt, "no cell pool behind");
     let header = pools.header(elements, id).expect(rt, "no header");
-    assert_eq!(rt; header.as_slice(), b"H".as_slice());
+    same!(rt; header.as_slice(), b"H".as_slice());
     pools.name(elements, id)
 }
 
@@ -71,12 +69,12 @@ fn check_walks(rt: &impl Abort, elements: &Elements, pools: &CellPools, text: &s
     let id = find(rt, elements, pools, text);
     let first = pools.first_extent(elements, id);
     let (extent, last) = CellPools::next_extent(elements, first).expect(rt, "no extent");
-    assert_eq!(rt; extent.count, 2);
-    assert!(rt; CellPools::next_extent(elements, last).is_none());
+    same!(rt; extent.count, 2);
+    holds!(rt; CellPools::next_extent(elements, last).is_none());
     let first = pools.first_cell(elements, id);
     let (free, last) = CellPools::next_cell(elements, first).expect(rt, "no free cell");
-    assert_eq!(rt; free, cell);
-    assert!(rt; CellPools::next_cell(elements, last).is_none());
+    same!(rt; free, cell);
+    holds!(rt; CellPools::next_cell(elements, last).is_none());
 }
 
 fn get(rt: &impl Abort, elements: &mut Elements, pools: &mut CellPools, text: &str) -> u32
@@ -87,7 +85,7 @@ fn get(rt: &impl Abort, elements: &mut Elements, pools: &mut CellPools, text: &s
     let first = pools.first_free(elements, id);
     assert!(rt; first.is_some());
     let cell = pools.take_cell(elements, id);
-    assert_eq!(rt; first, Some(cell));
+    same!(rt; first, Some(cell));
     cell
 }
 
@@ -96,10 +94,9 @@ fn free(rt: &impl Abort, elements: &mut Elements, pools: &mut CellPools, text: &
     ensures { IsCellPools elements.new pools.new }
 {
     let id = find(rt, elements, pools, text);
-    assert!(rt; pools.in_use(elements, id, cell));
-    assert!(rt; elements.spare() > 0);
+    assert!(rt; pools.in_use(elements, id, cell) && elements.spare() > 0);
     pools.put_cell(elements, id, cell);
-    assert!(rt; !pools.in_use(elements, id, cell));
+    holds!(rt; !pools.in_use(elements, id, cell));
 }
 
 // The two pools of subpool 1 go and come back, and that of subpool 2 stays as it is.
@@ -108,142 +105,133 @@ fn park_and_restore(rt: &impl Abort, elements: &mut Elements, pools: &mut CellPo
     ensures { IsCellPools elements.new pools.new }
 {
     let parked = pools.park_pools(elements, subpool(1));
-    assert_eq!(rt; pools.count(elements), 1);
+    same!(rt; pools.count(elements), 1);
     let id = find(rt, elements, pools, "B");
-    assert_eq!(rt; pools.settings(elements, id).subpool, subpool(2));
-    assert_eq!(rt; pools.first_free(elements, id), Some(8208));
+    same!(rt; pools.settings(elements, id).subpool, subpool(2));
+    same!(rt; pools.first_free(elements, id), Some(8208));
     check_walks(rt, elements, pools, "B", 8208);
-    assert!(rt; pools.in_use(elements, id, 8192));
-    assert!(rt; !pools.holds(elements, 4096, 32));
+    holds!(rt; pools.in_use(elements, id, 8192));
+    holds!(rt; !pools.holds(elements, 4096, 32));
     pools.restore_pools(elements, parked);
-    assert_eq!(rt; pools.count(elements), 3);
+    same!(rt; pools.count(elements), 3);
 }
 
 #[test]
 fn cells_come_back_in_their_order(rt: HostRuntime) -> Result<(), Fail> {
-    let mut elements = Elements::new(rt.alloc());
-    elements.reserve(40)?;
+    let mut elements = stocked(rt.alloc(), 40)?;
     let mut pools = CellPools::new();
     build(&rt, &mut elements, &mut pools, "CP", 4096);
-    assert_eq!(rt; get(&rt, &mut elements, &mut pools, "CP"), 4096);
-    assert_eq!(rt; get(&rt, &mut elements, &mut pools, "CP"), 4112);
+    same!(rt; get(&rt, &mut elements, &mut pools, "CP"), 4096);
+    same!(rt; get(&rt, &mut elements, &mut pools, "CP"), 4112);
     free(&rt, &mut elements, &mut pools, "CP", 4096);
     free(&rt, &mut elements, &mut pools, "CP", 4112);
-    assert_eq!(rt; get(&rt, &mut elements, &mut pools, "CP"), 4112);
+    same!(rt; get(&rt, &mut elements, &mut pools, "CP"), 4112);
     check_walks(&rt, &elements, &pools, "CP", 4096);
     let id = find(&rt, &elements, &pools, "CP");
-    assert_eq!(rt; pools.settings(&elements, id).size, 16);
-    assert!(rt; pools.holds(&elements, 4120, 8));
-    assert!(rt; !pools.holds(&elements, 4128, 8));
+    same!(rt; pools.settings(&elements, id).size, 16);
+    holds!(rt; pools.holds(&elements, 4120, 8));
+    holds!(rt; !pools.holds(&elements, 4128, 8));
     let parked = pools.park_one(&mut elements, id);
     parked.discard(&mut elements);
-    assert_eq!(rt; elements.spare(), 128);
-    assert_eq!(rt; elements.release(), 1);
+    all_given_back(&rt, elements);
     Ok(())
 }
 
 #[test]
 fn the_pools_of_a_subpool_are_parked_and_restored(rt: HostRuntime) -> Result<(), Fail> {
-    let mut elements = Elements::new(rt.alloc());
-    elements.reserve(60)?;
+    let mut elements = stocked(rt.alloc(), 60)?;
     let mut pools = CellPools::new();
     build(&rt, &mut elements, &mut pools, "A", 4096);
     build(&rt, &mut elements, &mut pools, "B", 8192);
     build(&rt, &mut elements, &mut pools, "C", 4096);
-    assert_eq!(rt; get(&rt, &mut elements, &mut pools, "B"), 8192);
+    same!(rt; get(&rt, &mut elements, &mut pools, "B"), 8192);
     let before = elements.spare();
     park_and_restore(&rt, &mut elements, &mut pools);
-    assert_eq!(rt; elements.spare(), before);
-    assert_eq!(rt; get(&rt, &mut elements, &mut pools, "C"), 4096);
-    assert_eq!(rt; get(&rt, &mut elements, &mut pools, "B"), 8208);
+    same!(rt; elements.spare(), before);
+    same!(rt; get(&rt, &mut elements, &mut pools, "C"), 4096);
+    same!(rt; get(&rt, &mut elements, &mut pools, "B"), 8208);
     free(&rt, &mut elements, &mut pools, "C", 4096);
     let parked = pools.park_pools(&mut elements, subpool(1));
     parked.discard(&mut elements);
     let rest = pools.park_pools(&mut elements, subpool(2));
     rest.discard(&mut elements);
-    assert_eq!(rt; elements.spare(), 128);
-    assert_eq!(rt; elements.release(), 1);
+    all_given_back(&rt, elements);
     Ok(())
 }
 
 #[test]
 fn pools_come_in_the_order_of_their_names(rt: HostRuntime) -> Result<(), Fail> {
-    let mut elements = Elements::new(rt.alloc());
-    elements.reserve(60)?;
+    let mut elements = stocked(rt.alloc(), 60)?;
     let mut pools = CellPools::new();
     build(&rt, &mut elements, &mut pools, "B", 4096);
     build(&rt, &mut elements, &mut pools, "A", 4096);
     build(&rt, &mut elements, &mut pools, "ABCD", 4096);
     let first = name_after(&rt, &elements, &pools, None);
-    assert_eq!(rt; first.as_str(), "A");
+    holds!(rt; first.as_str() == "A");
     let second = name_after(&rt, &elements, &pools, Some(&first));
-    assert_eq!(rt; second.as_str(), "ABCD");
+    holds!(rt; second.as_str() == "ABCD");
     let third = name_after(&rt, &elements, &pools, Some(&second));
-    assert_eq!(rt; third.as_str(), "B");
-    assert_eq!(rt; pools.pool_after(&elements, Some(&third)), None);
+    holds!(rt; third.as_str() == "B");
+    same!(rt; pools.pool_after(&elements, Some(&third)), None);
     let rest = pools.park_pools(&mut elements, subpool(1));
     rest.discard(&mut elements);
-    assert_eq!(rt; elements.spare(), 128);
-    assert_eq!(rt; elements.release(), 1);
+    all_given_back(&rt, elements);
     Ok(())
 }
 
 #[test]
 fn the_pools_of_a_subpool_are_handed_on(rt: HostRuntime) -> Result<(), Fail> {
-    let mut elements = Elements::new(rt.alloc());
-    elements.reserve(40)?;
+    let mut elements = stocked(rt.alloc(), 40)?;
     let mut pools = CellPools::new();
     build(&rt, &mut elements, &mut pools, "A", 4096);
     build(&rt, &mut elements, &mut pools, "B", 8192);
     pools.hand_on(&mut elements, subpool(1), 7);
     let a = find(&rt, &elements, &pools, "A");
     let given = pools.settings(&elements, a).subpool;
-    assert_eq!(rt;
+    same!(rt;
         given,
         Subpool {
             number: 1,
             owner: 7
         }
     );
-    assert_eq!(rt; pools.first_free(&elements, a), Some(4096));
+    same!(rt; pools.first_free(&elements, a), Some(4096));
     let b = find(&rt, &elements, &pools, "B");
-    assert_eq!(rt; pools.settings(&elements, b).subpool, subpool(2));
+    same!(rt; pools.settings(&elements, b).subpool, subpool(2));
     pools.discard(&mut elements);
-    assert_eq!(rt; elements.spare(), 128);
+    same!(rt; elements.spare(), 128);
     Ok(())
 }
 
 #[test]
 fn a_pool_goes_over_to_others(rt: HostRuntime) -> Result<(), Fail> {
-    let mut elements = Elements::new(rt.alloc());
-    elements.reserve(40)?;
+    let mut elements = stocked(rt.alloc(), 40)?;
     let mut pools = CellPools::new();
     build(&rt, &mut elements, &mut pools, "A", 4096);
     build(&rt, &mut elements, &mut pools, "B", 4096);
     let id = find(&rt, &elements, &pools, "A");
     let mut others = CellPools::new();
     pools.exchange_pool(&mut elements, id, &mut others);
-    assert_eq!(rt; pools.count(&elements), 1);
-    assert_eq!(rt; others.count(&elements), 1);
+    same!(rt; pools.count(&elements), 1);
+    same!(rt; others.count(&elements), 1);
     let gone = find(&rt, &elements, &others, "A");
-    assert_eq!(rt; gone, id);
-    assert_eq!(rt; others.first_free(&elements, id), Some(4096));
+    same!(rt; gone, id);
+    same!(rt; others.first_free(&elements, id), Some(4096));
     Ok(())
 }
 
 #[test]
 fn the_pools_of_a_subpool_go_over_to_others(rt: HostRuntime) -> Result<(), Fail> {
-    let mut elements = Elements::new(rt.alloc());
-    elements.reserve(60)?;
+    let mut elements = stocked(rt.alloc(), 60)?;
     let mut pools = CellPools::new();
     build(&rt, &mut elements, &mut pools, "A", 4096);
     build(&rt, &mut elements, &mut pools, "B", 8192);
     build(&rt, &mut elements, &mut pools, "C", 4096);
     let mut others = CellPools::new();
     pools.exchange_pools(&mut elements, subpool(1), &mut others);
-    assert_eq!(rt; pools.count(&elements), 1);
-    assert_eq!(rt; others.count(&elements), 2);
+    same!(rt; pools.count(&elements), 1);
+    same!(rt; others.count(&elements), 2);
     let gone = find(&rt, &elements, &others, "C");
-    assert_eq!(rt; others.settings(&elements, gone).subpool, subpool(1));
+    same!(rt; others.settings(&elements, gone).subpool, subpool(1));
     Ok(())
 }

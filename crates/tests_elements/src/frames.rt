@@ -1,8 +1,10 @@
 ghost use Rattle.std.specs.Prelude.{◌≡◌, ℕ, ◌+◌, ◌<◌, ◌≤◌, None, IsSome, IfOk, length};
-ghost use Rattle.raw_region.specs.Pages.{bytes_at, HaveTables, IsFresh};
+ghost use Rattle.raw_region.specs.Pages.{bytes_at, Counts, HaveTables, IsFresh, SameAssigned, SameTables};
 
+use crate::checks::{holds, same};
 use raw_region::{Geometry, MAX_HIGH_PAGES, MAX_LOW_PAGES, Parked, Region, Unassigned};
 use std::alloc::{AllocError, Global};
+use std::process::Abort;
 use std::test::Fail;
 
 const SMALL: Geometry = Geometry {
@@ -20,28 +22,37 @@ const FIRST_HIGH: u32 = 32_768;
 
 const MANY: u32 = 300_000;
 
+// Each byte of the page, which were zeros, becomes this one.
+fn fill(rt: &impl Abort, region: &mut Region, page: u32, byte: u8)
+    requires { page < 1048576 }
+    ensures assigned { SameAssigned region.old region.new }
+    ensures tables { SameTables region.old region.new }
+    ensures counts { Counts region.new region.old.spare region.old.out region.old.made }
+{
+    let mut bytes = [byte; 4096];
+    holds!(rt; region.swap_bytes(page * 4096, &mut bytes).is_ok());
+    holds!(rt; bytes == [0u8; 4096]);
+}
+
 #[test]
 fn a_parked_page_comes_back_over_its_next_bytes(rt: HostRuntime) -> Result<(), Fail> {
     let mut region = Region::new(rt.alloc(), SMALL)?;
     region.reserve_frames(2)?;
     region.assign(6);
-    let mut bytes = [7u8; 4096];
-    assert!(rt; region.swap_bytes(6 * 4096, &mut bytes).is_ok());
-    assert_eq!(rt; bytes, [0u8; 4096]);
+    fill(&rt, &mut region, 6, 7);
     let first = region.park(6, 1);
     region.assign(6);
-    let mut bytes = [9u8; 4096];
-    assert!(rt; region.swap_bytes(6 * 4096, &mut bytes).is_ok());
-    assert_eq!(rt; bytes, [0u8; 4096]);
+    fill(&rt, &mut region, 6, 9);
     region.pages_in_range();
     let second = region.park(6, 1);
     region.restore(first);
-    assert!(rt; region.load(6 * 4096, &mut bytes).is_ok());
-    assert_eq!(rt; bytes, [7u8; 4096]);
-    assert_eq!(rt; region.spare_frames(), 0);
+    let mut bytes = [0u8; 4096];
+    holds!(rt; region.load(6 * 4096, &mut bytes).is_ok());
+    holds!(rt; bytes == [7u8; 4096]);
+    same!(rt; region.spare_frames(), 0);
     region.discard(second);
-    assert_eq!(rt; region.spare_frames(), 1);
-    assert_eq!(rt; region.release(), 2);
+    same!(rt; region.spare_frames(), 1);
+    same!(rt; region.release(), 2);
     Ok(())
 }
 
@@ -54,9 +65,9 @@ fn joined_frames_come_back_each_at_its_own_page(rt: HostRuntime) -> Result<(), F
     region.assign(FIRST_HIGH + 255);
     region.assign(FIRST_HIGH + 256);
     let mut low = [3u8; 1];
-    assert!(rt; region.swap_bytes(7 * 4096, &mut low).is_ok());
+    holds!(rt; region.swap_bytes(7 * 4096, &mut low).is_ok());
     let mut high = [4u8, 5];
-    assert!(rt;
+    holds!(rt;
         region
             .swap_bytes((FIRST_HIGH + 256) * 4096 - 1, &mut high)
             .is_ok()
@@ -65,17 +76,17 @@ fn joined_frames_come_back_each_at_its_own_page(rt: HostRuntime) -> Result<(), F
     let above = region.park(FIRST_HIGH + 255, 2);
     let below = region.park(7, 1);
     region.restore(below.join(above));
-    assert!(rt; region.load(7 * 4096, &mut low).is_ok());
-    assert_eq!(rt; low, [3]);
-    assert!(rt;
+    holds!(rt; region.load(7 * 4096, &mut low).is_ok());
+    same!(rt; low, [3]);
+    holds!(rt;
         region
             .load((FIRST_HIGH + 256) * 4096 - 1, &mut high)
             .is_ok()
     );
-    assert_eq!(rt; high, [4, 5]);
+    same!(rt; high, [4, 5]);
     let parked = region.park(7, 1);
-    assert_eq!(rt; parked.release(), 1);
-    assert_eq!(rt; region.release(), 2);
+    same!(rt; parked.release(), 1);
+    same!(rt; region.release(), 2);
     Ok(())
 }
 
@@ -86,20 +97,20 @@ fn a_refused_access_leaves_the_bytes(rt: HostRuntime) -> Result<(), Fail> {
     region.assign(6);
     region.assign(8);
     let mut bytes = [1u8; 4];
-    assert_eq!(rt; region.load(7 * 4096 - 2, &mut bytes), Err(Unassigned(7)));
-    assert_eq!(rt;
+    same!(rt; region.load(7 * 4096 - 2, &mut bytes), Err(Unassigned(7)));
+    same!(rt;
         region.swap_bytes(7 * 4096 - 2, &mut bytes),
         Err(Unassigned(7))
     );
-    assert_eq!(rt;
+    same!(rt;
         region.swap_bytes(u32::MAX, &mut bytes),
         Err(Unassigned(1_048_575))
     );
-    assert_eq!(rt; bytes, [1; 4]);
+    same!(rt; bytes, [1; 4]);
     let mut two = [1u8; 2];
-    assert!(rt; region.load(7 * 4096 - 2, &mut two).is_ok());
-    assert_eq!(rt; two, [0; 2]);
-    assert!(rt; region.load(u32::MAX, &mut []).is_ok());
+    holds!(rt; region.load(7 * 4096 - 2, &mut two).is_ok());
+    same!(rt; two, [0; 2]);
+    holds!(rt; region.load(u32::MAX, &mut []).is_ok());
     Ok(())
 }
 
@@ -115,17 +126,17 @@ fn the_last_byte_of_each_region_is_kept(rt: HostRuntime) -> Result<(), Fail> {
     region.assign(last_high);
     for (page, byte) in [(last_low, 0xC1u8), (last_high, 0xC2)] {
         let mut last = [byte];
-        assert!(rt; region.swap_bytes(page * 4096 + 4095, &mut last).is_ok());
-        assert_eq!(rt; last, [0]);
+        holds!(rt; region.swap_bytes(page * 4096 + 4095, &mut last).is_ok());
+        same!(rt; last, [0]);
     }
     let mut last = [0u8; 1];
-    assert!(rt; region.load(0x00FF_FFFF, &mut last).is_ok());
-    assert_eq!(rt; last, [0xC1]);
-    assert!(rt; region.load(0x67FF_FFFF, &mut last).is_ok());
-    assert_eq!(rt; last, [0xC2]);
+    holds!(rt; region.load(0x00FF_FFFF, &mut last).is_ok());
+    same!(rt; last, [0xC1]);
+    holds!(rt; region.load(0x67FF_FFFF, &mut last).is_ok());
+    same!(rt; last, [0xC2]);
     let mut two = [0u8; 2];
-    assert_eq!(rt; region.load(0x00FF_FFFF, &mut two), Err(Unassigned(0x1000)));
-    assert_eq!(rt;
+    same!(rt; region.load(0x00FF_FFFF, &mut two), Err(Unassigned(0x1000)));
+    same!(rt;
         region.load(0x67FF_FFFF, &mut two),
         Err(Unassigned(0x68000))
     );
@@ -156,8 +167,8 @@ fn with_many_pages(alloc: Global, n: u32) -> Result<Region, AllocError>
 fn a_long_chain_is_released(rt: HostRuntime) -> Result<(), Fail> {
     let mut region = with_many_pages(rt.alloc(), MANY)?;
     let parked = region.park(FIRST_HIGH, MANY);
-    assert_eq!(rt; parked.release(), MANY);
-    assert_eq!(rt; region.release(), 0);
+    same!(rt; parked.release(), MANY);
+    same!(rt; region.release(), 0);
     Ok(())
 }
 
@@ -165,7 +176,7 @@ fn a_long_chain_is_released(rt: HostRuntime) -> Result<(), Fail> {
 fn a_long_chain_is_dropped_with_its_region(rt: HostRuntime) -> Result<(), Fail> {
     let mut region = with_many_pages(rt.alloc(), MANY)?;
     let parked = region.park(FIRST_HIGH, MANY);
-    assert_eq!(rt; region.spare_frames(), 0);
+    same!(rt; region.spare_frames(), 0);
     drop(parked);
     drop(region);
     Ok(())
@@ -198,11 +209,11 @@ fn what_grew_before_a_refusal_is_released(rt: HostRuntime) -> Result<(), Fail> {
     let outcome = grow(&mut region);
     let last_used = region.assigned(FIRST_HIGH + 599);
     if region.assigned(6) {
-        assert_eq!(rt; park_one(&mut region, 6).release(), 1);
+        same!(rt; park_one(&mut region, 6).release(), 1);
     }
     let spare = region.spare_frames();
-    assert!(rt; outcome.is_err() || last_used && spare == 3);
+    holds!(rt; outcome.is_err() || last_used && spare == 3);
     let left = if last_used { 1u64 } else { 0 };
-    assert_eq!(rt; region.release() as u64, left + spare as u64);
+    same!(rt; region.release() as u64, left + spare as u64);
     Ok(())
 }

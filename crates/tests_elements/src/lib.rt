@@ -4,7 +4,11 @@
 #[cfg(test)]
 mod cells;
 #[cfg(test)]
+mod checks;
+#[cfg(test)]
 mod frames;
+#[cfg(test)]
+mod subpool_steps;
 #[cfg(test)]
 mod subpool_storage_cells;
 #[cfg(test)]

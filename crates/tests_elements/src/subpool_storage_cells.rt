@@ -5,10 +5,12 @@ ghost use Rattle.std.specs.Prelude.{ℕ, ◌+◌, ◌≤◌};
 ghost use Rattle.subpool_storage.specs.Subpools.{CanExchange};
 ghost use Rattle.subpool_storage.specs.SubpoolStorage.{subpools_of, hold, Stands};
 
+use crate::checks::{all_given_back, named, same, stocked};
+use crate::subpool_steps::{create, pass};
 use cell_pool::laws::pools_are_one;
 use std::process::Abort;
 use std::test::Fail;
-use subpool_storage::{CellSettings, Name, SubpoolStorage};
+use subpool_storage::{CellSettings, SubpoolStorage};
 use vsm_elements::Elements;
 use vsm_model::{Residence, Subpool};
 
@@ -27,20 +29,6 @@ const TAKERS: Subpool = Subpool {
     owner: 3,
 };
 
-fn create(rt: &impl Abort, elements: &mut Elements, storage: &mut SubpoolStorage, subpool: Subpool)
-    requires { Stands elements.old storage.old }
-    ensures { Stands elements.new storage.new }
-{
-    assert!(rt; subpool.owner >= 1 && subpool.owner <= 64 && subpool.number <= 127);
-    assert!(rt; elements.spare() > 0);
-    assert!(rt;
-        storage
-            .owner_seen(elements, subpool.owner, subpool.number)
-            .is_none()
-    );
-    storage.create(elements, subpool);
-}
-
 // A cell pool of the subpool, of two cells of 16 bytes from an address on, each in an extent of its own.
 fn build(
     rt: &impl Abort,
@@ -53,8 +41,7 @@ fn build(
     requires { Stands elements.old storage.old }
     ensures { Stands elements.new storage.new }
 {
-    let mut name = Name::new();
-    assert!(rt; name.try_push_str(text).is_ok());
+    let name = named(rt, text);
     pools_are_one();
     let pools = storage.cell_pools(elements);
     assert!(rt; pools.find(elements, &name).is_none());
@@ -79,11 +66,23 @@ fn home(
 ) -> Option<Subpool>
     requires { Stands elements.now storage.now }
 {
-    let mut name = Name::new();
-    assert!(rt; name.try_push_str(text).is_ok());
+    let name = named(rt, text);
     let pools = storage.cell_pools(elements);
     let id = pools.find(elements, &name)?;
     Some(pools.settings(elements, id).subpool)
+}
+
+// The cell pool of a name is this subpool's; `None` where there is no such cell pool.
+fn is_in(
+    rt: &impl Abort,
+    elements: &Elements,
+    storage: &SubpoolStorage,
+    text: &str,
+    want: Option<Subpool>,
+)
+    requires { Stands elements.now storage.now }
+{
+    assert_eq!(rt; home(rt, elements, storage, text), want, "{text}");
 }
 
 // The cell pools of the subpool go over to the other storage, and come back; those of other subpools stay.
@@ -101,14 +100,14 @@ fn there_and_back(
 {
     assert!(rt; one.has_subpool(elements, HERE) && other.has_subpool(elements, HERE));
     one.exchange_storage(elements, other, HERE);
-    assert_eq!(rt; home(rt, elements, one, "GOES"), None);
-    assert_eq!(rt; home(rt, elements, other, "GOES"), Some(HERE));
-    assert_eq!(rt; home(rt, elements, one, "STAYS"), Some(BESIDE));
+    is_in(rt, elements, one, "GOES", None);
+    is_in(rt, elements, other, "GOES", Some(HERE));
+    is_in(rt, elements, one, "STAYS", Some(BESIDE));
     assert!(rt; one.has_subpool(elements, HERE) && other.has_subpool(elements, HERE));
     other.exchange_storage(elements, one, HERE);
-    assert_eq!(rt; home(rt, elements, one, "GOES"), Some(HERE));
-    assert_eq!(rt; home(rt, elements, other, "GOES"), None);
-    assert_eq!(rt; home(rt, elements, one, "STAYS"), Some(BESIDE));
+    is_in(rt, elements, one, "GOES", Some(HERE));
+    is_in(rt, elements, other, "GOES", None);
+    is_in(rt, elements, one, "STAYS", Some(BESIDE));
 }
 
 fn beside(rt: &impl Abort, elements: &mut Elements, one: &mut SubpoolStorage)
@@ -122,50 +121,32 @@ fn beside(rt: &impl Abort, elements: &mut Elements, one: &mut SubpoolStorage)
 
 #[test]
 fn cell_pools_go_over_with_their_subpool_and_come_back(rt: HostRuntime) -> Result<(), Fail> {
-    let mut elements = Elements::new(rt.alloc());
-    elements.reserve(64)?;
+    let mut elements = stocked(rt.alloc(), 64)?;
     let mut storage = SubpoolStorage::new();
     create(&rt, &mut elements, &mut storage, HERE);
     create(&rt, &mut elements, &mut storage, BESIDE);
     build(&rt, &mut elements, &mut storage, HERE, "GOES", 4096);
     build(&rt, &mut elements, &mut storage, BESIDE, "STAYS", 8192);
-    assert_eq!(rt; elements.spare(), 102);
+    same!(rt; elements.spare(), 102);
     beside(&rt, &mut elements, &mut storage);
     Ok(())
 }
 
-fn pass(
-    rt: &impl Abort,
-    elements: &mut Elements,
-    storage: &mut SubpoolStorage,
-    subpool: Subpool,
-    to: u8,
-)
-    requires { Stands elements.old storage.old }
-    ensures { Stands elements.new storage.new }
-{
-    assert!(rt; storage.has_subpool(elements, subpool) && to >= 1 && to <= 64);
-    assert!(rt; storage.owner_seen(elements, to, subpool.number).is_none());
-    storage.pass(elements, subpool, to);
-}
-
 #[test]
 fn a_gift_hands_its_cell_pools_on(rt: HostRuntime) -> Result<(), Fail> {
-    let mut elements = Elements::new(rt.alloc());
-    elements.reserve(64)?;
+    let mut elements = stocked(rt.alloc(), 64)?;
     let mut storage = SubpoolStorage::new();
     create(&rt, &mut elements, &mut storage, HERE);
     create(&rt, &mut elements, &mut storage, BESIDE);
     build(&rt, &mut elements, &mut storage, HERE, "GIVEN", 4096);
     build(&rt, &mut elements, &mut storage, BESIDE, "KEPT", 8192);
     pass(&rt, &mut elements, &mut storage, HERE, TAKERS.owner);
-    assert_eq!(rt; elements.spare(), 102);
-    assert_eq!(rt; home(&rt, &elements, &storage, "GIVEN"), Some(TAKERS));
-    assert_eq!(rt; home(&rt, &elements, &storage, "KEPT"), Some(BESIDE));
+    same!(rt; elements.spare(), 102);
+    is_in(&rt, &elements, &storage, "GIVEN", Some(TAKERS));
+    is_in(&rt, &elements, &storage, "KEPT", Some(BESIDE));
     pass(&rt, &mut elements, &mut storage, TAKERS, HERE.owner);
-    assert_eq!(rt; home(&rt, &elements, &storage, "GIVEN"), Some(HERE));
+    is_in(&rt, &elements, &storage, "GIVEN", Some(HERE));
     storage.discard(&mut elements);
-    assert_eq!(rt; elements.spare(), 128);
-    assert_eq!(rt; elements.release(), 1);
+    all_given_back(&rt, elements);
     Ok(())
 }

@@ -4,6 +4,8 @@ ghost use Rattle.std.specs.Prelude.{◌≡◌, ℕ, ◌+◌, ◌≤◌};
 ghost use Rattle.subpool_storage.specs.Subpools.{CanExchange};
 ghost use Rattle.subpool_storage.specs.SubpoolStorage.{subpools_of, hold, Stands};
 
+use crate::checks::{all_given_back, holds, same, stocked};
+use crate::subpool_steps::create;
 use descriptor_queue::{Extents, Run};
 use free_queue::{Area, Cover, FreeQueue};
 use std::process::Abort;
@@ -22,20 +24,6 @@ const SECOND: Subpool = Subpool {
     owner: 3,
 };
 
-fn create(rt: &impl Abort, elements: &mut Elements, storage: &mut SubpoolStorage, subpool: Subpool)
-    requires { Stands elements.old storage.old }
-    ensures { Stands elements.new storage.new }
-{
-    assert!(rt; subpool.owner >= 1 && subpool.owner <= 64 && subpool.number <= 127);
-    assert!(rt; elements.spare() > 0);
-    assert!(rt;
-        storage
-            .owner_seen(elements, subpool.owner, subpool.number)
-            .is_none()
-    );
-    storage.create(elements, subpool);
-}
-
 // The page becomes the subpool's, and its doublewords free storage.
 fn fill(
     rt: &impl Abort,
@@ -47,10 +35,10 @@ fn fill(
     requires { Stands elements.old storage.now }
     ensures { Stands elements.new storage.now }
 {
-    assert!(rt; page < 1_048_576);
-    assert!(rt; storage.has_subpool(elements, subpool));
-    assert!(rt; !storage.has_page(elements, subpool, page));
-    assert!(rt; elements.spare() > 0);
+    assert!(rt; page < 1_048_576 && elements.spare() > 0);
+    assert!(rt;
+        storage.has_subpool(elements, subpool) && !storage.has_page(elements, subpool, page)
+    );
     storage.insert_run(
         elements,
         subpool,
@@ -59,8 +47,8 @@ fn fill(
             len: 1,
         },
     );
-    assert!(rt; storage.has_page(elements, subpool, page));
-    assert_eq!(rt; storage.subpool_of_page(elements, page), Some(subpool));
+    holds!(rt; storage.has_page(elements, subpool, page));
+    same!(rt; storage.subpool_of_page(elements, page), Some(subpool));
     free(
         rt,
         elements,
@@ -83,13 +71,14 @@ fn free(
     requires { Stands elements.old storage.now }
     ensures { Stands elements.new storage.now }
 {
-    assert!(rt; area.len > 0 && area.len <= 512 && area.start <= 536_870_400);
+    assert!(rt;
+        area.len > 0 && area.len <= 512 && area.start <= 536_870_400 && elements.spare() > 0
+    );
     assert!(rt; storage.has_subpool(elements, subpool));
     match storage.covers(elements, subpool, area) {
         Cover::None => {}
         _ => assert!(rt; false),
     }
-    assert!(rt; elements.spare() > 0);
     storage.free_area(elements, subpool, area);
 }
 
@@ -103,13 +92,14 @@ fn carve(
     requires { Stands elements.old storage.now }
     ensures { Stands elements.new storage.now }
 {
-    assert!(rt; area.len > 0 && area.len <= 512 && area.start <= 536_870_400);
+    assert!(rt;
+        area.len > 0 && area.len <= 512 && area.start <= 536_870_400 && elements.spare() > 0
+    );
     assert!(rt; storage.has_subpool(elements, subpool));
     match storage.covers(elements, subpool, area) {
         Cover::All => {}
         _ => assert!(rt; false),
     }
-    assert!(rt; elements.spare() > 0);
     storage.carve_area(elements, subpool, area);
 }
 
@@ -135,8 +125,9 @@ fn empty(
             len: 512,
         },
     );
-    assert!(rt; storage.has_subpool(elements, subpool));
-    assert!(rt; storage.has_page(elements, subpool, page));
+    assert!(rt;
+        storage.has_subpool(elements, subpool) && storage.has_page(elements, subpool, page)
+    );
     assert!(rt; elements.spare() > 0);
     storage.remove_run(
         elements,
@@ -146,7 +137,7 @@ fn empty(
             len: 1,
         },
     );
-    assert!(rt; !storage.has_page(elements, subpool, page));
+    holds!(rt; !storage.has_page(elements, subpool, page));
 }
 
 // A part of two pages that are free storage is carved out, and freed again.
@@ -162,16 +153,16 @@ fn carve_out(rt: &impl Abort, elements: &mut Elements, storage: &SubpoolStorage)
         start: 2600,
         len: 100,
     };
-    assert_eq!(rt; storage.longest(elements, FIRST, 512, region), 1024);
+    same!(rt; storage.longest(elements, FIRST, 512, region), 1024);
     carve(rt, elements, storage, FIRST, part);
-    assert_eq!(rt; elements.spare(), 121);
+    same!(rt; elements.spare(), 121);
     let fit = storage.least_fit(elements, FIRST, 41, 1, region);
-    assert_eq!(rt; fit, Some(2700));
+    same!(rt; fit, Some(2700));
     let fit = storage.least_fit(elements, FIRST, 40, 1, region);
-    assert_eq!(rt; fit, Some(2560));
+    same!(rt; fit, Some(2560));
     let fit = storage.least_fit(elements, SECOND, 1, 1, region);
-    assert_eq!(rt; fit, Some(3584));
-    assert_eq!(rt; storage.longest(elements, FIRST, 512, region), 512);
+    same!(rt; fit, Some(3584));
+    same!(rt; storage.longest(elements, FIRST, 512, region), 512);
     free(rt, elements, storage, FIRST, part);
 }
 
@@ -202,46 +193,45 @@ fn in_order(rt: &impl Abort, elements: &Elements, storage: &SubpoolStorage)
         assert!(rt; false);
         return;
     };
-    assert_eq!(rt; subpool, FIRST);
-    assert_eq!(rt;
+    same!(rt; subpool, FIRST);
+    same!(rt;
         storage.extents_at(elements, place),
         storage.extents(elements, FIRST)
     );
-    assert_eq!(rt;
+    same!(rt;
         storage.free_areas_at(elements, place),
         storage.free_areas(elements, FIRST)
     );
     let sharers = SubpoolStorage::first_sharer_place(place);
-    assert_eq!(rt; storage.next_sharer(elements, FIRST, sharers), None);
-    assert_eq!(rt; storage.sharer_at(elements, FIRST, 0), None);
+    same!(rt; storage.next_sharer(elements, FIRST, sharers), None);
+    same!(rt; storage.sharer_at(elements, FIRST, 0), None);
     let Some((subpool, place)) = storage.next_subpool(elements, place) else {
         assert!(rt; false);
         return;
     };
-    assert_eq!(rt; subpool, SECOND);
-    assert_eq!(rt; storage.next_subpool(elements, place), None);
-    assert_eq!(rt; storage.subpool_at(elements, 0), Some(FIRST));
-    assert_eq!(rt; storage.subpool_at(elements, 1), Some(SECOND));
-    assert_eq!(rt; storage.subpool_at(elements, 2), None);
+    same!(rt; subpool, SECOND);
+    same!(rt; storage.next_subpool(elements, place), None);
+    same!(rt; storage.subpool_at(elements, 0), Some(FIRST));
+    same!(rt; storage.subpool_at(elements, 1), Some(SECOND));
+    same!(rt; storage.subpool_at(elements, 2), None);
 }
 
 #[test]
 fn pages_and_areas_come_and_go(rt: HostRuntime) -> Result<(), Fail> {
-    let mut elements = Elements::new(rt.alloc());
-    elements.reserve(64)?;
+    let mut elements = stocked(rt.alloc(), 64)?;
     let mut storage = SubpoolStorage::new();
     create(&rt, &mut elements, &mut storage, FIRST);
     create(&rt, &mut elements, &mut storage, SECOND);
-    assert_eq!(rt; elements.spare(), 126);
+    same!(rt; elements.spare(), 126);
     fill(&rt, &mut elements, &storage, FIRST, 5);
     fill(&rt, &mut elements, &storage, SECOND, 7);
     fill(&rt, &mut elements, &storage, FIRST, 6);
-    assert_eq!(rt; elements.spare(), 122);
-    assert_eq!(rt;
+    same!(rt; elements.spare(), 122);
+    same!(rt;
         only_extent(&elements, &storage, FIRST),
         Some(Run { start: 5, len: 2 })
     );
-    assert_eq!(rt;
+    same!(rt;
         only_extent(&elements, &storage, SECOND),
         Some(Run { start: 7, len: 1 })
     );
@@ -249,17 +239,17 @@ fn pages_and_areas_come_and_go(rt: HostRuntime) -> Result<(), Fail> {
         start: 2560,
         len: 1024,
     };
-    assert_eq!(rt; only_area(&elements, &storage, FIRST), Some(area));
+    same!(rt; only_area(&elements, &storage, FIRST), Some(area));
     in_order(&rt, &elements, &storage);
     carve_out(&rt, &mut elements, &storage);
     empty(&rt, &mut elements, &storage, FIRST, 5);
     empty(&rt, &mut elements, &storage, SECOND, 7);
     empty(&rt, &mut elements, &storage, FIRST, 6);
-    assert_eq!(rt; elements.spare(), 126);
-    assert_eq!(rt; storage.owner_seen(&elements, 3, 2), Some(3));
-    assert_eq!(rt; storage.owner_seen(&elements, 1, 2), None);
-    assert_eq!(rt; storage.subpool_of_page(&elements, 5), None);
-    assert_eq!(rt; only_extent(&elements, &storage, FIRST), None);
+    same!(rt; elements.spare(), 126);
+    same!(rt; storage.owner_seen(&elements, 3, 2), Some(3));
+    same!(rt; storage.owner_seen(&elements, 1, 2), None);
+    same!(rt; storage.subpool_of_page(&elements, 5), None);
+    same!(rt; only_extent(&elements, &storage, FIRST), None);
     Ok(())
 }
 
@@ -296,12 +286,10 @@ fn live(rt: &impl Abort, elements: &mut Elements, subpool: Subpool, page: u32) {
 
 #[test]
 fn every_element_is_given_back(rt: HostRuntime) -> Result<(), Fail> {
-    let mut elements = Elements::new(rt.alloc());
-    elements.reserve(64)?;
+    let mut elements = stocked(rt.alloc(), 64)?;
     live(&rt, &mut elements, FIRST, 9);
     live(&rt, &mut elements, SECOND, 1_048_575);
-    assert_eq!(rt; elements.spare(), 128);
-    assert_eq!(rt; elements.release(), 1);
+    all_given_back(&rt, elements);
     Ok(())
 }
 
@@ -326,8 +314,8 @@ fn there_and_back(
         start: 0,
         len: 10_000,
     };
-    assert_eq!(rt; one.longest(elements, subpool, 1, region), 0);
-    assert_eq!(rt; other.longest(elements, subpool, 1, region), 512);
+    same!(rt; one.longest(elements, subpool, 1, region), 0);
+    same!(rt; other.longest(elements, subpool, 1, region), 512);
     assert!(rt; one.has_subpool(elements, subpool) && other.has_subpool(elements, subpool));
     other.exchange_storage(elements, one, subpool);
     assert!(rt; one.has_page(elements, subpool, page) && !other.has_page(elements, subpool, page));
@@ -351,8 +339,7 @@ fn beside(
 
 #[test]
 fn what_a_subpool_has_goes_over_and_comes_back(rt: HostRuntime) -> Result<(), Fail> {
-    let mut elements = Elements::new(rt.alloc());
-    elements.reserve(64)?;
+    let mut elements = stocked(rt.alloc(), 64)?;
     let mut storage = SubpoolStorage::new();
     create(&rt, &mut elements, &mut storage, FIRST);
     fill(&rt, &mut elements, &storage, FIRST, 5);

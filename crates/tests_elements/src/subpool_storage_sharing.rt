@@ -2,6 +2,8 @@
 
 ghost use Rattle.subpool_storage.specs.SubpoolStorage.{Stands};
 
+use crate::checks::{all_given_back, same, stocked};
+use crate::subpool_steps::pass;
 use descriptor_queue::Run;
 use free_queue::Area;
 use std::process::Abort;
@@ -67,21 +69,6 @@ fn unshare(rt: &impl Abort, elements: &mut Elements, storage: &mut SubpoolStorag
     storage.unshare(elements, subpool, SHARER);
 }
 
-fn pass(
-    rt: &impl Abort,
-    elements: &mut Elements,
-    storage: &mut SubpoolStorage,
-    subpool: Subpool,
-    to: u8,
-)
-    requires { Stands elements.old storage.old }
-    ensures { Stands elements.new storage.new }
-{
-    assert!(rt; storage.has_subpool(elements, subpool) && to >= 1 && to <= 64);
-    assert!(rt; storage.owner_seen(elements, to, subpool.number).is_none());
-    storage.pass(elements, subpool, to);
-}
-
 // The page and the area are just the first subpool's, whose owner sees it, and so does the sharer.
 fn is_at(
     rt: &impl Abort,
@@ -96,40 +83,38 @@ fn is_at(
         start: 0,
         len: 10_000,
     };
-    assert_eq!(rt; storage.subpool_of_page(elements, PAGE.start), Some(here));
-    assert_eq!(rt; storage.longest(elements, here, 1, region), AREA.len);
-    assert_eq!(rt; storage.longest(elements, elsewhere, 1, region), 0);
-    assert_eq!(rt; storage.subpool_at(elements, 0), Some(here));
-    assert_eq!(rt; storage.subpool_at(elements, 1), None);
-    assert_eq!(rt;
+    same!(rt; storage.subpool_of_page(elements, PAGE.start), Some(here));
+    same!(rt; storage.longest(elements, here, 1, region), AREA.len);
+    same!(rt; storage.longest(elements, elsewhere, 1, region), 0);
+    same!(rt; storage.subpool_at(elements, 0), Some(here));
+    same!(rt; storage.subpool_at(elements, 1), None);
+    same!(rt;
         storage.owner_seen(elements, here.owner, 9),
         Some(here.owner)
     );
-    assert_eq!(rt; storage.owner_seen(elements, elsewhere.owner, 9), None);
-    assert_eq!(rt; storage.owner_seen(elements, SHARER, 9), Some(here.owner));
-    assert_eq!(rt; storage.sharer_at(elements, here, 0), Some(SHARER));
+    same!(rt; storage.owner_seen(elements, elsewhere.owner, 9), None);
+    same!(rt; storage.owner_seen(elements, SHARER, 9), Some(here.owner));
+    same!(rt; storage.sharer_at(elements, here, 0), Some(SHARER));
 }
 
 #[test]
 fn a_shared_subpool_passes_and_comes_back(rt: HostRuntime) -> Result<(), Fail> {
-    let mut elements = Elements::new(rt.alloc());
-    elements.reserve(64)?;
+    let mut elements = stocked(rt.alloc(), 64)?;
     let mut storage = made(&rt, &mut elements);
-    assert_eq!(rt; elements.spare(), 125);
+    same!(rt; elements.spare(), 125);
     share(&rt, &mut elements, &mut storage, GIVERS);
-    assert_eq!(rt; elements.spare(), 124);
+    same!(rt; elements.spare(), 124);
     is_at(&rt, &elements, &storage, GIVERS, TAKERS);
     pass(&rt, &mut elements, &mut storage, GIVERS, TAKERS.owner);
-    assert_eq!(rt; elements.spare(), 124);
+    same!(rt; elements.spare(), 124);
     is_at(&rt, &elements, &storage, TAKERS, GIVERS);
     pass(&rt, &mut elements, &mut storage, TAKERS, GIVERS.owner);
     is_at(&rt, &elements, &storage, GIVERS, TAKERS);
     unshare(&rt, &mut elements, &mut storage, GIVERS);
-    assert_eq!(rt; elements.spare(), 125);
-    assert_eq!(rt; storage.owner_seen(&elements, SHARER, 9), None);
-    assert_eq!(rt; storage.sharer_at(&elements, GIVERS, 0), None);
+    same!(rt; elements.spare(), 125);
+    same!(rt; storage.owner_seen(&elements, SHARER, 9), None);
+    same!(rt; storage.sharer_at(&elements, GIVERS, 0), None);
     storage.discard(&mut elements);
-    assert_eq!(rt; elements.spare(), 128);
-    assert_eq!(rt; elements.release(), 1);
+    all_given_back(&rt, elements);
     Ok(())
 }

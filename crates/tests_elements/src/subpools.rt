@@ -2,6 +2,7 @@
 
 ghost use Rattle.subpool_set.specs.SubpoolSet.{IsSubpoolSet, IsPoolPlace, QueuesStand};
 
+use crate::checks::{all_given_back, same, stocked};
 use std::process::Abort;
 use std::test::Fail;
 use subpool_set::laws::{discards_keep, put_back, sets_stay};
@@ -20,7 +21,7 @@ fn compare(rt: &impl Abort, elements: &Elements, set: &SubpoolSet, seen: &Seen)
                 Some(id) => set.owner(elements, id),
                 None => 0,
             };
-            assert_eq!(rt; owner, seen[usize::from(task)][usize::from(number)]);
+            same!(rt; owner, seen[usize::from(task)][usize::from(number)]);
         }
     }
 }
@@ -35,18 +36,18 @@ fn list_subpools(rt: &impl Abort, elements: &Elements, set: &SubpoolSet, want: &
         match set.next_pool(elements, place) {
             Some((id, behind)) => {
                 let named = (set.number(elements, id), set.owner(elements, id));
-                assert_eq!(rt; named, *subpool);
-                assert_eq!(rt; behind.pool(), id);
-                assert_eq!(rt; set.pool_at(elements, i), Some(id));
+                same!(rt; named, *subpool);
+                same!(rt; behind.pool(), id);
+                same!(rt; set.pool_at(elements, i), Some(id));
                 place = behind;
             }
             None => assert!(rt; false),
         }
         i = i.saturating_add(1);
     }
-    assert_eq!(rt; set.next_pool(elements, place), None);
-    assert_eq!(rt; set.pool_at(elements, i), None);
-    assert_eq!(rt; set.pool_at(elements, i.saturating_add(1)), None);
+    same!(rt; set.next_pool(elements, place), None);
+    same!(rt; set.pool_at(elements, i), None);
+    same!(rt; set.pool_at(elements, i.saturating_add(1)), None);
 }
 
 // The place behind the subpool, or behind the last one.
@@ -84,17 +85,17 @@ fn list_sharers(
     for sharer in want {
         match set.next_sharer(elements, number, owner, place) {
             Some((task, behind)) => {
-                assert_eq!(rt; task, *sharer);
-                assert_eq!(rt; set.sharer_at(elements, id, i), Some(*sharer));
+                same!(rt; task, *sharer);
+                same!(rt; set.sharer_at(elements, id, i), Some(*sharer));
                 place = behind;
             }
             None => assert!(rt; false),
         }
         i = i.saturating_add(1);
     }
-    assert_eq!(rt; set.next_sharer(elements, number, owner, place), None);
-    assert_eq!(rt; set.sharer_at(elements, id, i), None);
-    assert_eq!(rt; set.sharer_at(elements, id, i.saturating_add(1)), None);
+    same!(rt; set.next_sharer(elements, number, owner, place), None);
+    same!(rt; set.sharer_at(elements, id, i), None);
+    same!(rt; set.sharer_at(elements, id, i.saturating_add(1)), None);
 }
 
 fn create(rt: &impl Abort, elements: &mut Elements, set: &mut SubpoolSet, task: u8, number: u8)
@@ -107,6 +108,18 @@ fn create(rt: &impl Abort, elements: &mut Elements, set: &mut SubpoolSet, task: 
     assert!(rt; elements.spare() > 0);
     assert!(rt; set.visible(elements, task, number).is_none());
     let _id = set.create(elements, task, number);
+}
+
+// These tasks create subpools of these numbers, in this order.
+fn create_all(rt: &impl Abort, elements: &mut Elements, set: &mut SubpoolSet, subpools: &[(u8, u8)])
+    requires set { IsSubpoolSet elements.old set.old }
+    requires queues { QueuesStand elements.old set.old }
+    ensures set { IsSubpoolSet elements.new set.new }
+    ensures queues { QueuesStand elements.new set.new }
+{
+    for subpool in subpools {
+        create(rt, elements, set, subpool.0, subpool.1);
+    }
 }
 
 // The task shares the subpool of this number that another sees.
@@ -129,6 +142,23 @@ fn share(
     match set.visible(elements, from, number) {
         Some(id) => set.share(elements, task, id),
         None => assert!(rt; false),
+    }
+}
+
+// These tasks share the subpools that others see, of these numbers, in this order.
+fn share_all(
+    rt: &impl Abort,
+    elements: &mut Elements,
+    set: &mut SubpoolSet,
+    sharers: &[(u8, u8, u8)],
+)
+    requires set { IsSubpoolSet elements.old set.old }
+    requires queues { QueuesStand elements.old set.old }
+    ensures set { IsSubpoolSet elements.new set.new }
+    ensures queues { QueuesStand elements.new set.new }
+{
+    for sharer in sharers {
+        share(rt, elements, set, sharer.0, sharer.1, sharer.2);
     }
 }
 
@@ -232,17 +262,31 @@ fn discard(rt: &impl Abort, elements: &mut Elements, set: &mut SubpoolSet, task:
     }
 }
 
+// The subpool goes for good, and `left` is seen.
+fn discard_to(
+    rt: &impl Abort,
+    elements: &mut Elements,
+    set: &mut SubpoolSet,
+    task: u8,
+    number: u8,
+    left: &Seen,
+)
+    requires set { IsSubpoolSet elements.old set.old }
+    requires queues { QueuesStand elements.old set.old }
+    ensures set { IsSubpoolSet elements.new set.new }
+    ensures queues { QueuesStand elements.new set.new }
+{
+    discard(rt, elements, set, task, number);
+    compare(rt, elements, set, left);
+}
+
 #[test]
 fn the_set_is_the_plain_one(rt: HostRuntime) -> Result<(), Fail> {
-    let mut elements = Elements::new(rt.alloc());
-    elements.reserve(64)?;
+    let mut elements = stocked(rt.alloc(), 64)?;
     let mut set = SubpoolSet::new();
-    create(&rt, &mut elements, &mut set, 1, 1);
-    create(&rt, &mut elements, &mut set, 1, 2);
-    create(&rt, &mut elements, &mut set, 2, 1);
-    share(&rt, &mut elements, &mut set, 3, 1, 1);
-    share(&rt, &mut elements, &mut set, 4, 1, 2);
-    share(&rt, &mut elements, &mut set, 2, 4, 2);
+    create_all(&rt, &mut elements, &mut set, &[(1, 1), (1, 2), (2, 1)]);
+    let sharers = [(3, 1, 1), (4, 1, 2), (2, 4, 2)];
+    share_all(&rt, &mut elements, &mut set, &sharers);
     let seen = [[0, 1, 1], [0, 2, 1], [0, 1, 0], [0, 0, 1]];
     compare(&rt, &elements, &set, &seen);
     let without = [[0, 0, 1], [0, 2, 1], [0, 0, 0], [0, 0, 1]];
@@ -256,30 +300,22 @@ fn the_set_is_the_plain_one(rt: HostRuntime) -> Result<(), Fail> {
     compare(&rt, &elements, &set, &given);
     list_subpools(&rt, &elements, &set, &[(1, 1), (1, 2), (2, 3)]);
     list_sharers(&rt, &elements, &set, 3, 2, &[2, 4]);
-    assert_eq!(rt; elements.spare(), 122);
-    discard(&rt, &mut elements, &mut set, 2, 1);
+    same!(rt; elements.spare(), 122);
     let left = [[0, 1, 0], [0, 0, 3], [0, 1, 3], [0, 0, 3]];
-    compare(&rt, &elements, &set, &left);
-    discard(&rt, &mut elements, &mut set, 4, 2);
+    discard_to(&rt, &mut elements, &mut set, 2, 1, &left);
     let left = [[0, 1, 0], [0, 0, 0], [0, 1, 0], [0, 0, 0]];
-    compare(&rt, &elements, &set, &left);
-    discard(&rt, &mut elements, &mut set, 1, 1);
-    compare(&rt, &elements, &set, &[[0; 3]; 4]);
-    assert_eq!(rt; elements.spare(), 128);
-    assert_eq!(rt; elements.release(), 1);
+    discard_to(&rt, &mut elements, &mut set, 4, 2, &left);
+    discard_to(&rt, &mut elements, &mut set, 1, 1, &[[0; 3]; 4]);
+    all_given_back(&rt, elements);
     Ok(())
 }
 
 #[test]
 fn two_subpools_come_back_as_one(rt: HostRuntime) -> Result<(), Fail> {
-    let mut elements = Elements::new(rt.alloc());
-    elements.reserve(64)?;
+    let mut elements = stocked(rt.alloc(), 64)?;
     let mut set = SubpoolSet::new();
-    create(&rt, &mut elements, &mut set, 2, 1);
-    create(&rt, &mut elements, &mut set, 1, 1);
-    create(&rt, &mut elements, &mut set, 3, 2);
-    share(&rt, &mut elements, &mut set, 4, 1, 1);
-    share(&rt, &mut elements, &mut set, 1, 3, 2);
+    create_all(&rt, &mut elements, &mut set, &[(2, 1), (1, 1), (3, 2)]);
+    share_all(&rt, &mut elements, &mut set, &[(4, 1, 1), (1, 3, 2)]);
     let seen = [[0, 1, 3], [0, 2, 0], [0, 0, 3], [0, 1, 0]];
     compare(&rt, &elements, &set, &seen);
     let without = [[0, 0, 0], [0, 2, 0], [0, 0, 0], [0, 0, 0]];
@@ -288,27 +324,26 @@ fn two_subpools_come_back_as_one(rt: HostRuntime) -> Result<(), Fail> {
     list_subpools(&rt, &elements, &set, &[(1, 1), (1, 2), (2, 3)]);
     list_sharers(&rt, &elements, &set, 1, 1, &[4]);
     list_sharers(&rt, &elements, &set, 3, 2, &[1]);
-    assert_eq!(rt; elements.spare(), 123);
+    same!(rt; elements.spare(), 123);
     Ok(())
 }
 
 #[test]
 fn walks_come_in_order(rt: HostRuntime) -> Result<(), Fail> {
-    let mut elements = Elements::new(rt.alloc());
-    elements.reserve(64)?;
+    let mut elements = stocked(rt.alloc(), 64)?;
     let mut set = SubpoolSet::new();
     list_subpools(&rt, &elements, &set, &[]);
-    create(&rt, &mut elements, &mut set, 3, 127);
-    create(&rt, &mut elements, &mut set, 2, 1);
-    create(&rt, &mut elements, &mut set, 64, 0);
-    create(&rt, &mut elements, &mut set, 1, 1);
-    create(&rt, &mut elements, &mut set, 2, 0);
-    share(&rt, &mut elements, &mut set, 64, 2, 1);
-    share(&rt, &mut elements, &mut set, 4, 1, 1);
-    share(&rt, &mut elements, &mut set, 9, 2, 1);
-    share(&rt, &mut elements, &mut set, 5, 2, 1);
-    share(&rt, &mut elements, &mut set, 1, 3, 127);
-    share(&rt, &mut elements, &mut set, 1, 64, 0);
+    let subpools = [(3, 127), (2, 1), (64, 0), (1, 1), (2, 0)];
+    create_all(&rt, &mut elements, &mut set, &subpools);
+    let sharers = [
+        (64, 2, 1),
+        (4, 1, 1),
+        (9, 2, 1),
+        (5, 2, 1),
+        (1, 3, 127),
+        (1, 64, 0),
+    ];
+    share_all(&rt, &mut elements, &mut set, &sharers);
     let subpools = [(0, 2), (0, 64), (1, 1), (1, 2), (127, 3)];
     list_subpools(&rt, &elements, &set, &subpools);
     list_sharers(&rt, &elements, &set, 2, 0, &[]);

@@ -9,7 +9,7 @@ only_page s page h p low high =
     ap (λ k. is_some (bytes_at s k)) e ∙ h
 
 pub park-first-requires : goal.park-first-requires
-park-first-requires g c = only_page c.swap_bytes.new.self 6 (c.swap_bytes.ensures.assigned 6 ∙ ap is_some c.assign.ensures.updates.changed)
+park-first-requires g c = only_page c.fill.new.region 6 (c.fill.ensures.assigned 6 ∙ ap is_some c.assign.ensures.updates.changed)
 
 pub park-second-requires : goal.park-second-requires
-park-second-requires g c = only_page c.swap_bytes-2.new.self 6 (c.swap_bytes-2.ensures.assigned 6 ∙ ap is_some c.assign-2.ensures.updates.changed)
+park-second-requires g c = only_page c.fill-2.new.region 6 (c.fill-2.ensures.assigned 6 ∙ ap is_some c.assign-2.ensures.updates.changed)
