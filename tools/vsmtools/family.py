@@ -371,7 +371,8 @@ class Family:
         end, or it isn't there together with another one, or with a task that passes and takes a number.
 
         Backwards in an order, a number that is free stays so until a helper has it, as the task of the map that
-        has it comes behind: so whichever of them a helper gets, the next one has as many to take.
+        has it comes behind: so whichever of them a helper gets, the next one has as many to take. But tasks that pass
+        take theirs for a while: these are given first. That this is enough isn't known where helpers are there at once.
         """
         free = set(range(2, MOST_TASKS + 1)) - set(self.parent)
         place = {event: k for k, event in enumerate(order)}
@@ -543,7 +544,7 @@ class Course:
 
     def find(self) -> Optional[list[Event]]:
         """An order of all events; None where there's none. Where no number is left for a helper in the order that
-        comes of the choices, that's one more choice: each order leaves a number by one of these."""
+        comes of the choices, that's one more choice, as `crowd` has it."""
         for event in {event for options in self.choices for option in options for pair in option for event in pair}:
             self.before.setdefault(event, set())
         while not circles(self.before):
