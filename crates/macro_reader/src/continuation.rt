@@ -6,6 +6,7 @@ ghost use Rattle.arrayvec.specs.ArrayVec.{array_vec_len};
 ghost use Rattle.operand_texts.specs.Field.{field_len};
 ghost use Rattle.macro_statements.specs.Statements.{IsHead};
 ghost use Rattle.macro_reader.specs.Continuation.{nesting_after, ends_with_comma, with_part, begun, with_line};
+ghost use Rattle.macro_reader.specs.Columns.{is_blank};
 ghost use Rattle.macro_reader.specs.Modes.{joined};
 
 use crate::columns::is_blank;
@@ -59,6 +60,14 @@ fn part_of(card: &[u8]) -> &[u8]
     &card[15..]
 }
 
+// Whether columns 1 to 15 of a line are blank, as those of a continuation line have to be.
+fn is_indented(card: &[u8]) -> bool
+    requires { 15 ≤ length card.now }
+    ensures { result ≡ is_blank (take 15 card.now) }
+{
+    is_blank(&card[..15])
+}
+
 impl OpenField {
     /// Takes the field's part on a first line, columns 1 to 71 of it, in place of what was gathered, and says what
     /// stands in front of it.
@@ -101,7 +110,7 @@ impl OpenField {
         ensures joined { MatchBool result (with_line (joined self.old) card.now ≡ Some (joined self.new))
             (with_line (joined self.old) card.now ≡ None) }
     {
-        if !is_blank(&card[..15]) {
+        if !is_indented(card) {
             return false;
         }
         self.lines += 1;
