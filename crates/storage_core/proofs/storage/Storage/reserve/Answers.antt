@@ -1,4 +1,4 @@
-use Rattle.std.proofs.Common.{◌+◌, ◌≤◌, IsOk, IfOk, refl, sym, subst}
+use Rattle.std.proofs.Common.{◌+◌, ◌≤◌, IsOk, IfOk, refl, sym, subst, rules}
 use Rattle.task_plans.specs.TaskPlans.{end_change}
 use Rattle.storage_core.specs.declared.plans.Plan.{Plan}
 use Rattle.storage_core.specs.declared.plans.Plan.TheVariants.{End}
@@ -28,3 +28,6 @@ returns-in-End-clause-needless c =
     let s = c.args.self.now in
     let P : Plan → Type 0 = λ x. IsSpare s.parts (state_in_place s) x → IsOk c.reserve_end.result in
     subst P (sym c.in-End.is) (λ spare. c.reserve_end.ensures.needless spare.elements)
+
+pub returns-in-Attach-clause-needless : goal.returns-in-Attach-clause-needless
+returns-in-Attach-clause-needless c = search rules
