@@ -7,5 +7,7 @@ mod Climbs
 mod OwnedNames
 mod Walks
 mod Parks
+mod EndRest
+mod EndRecords
 mod EndPlans
 mod ParentLemmas

@@ -1,23 +1,41 @@
 use Rattle.std.proofs.Common.{List, [], ◌∷◌, ◌++◌, OnOk, refl, sym, ap, ◌∙◌, subst}
-use Rattle.std.specs.List.{flat_map}
 use Rattle.std.proofs.lemmas.List.{append-nil}
 use Rattle.vsm_model.specs.declared.replies.Reply.{Reply}
 use Rattle.storage_changes.specs.declared.record.Record.{Record}
 use Rattle.storage_changes.specs.declared.record.Record.TheVariants.{Register}
-use Rattle.storage_changes.specs.State.{StorageState}
 use Rattle.change_laws.specs.StorageActions.{register_records}
 use Rattle.storage_exchange.specs.Storage.{state_of}
 use Rattle.storage_swap.specs.Builder.{Pushes}
-use Rattle.storage_swap.proofs.BuilderLemmas.{builds-follow, pushes-follow}
-use Rattle.change_laws.specs.Ending.{ended_below, ended_records, removed_records, unshared_records, with_turn}
+use Rattle.storage_swap.proofs.BuilderLemmas.{builds-follow}
+use Rattle.change_laws.specs.Ending.{with_turn}
 use Rattle.task_plans.specs.TaskPlans.{end_registers}
+use Rattle.task_plans.proofs.EndRecords.{never}
+use Rattle.task_plans.proofs.EndRest.{before_registers, unseen_room, gone_room, tasks_room, register_room, three_pushed}
 use Rattle.task_plans.proofs.RecordCounts.{no_register}
 use Rattle.task_plans.proofs.Walks.{ok_follows}
 use Rattle.task_plans.proofs.ParentLemmas.{still}
 use Rattle.task_plans.proofs.end.EndPlan.push_rest.Goals as goal
 
+pub returns-in_err-push_unshared-clause-builds : goal.returns-in_err-push_unshared-clause-builds
+returns-in_err-push_unshared-clause-builds c = c.push_unshared.ensures.builds
+
+pub returns-in_err-push_unshared-clause-needless : goal.returns-in_err-push_unshared-clause-needless
+returns-in_err-push_unshared-clause-needless c = λ h. never (c.in_err-push_unshared.ensures.needless (unseen_room c.args.self c.args.storage.now h))
+
+pub returns-in_err-push_removed-clause-builds : goal.returns-in_err-push_removed-clause-builds
+returns-in_err-push_removed-clause-builds c = builds-follow _ _ _ _ _ _ c.push_unshared.ensures.builds c.push_removed.ensures.builds
+
+pub returns-in_err-push_removed-clause-needless : goal.returns-in_err-push_removed-clause-needless
+returns-in_err-push_removed-clause-needless c = λ h.
+    never (c.in_err-push_removed.ensures.needless (gone_room c.args.self c.args.storage.now _ c.args.builder.now _ c.push_unshared.ensures.builds c.in_ok-push_unshared.ensures.ok h))
+
 pub returns-in_err-push_ended-clause-builds : goal.returns-in_err-push_ended-clause-builds
 returns-in_err-push_ended-clause-builds c = builds-follow _ _ _ _ _ _ (builds-follow _ _ _ _ _ _ c.push_unshared.ensures.builds c.push_removed.ensures.builds) c.push_ended.ensures.builds
+
+pub returns-in_err-push_ended-clause-needless : goal.returns-in_err-push_ended-clause-needless
+returns-in_err-push_ended-clause-needless c = λ h.
+    never (c.in_err-push_ended.ensures.needless (tasks_room c.args.self c.args.storage.now _ c.args.builder.now _ c.push_unshared.ensures.builds c.in_ok-push_unshared.ensures.ok
+    _ _ c.push_removed.ensures.builds c.in_ok-push_removed.ensures.ok h))
 
 pub returns-in-Returned-clause-builds : goal.returns-in-Returned-clause-builds
 returns-in-Returned-clause-builds c =
@@ -28,18 +46,10 @@ returns-in-Returned-clause-ok c =
     let p = c.args.storage.now in
     let a = c.args.builder.now in
     let m = state_of p in
-    let top = c.args.self.top in
     let next = c.args.self.next in
-    let unseen = unshared_records m.subpools (ended_below m.tasks.parents top) in
-    let gone : StorageState → List Record = λ x. removed_records x.subpools (ended_below x.tasks.parents top) in
-    let tasks : StorageState → List Record = λ x. flat_map (ended_records x) (ended_below x.tasks.parents top) in
-    let one = c.push_unshared.ensures.builds in
-    let two = builds-follow _ _ _ _ _ _ one c.push_removed.ensures.builds in
-    let base : List Record = unseen ++ gone m ++ tasks m in
-    let P : List Record → Type 0 = λ rs. Pushes p a rs c.push_ended.new.storage c.push_ended.new.builder in
+    let base : List Record = before_registers c.args.self m in
     let three : Pushes p a base c.push_ended.new.storage c.push_ended.new.builder =
-    subst P (λ i. unseen ++ gone (one.keeps.shows i) ++ tasks (two.keeps.shows i))
-    (pushes-follow _ _ _ _ _ _ _ _ (pushes-follow _ _ _ _ _ _ _ _ c.in_ok-push_unshared.ensures.ok c.in_ok-push_removed.ensures.ok) c.in_ok-push_ended.ensures.ok) in
+    three_pushed c.args.self p _ a _ c.push_unshared.ensures.builds c.in_ok-push_unshared.ensures.ok _ _ c.push_removed.ensures.builds c.in_ok-push_removed.ensures.ok _ _ c.in_ok-push_ended.ensures.ok in
     let u = c.push.new.storage in
     let d = c.push.new.self in
     let R : Record → Type 0 = λ x. OnOk c.push.result (Pushes c.push_ended.new.storage c.push_ended.new.builder (x ∷ []) u d) in
@@ -47,26 +57,23 @@ returns-in-Returned-clause-ok c =
     subst Q (sym c.in-Returned.is)
     (ok_follows p c.push_ended.new.storage u a c.push_ended.new.builder d base (Register (record { task = next; register = 15; word = c.in-Returned.code }) ∷ []) c.push.result three (subst R c.set_register.ensures c.push.ensures.ok))
 
+pub returns-in-Returned-clause-needless : goal.returns-in-Returned-clause-needless
+returns-in-Returned-clause-needless c = λ h.
+    c.push.ensures.needless (register_room c.args.self c.args.storage.now _ c.args.builder.now _ c.push_unshared.ensures.builds c.in_ok-push_unshared.ensures.ok
+    _ _ c.push_removed.ensures.builds c.in_ok-push_removed.ensures.ok _ _ c.in_ok-push_ended.ensures.ok c.in-Returned.code c.in-Returned.is h)
+
 pub returns-in_default : goal.returns-in_default
 returns-in_default c =
     let p = c.args.storage.now in
     let a = c.args.builder.now in
     let m = state_of p in
-    let top = c.args.self.top in
     let next = c.args.self.next in
-    let unseen = unshared_records m.subpools (ended_below m.tasks.parents top) in
-    let gone : StorageState → List Record = λ x. removed_records x.subpools (ended_below x.tasks.parents top) in
-    let tasks : StorageState → List Record = λ x. flat_map (ended_records x) (ended_below x.tasks.parents top) in
-    let one = c.push_unshared.ensures.builds in
-    let two = builds-follow _ _ _ _ _ _ one c.push_removed.ensures.builds in
-    let base : List Record = unseen ++ gone m ++ tasks m in
+    let base : List Record = before_registers c.args.self m in
     let P : List Record → Type 0 = λ rs. Pushes p a rs c.push_ended.new.storage c.push_ended.new.builder in
-    let three : Pushes p a base c.push_ended.new.storage c.push_ended.new.builder =
-    subst P (λ i. unseen ++ gone (one.keeps.shows i) ++ tasks (two.keeps.shows i))
-    (pushes-follow _ _ _ _ _ _ _ _ (pushes-follow _ _ _ _ _ _ _ _ c.in_ok-push_unshared.ensures.ok c.in_ok-push_removed.ensures.ok) c.in_ok-push_ended.ensures.ok) in
     record {
-      builds = builds-follow _ _ _ _ _ _ two c.push_ended.ensures.builds;
-      ok = subst P (sym (append-nil base) ∙ sym (ap (λ rows. base ++ register_records (with_turn m next) rows) (no_register c.args.self.reply c.in_default.not-Returned))) three;
+      builds = builds-follow _ _ _ _ _ _ (builds-follow _ _ _ _ _ _ c.push_unshared.ensures.builds c.push_removed.ensures.builds) c.push_ended.ensures.builds;
+      ok = subst P (sym (append-nil base) ∙ sym (ap (λ rows. base ++ register_records (with_turn m next) rows) (no_register c.args.self.reply c.in_default.not-Returned)))
+          (three_pushed c.args.self p _ a _ c.push_unshared.ensures.builds c.in_ok-push_unshared.ensures.ok _ _ c.push_removed.ensures.builds c.in_ok-push_removed.ensures.ok _ _ c.in_ok-push_ended.ensures.ok);
       needless = λ room. refl;
     }
 
