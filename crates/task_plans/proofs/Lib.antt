@@ -7,7 +7,9 @@ mod Climbs
 mod OwnedNames
 mod Walks
 mod Parks
-mod EndRest
+mod FourSteps
+mod RestRecords
+mod AttachRecords
 mod EndRecords
 mod EndPlans
 mod ParentLemmas

@@ -5,6 +5,7 @@ ghost use Rattle.vsm_elements.specs.Store.{live_count};
 ghost use Rattle.vsm_model.specs.declared.limits.Settings.{Settings};
 ghost use Rattle.vsm_model.specs.Services.{attach};
 ghost use Rattle.storage_exchange.specs.Storage.{hold, state_of, Stand, IsFrameless};
+ghost use Rattle.change_laws.specs.Attaching.{attach_records};
 ghost use Rattle.change_laws.specs.StorageActions.{register_records};
 ghost use Rattle.storage_plans.specs.Places.{StandsSound};
 ghost use Rattle.storage_swap.specs.Builder.{IsBuilding, Builds, Pushes};
@@ -12,8 +13,8 @@ ghost use Rattle.storage_swap.specs.Growth.{MakesElements};
 ghost use Rattle.storage_swap.specs.Reserve.{Grown, Reserves};
 ghost use Rattle.task_plans.specs.TaskPlans.{attach_change, numbers, CanBeAttached, IsAttachPlanned};
 
-use crate::Builder;
-use crate::numbers::{has_bad_number, numbers_of, numbers_or_none, some_is_anothers};
+use crate::{Builder, Pushed};
+use crate::numbers::{Numbers, has_bad_number, numbers_of, numbers_or_none, some_is_anothers};
 use crate::passing::{push_gifts, push_shares, push_zero};
 use crate::registers::set_register;
 use change_laws::tasks::attaching_leads;
@@ -112,21 +113,46 @@ impl AttachPlan {
         ensures needless { length (attach_change (state_of storage.old) self).records ≤ storage.old.elements.spare
             → IsOk result }
     {
-        let current = storage.tasks.current();
         let given = numbers_or_none(storage, self.attach.given);
         let shared = numbers_or_none(storage, self.attach.shared);
         let count = (given.len() + shared.len()) as u32;
+        self.push_task(storage, builder, &given, &shared)?;
+        self.push_registers(storage, builder)?;
+        Ok(7 + 2 * count)
+    }
+
+    // The records of the task, of subpool 0, and of these numbers that it's given and that it shares.
+    fn push_task(self, storage: &mut Parts, builder: &mut Builder, given: &Numbers, shared: &Numbers) -> Pushed
+        requires building { IsBuilding storage.old builder.old }
+        requires given { All (λ number. number ≤ 127) given.now.items }
+        requires shared { All (λ number. number ≤ 127) shared.now.items }
+        ensures builds { Builds storage.old builder.old storage.new builder.new }
+        ensures ok { OnOk result (Pushes storage.old builder.old (attach_records (state_of storage.old) self.task
+            self.attach.shares_zero given.now.items shared.now.items) storage.new builder.new) }
+        ensures needless { length (attach_records (state_of storage.old) self.task self.attach.shares_zero
+            given.now.items shared.now.items) ≤ storage.old.elements.spare → IsOk result }
+    {
         let comes = Record::Task(TaskRecord {
             task: self.task,
-            parent: current,
+            parent: storage.tasks.current(),
             present: true,
         });
         builder.push(storage, comes)?;
         push_zero(storage, builder, self.task, self.attach.shares_zero)?;
-        push_gifts(storage, builder, self.task, &given)?;
-        push_shares(storage, builder, self.task, &shared)?;
+        push_gifts(storage, builder, self.task, given)?;
+        push_shares(storage, builder, self.task, shared)
+    }
+
+    // The records of the registers.
+    fn push_registers(self, storage: &mut Parts, builder: &mut Builder) -> Pushed
+        requires { IsBuilding storage.old builder.old }
+        ensures builds { Builds storage.old builder.old storage.new builder.new }
+        ensures ok { OnOk result (Pushes storage.old builder.old
+            (register_records (state_of storage.old) ((15, 0) ∷ (1, self.task) ∷ [])) storage.new builder.new) }
+        ensures needless { 2 ≤ storage.old.elements.spare → IsOk result }
+    {
+        let current = storage.tasks.current();
         builder.push(storage, set_register(current, 15, 0))?;
-        builder.push(storage, set_register(current, 1, u32::from(self.task)))?;
-        Ok(7 + 2 * count)
+        builder.push(storage, set_register(current, 1, u32::from(self.task)))
     }
 }

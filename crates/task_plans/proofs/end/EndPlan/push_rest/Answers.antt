@@ -10,7 +10,8 @@ use Rattle.storage_swap.proofs.BuilderLemmas.{builds-follow}
 use Rattle.change_laws.specs.Ending.{with_turn}
 use Rattle.task_plans.specs.TaskPlans.{end_registers}
 use Rattle.task_plans.proofs.EndRecords.{never}
-use Rattle.task_plans.proofs.EndRest.{before_registers, unseen_room, gone_room, tasks_room, register_room, three_pushed}
+use Rattle.task_plans.proofs.FourSteps.{first_room, second_room, third_room, fourth_room, three_pushed}
+use Rattle.task_plans.proofs.RestRecords.{unseen, gone, tasks, registers, register_room}
 use Rattle.task_plans.proofs.RecordCounts.{no_register}
 use Rattle.task_plans.proofs.Walks.{ok_follows}
 use Rattle.task_plans.proofs.ParentLemmas.{still}
@@ -20,21 +21,21 @@ pub returns-in_err-push_unshared-clause-builds : goal.returns-in_err-push_unshar
 returns-in_err-push_unshared-clause-builds c = c.push_unshared.ensures.builds
 
 pub returns-in_err-push_unshared-clause-needless : goal.returns-in_err-push_unshared-clause-needless
-returns-in_err-push_unshared-clause-needless c = λ h. never (c.in_err-push_unshared.ensures.needless (unseen_room c.args.self c.args.storage.now h))
+returns-in_err-push_unshared-clause-needless c = λ h. never (c.in_err-push_unshared.ensures.needless (first_room (unseen c.args.self) (gone c.args.self) (tasks c.args.self) (registers c.args.self) c.args.storage.now h))
 
 pub returns-in_err-push_removed-clause-builds : goal.returns-in_err-push_removed-clause-builds
 returns-in_err-push_removed-clause-builds c = builds-follow _ _ _ _ _ _ c.push_unshared.ensures.builds c.push_removed.ensures.builds
 
 pub returns-in_err-push_removed-clause-needless : goal.returns-in_err-push_removed-clause-needless
 returns-in_err-push_removed-clause-needless c = λ h.
-    never (c.in_err-push_removed.ensures.needless (gone_room c.args.self c.args.storage.now _ c.args.builder.now _ c.push_unshared.ensures.builds c.in_ok-push_unshared.ensures.ok h))
+    never (c.in_err-push_removed.ensures.needless (second_room (unseen c.args.self) (gone c.args.self) (tasks c.args.self) (registers c.args.self) c.args.storage.now _ c.args.builder.now _ c.push_unshared.ensures.builds c.in_ok-push_unshared.ensures.ok h))
 
 pub returns-in_err-push_ended-clause-builds : goal.returns-in_err-push_ended-clause-builds
 returns-in_err-push_ended-clause-builds c = builds-follow _ _ _ _ _ _ (builds-follow _ _ _ _ _ _ c.push_unshared.ensures.builds c.push_removed.ensures.builds) c.push_ended.ensures.builds
 
 pub returns-in_err-push_ended-clause-needless : goal.returns-in_err-push_ended-clause-needless
 returns-in_err-push_ended-clause-needless c = λ h.
-    never (c.in_err-push_ended.ensures.needless (tasks_room c.args.self c.args.storage.now _ c.args.builder.now _ c.push_unshared.ensures.builds c.in_ok-push_unshared.ensures.ok
+    never (c.in_err-push_ended.ensures.needless (third_room (unseen c.args.self) (gone c.args.self) (tasks c.args.self) (registers c.args.self) c.args.storage.now _ c.args.builder.now _ c.push_unshared.ensures.builds c.in_ok-push_unshared.ensures.ok
     _ _ c.push_removed.ensures.builds c.in_ok-push_removed.ensures.ok h))
 
 pub returns-in-Returned-clause-builds : goal.returns-in-Returned-clause-builds
@@ -47,9 +48,9 @@ returns-in-Returned-clause-ok c =
     let a = c.args.builder.now in
     let m = state_of p in
     let next = c.args.self.next in
-    let base : List Record = before_registers c.args.self m in
+    let base : List Record = unseen c.args.self m ++ gone c.args.self m ++ tasks c.args.self m in
     let three : Pushes p a base c.push_ended.new.storage c.push_ended.new.builder =
-    three_pushed c.args.self p _ a _ c.push_unshared.ensures.builds c.in_ok-push_unshared.ensures.ok _ _ c.push_removed.ensures.builds c.in_ok-push_removed.ensures.ok _ _ c.in_ok-push_ended.ensures.ok in
+    three_pushed (unseen c.args.self) (gone c.args.self) (tasks c.args.self) (registers c.args.self) p _ a _ c.push_unshared.ensures.builds c.in_ok-push_unshared.ensures.ok _ _ c.push_removed.ensures.builds c.in_ok-push_removed.ensures.ok _ _ c.push_ended.ensures.builds c.in_ok-push_ended.ensures.ok in
     let u = c.push.new.storage in
     let d = c.push.new.self in
     let R : Record → Type 0 = λ x. OnOk c.push.result (Pushes c.push_ended.new.storage c.push_ended.new.builder (x ∷ []) u d) in
@@ -59,8 +60,9 @@ returns-in-Returned-clause-ok c =
 
 pub returns-in-Returned-clause-needless : goal.returns-in-Returned-clause-needless
 returns-in-Returned-clause-needless c = λ h.
-    c.push.ensures.needless (register_room c.args.self c.args.storage.now _ c.args.builder.now _ c.push_unshared.ensures.builds c.in_ok-push_unshared.ensures.ok
-    _ _ c.push_removed.ensures.builds c.in_ok-push_removed.ensures.ok _ _ c.in_ok-push_ended.ensures.ok c.in-Returned.code c.in-Returned.is h)
+    c.push.ensures.needless (register_room c.args.self (state_of c.push_ended.new.storage) c.in-Returned.code c.in-Returned.is
+    (fourth_room (unseen c.args.self) (gone c.args.self) (tasks c.args.self) (registers c.args.self) c.args.storage.now _ c.args.builder.now _ c.push_unshared.ensures.builds c.in_ok-push_unshared.ensures.ok
+    _ _ c.push_removed.ensures.builds c.in_ok-push_removed.ensures.ok _ _ c.push_ended.ensures.builds c.in_ok-push_ended.ensures.ok h))
 
 pub returns-in_default : goal.returns-in_default
 returns-in_default c =
@@ -68,12 +70,12 @@ returns-in_default c =
     let a = c.args.builder.now in
     let m = state_of p in
     let next = c.args.self.next in
-    let base : List Record = before_registers c.args.self m in
+    let base : List Record = unseen c.args.self m ++ gone c.args.self m ++ tasks c.args.self m in
     let P : List Record → Type 0 = λ rs. Pushes p a rs c.push_ended.new.storage c.push_ended.new.builder in
     record {
       builds = builds-follow _ _ _ _ _ _ (builds-follow _ _ _ _ _ _ c.push_unshared.ensures.builds c.push_removed.ensures.builds) c.push_ended.ensures.builds;
       ok = subst P (sym (append-nil base) ∙ sym (ap (λ rows. base ++ register_records (with_turn m next) rows) (no_register c.args.self.reply c.in_default.not-Returned)))
-          (three_pushed c.args.self p _ a _ c.push_unshared.ensures.builds c.in_ok-push_unshared.ensures.ok _ _ c.push_removed.ensures.builds c.in_ok-push_removed.ensures.ok _ _ c.in_ok-push_ended.ensures.ok);
+          (three_pushed (unseen c.args.self) (gone c.args.self) (tasks c.args.self) (registers c.args.self) p _ a _ c.push_unshared.ensures.builds c.in_ok-push_unshared.ensures.ok _ _ c.push_removed.ensures.builds c.in_ok-push_removed.ensures.ok _ _ c.push_ended.ensures.builds c.in_ok-push_ended.ensures.ok);
       needless = λ room. refl;
     }
 

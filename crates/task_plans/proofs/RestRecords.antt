@@ -1,0 +1,31 @@
+-- The records of an end that stand behind the turn.
+use Rattle.std.proofs.Common.{◌≡◌, ℕ, ◌<◌, ◌≤◌, List, length, subst}
+use Rattle.std.specs.List.{flat_map}
+use Rattle.vsm_model.specs.declared.replies.Reply.{Reply}
+use Rattle.vsm_model.specs.declared.replies.Reply.TheVariants.{Returned}
+use Rattle.storage_changes.specs.declared.record.Record.{Record}
+use Rattle.storage_changes.specs.State.{StorageState}
+use Rattle.change_laws.specs.StorageActions.{register_records}
+use Rattle.change_laws.specs.Ending.{ended_below, ended_records, removed_records, unshared_records, with_turn}
+use Rattle.task_plans.specs.declared.end.EndPlan.{EndPlan}
+use Rattle.task_plans.specs.TaskPlans.{end_registers}
+
+-- the four kinds of them
+module _ (plan : EndPlan) where
+  abbrev pub unseen : StorageState → List Record
+  unseen m = unshared_records m.subpools (ended_below m.tasks.parents plan.top)
+
+  abbrev pub gone : StorageState → List Record
+  gone m = removed_records m.subpools (ended_below m.tasks.parents plan.top)
+
+  abbrev pub tasks : StorageState → List Record
+  tasks m = flat_map (ended_records m) (ended_below m.tasks.parents plan.top)
+
+  abbrev pub registers : StorageState → List Record
+  registers m = register_records (with_turn m plan.next) (end_registers plan.reply)
+
+  -- where a code is returned, it's one register
+  pub register_room : (m : StorageState) (code : ℕ) → plan.reply ≡ Returned code → {n : ℕ} → length (registers m) ≤ n → 0 < n
+  register_room m code is {n} room =
+      let P : Reply → Type 0 = λ reply. length (register_records (with_turn m plan.next) (end_registers reply)) ≤ n in
+      subst P is room
