@@ -7,6 +7,9 @@ mod Climbs
 mod OwnedNames
 mod Walks
 mod Parks
+mod TwoSteps
+mod ShareRecords
+mod EmptyingRecords
 mod FourSteps
 mod RestRecords
 mod AttachRecords

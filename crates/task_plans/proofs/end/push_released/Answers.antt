@@ -1,27 +1,17 @@
-use Rattle.std.proofs.Common.{◌≡◌, List, [], ◌∷◌, ap}
+use Rattle.std.proofs.Common.{◌≡◌, List, [], ◌∷◌, refl, ap}
 use Rattle.std.specs.List.{flat_map}
 use Rattle.change_laws.specs.Ending.{ended_below, emptying_records}
+use Rattle.storage_swap.proofs.BuilderLemmas.{builds-follow}
 use Rattle.task_plans.specs.TaskPlans.{owned_among}
 use Rattle.vsm_model.specs.declared.Subpool.{Subpool}
 use Rattle.vsm_model.specs.Search.{is_in}
 use Rattle.storage_changes.specs.declared.record.Record.{Record}
 use Rattle.storage_changes.specs.State.{StorageState}
 use Rattle.storage_exchange.specs.Storage.{state_of}
-use Rattle.task_plans.proofs.Walks.{walk_room, walk_more, walk_less, passed_first}
+use Rattle.task_plans.proofs.EndRecords.{never}
+use Rattle.task_plans.proofs.Walks.{walk_all, walk_room, walk_more, walk_less, passed_first}
 use Rattle.task_plans.proofs.ParentLemmas.{still}
 use Rattle.task_plans.proofs.end.push_released.Goals as goal
-
-pub returns-in_err-push_emptied-clause-needless : goal.returns-in_err-push_emptied-clause-needless
-returns-in_err-push_emptied-clause-needless c = λ room.
-    let p = c.args.storage.now in
-    let t = c.loop-subpool.storage in
-    let top = c.args.tree.now.top in
-    let x = c.in-Some.subpool in
-    let w = c.loop-subpool.invariant in
-    let h : StorageState → List Subpool → List Record = λ m ps. flat_map (emptying_records m.subpools) (owned_among m top ps) in
-    let added : StorageState → List Record = λ m. flat_map (emptying_records m.subpools) (owned_among m top (x ∷ [])) in
-    let its : added (state_of t) ≡ h (state_of p) (x ∷ []) = ap added w.leads.builds.keeps.shows in
-    absurd (cc (c.in_err-push_emptied.ensures.needless (walk_room (h (state_of p)) p c.args.builder.now t c.loop-subpool.builder c.loop-subpool.place w (let m = state_of p in passed_first (λ q. is_in (ended_below m.tasks.parents top) q.owner) (emptying_records m.subpools)) c.in-Some.next x c.in-Some.ensures.next (added (state_of t)) its room)))
 
 pub loop-subpool-smaller : goal.loop-subpool-smaller
 loop-subpool-smaller c =
@@ -49,3 +39,30 @@ loop-subpool-preserved c =
 
 pub push_emptied-requires-clause-tree : goal.push_emptied-requires-clause-tree
 push_emptied-requires-clause-tree c = still c.args.tree.now.parents.of _ _ (c.loop-subpool.invariant.leads.builds.keeps.shows) c.requires.tree
+
+pub returns-in_err-push_emptied-clause-builds : goal.returns-in_err-push_emptied-clause-builds
+returns-in_err-push_emptied-clause-builds c = builds-follow _ _ _ _ _ _ c.loop-subpool.invariant.leads.builds c.push_emptied.ensures.builds
+
+pub returns-in_err-push_emptied-clause-needless : goal.returns-in_err-push_emptied-clause-needless
+returns-in_err-push_emptied-clause-needless c = λ room.
+    let p = c.args.storage.now in
+    let t = c.loop-subpool.storage in
+    let top = c.args.tree.now.top in
+    let x = c.in-Some.subpool in
+    let w = c.loop-subpool.invariant in
+    let h : StorageState → List Subpool → List Record = λ m ps. flat_map (emptying_records m.subpools) (owned_among m top ps) in
+    let added : StorageState → List Record = λ m. flat_map (emptying_records m.subpools) (owned_among m top (x ∷ [])) in
+    let its : added (state_of t) ≡ h (state_of p) (x ∷ []) = ap added w.leads.builds.keeps.shows in
+    never (c.in_err-push_emptied.ensures.needless (walk_room (h (state_of p)) p c.args.builder.now t c.loop-subpool.builder c.loop-subpool.place w (let m = state_of p in passed_first (λ q. is_in (ended_below m.tasks.parents top) q.owner) (emptying_records m.subpools)) c.in-Some.next x c.in-Some.ensures.next (added (state_of t)) its room))
+
+pub returns-clause-builds : goal.returns-clause-builds
+returns-clause-builds c = c.loop-subpool.invariant.leads.builds
+
+pub returns-clause-ok : goal.returns-clause-ok
+returns-clause-ok c =
+    let top = c.args.tree.now.top in
+    let h : StorageState → List Subpool → List Record = λ m ps. flat_map (emptying_records m.subpools) (owned_among m top ps) in
+    walk_all (h (state_of c.args.storage.now)) c.args.storage.now c.args.builder.now c.loop-subpool.storage c.loop-subpool.builder c.loop-subpool.place c.loop-subpool.invariant c.in_default.ensures.none refl
+
+pub returns-clause-needless : goal.returns-clause-needless
+returns-clause-needless c = λ room. refl

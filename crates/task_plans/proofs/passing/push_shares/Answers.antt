@@ -1,23 +1,45 @@
-use Rattle.std.proofs.Common.{◌≡◌, ℕ, suc, ◌+◌, List, ◌∷◌, ◌++◌, get_or, drop, sym, ap, ◌∙◌, subst, arith}
-use Rattle.std.specs.List.{flat_map}
-use Rattle.std.proofs.Math.Seq.{drop-cons}
+use Rattle.std.proofs.Common.{◌≡◌, ◌<◌, ◌≤◌, ℕ, List, get_or, length, refl, sym, subst, arith}
 use Rattle.storage_changes.specs.declared.record.Record.{Record}
 use Rattle.storage_changes.specs.State.{StorageState}
 use Rattle.storage_exchange.specs.Storage.{state_of}
 use Rattle.storage_swap.specs.Builder.{Pushes}
-use Rattle.storage_swap.proofs.BuilderLemmas.{leads-more}
+use Rattle.storage_swap.proofs.BuilderLemmas.{builds-follow, leads-none}
 use Rattle.change_laws.specs.Attaching.{share_records}
+use Rattle.task_plans.proofs.EndRecords.{never}
+use Rattle.task_plans.proofs.ShareRecords.{each_done, each_room, each_more}
 use Rattle.task_plans.proofs.passing.push_shares.Goals as goal
+
+pub loop-k-init : goal.loop-k-init
+loop-k-init c = leads-none _ _ _ c.requires.building
+
+pub returns-in_err-push_share-clause-builds : goal.returns-in_err-push_share-clause-builds
+returns-in_err-push_share-clause-builds c = builds-follow _ _ _ _ _ _ c.loop-k.invariant.builds c.push_share.ensures.builds
+
+pub returns-in_err-push_share-clause-needless : goal.returns-in_err-push_share-clause-needless
+returns-in_err-push_share-clause-needless c = λ room.
+    let xs = c.args.shared.now.items in
+    let k = c.loop-k.k in
+    let each : StorageState → ℕ → List Record = λ m. share_records m c.args.task in
+    let P : List ℕ → Type 0 = λ ys. length (each (state_of c.loop-k.storage) (get_or ys k 0)) ≤ c.loop-k.storage.elements.spare in
+    never (c.in_err-push_share.ensures.needless (subst P (sym c.deref.ensures.0)
+    (each_room each c.args.storage.now c.loop-k.storage c.args.builder.now c.loop-k.builder xs k c.loop-k.invariant (omega (arith, c.loop-k-test.true, c.len-k-end.ensures.value)) room)))
 
 pub loop-k-preserved : goal.loop-k-preserved
 loop-k-preserved c =
-    let p = c.args.storage.now in
     let xs = c.args.shared.now.items in
     let k = c.loop-k.k in
     let each : StorageState → ℕ → List Record = λ m. share_records m c.args.task in
     let P : List ℕ → Type 0 = λ ys. Pushes c.loop-k.storage c.loop-k.builder (each (state_of c.loop-k.storage) (get_or ys k 0)) c.push_share.new.storage c.push_share.new.builder in
-    let next : suc k ≡ k + 1 = omega arith in
-    leads-more _ _ _ _ _ _ c.loop-k.invariant _ _ (each (state_of c.loop-k.storage) (get_or xs k 0)) (flat_map (each (state_of p)) (drop (k + 1) xs))
-    (ap (flat_map (each (state_of p))) (drop-cons xs k 0 (omega (arith, c.loop-k-test.true, c.len-k-end.ensures.value)) ∙ ap (λ (n : ℕ). get_or xs k 0 ∷ drop n xs) next)
-    ∙ ap (λ (m : StorageState). each m (get_or xs k 0) ++ flat_map (each (state_of p)) (drop (k + 1) xs)) (sym c.loop-k.invariant.builds.keeps.shows))
-    c.push_share.ensures.builds (subst P c.deref.ensures.0 c.in_ok-push_share.ensures.ok)
+    each_more each c.args.storage.now c.loop-k.storage c.args.builder.now c.loop-k.builder xs k c.loop-k.invariant (omega (arith, c.loop-k-test.true, c.len-k-end.ensures.value))
+    c.push_share.new.storage c.push_share.new.builder c.push_share.ensures.builds (subst P c.deref.ensures.0 c.in_ok-push_share.ensures.ok)
+
+pub returns-clause-builds : goal.returns-clause-builds
+returns-clause-builds c = c.loop-k.invariant.builds
+
+pub returns-clause-ok : goal.returns-clause-ok
+returns-clause-ok c =
+    let each : StorageState → ℕ → List Record = λ m. share_records m c.args.task in
+    each_done each c.args.storage.now c.loop-k.storage c.args.builder.now c.loop-k.builder c.args.shared.now.items c.loop-k.k c.loop-k.invariant (omega (arith, c.loop-k-test.false, c.len-k-end.ensures.value))
+
+pub returns-clause-needless : goal.returns-clause-needless
+returns-clause-needless c = λ room. refl
