@@ -1,7 +1,8 @@
 -- Walks over the areas of a cell pool's extents, and the records by which they are given back.
-use Rattle.std.proofs.Common.{◌≡◌, ℕ, zero, suc, ◌+◌, ◌-◌, ◌<◌, ◌≤◌, ◌^◌, true, false, ◌||◌, List, [], ◌∷◌, ◌++◌, length, length-append, get_or, take, drop, map, Option, Some, None, IfSome, refl, sym, ap, ◌∙◌, subst, arith}
+use Rattle.std.proofs.Common.{◌≡◌, ℕ, zero, suc, ◌+◌, ◌-◌, ◌<◌, ◌≤◌, ◌^◌, true, false, ◌||◌, List, [], ◌∷◌, ◌++◌, length, length-append, length-drop, get_or, take, drop, map, Option, Some, None, IfSome, refl, sym, ap, ◌∙◌, subst, arith}
 use Rattle.std.specs.Prelude.{slice_get}
 use Rattle.std.proofs.Math.Seq.{drop-cons}
+use Rattle.std.proofs.lemmas.List.{drop_all}
 use Rattle.run_set.specs.Runs.{Run, inside, contains}
 use Rattle.vsm_model.specs.declared.Subpool.{Subpool}
 use Rattle.cell_extents.specs.declared.settings.Extent.{Extent}
@@ -82,9 +83,24 @@ past_all [] i e = omega arith
 past_all (y ∷ ys) zero e = cc
 past_all (y ∷ ys) (suc i) e = let k = past_all ys i e in omega (arith, k)
 
+-- a refusal that can't be
+pub never : {P : Type 0} → false ≡ true → P
+never h = absurd cc
+
+some-left : (n k m : ℕ) → k < n → n - k ≤ m → 0 < m
+some-left n k m less h = omega arith
+
 -- the next record of a list
 pub next_record : (rs : List Record) (k : ℕ) (d : Record) → k < length rs → drop k rs ≡ (get_or rs k d ∷ []) ++ drop (k + 1) rs
 next_record rs k d less = let next : suc k ≡ k + 1 = omega arith in drop-cons rs k d less ∙ ap (λ (n : ℕ). get_or rs k d ∷ drop n rs) next
+
+-- Of these records, those from k on are left.
+module _ (p t : Parts) (a b : ChangeBuilder) (rs : List Record) (k : ℕ) (w : Leads p a rs t b (drop k rs)) where
+  pub records_done : length rs ≤ k → Pushes p a rs t b
+  records_done h = leads-all p t a b rs (drop k rs) w (drop_all k rs h)
+
+  pub record_room : k < length rs → length rs ≤ p.elements.spare → 0 < t.elements.spare
+  record_room less h = some-left (length rs) k t.elements.spare less (subst (λ (n : ℕ). n ≤ t.elements.spare) (length-drop k rs) (leads-room p t a b rs (drop k rs) w h))
 
 -- the records by which areas are given back, the first of them first
 abbrev pub areas_given_back : Subpools → Subpool → List Run → List Record
