@@ -1,14 +1,15 @@
 use Rattle.free_queue.specs.FreeQueue.{is_free}
-use Rattle.std.proofs.Common.{◌≡◌, false, Some, ◌∙◌, refl}
+use Rattle.std.proofs.Common.{◌≡◌, ◌+◌, false, Some, ◌∙◌, refl, sym}
 use Rattle.std.specs.Prelude.{if◌then◌else◌}
 use Rattle.run_set.specs.Runs.{inside}
+use Rattle.run_set.specs.Counts.{joins}
 use Rattle.descriptor_queue.specs.Extents.{has_page}
 use Rattle.subpool_set.specs.SubpoolSet.{pool}
 use Rattle.subpool_storage.specs.Subpools.{with_pages}
 use Rattle.subpool_storage.specs.SubpoolStorage.{subpools_of}
 use Rattle.subpool_storage.proofs.SubpoolLemmas.{as_pages}
 use Rattle.subpool_storage.proofs.QueueLemmas.{Turned, left_if, extents_turned}
-use Rattle.subpool_storage.proofs.PutLemmas.{pool_there, both_stand, pages_call, turned_set, turned_pool, becomes}
+use Rattle.subpool_storage.proofs.PutLemmas.{pool_there, both_stand, pages_there, pages_call, turned_set, turned_pool, becomes}
 use Rattle.subpool_storage.proofs.storage.SubpoolStorage.remove_run.Goals as goal
 
 pub remove_run-requires-clause-queue : goal.remove_run-requires-clause-queue
@@ -33,3 +34,14 @@ returns-clause-becomes c =
     let there : pool c.args.elements.now c.args.self.now.set c.args.subpool.number c.args.subpool.owner ≡ Some (record { id = c.id-id.result; queues = c.queues-queues.result }) = pool_there c.args.elements.now c.args.self.now.set c.args.subpool.number c.args.subpool.owner c.id-id.result c.queues-queues.result c.id-id.ensures.number c.id-id.ensures.owner c.queues-queues.ensures in
     let call : Turned c.args.elements.now c.remove_run.new.elements c.queues-queues.result (record { extents = c.remove_run.new.self; free = c.queues-queues.result.free }) (λ x. if inside x c.args.run then false else (subpools_of c.args.elements.now c.args.self.now).pages c.args.subpool x) ((subpools_of c.args.elements.now c.args.self.now).free c.args.subpool) = pages_call c.args.elements.now c.remove_run.new.elements c.args.self.now c.args.subpool c.id-id.result c.queues-queues.result c.requires.stands there c.remove_run.new.self c.args.run false c.remove_run.ensures.owned c.remove_run.ensures.queue (λ d. c.remove_run.ensures.set d ∙ left_if (inside d c.args.run) (has_page c.args.elements.now c.queues-queues.result.extents d)) in
     becomes c.args.elements.now c.remove_run.new.elements c.args.self.now c.args.subpool c.id-id.result c.queues-queues.result (record { extents = c.remove_run.new.self; free = c.queues-queues.result.free }) (λ x. if inside x c.args.run then false else (subpools_of c.args.elements.now c.args.self.now).pages c.args.subpool x) ((subpools_of c.args.elements.now c.args.self.now).free c.args.subpool) c.requires.stands there call c.set_queues.new.elements c.set_queues.ensures.set c.set_queues.ensures.sight c.set_queues.ensures.pools c.set_queues.ensures.owned c.set_queues.ensures.queues (with_pages (subpools_of c.args.elements.now c.args.self.now) c.args.subpool c.args.run false) (as_pages (subpools_of c.args.elements.now c.args.self.now) c.args.subpool c.args.run false)
+
+pub remove_run-requires-clause-present : goal.remove_run-requires-clause-present
+remove_run-requires-clause-present c = λ n within.
+    let there : pool c.args.elements.now c.args.self.now.set c.args.subpool.number c.args.subpool.owner ≡ Some (record { id = c.id-id.result; queues = c.queues-queues.result }) = pool_there c.args.elements.now c.args.self.now.set c.args.subpool.number c.args.subpool.owner c.id-id.result c.queues-queues.result c.id-id.ensures.number c.id-id.ensures.owner c.queues-queues.ensures in
+    sym (pages_there c.args.elements.now c.args.elements.now c.args.self.now c.args.subpool c.id-id.result c.queues-queues.result c.requires.stands there n) ∙ c.requires.present n within
+
+pub returns-clause-spares : goal.returns-clause-spares
+returns-clause-spares c =
+    let there : pool c.args.elements.now c.args.self.now.set c.args.subpool.number c.args.subpool.owner ≡ Some (record { id = c.id-id.result; queues = c.queues-queues.result }) = pool_there c.args.elements.now c.args.self.now.set c.args.subpool.number c.args.subpool.owner c.id-id.result c.queues-queues.result c.id-id.ensures.number c.id-id.ensures.owner c.queues-queues.ensures in
+    let pages : (λ x. has_page c.args.elements.now c.queues-queues.result.extents x) ≡ (subpools_of c.args.elements.now c.args.self.now).pages c.args.subpool = λ i x. sym (pages_there c.args.elements.now c.args.elements.now c.args.self.now c.args.subpool c.id-id.result c.queues-queues.result c.requires.stands there x) i in
+    (λ i. c.set_queues.ensures.spares i + joins (sym pages i) c.args.run) ∙ c.remove_run.ensures.exact
