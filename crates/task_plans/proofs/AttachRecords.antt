@@ -1,5 +1,5 @@
 -- The records of a task that comes.
-use Rattle.std.proofs.Common.{◌≡◌, ℕ, ◌+◌, ◌<◌, ◌≤◌, true, List, [], ◌∷◌, ◌++◌, length, length-append, Result, OnOk, sym, ap, ◌∙◌, subst, arith}
+use Rattle.std.proofs.Common.{◌≡◌, ℕ, ◌+◌, ◌<◌, ◌≤◌, true, List, [], ◌∷◌, length, length-append, Result, OnOk, sym, ap, ◌∙◌, subst, arith}
 use Rattle.std.specs.List.{flat_map}
 use Rattle.storage_changes.specs.declared.record.Record.{Record}
 use Rattle.storage_changes.specs.declared.record.Record.TheVariants.{Task, Register}
@@ -42,10 +42,11 @@ pub registers_pushed : {E : Type 0} (s t u : Parts) (a b c : ChangeBuilder) (m :
 registers_pushed s t u a b c m task now word x y r is code same number first second =
     let P : List Record → Type 0 = λ rs. OnOk r (Pushes s a rs u c) in
     subst P (λ i. its-code i ∷ its-number i ∷ []) (ok_follows s t u a b c (x ∷ []) (y ∷ []) r first second) where
-  its-code : x ≡ Register (record { task = m.tasks.current; register = 15; word = 0 })
-  its-code = code ∙ ap (λ (n : ℕ). Register (record { task = n; register = 15; word = 0 })) is
-  its-number : y ≡ Register (record { task = m.tasks.current; register = 1; word = task })
-  its-number = number ∙ (λ i. Register (record { task = is i; register = 1; word = same i }))
+      its-code : x ≡ Register (record { task = m.tasks.current; register = 15; word = 0 })
+      its-code = code ∙ ap (λ (n : ℕ). Register (record { task = n; register = 15; word = 0 })) is
+
+      its-number : y ≡ Register (record { task = m.tasks.current; register = 1; word = task })
+      its-number = number ∙ (λ i. Register (record { task = is i; register = 1; word = same i }))
 
 pub one_of_two : (n : ℕ) → 2 ≤ n → 0 < n
 one_of_two n h = omega arith

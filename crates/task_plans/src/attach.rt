@@ -13,10 +13,10 @@ ghost use Rattle.storage_swap.specs.Growth.{MakesElements};
 ghost use Rattle.storage_swap.specs.Reserve.{Grown, Reserves};
 ghost use Rattle.task_plans.specs.TaskPlans.{attach_change, numbers, CanBeAttached, IsAttachPlanned};
 
-use crate::{Builder, Pushed};
 use crate::numbers::{Numbers, has_bad_number, numbers_of, numbers_or_none, some_is_anothers};
 use crate::passing::{push_gifts, push_shares, push_zero};
 use crate::registers::set_register;
+use crate::{Builder, Pushed};
 use change_laws::tasks::attaching_leads;
 use std::alloc::AllocError;
 use storage_changes::{Record, TaskRecord};
@@ -122,7 +122,13 @@ impl AttachPlan {
     }
 
     // The records of the task, of subpool 0, and of these numbers that it's given and that it shares.
-    fn push_task(self, storage: &mut Parts, builder: &mut Builder, given: &Numbers, shared: &Numbers) -> Pushed
+    fn push_task(
+        self,
+        storage: &mut Parts,
+        builder: &mut Builder,
+        given: &Numbers,
+        shared: &Numbers,
+    ) -> Pushed
         requires building { IsBuilding storage.old builder.old }
         requires given { All (λ number. number ≤ 127) given.now.items }
         requires shared { All (λ number. number ≤ 127) shared.now.items }

@@ -1,4 +1,4 @@
-use Rattle.std.proofs.Common.{[], List, OnOk, refl, sym, ◌∙◌, subst}
+use Rattle.std.proofs.Common.{List, refl, sym, ◌∙◌, subst}
 use Rattle.subpool_storage.specs.Extents.{extents}
 use Rattle.storage_changes.specs.declared.record.Record.{Record}
 use Rattle.storage_changes.specs.declared.record.Record.TheVariants.{Queues}
