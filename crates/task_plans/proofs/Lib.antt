@@ -7,6 +7,7 @@ mod Climbs
 mod OwnedNames
 mod Walks
 mod Parks
+mod Reservations
 mod TwoSteps
 mod ShareRecords
 mod EmptyingRecords
