@@ -1,6 +1,7 @@
 //! What the words of `vsm-explain`'s command line ask for.
 #![tactic(auto)]
 
+mod commands;
 mod help;
 mod options;
 mod questions;
