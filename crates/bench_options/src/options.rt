@@ -1,6 +1,6 @@
 //! The options of a bench, and what they ask for.
 ghost use Rattle.std.specs.Prelude.{◌≡◌, IfOk, ℕ, false, map};
-ghost use Rattle.clap.specs.Words.{app_of, found_of, rows_of, rule_of};
+ghost use Rattle.clap.specs.Words.{App, app_of, found_of, rows_of, rule_of, with_rule};
 ghost use Rattle.bench_options.specs.Options.{Residences, AreResidences, number_option, residence_option};
 ghost use Rattle.bench_options.specs.Options.{number_asked, residence_asked, settings_asked, with_settings};
 
@@ -44,34 +44,32 @@ fn residence_option<'a>(alloc: Global) -> Arg<'a>
         .help("Where the caller resides: below the 16 MB line (24), or above it (31) [default: 24]")
 }
 
+/// Adds an argument that isn't one of all commands, where there is a command.
+fn with<'a>(
+    command: Result<Command<'a>, AllocError>,
+    argument: Arg<'a>,
+) -> Result<Command<'a>, AllocError>
+    ensures { (app : App) → argument.entry.global ≡ false → IfOk command.entry (λ c. app_of c ≡ app)
+        → IfOk result (λ c. app_of c ≡ with_rule app (rule_of argument.entry)) }
+{
+    match command {
+        Ok(command) => command.arg(argument),
+        Err(error) => Err(error),
+    }
+}
+
 /// Adds the options of a bench to a command: `--low`, `--high`, `--residence` and `--history`.
 pub fn with_settings<'a>(alloc: Global, command: Command<'a>) -> Result<Command<'a>, AllocError>
     ensures { IfOk result (λ c. (values : Residences) × AreResidences values
         × (app_of c ≡ with_settings values (app_of command.entry))) }
 {
-    let low = number_option(
-        alloc,
-        "low",
-        "K",
-        "Size of the low region in K: a multiple of 4 from 4 to 16360 [default: 64]",
-    );
-    let high = number_option(
-        alloc,
-        "high",
-        "K",
-        "Size of the high region in K: a multiple of 4 from 4 to 1572864 [default: 64]",
-    );
-    let history = number_option(
-        alloc,
-        "history",
-        "N",
-        "How many changes can be undone: 1 to 65536 [default: 1024]",
-    );
-    command
-        .arg(low)?
-        .arg(high)?
-        .arg(residence_option(alloc))?
-        .arg(history)
+    let low = "Size of the low region in K: a multiple of 4 from 4 to 16360 [default: 64]";
+    let high = "Size of the high region in K: a multiple of 4 from 4 to 1572864 [default: 64]";
+    let history = "How many changes can be undone: 1 to 65536 [default: 1024]";
+    let command = with(Ok(command), number_option(alloc, "low", "K", low));
+    let command = with(command, number_option(alloc, "high", "K", high));
+    let command = with(command, residence_option(alloc));
+    with(command, number_option(alloc, "history", "N", history))
 }
 
 /// The number that an option was given, or that it has where it wasn't; `None` above 32 bits.
