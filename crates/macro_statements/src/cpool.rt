@@ -1,10 +1,11 @@
 //! CPOOL: its forms that make a cell pool, hand out a cell, take one back, and end a cell pool.
 
 ghost use Rattle.std.specs.Prelude.{◌≡◌, length};
-ghost use Rattle.operand_texts.specs.Field.{operands};
+ghost use Rattle.std.specs.Option.{option_copied};
+ghost use Rattle.operand_texts.specs.Field.{operands, operands_behind};
 ghost use Rattle.macro_operands.specs.Slots.{row_in, slots_in};
 ghost use Rattle.macro_statements.specs.Rooms.{left};
-ghost use Rattle.macro_statements.specs.Cpool.{pool_form_of, pool_form_row, pool_by, cpool_of};
+ghost use Rattle.macro_statements.specs.Cpool.{pool_form_of, pool_form_row, pool_form_with, pool_by, cpool_of};
 ghost use Rattle.macro_statements.specs.declared.cpool.PoolForm.TheVariants.{Build, Get, Free, Delete};
 
 use crate::forms::{LEFT_OUT_KEYWORDS, no_form_fault, subpool_at};
@@ -165,6 +166,35 @@ fn delete_by(said: &[Option<Said>], request: &mut Request) -> Result<(), FaultKi
     }
 }
 
+/// What a form asks for by what was read.
+fn pool_by(form: PoolForm, said: &[Option<Said>], request: &mut Request) -> Result<(), FaultKind>
+    requires { length said.now ≡ 12 }
+    ensures { left result request.new ≡ pool_by form (slots_in said.now) }
+{
+    match form {
+        PoolForm::Build => build_by(said, request),
+        PoolForm::Get => get_by(said, request),
+        PoolForm::Free => free_by(said, request),
+        PoolForm::Delete => delete_by(said, request),
+    }
+}
+
+/// A form with the operands behind its word.
+fn pool_form_with(
+    form: PoolForm,
+    behind: Option<&[u8]>,
+    request: &mut Request,
+) -> Result<(), FaultKind>
+    ensures { left result request.new ≡ pool_form_with form (operands_behind (option_copied behind.entry)) }
+{
+    let mut said = [
+        NOTHING, NOTHING, NOTHING, NOTHING, NOTHING, NOTHING, NOTHING, NOTHING, NOTHING, NOTHING,
+        NOTHING, NOTHING,
+    ];
+    let said = read(&row_of(form), behind, &mut said)?;
+    pool_by(form, said, request)
+}
+
 /// CPOOL with its operand field, whose first operand is a form's word.
 pub(crate) fn cpool(field: &[u8], request: &mut Request) -> Result<(), FaultKind>
     ensures { left result request.new ≡ cpool_of (operands field.now) }
@@ -173,18 +203,8 @@ pub(crate) fn cpool(field: &[u8], request: &mut Request) -> Result<(), FaultKind
         return Err(FaultKind::Missing);
     }
     let (word, behind) = split(field);
-    let Some(form) = pool_form_of(word) else {
-        return Err(no_form_fault(&[b"LIST"], word));
-    };
-    let mut said = [
-        NOTHING, NOTHING, NOTHING, NOTHING, NOTHING, NOTHING, NOTHING, NOTHING, NOTHING, NOTHING,
-        NOTHING, NOTHING,
-    ];
-    let said = read(&row_of(form), behind, &mut said)?;
-    match form {
-        PoolForm::Build => build_by(said, request),
-        PoolForm::Get => get_by(said, request),
-        PoolForm::Free => free_by(said, request),
-        PoolForm::Delete => delete_by(said, request),
+    match pool_form_of(word) {
+        Some(form) => pool_form_with(form, behind, request),
+        None => Err(no_form_fault(&[b"LIST"], word)),
     }
 }

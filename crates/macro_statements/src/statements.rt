@@ -17,7 +17,7 @@ use crate::getmain::GETMAIN;
 use crate::peek::peek;
 use crate::poke::poke;
 use crate::run::run;
-use crate::steps::count_in;
+use crate::steps::{back, forward};
 use crate::storage::STORAGE;
 use macro_operands::FaultKind;
 use macro_operands::rows::Behind;
@@ -109,14 +109,8 @@ fn asked_of(operation: Operation, field: &[u8], request: &mut Request) -> Result
             *request = Request::Map;
             Ok(())
         }
-        Operation::Back => {
-            *request = Request::Back(count_in(field)?);
-            Ok(())
-        }
-        Operation::Forward => {
-            *request = Request::Forward(count_in(field)?);
-            Ok(())
-        }
+        Operation::Back => back(field, request),
+        Operation::Forward => forward(field, request),
     }
 }
 

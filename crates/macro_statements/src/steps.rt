@@ -4,12 +4,15 @@ ghost use Rattle.std.specs.Prelude.{◌≡◌, length};
 ghost use Rattle.operand_texts.specs.Field.{operands};
 ghost use Rattle.macro_operands.specs.Slots.{slots_in};
 ghost use Rattle.macro_statements.specs.Slots.{count_by};
-ghost use Rattle.macro_statements.specs.Steps.{count_in};
+ghost use Rattle.macro_requests.specs.Requests.{back, forward};
+ghost use Rattle.macro_statements.specs.Rooms.{left};
+ghost use Rattle.macro_statements.specs.Steps.{count_in, step_with};
 
 use macro_operands::operands::{read, some_field};
 use macro_operands::rows::OperandRow;
 use macro_operands::said::{NOTHING, Said, count_at};
 use macro_operands::{FaultKind, position};
+use macro_requests::Request;
 
 /// BACK and FORWARD.
 pub const STEPS: OperandRow = OperandRow {
@@ -29,7 +32,7 @@ fn count_by(said: &[Option<Said>]) -> Result<u32, FaultKind>
 }
 
 /// The number that is the only operand of a field.
-pub(crate) fn count_in(field: &[u8]) -> Result<u32, FaultKind>
+fn count_in(field: &[u8]) -> Result<u32, FaultKind>
     ensures { result ≡ count_in (operands field.now) }
 {
     let mut said = [NOTHING];
@@ -37,4 +40,20 @@ pub(crate) fn count_in(field: &[u8]) -> Result<u32, FaultKind>
         Ok(said) => count_by(said),
         Err(fault) => Err(fault),
     }
+}
+
+/// BACK with its operand field.
+pub(crate) fn back(field: &[u8], request: &mut Request) -> Result<(), FaultKind>
+    ensures { left result request.new ≡ step_with back (count_in (operands field.now)) }
+{
+    *request = Request::Back(count_in(field)?);
+    Ok(())
+}
+
+/// FORWARD with its operand field.
+pub(crate) fn forward(field: &[u8], request: &mut Request) -> Result<(), FaultKind>
+    ensures { left result request.new ≡ step_with forward (count_in (operands field.now)) }
+{
+    *request = Request::Forward(count_in(field)?);
+    Ok(())
 }
