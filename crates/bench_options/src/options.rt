@@ -32,28 +32,46 @@ fn number_option<'a>(alloc: Global, name: &'a str, unit: &'a str, help: &'a str)
         .help(help)
 }
 
-/// The option that says where the caller resides.
-fn residence_option<'a>(alloc: Global) -> Arg<'a>
-    ensures rule { (values : Residences) × AreResidences values × (rule_of result ≡ residence_option values) }
+/// The option that says where the caller resides, by one of these values.
+fn residence_option<'a>(alloc: Global, values: &'a [&'a str]) -> Arg<'a>
+    ensures rule { rule_of result ≡ residence_option values.entry }
     ensures local { result.global ≡ false }
 {
     Arg::new(alloc, "residence")
         .long("residence")
         .value_name("MODE")
-        .value_parser(RESIDENCES.as_slice())
+        .value_parser(values)
         .help("Where the caller resides: below the 16 MB line (24), or above it (31) [default: 24]")
 }
 
-/// Adds an argument that isn't one of all commands, where there is a command.
-fn with<'a>(
+/// Adds an option that takes a number, where there is a command.
+fn with_number<'a>(
+    alloc: Global,
     command: Result<Command<'a>, AllocError>,
-    argument: Arg<'a>,
+    name: &'a str,
+    unit: &'a str,
+    help: &'a str,
 ) -> Result<Command<'a>, AllocError>
-    ensures { (app : App) → argument.entry.global ≡ false → IfOk command.entry (λ c. app_of c ≡ app)
-        → IfOk result (λ c. app_of c ≡ with_rule app (rule_of argument.entry)) }
+    ensures { (app : App) → IfOk command.entry (λ c. app_of c ≡ app)
+        → IfOk result (λ c. app_of c ≡ with_rule app (number_option name.entry.now)) }
 {
     match command {
-        Ok(command) => command.arg(argument),
+        Ok(command) => command.arg(number_option(alloc, name, unit, help)),
+        Err(error) => Err(error),
+    }
+}
+
+/// Adds the option that says where the caller resides, where there is a command.
+fn with_residence<'a>(
+    alloc: Global,
+    command: Result<Command<'a>, AllocError>,
+    values: &'a [&'a str],
+) -> Result<Command<'a>, AllocError>
+    ensures { (app : App) → IfOk command.entry (λ c. app_of c ≡ app)
+        → IfOk result (λ c. app_of c ≡ with_rule app (residence_option values.entry)) }
+{
+    match command {
+        Ok(command) => command.arg(residence_option(alloc, values)),
         Err(error) => Err(error),
     }
 }
@@ -66,10 +84,10 @@ pub fn with_settings<'a>(alloc: Global, command: Command<'a>) -> Result<Command<
     let low = "Size of the low region in K: a multiple of 4 from 4 to 16360 [default: 64]";
     let high = "Size of the high region in K: a multiple of 4 from 4 to 1572864 [default: 64]";
     let history = "How many changes can be undone: 1 to 65536 [default: 1024]";
-    let command = with(Ok(command), number_option(alloc, "low", "K", low));
-    let command = with(command, number_option(alloc, "high", "K", high));
-    let command = with(command, residence_option(alloc));
-    with(command, number_option(alloc, "history", "N", history))
+    let command = with_number(alloc, Ok(command), "low", "K", low);
+    let command = with_number(alloc, command, "high", "K", high);
+    let command = with_residence(alloc, command, RESIDENCES.as_slice());
+    with_number(alloc, command, "history", "N", history)
 }
 
 /// The number that an option was given, or that it has where it wasn't; `None` above 32 bits.

@@ -1,9 +1,0 @@
-use Rattle.std.proofs.Common.{◌∙◌, ap₂, refl}
-use Rattle.std.proofs.lemmas.Result.{IfOk-weaker}
-use Rattle.clap.specs.Words.{with_rule}
-use Rattle.bench_options.proofs.options.with.Goals as goal
-
-pub returns-in-Ok : goal.returns-in-Ok
-returns-in-Ok c = λ app local is_app.
-    let app_is = rw c.in-Ok.is at is_app in
-    IfOk-weaker c.arg.result _ _ (λ r added. added.shape local ∙ ap₂ with_rule app_is refl) c.arg.ensures
