@@ -5,40 +5,15 @@ use bench_options::with_settings;
 use clap::{Arg, ArgAction, ArgMatches, Command, Error};
 use std::alloc::{AllocError, Global};
 
-/// An argument with what help says of it. Nothing is promised of it, nor of what's below, so that no caller carries all
-/// that is known of them.
-fn described<'a>(alloc: Global, row: &'static Row) -> Arg<'a> {
-    Arg::new(alloc, row.name).help(row.help)
-}
-
-/// An option that is there or isn't.
-fn flag<'a>(argument: Arg<'a>, name: &'a str) -> Arg<'a> {
-    argument.long(name).action(ArgAction::SetTrue)
-}
-
-/// An option that takes a value.
-fn valued<'a>(argument: Arg<'a>, name: &'a str, value: &'a str) -> Arg<'a> {
-    argument.long(name).value_name(value)
-}
-
-/// A word that stands for itself, by its place.
-fn operand<'a>(argument: Arg<'a>, value: &'a str) -> Arg<'a> {
-    argument.value_name(value)
-}
-
-/// What has to be there.
-fn required<'a>(argument: Arg<'a>) -> Arg<'a> {
-    argument.required(true)
-}
-
-/// The argument that an option or operand is.
+/// The argument that an option or operand is. Nothing is promised of it, nor of what's below, so that no caller carries
+/// all that is known of them.
 fn argument_of<'a>(alloc: Global, row: &'static Row) -> Arg<'a> {
-    let argument = described(alloc, row);
+    let argument = Arg::new(alloc, row.name).help(row.help);
     match row.kind {
-        Kind::Flag => flag(argument, row.name),
-        Kind::Valued(value) => valued(argument, row.name, value),
-        Kind::Operand(value) => operand(argument, value),
-        Kind::File => required(argument),
+        Kind::Flag => argument.long(row.name).action(ArgAction::SetTrue),
+        Kind::Valued(value) => argument.long(row.name).value_name(value),
+        Kind::Operand(value) => argument.value_name(value),
+        Kind::File => argument.required(true),
     }
 }
 
