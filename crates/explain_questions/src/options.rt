@@ -17,11 +17,6 @@ fn argument_of<'a>(alloc: Global, row: &'static Row) -> Arg<'a> {
     }
 }
 
-/// A command with an argument more.
-fn with<'a>(command: Command<'a>, argument: Arg<'a>) -> Result<Command<'a>, AllocError> {
-    command.arg(argument)
-}
-
 /// A command with these options and operands.
 fn with_rows<'a>(
     alloc: Global,
@@ -30,19 +25,16 @@ fn with_rows<'a>(
 ) -> Result<Command<'a>, AllocError> {
     let mut command = command;
     for row in rows {
-        command = with(command, argument_of(alloc, row))?;
+        command = command.arg(argument_of(alloc, row))?;
     }
     Ok(command)
 }
 
-/// A command that says what it's for and, behind its options, how it's used.
-fn told<'a>(command: Command<'a>, about: &'a str, after: &'a str) -> Command<'a> {
-    command.about(about).after_help(after)
-}
-
 /// A command with vsm's options and its own.
 fn command_of<'a>(alloc: Global, form: &'static Form) -> Result<Command<'a>, AllocError> {
-    let command = told(Command::new(alloc, form.name), form.about, form.after);
+    let command = Command::new(alloc, form.name)
+        .about(form.about)
+        .after_help(form.after);
     with_rows(alloc, with_settings(alloc, command)?, form.rows)
 }
 
@@ -68,21 +60,15 @@ fn with_commands<'a>(
     Ok(command)
 }
 
-/// A command that has commands below it, one of which has to be named, and none of them for help.
-fn parted<'a>(command: Command<'a>) -> Command<'a> {
-    command
+/// The program, with what it says of itself. One of its commands has to be named, and none of them is for help.
+fn program<'a>(alloc: Global) -> Result<Command<'a>, AllocError> {
+    Command::new(alloc, "vsm-explain")
+        .version(VERSION)
+        .about(ABOUT)
+        .after_help(AFTER)
         .subcommand_required(true)
         .disable_help_subcommand(true)
-}
-
-/// A command with the program's name and version.
-fn named<'a>(command: Command<'a>) -> Result<Command<'a>, AllocError> {
-    command.version(VERSION).bin_name("vsm-explain")
-}
-
-/// The program, and what it says of itself.
-fn program<'a>(alloc: Global) -> Result<Command<'a>, AllocError> {
-    named(parted(told(Command::new(alloc, "vsm-explain"), ABOUT, AFTER)))
+        .bin_name("vsm-explain")
 }
 
 /// The program with its commands.
