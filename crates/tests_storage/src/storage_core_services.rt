@@ -253,34 +253,32 @@ const FIRST: Subpool = Subpool {
     owner: 1,
 };
 
-// How many extents the subpool has: each comes on the walk as at its position.
-fn count_extents(rt: &impl Abort, storage: &Storage, subpool: Subpool) -> u32 {
+// The walk over the subpool's extents comes to these, and to no other.
+fn compare_extents(rt: &impl Abort, storage: &Storage, subpool: Subpool, extents: &[Run]) {
     let mut place = storage.first_extent(subpool);
-    for i in 0..8 {
-        let position = storage.extent_at(subpool, i);
+    for i in 0..8usize {
         let Some((run, behind)) = storage.next_extent(place) else {
-            assert_eq!(rt; position, None);
-            return i;
+            assert_eq!(rt; i, extents.len());
+            return;
         };
-        assert_eq!(rt; position, Some(run));
+        assert_eq!(rt; extents.get(i), Some(&run));
         place = behind;
     }
-    8
+    assert!(rt; false);
 }
 
-// How many free areas the subpool has, likewise.
-fn count_free_areas(rt: &impl Abort, storage: &Storage, subpool: Subpool) -> u32 {
+// The walk over its free areas likewise.
+fn compare_free_areas(rt: &impl Abort, storage: &Storage, subpool: Subpool, areas: &[Area]) {
     let mut place = storage.first_free_area(subpool);
-    for i in 0..8 {
-        let position = storage.free_at(subpool, i);
+    for i in 0..8usize {
         let Some((area, behind)) = storage.next_free_area(place) else {
-            assert_eq!(rt; position, None);
-            return i;
+            assert_eq!(rt; i, areas.len());
+            return;
         };
-        assert_eq!(rt; position, Some(area));
+        assert_eq!(rt; areas.get(i), Some(&area));
         place = behind;
     }
-    8
+    assert!(rt; false);
 }
 
 // How many subpools there are: each comes on the walk as at its position, with its own extents and free areas, and
@@ -304,7 +302,6 @@ fn count_subpools(rt: &impl Abort, storage: &Storage) -> u32 {
         );
         let front = Storage::first_sharer_place(behind);
         assert_eq!(rt; storage.next_sharer(subpool, front), None);
-        assert_eq!(rt; storage.sharer_at(subpool, 0), None);
         place = behind;
     }
     8
@@ -334,32 +331,32 @@ fn make_two_extents(storage: &mut Storage) -> Result<(), Fail> {
 }
 
 #[test]
-fn extents_and_free_areas_agree(rt: HostRuntime) -> Result<(), Fail> {
+fn extents_and_free_areas_are_walked_over(rt: HostRuntime) -> Result<(), Fail> {
     let mut storage = Storage::new(rt.alloc(), SETTINGS)?;
     make_two_extents(&mut storage)?;
-    assert_eq!(rt; count_extents(&rt, &storage, FIRST), 2);
-    assert_eq!(rt;
-        storage.extent_at(FIRST, 1),
-        Some(Run {
+    let extents = [
+        Run { start: 6, len: 1 },
+        Run {
             start: 0x8000,
-            len: 1
-        })
-    );
-    assert_eq!(rt; count_free_areas(&rt, &storage, FIRST), 3);
-    assert_eq!(rt;
-        storage.free_at(FIRST, 0),
-        Some(Area {
+            len: 1,
+        },
+    ];
+    compare_extents(&rt, &storage, FIRST, &extents);
+    let areas = [
+        Area {
             start: 0xC00,
-            len: 3
-        })
-    );
-    assert_eq!(rt;
-        storage.free_at(FIRST, 1),
-        Some(Area {
+            len: 3,
+        },
+        Area {
             start: 0xC04,
-            len: 508
-        })
-    );
+            len: 508,
+        },
+        Area {
+            start: 0x100_0003,
+            len: 509,
+        },
+    ];
+    compare_free_areas(&rt, &storage, FIRST, &areas);
     Ok(())
 }
 
