@@ -1,5 +1,7 @@
 //! Calls of a bench by a Rust caller.
 
+use crate::checks::{holds, same};
+use std::alloc::Global;
 use std::process::Abort;
 use std::test::Fail;
 use vsm_bench::{
@@ -16,6 +18,11 @@ fn settings_of(low_k: u32, high_k: u32, history: u32) -> Settings {
     }
 }
 
+/// Why there is no bench with these settings.
+fn refusal_of(alloc: Global, settings: Settings) -> Option<NewFault> {
+    Bench::new(alloc, settings).err()
+}
+
 #[test]
 fn settings_within_their_limits_make_a_bench(rt: HostRuntime) -> Result<(), Fail> {
     let above = Settings {
@@ -30,8 +37,7 @@ fn settings_within_their_limits_make_a_bench(rt: HostRuntime) -> Result<(), Fail
         settings_of(64, 1_572_864, 1024),
         settings_of(64, 64, 65_536),
     ] {
-        let bench = Bench::new(rt.alloc(), settings);
-        assert!(rt; bench.is_ok(), "{settings:?}");
+        assert_eq!(rt; refusal_of(rt.alloc(), settings), None, "{settings:?}");
     }
     Ok(())
 }
@@ -48,8 +54,8 @@ fn settings_out_of_their_limits_make_none(rt: HostRuntime) -> Result<(), Fail> {
         settings_of(64, 64, 0),
         settings_of(64, 64, 65_537),
     ] {
-        let bench = Bench::new(rt.alloc(), settings);
-        assert!(rt; matches!(bench, Err(NewFault::Setting)), "{settings:?}");
+        let refusal = refusal_of(rt.alloc(), settings);
+        assert_eq!(rt; refusal, Some(NewFault::Setting), "{settings:?}");
     }
     Ok(())
 }
@@ -75,27 +81,42 @@ fn apply(rt: &impl Abort, bench: &mut Bench, statement: &Statement) -> Result<Re
     bench.apply(statement)
 }
 
-#[test]
-fn a_statement_is_applied_undone_and_made_again(rt: HostRuntime) -> Result<(), Fail> {
-    let Ok(mut bench) = Bench::new(rt.alloc(), DEFAULT_SETTINGS) else {
-        return Err(Fail::from(std::alloc::AllocError));
-    };
-    let reply = apply(&rt, &mut bench, &obtain(12));
+/// How many statements are kept and how many undone.
+fn steps(bench: &Bench) -> (u32, u32) {
+    (bench.kept(), bench.undone())
+}
+
+/// An area is obtained, and nothing is by the second statement.
+fn obtain_once(rt: &impl Abort, bench: &mut Bench) {
     let granted = Reply::Obtained {
         address: 0x6000,
         length: 16,
     };
-    assert!(rt; reply == Ok(granted));
-    assert!(rt; apply(&rt, &mut bench, &obtain(0)) == Err(Refusal::Abend(Code::User(3001))));
-    assert_eq!(rt; (bench.kept(), bench.undone()), (1, 0));
+    holds!(rt; apply(rt, bench, &obtain(12)) == Ok(granted));
+    holds!(rt; apply(rt, bench, &obtain(0)) == Err(Refusal::Abend(Code::User(3001))));
+    same!(rt; steps(bench), (1, 0));
     let mut bytes = [1u8; 2];
-    assert!(rt; bench.peek(Value::Register(1), &mut bytes).is_ok());
-    assert_eq!(rt; bytes, [0; 2]);
-    assert!(rt; bench.back(2).is_err() && bench.back(1).is_ok());
-    assert_eq!(rt; (bench.kept(), bench.undone()), (0, 1));
-    assert!(rt; bench.peek(Value::Register(1), &mut bytes).is_err());
-    assert!(rt; bench.forward(2).is_err() && bench.forward(1).is_ok());
-    assert_eq!(rt; (bench.kept(), bench.undone()), (1, 0));
-    assert!(rt; bench.peek(Value::Number(0x6000), &mut bytes).is_ok());
+    holds!(rt; bench.peek(Value::Register(1), &mut bytes).is_ok());
+    same!(rt; bytes, [0; 2]);
+}
+
+/// The statement is undone and made again.
+fn go_back_and_forward(rt: &impl Abort, bench: &mut Bench) {
+    let mut bytes = [1u8; 2];
+    holds!(rt; bench.back(2).is_err());
+    holds!(rt; bench.back(1).is_ok());
+    same!(rt; steps(bench), (0, 1));
+    holds!(rt; bench.peek(Value::Register(1), &mut bytes).is_err());
+    holds!(rt; bench.forward(2).is_err());
+    holds!(rt; bench.forward(1).is_ok());
+    same!(rt; steps(bench), (1, 0));
+    holds!(rt; bench.peek(Value::Number(0x6000), &mut bytes).is_ok());
+}
+
+#[test]
+fn a_statement_is_applied_undone_and_made_again(rt: HostRuntime) -> Result<(), Fail> {
+    let mut bench = Bench::new(rt.alloc(), DEFAULT_SETTINGS)?;
+    obtain_once(&rt, &mut bench);
+    go_back_and_forward(&rt, &mut bench);
     Ok(())
 }

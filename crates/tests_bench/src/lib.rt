@@ -1,4 +1,4 @@
-//! What only a Rust caller of the bench can try: readers, writers and files of its own, and calls of a `Bench`.
+//! What only a Rust caller of the bench can try: readers and writers of its own, and calls of a `Bench`.
 //!
 //! Scripts and command lines are tried with the built program, by the rows of tests/rows. Expected texts are written by
 //! hand from the rules of docs/STATEMENTS.md and docs/MESSAGES.md, never taken from a run.
@@ -7,9 +7,7 @@
 #[cfg(test)]
 mod benches;
 #[cfg(test)]
-mod files;
-#[cfg(test)]
-mod opened;
+mod checks;
 #[cfg(test)]
 mod readings;
 #[cfg(test)]

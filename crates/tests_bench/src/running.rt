@@ -1,47 +1,45 @@
-//! A script run as the program runs it.
+//! The program run with a reader and a writer of the caller's own.
 
-use crate::files::Shelf;
+use crate::checks::same;
 use std::alloc::{AllocError, Global};
-use std::io::Read;
-use vsm_bench::command;
+use std::io::{Read, Write};
+use std::process::Abort;
+use vsm_bench::{ScriptFiles, command};
 
-/// What a run left: its output, its error texts and its exit status.
+/// What a run said, and its exit status.
 #[derive(Drop)]
 pub(crate) struct Outcome {
-    pub(crate) output: Vec<u8>,
-    pub(crate) errors: Vec<u8>,
-    pub(crate) status: u8,
+    errors: Vec<u8>,
+    status: u8,
 }
 
-/// Runs a script as the program does when it's started with no words.
-pub(crate) fn outcome_of<R: Read>(alloc: Global, script: &mut R) -> Result<Outcome, AllocError> {
-    outcome_of_words(alloc, &[], Shelf { files: &[] }, script)
+impl Outcome {
+    /// The run ended with this error text.
+    pub(crate) fn is_fault(&self, rt: &impl Abort, text: &[u8]) {
+        same!(rt; self.errors.as_slice(), text);
+        same!(rt; self.status, 8);
+    }
 }
 
-/// Runs the program with these words behind its name, these files, and a script on standard input.
-pub(crate) fn outcome_of_words<R: Read>(
-    alloc: Global,
-    words: &[&str],
-    files: Shelf,
-    script: &mut R,
-) -> Result<Outcome, AllocError> {
+/// The program's name, and these words behind it.
+fn with_name(alloc: Global, words: &[&str]) -> Result<Vec<String>, AllocError> {
     let mut all = Vec::new(alloc);
     all.push(String::from_str(alloc, "vsm")?)?;
     for word in words {
         all.push(String::from_str(alloc, word)?)?;
     }
-    let mut output = Vec::new(alloc);
-    let mut errors = Vec::new(alloc);
-    let status = command(
-        &(files, alloc),
-        all.as_slice(),
-        script,
-        &mut output,
-        &mut errors,
-    );
-    Ok(Outcome {
-        output,
-        errors,
-        status,
-    })
+    Ok(all)
+}
+
+/// Runs the program with these words behind its name.
+pub(crate) fn outcome_of<F: ScriptFiles + AllocGlobal, R: Read, W: Write>(
+    rt: &F,
+    words: &[&str],
+    script: &mut R,
+    output: &mut W,
+) -> Result<Outcome, AllocError> {
+    let words = with_name(rt.alloc(), words)?;
+    let mut errors = Vec::new(rt.alloc());
+    let status = command(rt, words.as_slice(), script, output, &mut errors);
+    Ok(Outcome { errors, status })
 }

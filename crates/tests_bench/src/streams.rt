@@ -1,11 +1,13 @@
 //! Readers and writers that are slow, and that fail in mid-stream.
 
+use crate::checks::{holds, is_begun, same};
 use crate::running::outcome_of;
 use std::alloc::Global;
 use std::io;
 use std::io::{Read, Write};
+use std::process::Abort;
 use std::test::Fail;
-use vsm_bench::{Bench, DEFAULT_SETTINGS, RunFault, RunTotals, command, run};
+use vsm_bench::{Bench, DEFAULT_SETTINGS, RunFault, RunTotals, run};
 
 const SCRIPT: &[u8] = b" STORAGE OBTAIN,LENGTH=8,SP=1
 * a comment
@@ -118,14 +120,12 @@ fn byte_by_byte_is_as_at_once(rt: HostRuntime) -> Result<(), Fail> {
     };
     let mut writer = Narrow::with_room(rt.alloc(), 10_000, false);
     let totals = run(rt.alloc(), &mut reader, &mut writer, DEFAULT_SETTINGS);
-    assert!(rt;
-        totals
-            == Ok(RunTotals {
-                statements: 8,
-                refused: 2
-            })
-    );
-    assert_eq!(rt; writer.bytes.as_slice(), OUTPUT);
+    let wanted = RunTotals {
+        statements: 8,
+        refused: 2,
+    };
+    holds!(rt; totals == Ok(wanted));
+    same!(rt; writer.bytes.as_slice(), OUTPUT);
     Ok(())
 }
 
@@ -138,31 +138,35 @@ fn a_read_error_leaves_the_answers_of_whole_lines(rt: HostRuntime) -> Result<(),
     };
     let mut output = Vec::new(rt.alloc());
     let totals = run(rt.alloc(), &mut reader, &mut output, DEFAULT_SETTINGS);
-    assert!(rt; totals == Err(RunFault::Read));
-    assert_eq!(rt; output.as_slice(), b"0000001 KEPT=0\n".as_slice());
+    holds!(rt; totals == Err(RunFault::Read));
+    same!(rt; output.as_slice(), b"0000001 KEPT=0\n".as_slice());
+    Ok(())
+}
+
+#[test]
+fn a_read_error_has_its_text_and_status(rt: HostRuntime) -> Result<(), Fail> {
     let mut reader = Slow {
         bytes: SCRIPT,
         fails: true,
     };
-    let outcome = outcome_of(rt.alloc(), &mut reader)?;
-    assert_eq!(rt; outcome.errors.as_slice(), b"vsm: read\n".as_slice());
-    assert_eq!(rt; outcome.status, 8);
+    let mut output = Vec::new(rt.alloc());
+    outcome_of(&rt, &[], &mut reader, &mut output)?.is_fault(&rt, b"vsm: read\n");
     Ok(())
+}
+
+/// The run of a writer with room for so many bytes ends there.
+fn fill_up(rt: &impl Abort, alloc: Global, room: usize, fails: bool) {
+    let mut writer = Narrow::with_room(alloc, room, fails);
+    let totals = run(alloc, &mut SCRIPT, &mut writer, DEFAULT_SETTINGS);
+    is_begun(rt, writer.bytes.as_slice(), OUTPUT, room);
+    holds!(rt; totals == Err(RunFault::Write));
 }
 
 #[test]
 fn a_writer_that_is_full_ends_the_run(rt: HostRuntime) -> Result<(), Fail> {
     for fails in [false, true] {
         for room in 0..OUTPUT.len() {
-            let mut reader = SCRIPT;
-            let mut writer = Narrow::with_room(rt.alloc(), room, fails);
-            let totals = run(rt.alloc(), &mut reader, &mut writer, DEFAULT_SETTINGS);
-            assert!(rt; totals == Err(RunFault::Write), "{room} bytes");
-            assert_eq!(rt;
-                Some(writer.bytes.as_slice()),
-                OUTPUT.get(..room),
-                "{room} bytes"
-            );
+            fill_up(&rt, rt.alloc(), room, fails);
         }
     }
     Ok(())
@@ -173,28 +177,37 @@ fn a_map_is_written_byte_by_byte(rt: HostRuntime) -> Result<(), Fail> {
     let bench = Bench::new(rt.alloc(), DEFAULT_SETTINGS)?;
     let mut writer = Narrow::with_room(rt.alloc(), FIRST_MAP.len(), true);
     bench.write_map(&mut writer)?;
-    assert_eq!(rt; writer.bytes.as_slice(), FIRST_MAP);
+    same!(rt; writer.bytes.as_slice(), FIRST_MAP);
     Ok(())
+}
+
+/// Why the map isn't written.
+fn map_error(bench: &Bench, writer: &mut Narrow) -> Option<io::ErrorKind> {
+    match bench.write_map(writer) {
+        Ok(()) => None,
+        Err(error) => Some(error.kind()),
+    }
+}
+
+/// The map goes out as far as there is room for it.
+fn cut_off(rt: &impl Abort, alloc: Global, bench: &Bench, room: usize, fails: bool) {
+    let mut writer = Narrow::with_room(alloc, room, fails);
+    let error = map_error(bench, &mut writer);
+    is_begun(rt, writer.bytes.as_slice(), FIRST_MAP, room);
+    let wanted = if fails {
+        io::ErrorKind::Other
+    } else {
+        io::ErrorKind::WriteZero
+    };
+    same!(rt; error, Some(wanted));
 }
 
 #[test]
 fn a_map_goes_out_as_far_as_the_writer_takes_it(rt: HostRuntime) -> Result<(), Fail> {
     let bench = Bench::new(rt.alloc(), DEFAULT_SETTINGS)?;
-    for (fails, kind) in [
-        (false, io::ErrorKind::WriteZero),
-        (true, io::ErrorKind::Other),
-    ] {
+    for fails in [false, true] {
         for room in 0..FIRST_MAP.len() {
-            let mut writer = Narrow::with_room(rt.alloc(), room, fails);
-            match bench.write_map(&mut writer) {
-                Ok(()) => assert!(rt; false, "{room} bytes"),
-                Err(error) => assert!(rt; error.kind() == kind, "{room} bytes"),
-            }
-            assert_eq!(rt;
-                Some(writer.bytes.as_slice()),
-                FIRST_MAP.get(..room),
-                "{room} bytes"
-            );
+            cut_off(&rt, rt.alloc(), &bench, room, fails);
         }
     }
     Ok(())
@@ -202,31 +215,18 @@ fn a_map_goes_out_as_far_as_the_writer_takes_it(rt: HostRuntime) -> Result<(), F
 
 #[test]
 fn a_write_error_has_its_text_and_status(rt: HostRuntime) -> Result<(), Fail> {
-    let mut words = Vec::new(rt.alloc());
-    words.push(String::from_str(rt.alloc(), "vsm")?)?;
-    let mut reader = SCRIPT;
     let mut writer = Narrow::with_room(rt.alloc(), 9, false);
-    let mut errors = Vec::new(rt.alloc());
-    let status = command(&rt, words.as_slice(), &mut reader, &mut writer, &mut errors);
-    assert_eq!(rt; writer.bytes.as_slice(), b"0000001 R".as_slice());
-    assert_eq!(rt; errors.as_slice(), b"vsm: write\n".as_slice());
-    assert_eq!(rt; status, 8);
+    outcome_of(&rt, &[], &mut SCRIPT, &mut writer)?.is_fault(&rt, b"vsm: write\n");
+    same!(rt; writer.bytes.as_slice(), b"0000001 R".as_slice());
     Ok(())
 }
 
 #[test]
 fn help_that_is_cut_off_is_a_write_error(rt: HostRuntime) -> Result<(), Fail> {
-    let mut words = Vec::new(rt.alloc());
-    words.push(String::from_str(rt.alloc(), "vsm")?)?;
-    words.push(String::from_str(rt.alloc(), "--help")?)?;
     for fails in [false, true] {
-        let mut reader = SCRIPT;
         let mut writer = Narrow::with_room(rt.alloc(), 13, fails);
-        let mut errors = Vec::new(rt.alloc());
-        let status = command(&rt, words.as_slice(), &mut reader, &mut writer, &mut errors);
-        assert_eq!(rt; writer.bytes.as_slice(), b"Runs a script".as_slice());
-        assert_eq!(rt; errors.as_slice(), b"vsm: write\n".as_slice());
-        assert_eq!(rt; status, 8);
+        outcome_of(&rt, &["--help"], &mut SCRIPT, &mut writer)?.is_fault(&rt, b"vsm: write\n");
+        same!(rt; writer.bytes.as_slice(), b"Runs a script".as_slice());
     }
     Ok(())
 }
@@ -295,8 +295,8 @@ fn a_read_that_fails_once_ends_the_run(rt: HostRuntime) -> Result<(), Fail> {
         };
         let mut output = Vec::new(rt.alloc());
         let totals = run(rt.alloc(), &mut reader, &mut output, DEFAULT_SETTINGS);
-        assert!(rt; totals == Err(RunFault::Read));
-        assert_eq!(rt; Some(output.as_slice()), OUTPUT.get(..35));
+        holds!(rt; totals == Err(RunFault::Read));
+        is_begun(&rt, output.as_slice(), OUTPUT, 35);
     }
     Ok(())
 }
@@ -304,15 +304,14 @@ fn a_read_that_fails_once_ends_the_run(rt: HostRuntime) -> Result<(), Fail> {
 #[test]
 fn a_write_that_fails_once_ends_the_run(rt: HostRuntime) -> Result<(), Fail> {
     for kind in [io::ErrorKind::Other, io::ErrorKind::Interrupted] {
-        let mut reader = SCRIPT;
         let mut writer = StumblingWriter {
             bytes: Vec::new(rt.alloc()),
             until: 40,
             kind,
         };
-        let totals = run(rt.alloc(), &mut reader, &mut writer, DEFAULT_SETTINGS);
-        assert!(rt; totals == Err(RunFault::Write));
-        assert_eq!(rt; Some(writer.bytes.as_slice()), OUTPUT.get(..40));
+        let totals = run(rt.alloc(), &mut SCRIPT, &mut writer, DEFAULT_SETTINGS);
+        holds!(rt; totals == Err(RunFault::Write));
+        is_begun(&rt, writer.bytes.as_slice(), OUTPUT, 40);
     }
     Ok(())
 }
@@ -336,10 +335,9 @@ impl Read for Endless {
 #[test]
 fn bytes_without_an_end_end_the_run_one_by_one(rt: HostRuntime) -> Result<(), Fail> {
     for byte in [b'\n', b'A'] {
-        let outcome = outcome_of(rt.alloc(), &mut Endless { byte })?;
-        assert!(rt; outcome.output.is_empty());
-        assert_eq!(rt; outcome.errors.as_slice(), b"vsm: too long\n".as_slice());
-        assert_eq!(rt; outcome.status, 8);
+        let mut output = Vec::new(rt.alloc());
+        outcome_of(&rt, &[], &mut Endless { byte }, &mut output)?.is_fault(&rt, b"vsm: too long\n");
+        holds!(rt; output.is_empty());
     }
     Ok(())
 }
