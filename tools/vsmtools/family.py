@@ -17,9 +17,10 @@ from __future__ import annotations
 import heapq
 from dataclasses import dataclass, field
 from itertools import combinations, product
-from typing import Iterable, Optional
+from typing import Callable, Iterable, Optional
 
 from .command import Fault
+from .crews import Crew
 from .judge import MOST_POOLS, MOST_TASKS, refuse
 from .maps import Map
 from .places import Key, Places, Words
@@ -63,9 +64,11 @@ class Block:
 class Family:
     """The tasks of a map, their subpools, and what has to come before what."""
 
-    def __init__(self, shown: Map, source: str, places: Places, own_work: set[Key]) -> None:
-        """own_work: the subpools whose storage is made by BUILD and DELETE alone."""
-        self.map, self.source, self.places, self.own_work = shown, source, places, own_work
+    def __init__(self, shown: Map, source: str, places: Places, own_work: set[Key],
+                 tell: Callable[[], None] = lambda: None) -> None:
+        """own_work: the subpools whose storage is made by BUILD and DELETE alone. tell is called for each try of a
+        search."""
+        self.map, self.source, self.places, self.own_work, self.tell = shown, source, places, own_work, tell
         self.parent = {task.number: task.parent for task in shown.tasks}
         self.line = {task.number: task.line for task in shown.tasks}
         self.first = {task.number: task.registers[1] for task in shown.tasks}
@@ -367,35 +370,13 @@ class Family:
                 for kind, number in order if kind not in ("begin", "end", "mark")]
 
     def crowd(self, order: list[Event]) -> list[Option]:
-        """Gives helpers their numbers; where there's none for one, what can be otherwise: some task comes behind its
-        end, or it isn't there together with another one, or with a task that passes and takes a number.
-
-        Backwards in an order, a number that is free stays so until a helper has it, as the task of the map that
-        has it comes behind: so whichever of them a helper gets, the next one has as many to take. But tasks that pass
-        take theirs for a while: these are given first. That this is enough isn't known where helpers are there at once.
-        """
-        free = set(range(2, MOST_TASKS + 1)) - set(self.parent)
-        place = {event: k for k, event in enumerate(order)}
-        passed = {self.first[task] for task in self.temps}     # these numbers aren't for each helper
-        there: set[int] = set()
-        for k, (kind, number) in reversed(list(enumerate(order))):
-            if kind == "create":
-                free.add(number)
-            elif kind == "help":
-                there.remove(number)
-                free.add(self.numbers[number])
-            elif kind == "done":
-                passing = [event for event in order[place["help", number]:k] if event[0] == "temp"]
-                able = free - {self.first[task] for _, task in passing}
-                if not able:
-                    others = [event for event in order[:k] if event[0] == "create"] + passing
-                    others += [("help", other) for other in there]
-                    return ([[(("done", number), other)] for other in others]
-                            + [[(event, ("help", number))] for event in passing]
-                            + [[(("done", other), ("help", number))] for other in there])
-                self.numbers[number] = min(able, key=lambda it: (it not in passed, it))
-                free.remove(self.numbers[number])
-                there.add(number)
+        """Gives helpers their numbers; where there are none for some, what can be otherwise."""
+        crew = Crew(order, self.parent, {task: self.first[task] for task in self.temps})
+        numbers, there = crew.first_numbers()
+        found = crew.numbers(crew.helpers) if there else numbers
+        if found is None:
+            return crew.otherwise(crew.stuck(there))
+        self.numbers.update(found)
         return []
 
     def judge(self) -> None:
@@ -548,7 +529,7 @@ class Course:
         for event in {event for options in self.choices for option in options for pair in option for event in pair}:
             self.before.setdefault(event, set())
         while not circles(self.before):
-            choices = Choices(self.before, self.choices)
+            choices = Choices(self.before, self.choices, self.family.tell)
             taken = choices.take()
             if taken is None:
                 self.stuck = max(zip(choices.ends, self.options), default=(0, None), key=lambda it: it[0])[1]
@@ -584,7 +565,8 @@ class Choices:
     one, it begins anew behind some dead ends, each time twice as many: a go comes that meets all there are.
     """
 
-    def __init__(self, before: Order, choices: list[list[Option]]) -> None:
+    def __init__(self, before: Order, choices: list[list[Option]], tell: Callable[[], None] = lambda: None) -> None:
+        self.tell = tell
         events = {event: k for k, event in enumerate(dict.fromkeys(
             event for options in choices for option in options for pair in option for event in pair))}
         bits, known = ancestors(before, sort(before))
@@ -622,6 +604,7 @@ class Choices:
         stack: list[tuple[Taken, Iterable[list[tuple[int, int]]]]] = []
         ends = 0
         while True:
+            self.tell()
             if state and self.settle(state):
                 if not state.left:
                     return state, True
