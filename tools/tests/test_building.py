@@ -5,9 +5,10 @@ from itertools import chain, combinations
 from typing import Iterator, Optional
 
 import pytest
-from vsmtools import building
+from vsmtools import building, searching
 from vsmtools.building import Build, Builder, core
 from vsmtools.maps import Area
+from vsmtools.searching import Search
 
 Pool = tuple[int, int]            # from one doubleword up to another
 State = frozenset[Pool]
@@ -17,9 +18,8 @@ KEY = (0, 1)
 class Region:
     """A region of few pages of few doublewords, with few cell pools at once; areas can keep pages from these."""
 
-    def __init__(self, words: int, pages: int, most: int) -> None:
-        self.words, self.pages, self.most = words, pages, most
-        self.longest = 2 * words
+    def __init__(self, words: int, pages: int, most: int, is_walled: bool) -> None:
+        self.words, self.pages, self.most, self.is_walled = words, pages, most, is_walled
 
     def own(self, state: State) -> set[int]:
         return {page for start, end in state for page in range(start // self.words, (end - 1) // self.words + 1)}
@@ -40,8 +40,9 @@ class Region:
         """What one BUILD or DELETE makes."""
         yield from (state - {pool} for pool in state)
         left = sorted(set(range(self.pages)) - self.own(state))
-        for kept in chain.from_iterable(combinations(left, count) for count in range(len(left) + 1)):
-            for length in range(1, self.longest + 1) if len(state) < self.most else ():
+        for kept in chain.from_iterable(combinations(left, count) for count in range(
+                (len(left) if self.is_walled else 0) + 1)):
+            for length in range(1, self.words * self.pages + 1) if len(state) < self.most else ():
                 start = self.place(state, length, set(kept))
                 if start is not None:
                     yield state | {(start, start + length)}
@@ -60,24 +61,22 @@ class Region:
         """All sets of pools; one that takes a new page begins with it."""
         yield ()
         for begin in range(start, self.words * self.pages) if most else ():
-            for end in range(begin + 1, min(begin + self.longest, self.words * self.pages) + 1):
+            for end in range(begin + 1, min(begin + 2 * self.words, self.words * self.pages) + 1):
                 if begin % self.words == 0 or -(-begin // self.words) * self.words + self.words > end:
                     yield from (((begin, end), *rest) for rest in self.maps(end, most - 1))
 
 
-@pytest.mark.parametrize("words, pages, most, missed", [(4, 3, 2, 0), (4, 2, 3, 0), (4, 2, 4, 0), (5, 2, 3, 0),
-                                                        (3, 4, 3, 61)])
+@pytest.mark.parametrize("words, pages, most", [(4, 3, 2), (4, 2, 3), (3, 3, 4), (3, 4, 3), (2, 5, 3), (4, 3, 3)])
+@pytest.mark.parametrize("is_walled", [True, False])
 def test_all_maps_of_a_small_region(monkeypatch: pytest.MonkeyPatch, words: int, pages: int, most: int,
-                                    missed: int) -> None:
-    """What is refused isn't made, what is planned is, and few others are missed."""
-    monkeypatch.setattr(building, "PAGE", 8 * words)
-    monkeypatch.setattr(building, "MOST_POOLS", most)
-    region, count = Region(words, pages, most), 0
-    made = region.made()
+                                    is_walled: bool) -> None:
+    """What is refused isn't made, and just what is made is planned."""
+    for module in (building, searching):
+        monkeypatch.setattr(module, "PAGE", 8 * words)
+    region = Region(words, pages, most, is_walled)
+    made, runs = region.made(), [Area(0, 8 * words * pages)]
     for pools in region.maps(0, most):
         builds = [Build(Area(8 * start, 8 * (end - start)), KEY, 24) for start, end in pools]
-        is_planned = Builder([], builds, most, True).plan() is not None
-        assert State(pools) not in made if core(builds) else True, pools
-        assert State(pools) in made if is_planned else True, pools
-        count += State(pools) in made and not is_planned
-    assert count == missed
+        is_made = State(pools) in made
+        assert not (is_made and core(builds, most)), pools
+        assert (Search(Builder(runs, builds, most, is_walled), True).plan() is not None) == is_made, pools

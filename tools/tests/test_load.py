@@ -4,13 +4,17 @@ from __future__ import annotations
 import importlib.machinery
 import importlib.util
 import itertools
+import os
+import pty
 import random
 import re
+import subprocess
+import sys
 from pathlib import Path
 from typing import Callable
 
 import pytest
-from conftest import TOP, one_line
+from conftest import SECONDS, TOOLS, TOP, one_line
 from load_scripts import WIDE, WIDER, Requests, address_script, attached, family_script, pools_script, told
 from test_tools import scripts
 
@@ -283,6 +287,38 @@ def test_the_map_alone_and_by_a_file(run: Callable, vsm: str, tmp_path: Path) ->
 def test_maps_of_generated_scripts_come_back(vsm: str, kind: str, first: int, last: int) -> None:
     for seed in range(first, last):
         assert told(vsm, kind, seed) is None, seed
+
+
+def shown_on(vsm: str, given: bytes, stream: int) -> subprocess.CompletedProcess:
+    """The tool with another standard error, where it says at once what it tries."""
+    code = ("import runpy, sys; sys.path.insert(0, %r); from vsmtools import progress; progress.AFTER = 0; "
+            "progress.EVERY = 0; sys.argv = ['vsm-load', '--vsm', %r]; runpy.run_path(%r, run_name='__main__')"
+            % (str(TOOLS), vsm, str(TOOLS / TOOL)))
+    return subprocess.run([sys.executable, "-c", code], input=given, stdout=subprocess.PIPE, stderr=stream,
+                          timeout=SECONDS)
+
+
+@pytest.mark.parametrize("old, new, told", [("", "", b""), (
+    "R0 00000000 00006000", "R0 00000000 00000000", b"vsm-load: standard input:7: no list of statements makes this")])
+def test_a_line_on_a_terminal_while_it_searches(vsm: str, old: str, new: str, told: bytes) -> None:
+    """It's rewritten, and blank at the end, before what is wrong is told."""
+    given = bench.run(vsm, [], b" STORAGE OBTAIN,LENGTH=8,SP=5\n MAP\n").output.decode()
+    assert old in given
+    lead, end = pty.openpty()
+    done = shown_on(vsm, given.replace(old, new).encode(), end)
+    os.close(end)
+    lines = os.read(lead, 1 << 20).split(b"\r")
+    os.close(lead)
+    counts = [int(line.split()[2]) for line in lines if b"tried .." in line]
+    assert done.returncode == (8 if told else 0) and counts and counts == sorted(set(counts))
+    blank = max(k for k, line in enumerate(lines) if b"tried .." in line) + 1
+    assert lines[blank].strip() == b"" and len(lines[blank]) == len(lines[blank - 1])
+    assert b"".join(lines[blank:]).strip().startswith(told) and bool(b"".join(lines[blank:]).strip()) == bool(told)
+
+
+def test_no_line_on_a_pipe_while_it_searches(vsm: str) -> None:
+    done = shown_on(vsm, CELLS.encode(), subprocess.PIPE)
+    assert done.returncode == 0 and done.stderr == b"" and done.stdout
 
 
 # What is no map.

@@ -21,7 +21,7 @@ from dataclasses import dataclass
 from functools import lru_cache
 from typing import Iterable, NamedTuple, Optional
 
-from .judge import MOST_CELLS, MOST_POOLS
+from .judge import MOST_CELLS
 from .maps import HIGH_START, PAGE, Area, CellPool
 from .places import Key, location
 
@@ -133,48 +133,20 @@ class Ground:
 class Builder:
     """Looks for the order of the cell pools of some subpools."""
 
-    def __init__(self, runs: list[Area], wanted: list[Build], most: int, is_walled: bool = False) -> None:
+    def __init__(self, runs: list[Area], wanted: list[Build], most: int, is_walled: bool = False,
+                 is_closed: bool = True) -> None:
         """most: how many pools there may be at once, with the fillers. is_walled: whether areas of other tasks
-        take all pages but those of a pool while it's built."""
+        take all pages but those of a pool while it's built. is_closed: whether they take a page again that a filler
+        leaves."""
         # What goes below the line only where there is no place above comes while that is easy to fill: first.
         self.wanted = sorted(wanted, key=lambda it: (location(it.area.start) != 31, -it.area.start))
         self.ground, self.most, self.is_walled = Ground(runs, wanted), most, is_walled
+        self.runs, self.is_closed = self.ground.runs, is_closed or not is_walled
         self.steps: list[Step] = []      # for one pool
         self.there: list[Build] = []     # its fillers that are there
         self.room = 0                    # for so many, and one more before it comes
         self.tries = 0                   # so many may be built for it
         self.holding: list[Build] = []   # those that hold its last page
-
-    def plan(self) -> Optional[list[Step]]:
-        """What is built and deleted in turn; None where no order is found."""
-        turns: list[Turn] = []
-        left, at = self.wanted, 0
-        while left:
-            turn, at = self.last_of(left, at)
-            stays: list[Build] = []
-            if turn is None:
-                turn, at, stays = self.last_behind(left)
-            if turn is None:
-                return None
-            turns.append(turn)
-            left = left[:at] + stays + left[at + 1:]
-        return [step for turn in reversed(turns) for step in turn.steps]
-
-    def last_behind(self, left: list[Build]) -> tuple[Optional[Turn], int, list[Build]]:
-        """A pool that can come last if what is right before it was there before others; that is on the ground then,
-        in its place. As it begins lower, this ends. That it's never wrong isn't known, so it's done where nothing else
-        can come last."""
-        room = self.most - len(left) - 1
-        for at, it in enumerate(left):
-            self.ground.remove(it)
-            for filler in self.front(it):
-                self.ground.add(filler)
-                steps = self.steps_to(it, room) if self.places(it, room)[0] <= room else None
-                if steps is not None:
-                    return Turn(it, steps + [Step(False, filler)]), at, [filler]
-                self.ground.remove(filler)
-            self.ground.add(it)
-        return None, 0, []
 
     def last_of(self, left: list[Build], first: int) -> tuple[Optional[Turn], int]:
         """A pool that can come last, from the first place on; it's taken from the ground."""
@@ -261,9 +233,23 @@ class Builder:
     def steps_to(self, it: Build, room: int) -> Optional[list[Step]]:
         """The steps so that a BUILD goes to its place; None where they take too many fillers. These are deleted
         behind it."""
-        if self.is_walled:
-            first = page_start(it.area.start)
-            self.ground.runs = [Area(first, page_end(it.area.end) - first)]
+        for runs in self.open_runs(it):
+            self.ground.runs = runs
+            found = self.steps_behind(it, room)
+            self.ground.runs = self.runs
+            if found is not None:
+                return found
+        return None
+
+    def open_runs(self, it: Build) -> list[list[Area]]:
+        """The pages that no area keeps while a pool comes: its own, or those before them too."""
+        if not self.is_walled:
+            return [self.runs]
+        start, end = it.area.start, page_end(it.area.end)
+        begins = [page_start(start)] + ([self.lowest(page_start(start))] if start % PAGE and self.is_closed else [])
+        return [[Area(begin, end - begin)] for begin in dict.fromkeys(begins)]
+
+    def steps_behind(self, it: Build, room: int) -> Optional[list[Step]]:
         for holders in self.holders(it):
             self.steps, self.there, self.room, self.tries = [], [], room, 3 * room + 9
             self.holding = holders
@@ -353,15 +339,15 @@ class Builder:
         return place
 
 
-def core(wanted: list[Build]) -> list[Build]:
+def core(wanted: list[Build], most: int) -> list[Build]:
     """Pools that no list of BUILDs and DELETEs makes, even if no other page is unassigned; none where it isn't
-    certain."""
-    builder = Builder([], wanted, MOST_POOLS)
+    certain. most: how many there may be at once."""
+    builder = Builder([], wanted, most)
     left, is_changed = builder.wanted, True
     while is_changed:
         is_changed = False
         for it in left:
-            room = MOST_POOLS - len(left)
+            room = most - len(left)
             builder.ground.remove(it)
             if builder.least(it, room) <= room:
                 left, is_changed = [other for other in left if other is not it], True

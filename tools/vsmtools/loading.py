@@ -10,7 +10,7 @@ from __future__ import annotations
 
 import heapq
 from itertools import product
-from typing import Iterable, Optional
+from typing import Callable, Iterable, NamedTuple, Optional
 
 from .building import Build, Builder, Step, core, page_end, shape
 from .command import Fault
@@ -19,6 +19,7 @@ from .judge import MOST_POOLS, Judge, Refused, refuse
 from .lines import fold
 from .maps import HIGH_START, LOW_START, PAGE, Area, CellPool, Map, Subpool
 from .places import Home, Key, Places, Words, location, unassigned
+from .searching import Search
 from .walls import Walls
 
 NO_LENGTH = 0xFFFFFFF8   # that has a place nowhere
@@ -41,6 +42,18 @@ def without(area: Area, holes: Iterable[int]) -> list[Area]:
             found.append(Area(start, hole - start))
         start = hole + 8
     return found + ([Area(start, area.end - start)] if start < area.end else [])
+
+
+class NoOrder(Fault):
+    """No order of BUILDs was found for some cell pools."""
+
+
+class Way(NamedTuple):
+    """How a map is tried: with words behind the storage, BUILD alone last, walls, a search for all orders."""
+    is_late: bool
+    is_last: bool
+    is_walled: bool
+    is_whole: bool = False
 
 
 class Script:
@@ -75,13 +88,14 @@ class Script:
 class Loader:
     """Writes the script of one map."""
 
-    def __init__(self, shown: Map, source: str) -> None:
-        self.map, self.source, self.script = shown, source, Script()
+    def __init__(self, shown: Map, source: str, tell: Callable[[], None] = lambda: None) -> None:
+        """tell is called whenever something more is tried."""
+        self.map, self.source, self.tell, self.script = shown, source, tell, Script()
         Judge(shown, source).judge()
         self.places = Places(shown)
         self.first = {task.number: task.registers[1] for task in shown.tasks}
         own_work = {(it.number, it.owner) for it in shown.subpools if it.extents and self.is_own_work(it)}
-        self.family = Family(shown, source, self.places, own_work)
+        self.family = Family(shown, source, self.places, own_work, tell)
         self.created: set[int] = set()
         self.numbers: dict[int, int] = {}        # of helpers that are there
         self.fillers: dict[int, int] = {}        # tasks that only fill a number, with their parents
@@ -90,24 +104,38 @@ class Loader:
         self.built = 0                           # cell pools that are there
         self.done: set[Event] = set()
         self.walls = Walls(self, {})
+        self.is_whole = False                    # whether all orders of BUILDs are looked through
 
     def load(self) -> list[str]:
         """The script. Where it can't be made with all addresses had before the storage and with as much built by
-        BUILD alone as can be, other ways are tried; what's told is why the first one fails."""
-        faults: list[Fault] = []
+        BUILD alone as can be, other ways are tried; those for which no order of BUILDs was found at once are then
+        searched whole. What's told is why the first one fails."""
         has_homes, can_obtain = any(it.homes for it in self.family.words), any(self.first.values())
-        for is_late, is_last, is_walled in product(*((False, True)[:1 + can] for can in (
-                has_homes, can_obtain, can_obtain))):
-            loader = Loader(self.map, self.source)
-            loader.family.is_late, loader.family.is_build_last = is_late, is_last
+        ways = [Way(*way) for way in product(*((False, True)[:1 + can] for can in (
+            has_homes, can_obtain, can_obtain)))]
+        script, faults = self.first_script(ways)
+        if script is None:
+            self.judge_pools()
+            script, _ = self.first_script([way._replace(is_whole=True) for way, fault in zip(ways, faults)
+                                           if isinstance(fault, NoOrder)][::-1])
+        if script is None:
+            raise faults[0]
+        return script
+
+    def first_script(self, ways: list[Way]) -> tuple[Optional[list[str]], list[Fault]]:
+        """The script of the first of some ways by which the map can be made; and why others before it fail."""
+        faults: list[Fault] = []
+        for way in ways:
+            loader = Loader(self.map, self.source, self.tell)
+            loader.family.is_late, loader.family.is_build_last = way.is_late, way.is_last
+            loader.is_whole = way.is_whole
             try:
-                return loader.write(is_walled)
+                return loader.write(way.is_walled), faults
             except Refused:
                 raise
             except Fault as fault:
                 faults.append(fault)
-        self.judge_pools()
-        raise faults[0]
+        return None, faults
 
     def write(self, is_walled: bool) -> list[str]:
         events = self.family.plan()
@@ -153,7 +181,7 @@ class Loader:
             it.number == 0 or it.owner == 1 or any(self.family.parent[it.owner] in other.sharers
                                                    for other in self.map.subpools if other.number == it.number))]
         found = core([Build(pool.extents[0], (it.number, it.owner), pool.location, pool)
-                      for it in forced for pool in self.pools_of(it)])
+                      for it in forced for pool in self.pools_of(it)], MOST_POOLS)
         if found:
             least = min(found, key=lambda it: it.area.start)
             line = next(pool.line for pool in self.map.cell_pools if pool is least.pool)
@@ -178,8 +206,12 @@ class Loader:
 
     def unassigned(self, side: int) -> list[Area]:
         """The runs of pages of a side of the line that no subpool has so far."""
+        return self.unmade(side, self.walls.areas())
+
+    def unmade(self, side: int, others: Iterable[Area] = ()) -> list[Area]:
+        """The runs of pages of a side of the line that no subpool of the map has so far, nor other areas."""
         return unassigned(self.map, [area for it in self.map.subpools if (it.number, it.owner) in self.made
-                                     for area in it.extents] + self.walls.areas(), side)
+                                     for area in it.extents] + list(others), side)
 
     # The words of tasks.
 
@@ -422,37 +454,45 @@ class Loader:
         its = [self.family.subpools[key] for key in keys]
         wanted = [Build(pool.extents[0], key, pool.location, pool) for key, it in zip(keys, its)
                   for pool in self.pools_of(it)]
-        is_walled = self.close_walls()
-        builder = Builder(self.unassigned(24) + self.unassigned(31), wanted, MOST_POOLS - self.built, is_walled)
-        steps = builder.plan()
+        keeper, is_walled = self.close_walls()
+        runs = [run for side in (24, 31) for run in (self.unmade if is_walled else self.unassigned)(side)]
+        builder = Builder(runs, wanted, MOST_POOLS - self.built, is_walled, bool(keeper))
+        steps = Search(builder, self.is_whole, self.tell).plan()
         if steps is None:
-            raise Fault("this can't be made: no order of BUILDs is found that takes at most %d cell pools at once"
-                        % MOST_POOLS, self.source, its[0].line)
-        self.build_steps(steps)
+            raise NoOrder("this can't be made: no order of BUILDs is found that takes at most %d cell pools at once"
+                          % MOST_POOLS, self.source, its[0].line)
+        self.build_steps(steps, keeper)
         self.built += len(wanted)
         self.made.update(keys)
 
-    def close_walls(self) -> bool:
-        """Whether areas of tasks are in all pages that are unassigned, as far as cell pools go."""
+    def close_walls(self) -> tuple[int, bool]:
+        """A task that can take pages, or 0; and whether areas of tasks are in all pages that are unassigned, as far
+        as cell pools go."""
         able = next((task for task in self.alive_of_map() if self.first[task] and self.family.last(task)
-                     not in self.done), None)
+                     not in self.done), 0)
         if able:
             self.walls.close(able)
-        return bool(self.walls.held) and not any(run.start < end for side, end in self.walls.ends.items()
-                                                 for run in self.unassigned(side))
+        return able, bool(self.walls.held) and not any(run.start < end for side, end in self.walls.ends.items()
+                                                       for run in self.unassigned(side))
 
     def alive_of_map(self) -> list[int]:
         return [1] + sorted(self.created)
 
-    def build_steps(self, steps: list[Step]) -> None:
-        """Builds cell pools behind their fillers, which go again."""
+    def build_steps(self, steps: list[Step], keeper: int) -> None:
+        """Builds cell pools behind their fillers, which go again; so do the pages that these leave, by a task that
+        keeps them."""
         names: dict[Build, str] = {}
+        there: list[Area] = []
         for is_built, it in steps:
             if is_built:
                 self.walls.open([it.area])
+                there.append(it.area)
             self.script.by(self.worker(it.key))
             if not is_built:
                 self.delete(names.pop(it))
+                there.remove(it.area)
+                if keeper and self.walls.held:
+                    self.walls.close(keeper, there)
             elif it.pool is None:
                 names[it] = self.build_filler(it)
             else:

@@ -120,6 +120,6 @@ def unassigned(shown: Map, assigned: Iterable[Area], side: int) -> list[Area]:
         if location(area.start) == side:
             if area.start > at:
                 found.append(Area(at, area.start - at))
-            at = area.end
+            at = max(at, area.end)
     end = start + pages * PAGE
     return found + ([Area(at, end - at)] if at < end else [])

@@ -15,6 +15,12 @@ if TYPE_CHECKING:
     from .loading import Loader
 
 
+def pages_of(area: Area) -> Area:
+    """The pages that an area is in."""
+    start = area.start - area.start % PAGE
+    return Area(start, -(-area.end // PAGE) * PAGE - start)
+
+
 class Walls:
     """The pages that are kept, and the tasks whose areas they are."""
 
@@ -26,10 +32,12 @@ class Walls:
     def areas(self) -> list[Area]:
         return [area for area, _ in self.held]
 
-    def close(self, task: int) -> None:
-        """Takes all pages that are unassigned, by a task whose register 1 is set once more."""
+    def close(self, task: int, there: Iterable[Area] = ()) -> None:
+        """Takes all pages that are unassigned, by a task whose register 1 is set once more. there: cell pools of
+        subpools that are being made."""
+        own = self.areas() + [pages_of(area) for area in there]
         for side, end in self.ends.items():
-            runs = [Area(run.start, min(run.end, end) - run.start) for run in self.loader.unassigned(side)
+            runs = [Area(run.start, min(run.end, end) - run.start) for run in self.loader.unmade(side, own)
                     if run.start < end]
             if runs:
                 self.script.by(task)
@@ -46,9 +54,10 @@ class Walls:
     def open(self, wanted: Iterable[Area]) -> None:
         """Releases the pages that have storage of some areas."""
         for area in wanted:
-            start, end = area.start - area.start % PAGE, -(-area.end // PAGE) * PAGE
+            pages = pages_of(area)
             for run, task in list(self.held):
-                part = Area(max(start, run.start), min(end, run.end) - max(start, run.start))
+                start = max(pages.start, run.start)
+                part = Area(start, min(pages.end, run.end) - start)
                 if part.length > 0:
                     self.script.by(task)
                     self.script.release(part, 0)

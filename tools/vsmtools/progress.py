@@ -1,0 +1,39 @@
+"""A line on a terminal that tells that a search goes on."""
+from __future__ import annotations
+
+import sys
+import time
+
+AFTER = 2.0      # seconds before the line is shown
+EVERY = 0.2      # seconds before it's shown anew
+
+
+class Progress:
+    """Counts what was tried. On standard error, if that's a terminal, a line says so where it takes long; it's
+    rewritten, and erased at the end."""
+
+    def __init__(self, name: str) -> None:
+        self.name, self.count, self.width = name, 0, 0
+        self.is_shown = sys.stderr is not None and sys.stderr.isatty()
+        self.next = time.monotonic() + AFTER
+
+    def tried(self) -> None:
+        """Counts one more."""
+        self.count += 1
+        if self.is_shown and time.monotonic() >= self.next:
+            self.next = time.monotonic() + EVERY
+            self.put("%s: searching, %d tried .." % (self.name, self.count))
+
+    def put(self, text: str) -> None:
+        """Shows a line in place of the last one; nothing more where the terminal is gone."""
+        try:
+            sys.stderr.write("\r" + text.ljust(self.width) + ("" if text else "\r"))
+            sys.stderr.flush()
+            self.width = len(text)
+        except (OSError, ValueError):
+            self.is_shown = False
+
+    def end(self) -> None:
+        """Erases the line."""
+        if self.is_shown and self.width:
+            self.put("")

@@ -1,0 +1,156 @@
+"""The order of cell pools that BUILD and DELETE alone make, looked for from the map backwards.
+
+A state is what is there at one time: at first the map's pools, at last none. What can come last goes, as that is
+never wrong (`building`). Where nothing can, some pool is the last one of these in any list that makes them, and what
+it needs was there before others: what is right before it, what holds its last page, a filler that begins in a gap
+and takes pages behind it. That takes the pool's place in the state, and the search goes on from there; it comes back
+where that leads nowhere. A state of which `core` shows that nothing makes it is left at once, one that was met
+before too.
+
+Of all that could be there before a pool, those are tried that begin or end where gaps, pages and pools do, or are just
+as long as a gap or a doubleword longer: which gaps a filler fits depends on that alone.
+"""
+from __future__ import annotations
+
+from itertools import product
+from typing import Callable, Iterable, Iterator, Optional
+
+from .building import Build, Builder, Ground, Step, Turn, core, page_end, page_start
+from .maps import PAGE, Area
+from .places import Key, location
+
+FIRST_GO = 40      # so many states are tried at first, with few fillers for each pool
+Move = tuple[list[Turn], list[Build]]     # what comes last, and what is left
+
+
+def span(it: Build, start: int, end: int) -> Build:
+    """A filler in the subpool of a pool."""
+    return Build(Area(start, end - start), it.key, location(start))
+
+
+class Search:
+    """Looks for the order of a builder's pools."""
+
+    def __init__(self, builder: Builder, is_whole: bool, tell: Callable[[], None] = lambda: None) -> None:
+        """is_whole: whether all fillers are tried that are known to help, and as many states as there are. tell is
+        called for each try."""
+        self.builder, self.is_whole, self.tell = builder, is_whole, tell
+        self.seen: set[frozenset[tuple[int, int, Key, int]]] = set()
+
+    def plan(self) -> Optional[list[Step]]:
+        """What is built and deleted in turn; None where no order is found."""
+        path: list[list[Turn]] = []
+        stack: list[Iterator[Move]] = [iter([([], self.builder.wanted)])]
+        while stack and (self.is_whole or len(self.seen) < FIRST_GO):
+            move = next(stack[-1], None)
+            if move is None:
+                stack.pop()
+                del path[-1:]
+                continue
+            turns, left = self.settled(*move)
+            if not left:
+                return [step for turn in reversed(sum(path, []) + turns) for step in turn.steps]
+            if self.is_new(left):
+                path.append(turns)
+                stack.append(self.moves(left))
+        return None
+
+    def settled(self, turns: list[Turn], left: list[Build]) -> Move:
+        """A state without all that can come last, one after another."""
+        self.builder.ground = Ground(self.builder.runs, left)
+        at = 0
+        while left:
+            self.tell()
+            turn, at = self.builder.last_of(left, at)
+            if turn is None:
+                break
+            turns, left = turns + [turn], left[:at] + left[at + 1:]
+        return turns, left
+
+    def is_new(self, left: list[Build]) -> bool:
+        """Whether a state wasn't met before, and may be made."""
+        state = frozenset((it.area.start, it.area.end, it.key, it.side) for it in left)
+        if state in self.seen:
+            return False
+        self.seen.add(state)
+        return not core(left, self.builder.most)
+
+    def moves(self, left: list[Build]) -> Iterator[Move]:
+        """Each pool that can come last if something was there before others, which is in its place then."""
+        for at, it in enumerate(left):
+            others = left[:at] + left[at + 1:]
+            self.builder.ground = Ground(self.builder.runs, others)
+            for before in list(self.before(it)):
+                steps = self.steps_behind(it, others, before)
+                if steps is not None:
+                    turn = Turn(it, steps + [Step(False, filler) for filler in before])
+                    yield [turn], left[:at] + before + left[at + 1:]
+        if self.is_whole and not self.builder.is_walled and len(left) < self.builder.most:
+            for filler in self.wide(left):
+                yield [Turn(filler, [Step(False, filler)])], left + [filler]
+
+    def wide(self, left: list[Build]) -> list[Build]:
+        """Fillers that are in a gap and in unassigned pages too, so that one is enough where two would be needed."""
+        ground, found = Ground(self.builder.runs, left), {}
+        runs = ground.unassigned()
+        for key in ground.taken:
+            it = next(it for it in left if it.key == key)
+            lengths = self.lengths_of(ground, key)
+            for gap, run in product(ground.gaps(key), runs):
+                if gap.end == run.start and gap.start % PAGE:
+                    ends = {run.start + PAGE - length for length in lengths | {0}}
+                    found.update({span(it, gap.start, end): None for end in ends if run.start < end})
+                elif run.end == gap.start:
+                    found[span(it, run.start, gap.end)] = None
+        return list(found)
+
+    def steps_behind(self, it: Build, others: list[Build], before: list[Build]) -> Optional[list[Step]]:
+        """The steps so that a pool comes behind others and some fillers, which stay."""
+        self.tell()
+        builder, room = self.builder, self.builder.most - len(others) - 1 - len(before)
+        if room < 0:
+            return None
+        builder.ground = Ground(builder.runs, others + before)
+        return builder.steps_to(it, room) if builder.places(it, room)[0] <= room else None
+
+    def before(self, it: Build) -> Iterable[list[Build]]:
+        """What may be there before a pool, which isn't on the ground: up to two fillers."""
+        for fronts, holders in product(self.fronts(it), self.holders(it)):
+            if fronts or holders:
+                yield fronts + holders
+
+    def lengths(self, it: Build) -> set[int]:
+        """How long a filler may be, for other gaps' sake."""
+        return self.lengths_of(self.builder.ground, it.key)
+
+    def lengths_of(self, ground: Ground, key: Key) -> set[int]:
+        gaps = {gap.length for gap in ground.gaps(key)} if self.is_whole else set()
+        return gaps | {length + 8 for length in gaps | {0}}
+
+    def fronts(self, it: Build) -> list[list[Build]]:
+        """What may be right before a pool."""
+        start, builder = it.area.start, self.builder
+        least = max((end for _, end in builder.ground.taken.get(it.key, ()) if end <= start), default=0)
+        gap = builder.own_gap(it)
+        begins = {page_start(start), builder.lowest(page_start(start))} | ({gap.start} if gap else set())
+        if self.is_whole:
+            begins |= {least} | {start - length for length in self.lengths(it)}
+        least = max(least, 0 if builder.is_closed else page_start(start))
+        return [[]] + [[span(it, begin, start)] for begin in sorted(begins) if least <= begin < start]
+
+    def holders(self, it: Build) -> list[list[Build]]:
+        """What may hold a pool's last page, behind it."""
+        end, last = it.area.end, page_end(it.area.end)
+        if self.builder.ground.is_own(it.key, end - 1) or end == last:
+            return [[]]
+        begins = {end} | {them[0].area.start for them in self.builder.holders(it) if them}
+        ends = {last} | ({min(self.next_taken(it, last), last + PAGE)} if self.builder.is_closed else set())
+        found = {(begin, to) for begin in begins for to in ends | {begin + length for length in self.lengths(it)}}
+        return [[]] + [[span(it, *ends)] for ends in sorted(found) if end <= ends[0] < min(last, ends[1])]
+
+    def next_taken(self, it: Build, address: int) -> int:
+        """Where what is behind an address begins, or the page of another subpool."""
+        ground = self.builder.ground
+        return min([start for start, _ in ground.taken.get(it.key, ()) if start >= address]
+                   + [start for key, areas in ground.taken.items() if key != it.key
+                      for at, _ in areas if (start := page_start(at)) >= address], default=address + PAGE)
