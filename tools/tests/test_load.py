@@ -18,7 +18,7 @@ from conftest import SECONDS, TOOLS, TOP, one_line
 from load_scripts import WIDE, WIDER, Requests, address_script, attached, family_script, pools_script, told
 from test_tools import scripts
 
-from vsmtools import bench, family, loading, maps
+from vsmtools import bench, building, family, loading, maps
 from vsmtools.command import Fault
 
 TOOL = "vsm-load"
@@ -287,6 +287,45 @@ def test_the_map_alone_and_by_a_file(run: Callable, vsm: str, tmp_path: Path) ->
 def test_maps_of_generated_scripts_come_back(vsm: str, kind: str, first: int, last: int) -> None:
     for seed in range(first, last):
         assert told(vsm, kind, seed) is None, seed
+
+
+def map_of_pools(vsm: str, pools: tuple[tuple[int, int], ...], task: int) -> list[str]:
+    """A map of cell pools from one KiB up to another, of a task whose register 1 is 0; task 1 has an area behind if
+    it's another one."""
+    script = " RUN 1\n" if task == 1 else " ATTACH SZERO=NO\n RUN 2\n"
+    script += " STORAGE OBTAIN,LENGTH=12288,ADDR=P\n"
+    holes = sorted(set(range(12)) - {k for start, end in pools for k in range(start, end)})
+    for k, (start, end) in enumerate(pools):
+        count, size = building.shape(1024 * (end - start)) or (0, 0)
+        script += " STORAGE RELEASE,LENGTH=%d,ADDR=%d\n CPOOL BUILD,PCELLCT=%d,CSIZE=%d,CPID=C%d\n" % (
+            1024 * (end - start), maps.LOW_START + 1024 * start, count, size, k)
+    script += " RUN 1\n STORAGE OBTAIN,LENGTH=4096\n RUN 2\n" if task == 2 else ""
+    script += "".join(" STORAGE RELEASE,LENGTH=1024,ADDR=%d\n" % (maps.LOW_START + 1024 * k) for k in holes)
+    lines = [line for line in mapped(vsm, [], script).rest if not line.startswith(" NAME")]
+    at = next(k for k, line in enumerate(lines) if line.startswith(" TASK %d " % task)) + 1
+    lines[at] = "  R0" + " 00000000" * 8
+    return lines
+
+
+@pytest.mark.parametrize("pools", [((0, 1), (2, 3), (7, 9)), ((0, 2), (2, 7), (9, 12)), ((0, 1), (7, 9)),
+                                   ((5, 7), (7, 9))])
+@pytest.mark.parametrize("task", [1, 2])
+def test_cell_pools_behind_others_that_go(vsm: str, monkeypatch: pytest.MonkeyPatch, pools: tuple[tuple[int, int], ...],
+                                          task: int) -> None:
+    """Three can be there at once, so that none can come last but behind what was there before others."""
+    monkeypatch.setattr(loading, "MOST_POOLS", 3)
+    lines = map_of_pools(vsm, pools, task)
+    loader = loading.Loader(maps.parse_map(lines), "map")
+    for is_walled in (False, True)[:task]:
+        script, faults = loader.first_script([loading.Way(False, False, is_walled, True)])
+        assert script is not None, faults
+        text = "".join(line + "\n" for line in script)
+        assert map_behind(vsm, [], text) == lines[:-1]
+        count = 0
+        for line in script:
+            count += line.startswith(" CPOOL BUILD")
+            count -= line.startswith(" CPOOL DELETE")
+            assert count <= 3
 
 
 def shown_on(vsm: str, given: bytes, stream: int) -> subprocess.CompletedProcess:

@@ -247,7 +247,8 @@ class Builder:
             return [self.runs]
         start, end = it.area.start, page_end(it.area.end)
         begins = [page_start(start)] + ([self.lowest(page_start(start))] if start % PAGE and self.is_closed else [])
-        return [[Area(begin, end - begin)] for begin in dict.fromkeys(begins)]
+        return [[Area(begin, end - begin)] for begin in dict.fromkeys(begins)
+                if any(run.start <= begin and end <= run.end for run in self.runs)]
 
     def steps_behind(self, it: Build, room: int) -> Optional[list[Step]]:
         for holders in self.holders(it):

@@ -8,7 +8,8 @@ where that leads nowhere. A state of which `core` shows that nothing makes it is
 before too.
 
 Of all that could be there before a pool, those are tried that begin or end where gaps, pages and pools do, or are just
-as long as a gap or a doubleword longer: which gaps a filler fits depends on that alone.
+as long as a gap or a doubleword longer: which gaps a filler fits depends on that alone. That these are enough isn't
+shown but tried: in small regions nothing is missed that any list of BUILDs and DELETEs makes.
 """
 from __future__ import annotations
 
@@ -19,7 +20,7 @@ from .building import Build, Builder, Ground, Step, Turn, core, page_end, page_s
 from .maps import PAGE, Area
 from .places import Key, location
 
-FIRST_GO = 40      # so many states are tried at first, with few fillers for each pool
+FIRST_GO = 20      # so many dead ends are met at first, with few fillers for each pool
 Move = tuple[list[Turn], list[Build]]     # what comes last, and what is left
 
 
@@ -41,11 +42,13 @@ class Search:
         """What is built and deleted in turn; None where no order is found."""
         path: list[list[Turn]] = []
         stack: list[Iterator[Move]] = [iter([([], self.builder.wanted)])]
-        while stack and (self.is_whole or len(self.seen) < FIRST_GO):
+        ends = 0
+        while stack and (self.is_whole or ends < FIRST_GO):
             move = next(stack[-1], None)
             if move is None:
                 stack.pop()
                 del path[-1:]
+                ends += 1
                 continue
             turns, left = self.settled(*move)
             if not left:
@@ -53,6 +56,8 @@ class Search:
             if self.is_new(left):
                 path.append(turns)
                 stack.append(self.moves(left))
+            else:
+                ends += 1
         return None
 
     def settled(self, turns: list[Turn], left: list[Build]) -> Move:
@@ -80,7 +85,7 @@ class Search:
         for at, it in enumerate(left):
             others = left[:at] + left[at + 1:]
             self.builder.ground = Ground(self.builder.runs, others)
-            for before in list(self.before(it)):
+            for before in list(self.before(it, self.builder.most - len(left))):
                 steps = self.steps_behind(it, others, before)
                 if steps is not None:
                     turn = Turn(it, steps + [Step(False, filler) for filler in before])
@@ -108,15 +113,13 @@ class Search:
         """The steps so that a pool comes behind others and some fillers, which stay."""
         self.tell()
         builder, room = self.builder, self.builder.most - len(others) - 1 - len(before)
-        if room < 0:
-            return None
         builder.ground = Ground(builder.runs, others + before)
         return builder.steps_to(it, room) if builder.places(it, room)[0] <= room else None
 
-    def before(self, it: Build) -> Iterable[list[Build]]:
-        """What may be there before a pool, which isn't on the ground: up to two fillers."""
-        for fronts, holders in product(self.fronts(it), self.holders(it)):
-            if fronts or holders:
+    def before(self, it: Build, most: int) -> Iterable[list[Build]]:
+        """What may be there before a pool, which isn't on the ground: up to two fillers, or fewer."""
+        for fronts, holders in product(self.fronts(it), self.holders(it)) if most else ():
+            if 0 < len(fronts) + len(holders) <= most:
                 yield fronts + holders
 
     def lengths(self, it: Build) -> set[int]:
@@ -133,6 +136,7 @@ class Search:
         least = max((end for _, end in builder.ground.taken.get(it.key, ()) if end <= start), default=0)
         gap = builder.own_gap(it)
         begins = {page_start(start), builder.lowest(page_start(start))} | ({gap.start} if gap else set())
+        least = max(least, min(begins))
         if self.is_whole:
             begins |= {least} | {start - length for length in self.lengths(it)}
         least = max(least, 0 if builder.is_closed else page_start(start))
