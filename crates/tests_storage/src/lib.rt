@@ -4,6 +4,8 @@
 #[cfg(test)]
 mod carrying;
 #[cfg(test)]
+mod checks;
+#[cfg(test)]
 mod storage_core_services;
 #[cfg(test)]
 mod storage_map_texts;

@@ -1,11 +1,12 @@
 //! An area on either side of the 16 MB line, obtained, stored into and released, and a cell pool with its cells: each
 //! of them undone and done again.
 
-ghost use Rattle.std.specs.Prelude.{◌≡◌, true};
+ghost use Rattle.std.specs.Prelude.{◌^◌, ◌<◌, ◌≤◌};
 ghost use Rattle.vsm_model.specs.Meaning.{service_in};
 ghost use Rattle.storage_core.specs.Planned.{CanBePlanned};
 
 use crate::carrying::{carry_out, change_for, do_for_good, exchange};
+use crate::checks::{holds, same};
 use std::process::Abort;
 use std::test::Fail;
 use storage_core::{
@@ -27,6 +28,13 @@ fn byte_at(storage: &Storage, address: u32) -> Option<u8> {
         Ok(()) => Some(room[0]),
         Err(_) => None,
     }
+}
+
+// What the service would answer now, or the cause that refuses it.
+fn reply_to(storage: &Storage, service: Service<'_>) -> Result<Reply, Cause>
+    requires { CanBePlanned (service_in service) }
+{
+    Ok(storage.plan(service, false)?.reply())
 }
 
 // What is read at the address once the service was done, once it was undone, and once it was done again.
@@ -61,45 +69,51 @@ fn small_area(location: Location) -> Service<'static>
     })
 }
 
+// The area at this address comes, is stored into and goes.
+fn request_comes_and_goes(
+    rt: &impl Abort,
+    storage: &mut Storage,
+    location: Location,
+    start: u32,
+) -> Result<(), Fail>
+    requires { start < 2 ^ 31 }
+{
+    let obtain = small_area(location);
+    let granted = Reply::Obtained {
+        address: start,
+        length: 24,
+    };
+    same!(rt; reply_to(storage, obtain), Ok(granted));
+    same!(rt; readings(storage, obtain, start)?, [Some(0), None, Some(0)]);
+    same!(rt; storage.register(1, 2), start);
+    let store = Service::Store {
+        address: start,
+        bytes: &[0xC1, 0xC2, 0xC3],
+    };
+    same!(rt;
+        readings(storage, store, start + 2)?,
+        [Some(0xC3), Some(0), Some(0xC3)]
+    );
+    let release = Service::Release(Release {
+        length: 24,
+        address: start,
+        number: 1,
+        conditional: false,
+    });
+    same!(rt;
+        readings(storage, release, start + 2)?,
+        [None, Some(0xC3), None]
+    );
+    Ok(())
+}
+
 #[test]
 fn requests_come_and_go(rt: HostRuntime) -> Result<(), Fail> {
     let mut storage = Storage::new(rt.alloc(), SETTINGS)?;
-    for (location, start) in [(Location::Low, 0x6000), (Location::Either, 0x0800_0000)] {
-        let obtain = small_area(location);
-        let reply = storage.plan(obtain, false)?.reply();
-        assert_eq!(rt;
-            reply,
-            Reply::Obtained {
-                address: start,
-                length: 24
-            }
-        );
-        assert_eq!(rt;
-            readings(&mut storage, obtain, start)?,
-            [Some(0), None, Some(0)]
-        );
-        assert_eq!(rt; storage.register(1, 2), start);
-        let store = Service::Store {
-            address: start,
-            bytes: &[0xC1, 0xC2, 0xC3],
-        };
-        assert_eq!(rt;
-            readings(&mut storage, store, start + 2)?,
-            [Some(0xC3), Some(0), Some(0xC3)]
-        );
-        let release = Service::Release(Release {
-            length: 24,
-            address: start,
-            number: 1,
-            conditional: false,
-        });
-        assert_eq!(rt;
-            readings(&mut storage, release, start + 2)?,
-            [None, Some(0xC3), None]
-        );
-    }
-    assert_eq!(rt; storage.current(), 1);
-    assert_eq!(rt; storage.settings(), SETTINGS);
+    request_comes_and_goes(&rt, &mut storage, Location::Low, 0x6000)?;
+    request_comes_and_goes(&rt, &mut storage, Location::Either, 0x0800_0000)?;
+    same!(rt; storage.current(), 1);
+    same!(rt; storage.settings(), SETTINGS);
     Ok(())
 }
 
@@ -115,7 +129,7 @@ fn next_cell(storage: &Storage) -> Result<Reply, Cause> {
             conditional: false,
         },
     };
-    Ok(storage.plan(get, false)?.reply())
+    reply_to(storage, get)
 }
 
 // The next cell once the service was done, once it was undone, and once it was done again.
@@ -152,19 +166,23 @@ fn small_cells() -> Service<'static>
     }
 }
 
-#[test]
-fn cells_come_and_go(rt: HostRuntime) -> Result<(), Fail> {
-    let mut storage = Storage::new(rt.alloc(), SETTINGS)?;
+// The cell pool comes, and its first cell is then the next one.
+fn pool_comes(rt: &impl Abort, storage: &mut Storage) -> Result<(), Fail> {
     let (none, first) = (Err(Cause::NoCellPool), Ok(Reply::Cell(0x6000)));
     let build = small_cells();
-    assert_eq!(rt;
-        storage.plan(build, false)?.reply(),
-        Reply::Obtained {
-            address: 0x6000,
-            length: 48
-        }
-    );
-    assert_eq!(rt; next_cells(&mut storage, build)?, [first, none, first]);
+    let granted = Reply::Obtained {
+        address: 0x6000,
+        length: 48,
+    };
+    same!(rt; reply_to(storage, build), Ok(granted));
+    same!(rt; next_cells(storage, build)?, [first, none, first]);
+    Ok(())
+}
+
+// The cell in front of this one is handed out, and this one is then the next.
+fn cell_comes(rt: &impl Abort, storage: &mut Storage, cell: u32) -> Result<(), Fail>
+    requires { 16 ≤ cell }
+{
     let get = Service::Get {
         name: NAME,
         operands: Get {
@@ -172,21 +190,35 @@ fn cells_come_and_go(rt: HostRuntime) -> Result<(), Fail> {
             conditional: true,
         },
     };
-    for cell in [0x6010, 0x6020, 0x6030] {
-        let (next, before) = (Ok(Reply::Cell(cell)), Ok(Reply::Cell(cell - 16)));
-        assert_eq!(rt; next_cells(&mut storage, get)?, [next, before, next]);
-        assert_eq!(rt; storage.register(1, 2), cell - 16);
-    }
+    let (next, before) = (Ok(Reply::Cell(cell)), Ok(Reply::Cell(cell - 16)));
+    same!(rt; next_cells(storage, get)?, [next, before, next]);
+    same!(rt; storage.register(1, 2), cell - 16);
+    Ok(())
+}
+
+// The first cell is given back, and then the cell pool goes.
+fn pool_goes(rt: &impl Abort, storage: &mut Storage) -> Result<(), Fail> {
+    let (none, first) = (Err(Cause::NoCellPool), Ok(Reply::Cell(0x6000)));
     let free = Service::Free {
         name: NAME,
         cell: 0x6000,
     };
     let further = Ok(Reply::Cell(0x6030));
-    assert_eq!(rt; next_cells(&mut storage, free)?, [first, further, first]);
+    same!(rt; next_cells(storage, free)?, [first, further, first]);
     let delete = Service::Delete { name: NAME };
-    assert_eq!(rt; next_cells(&mut storage, delete)?, [none, first, none]);
-    assert_eq!(rt; byte_at(&storage, 0x6000), None);
+    same!(rt; next_cells(storage, delete)?, [none, first, none]);
+    same!(rt; byte_at(storage, 0x6000), None);
     Ok(())
+}
+
+#[test]
+fn cells_come_and_go(rt: HostRuntime) -> Result<(), Fail> {
+    let mut storage = Storage::new(rt.alloc(), SETTINGS)?;
+    pool_comes(&rt, &mut storage)?;
+    for cell in [0x6010, 0x6020, 0x6030] {
+        cell_comes(&rt, &mut storage, cell)?;
+    }
+    pool_goes(&rt, &mut storage)
 }
 
 // How many areas of a doubleword are free in the subpool that is released whole.
@@ -215,8 +247,21 @@ fn make_free_areas(storage: &mut Storage) -> Result<(), Fail> {
     Ok(())
 }
 
+// How many elements the whole release of subpool 1 takes, which is exchanged there and back. Elements are made 128 at a
+// time.
+fn whole_release(rt: &impl Abort, storage: &mut Storage) -> Result<u32, Fail> {
+    let before = storage.elements().spare();
+    let mut change = change_for(storage, Service::Whole { number: 1 })?;
+    let behind = storage.elements().spare();
+    exchange(storage, &mut change);
+    same!(rt; byte_at(storage, 0x6000), None);
+    exchange(storage, &mut change);
+    same!(rt; byte_at(storage, 0x6000), Some(0));
+    storage.discard(change);
+    Ok(before.wrapping_sub(behind) % 128)
+}
+
 // A record for the queues, one for the extent and one for register 15; two blank elements; and the parked subpool.
-// Elements are made 128 at a time.
 #[test]
 fn whole_release_takes_elements_for_extents_alone(rt: HostRuntime) -> Result<(), Fail> {
     let settings = Settings {
@@ -225,25 +270,13 @@ fn whole_release_takes_elements_for_extents_alone(rt: HostRuntime) -> Result<(),
     };
     let mut storage = Storage::new(rt.alloc(), settings)?;
     make_free_areas(&mut storage)?;
-    let before = storage.elements().spare();
-    let mut change = change_for(&mut storage, Service::Whole { number: 1 })?;
-    let behind = storage.elements().spare();
-    assert_eq!(rt; before.wrapping_sub(behind) % 128, 6);
-    exchange(&mut storage, &mut change);
-    assert_eq!(rt; byte_at(&storage, 0x6000), None);
-    exchange(&mut storage, &mut change);
-    assert_eq!(rt; byte_at(&storage, 0x6000), Some(0));
-    storage.discard(change);
+    same!(rt; whole_release(&rt, &mut storage)?, 6);
     // The free areas are those that there were.
-    let again = small_area(Location::Low);
-    let reply = storage.plan(again, false)?.reply();
-    assert_eq!(rt;
-        reply,
-        Reply::Obtained {
-            address: 0x2E000,
-            length: 24
-        }
-    );
+    let granted = Reply::Obtained {
+        address: 0x2E000,
+        length: 24,
+    };
+    same!(rt; reply_to(&storage, small_area(Location::Low)), Ok(granted));
     Ok(())
 }
 
@@ -258,13 +291,13 @@ fn compare_extents(rt: &impl Abort, storage: &Storage, subpool: Subpool, extents
     let mut place = storage.first_extent(subpool);
     for i in 0..8usize {
         let Some((run, behind)) = storage.next_extent(place) else {
-            assert_eq!(rt; i, extents.len());
+            same!(rt; i, extents.len());
             return;
         };
-        assert_eq!(rt; extents.get(i), Some(&run));
+        same!(rt; extents.get(i), Some(&run));
         place = behind;
     }
-    assert!(rt; false);
+    holds!(rt; false);
 }
 
 // The walk over its free areas likewise.
@@ -272,13 +305,13 @@ fn compare_free_areas(rt: &impl Abort, storage: &Storage, subpool: Subpool, area
     let mut place = storage.first_free_area(subpool);
     for i in 0..8usize {
         let Some((area, behind)) = storage.next_free_area(place) else {
-            assert_eq!(rt; i, areas.len());
+            same!(rt; i, areas.len());
             return;
         };
-        assert_eq!(rt; areas.get(i), Some(&area));
+        same!(rt; areas.get(i), Some(&area));
         place = behind;
     }
-    assert!(rt; false);
+    holds!(rt; false);
 }
 
 // How many subpools there are: each comes on the walk as at its position, with its own extents and free areas, and
@@ -288,20 +321,20 @@ fn count_subpools(rt: &impl Abort, storage: &Storage) -> u32 {
     for i in 0..8 {
         let position = storage.subpool_at(i);
         let Some((subpool, behind)) = storage.next_subpool(place) else {
-            assert_eq!(rt; position, None);
+            same!(rt; position, None);
             return i;
         };
-        assert_eq!(rt; position, Some(subpool));
-        assert_eq!(rt;
+        same!(rt; position, Some(subpool));
+        same!(rt;
             storage.first_extent_at(behind),
             storage.first_extent(subpool)
         );
-        assert_eq!(rt;
+        same!(rt;
             storage.first_free_area_at(behind),
             storage.first_free_area(subpool)
         );
         let front = Storage::first_sharer_place(behind);
-        assert_eq!(rt; storage.next_sharer(subpool, front), None);
+        same!(rt; storage.next_sharer(subpool, front), None);
         place = behind;
     }
     8
@@ -330,10 +363,8 @@ fn make_two_extents(storage: &mut Storage) -> Result<(), Fail> {
     do_for_good(storage, Service::Release(release))
 }
 
-#[test]
-fn extents_and_free_areas_are_walked_over(rt: HostRuntime) -> Result<(), Fail> {
-    let mut storage = Storage::new(rt.alloc(), SETTINGS)?;
-    make_two_extents(&mut storage)?;
+// What subpool 1 then has.
+fn first_has_two_extents(rt: &impl Abort, storage: &Storage) {
     let extents = [
         Run { start: 6, len: 1 },
         Run {
@@ -341,7 +372,7 @@ fn extents_and_free_areas_are_walked_over(rt: HostRuntime) -> Result<(), Fail> {
             len: 1,
         },
     ];
-    compare_extents(&rt, &storage, FIRST, &extents);
+    compare_extents(rt, storage, FIRST, &extents);
     let areas = [
         Area {
             start: 0xC00,
@@ -356,26 +387,36 @@ fn extents_and_free_areas_are_walked_over(rt: HostRuntime) -> Result<(), Fail> {
             len: 509,
         },
     ];
-    compare_free_areas(&rt, &storage, FIRST, &areas);
+    compare_free_areas(rt, storage, FIRST, &areas);
+}
+
+#[test]
+fn extents_and_free_areas_are_walked_over(rt: HostRuntime) -> Result<(), Fail> {
+    let mut storage = Storage::new(rt.alloc(), SETTINGS)?;
+    make_two_extents(&mut storage)?;
+    first_has_two_extents(&rt, &storage);
     Ok(())
+}
+
+// Subpool 0 and 1 are task 1's, which is there alone.
+fn first_task_owns_both(rt: &impl Abort, storage: &Storage) {
+    let zero = Subpool {
+        number: 0,
+        owner: 1,
+    };
+    same!(rt; count_subpools(rt, storage), 2);
+    same!(rt; storage.subpool_at(0), Some(zero));
+    same!(rt; storage.subpool_at(1), Some(FIRST));
+    same!(rt; storage.task_at(0), Some(1));
+    same!(rt; storage.task_at(1), None);
+    same!(rt; storage.parent(1), Some(0));
+    same!(rt; storage.parent(2), None);
 }
 
 #[test]
 fn subpools_and_tasks_agree(rt: HostRuntime) -> Result<(), Fail> {
     let mut storage = Storage::new(rt.alloc(), SETTINGS)?;
     make_two_extents(&mut storage)?;
-    assert_eq!(rt; count_subpools(&rt, &storage), 2);
-    assert_eq!(rt;
-        storage.subpool_at(0),
-        Some(Subpool {
-            number: 0,
-            owner: 1
-        })
-    );
-    assert_eq!(rt; storage.subpool_at(1), Some(FIRST));
-    assert_eq!(rt; storage.task_at(0), Some(1));
-    assert_eq!(rt; storage.task_at(1), None);
-    assert_eq!(rt; storage.parent(1), Some(0));
-    assert_eq!(rt; storage.parent(2), None);
+    first_task_owns_both(&rt, &storage);
     Ok(())
 }

@@ -1,9 +1,11 @@
 //! The maps of a new storage and of one with a cell pool, byte by byte, and writers that take nothing or fail.
 
 use crate::carrying::do_for_good;
+use crate::checks::{holds, same};
 use std::alloc::Global;
 use std::io;
 use std::io::{ErrorKind, Write};
+use std::process::Abort;
 use std::test::Fail;
 use storage_core::{Attach, Build, Get, Location, Passed, Residence, Service, Settings, Storage};
 use storage_map::{Totals, totals, write_history, write_map};
@@ -76,24 +78,22 @@ fn a_new_storage_has_this_map(rt: HostRuntime) -> Result<(), Fail> {
     let storage = Storage::new(rt.alloc(), SETTINGS)?;
     let mut output = Vec::new(rt.alloc());
     write_map(&storage, &mut output)?;
-    assert_eq!(rt; output.as_slice(), MAP);
+    same!(rt; output.as_slice(), MAP);
     Ok(())
 }
 
 #[test]
 fn a_new_storage_has_these_totals(rt: HostRuntime) -> Result<(), Fail> {
     let storage = Storage::new(rt.alloc(), SETTINGS)?;
-    assert!(rt;
-        totals(&storage)
-            == Totals {
-                low_pages: 0,
-                low_size: 16,
-                high_pages: 0,
-                high_size: 32,
-                taken: 0,
-                free: 0
-            }
-    );
+    let wanted = Totals {
+        low_pages: 0,
+        low_size: 16,
+        high_pages: 0,
+        high_size: 32,
+        taken: 0,
+        free: 0,
+    };
+    holds!(rt; totals(&storage) == wanted);
     Ok(())
 }
 
@@ -140,7 +140,7 @@ fn a_cell_pool_has_these_lines(rt: HostRuntime) -> Result<(), Fail> {
     build_cells(&mut storage)?;
     let mut output = Vec::new(rt.alloc());
     write_map(&storage, &mut output)?;
-    assert_eq!(rt; output.as_slice(), CELL_POOL_MAP);
+    same!(rt; output.as_slice(), CELL_POOL_MAP);
     Ok(())
 }
 
@@ -148,24 +148,30 @@ fn a_cell_pool_has_these_lines(rt: HostRuntime) -> Result<(), Fail> {
 fn the_history_has_this_line(rt: HostRuntime) -> Result<(), Fail> {
     let mut output = Vec::new(rt.alloc());
     write_history(3, 10, &mut output)?;
-    assert_eq!(rt; output.as_slice(), b" HISTORY KEPT 3 OF 10\n".as_slice());
+    same!(rt; output.as_slice(), b" HISTORY KEPT 3 OF 10\n".as_slice());
     Ok(())
+}
+
+// Why the map isn't written.
+fn map_error(storage: &Storage, writer: &mut Narrow) -> Option<ErrorKind> {
+    match write_map(storage, writer) {
+        Ok(()) => None,
+        Err(error) => Some(error.kind()),
+    }
+}
+
+// The map of a new storage goes out as far as there is room for it.
+fn cut_off(rt: &impl Abort, alloc: Global, storage: &Storage, room: usize) {
+    let mut writer = Narrow::with_room(alloc, room);
+    same!(rt; map_error(storage, &mut writer), Some(ErrorKind::WriteZero));
+    same!(rt; Some(writer.bytes.as_slice()), MAP.get(..room));
 }
 
 #[test]
 fn a_writer_that_takes_no_more_is_answered_by_an_error(rt: HostRuntime) -> Result<(), Fail> {
     let storage = Storage::new(rt.alloc(), SETTINGS)?;
     for room in [0, 1, 100] {
-        let mut writer = Narrow::with_room(rt.alloc(), room);
-        match write_map(&storage, &mut writer) {
-            Ok(()) => assert!(rt; false, "{room} bytes"),
-            Err(error) => assert!(rt; error.kind() == ErrorKind::WriteZero, "{room} bytes"),
-        }
-        assert_eq!(rt;
-            Some(writer.bytes.as_slice()),
-            MAP.get(..room),
-            "{room} bytes"
-        );
+        cut_off(&rt, rt.alloc(), &storage, room);
     }
     Ok(())
 }

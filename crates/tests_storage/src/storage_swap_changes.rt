@@ -1,6 +1,7 @@
 //! Three pages of the first subpool, obtained, undone and redone; and a cell pool that comes, goes and is let go. All
 //! elements and frames are given back.
 
+use crate::checks::{holds, same};
 use run_set::Run;
 use std::test::Fail;
 use storage_changes::{AreaRecord, ExtentRecord, PagesRecord, Record};
@@ -50,22 +51,23 @@ const OBTAIN: [Record; 3] = [
 fn obtained_pages_come_and_go(rt: HostRuntime) -> Result<(), Fail> {
     let mut storage = fresh(rt.alloc(), SETTINGS)?;
     let mut change = Change::reserve(&mut storage, None, &OBTAIN, 4, RUN)?;
-    assert!(rt; !storage.region.assigned(6));
+    holds!(rt; !storage.region.assigned(6));
     change.swap(&mut storage);
-    assert!(rt;
-        storage.region.assigned(6) && storage.region.assigned(8) && !storage.region.assigned(9)
-    );
+    holds!(rt; storage.region.assigned(6));
+    holds!(rt; storage.region.assigned(8));
+    holds!(rt; !storage.region.assigned(9));
     change.swap(&mut storage);
-    assert!(rt; !storage.region.assigned(6) && !storage.region.assigned(8));
+    holds!(rt; !storage.region.assigned(6));
+    holds!(rt; !storage.region.assigned(8));
     change.swap(&mut storage);
-    assert!(rt; storage.region.assigned(7));
+    holds!(rt; storage.region.assigned(7));
     change.swap(&mut storage);
     change.discard(&mut storage);
-    assert_eq!(rt; storage.elements.spare(), 121);
-    assert_eq!(rt; storage.region.spare_frames(), 3);
+    same!(rt; storage.elements.spare(), 121);
+    same!(rt; storage.region.spare_frames(), 3);
     let released = release(storage);
-    assert_eq!(rt; released.blocks, 1);
-    assert_eq!(rt; released.frames, 3);
+    same!(rt; released.blocks, 1);
+    same!(rt; released.frames, 3);
     Ok(())
 }
 
@@ -91,21 +93,21 @@ fn a_cell_pool_comes_and_goes(rt: HostRuntime) -> Result<(), Fail> {
     };
     let none = Run { start: 0, len: 0 };
     let (mut change, _) = Change::reserve_building(&mut storage, &pool, &[], 1, none)?;
-    assert_eq!(rt; storage.elements.spare(), 108);
+    same!(rt; storage.elements.spare(), 108);
     let pools = storage.subpools.cell_pools(&storage.elements);
-    assert!(rt; pools.find(&storage.elements, &name).is_none());
+    holds!(rt; pools.find(&storage.elements, &name).is_none());
     change.swap(&mut storage);
     let pools = storage.subpools.cell_pools(&storage.elements);
     let id = pools
         .find(&storage.elements, &name)
         .expect(&rt, "no cell pool");
-    assert_eq!(rt; pools.first_free(&storage.elements, id), Some(4096));
+    same!(rt; pools.first_free(&storage.elements, id), Some(4096));
     change.swap(&mut storage);
     let pools = storage.subpools.cell_pools(&storage.elements);
-    assert!(rt; pools.find(&storage.elements, &name).is_none());
+    holds!(rt; pools.find(&storage.elements, &name).is_none());
     change.discard(&mut storage);
-    assert_eq!(rt; storage.elements.spare(), 121);
+    same!(rt; storage.elements.spare(), 121);
     let released = release(storage);
-    assert_eq!(rt; released.blocks, 1);
+    same!(rt; released.blocks, 1);
     Ok(())
 }
