@@ -3,24 +3,11 @@ use crate::faults::ReportFault;
 use crate::tables::{put_heading, put_moment, put_table};
 use crate::times::{Moment, moment_of};
 use bench_core::Bench;
-use script_steps::{Response, Session, Stand, Watch, before_feed, put_response};
+use script_steps::{Ending, Response, Session, Stand, Told, Watch, before_feed, put_response};
 use std::alloc::Global;
 use std::io::Write;
 use text_output::{Gathered, put_decimal};
 use vsm_model::{Reply, Settings};
-
-/// Where the lines of a script were left.
-#[derive(Drop)]
-enum Left {
-    /// Behind the last line of a statement, with its answer.
-    Behind(u32, Response),
-    /// Behind a line that was skipped.
-    Aside,
-    /// Behind a line that was dropped.
-    Dropped,
-    /// Behind the last line feed, before what stands there, with the last answer.
-    AtEnd(usize, Option<(u32, Response)>),
-}
 
 /// A bench of its own for the script.
 fn new_session(alloc: Global, settings: Settings) -> Result<Session, ReportFault> {
@@ -30,41 +17,46 @@ fn new_session(alloc: Global, settings: Settings) -> Result<Session, ReportFault
     }
 }
 
-/// Where a line leaves a script that is taken up to it, by where the reader stood before it.
-fn left_by(before: Stand, told: Option<(u32, Response)>) -> Left {
-    match (told, before) {
-        (Some((number, response)), _) => Left::Behind(number, response),
-        (None, Stand::Dropping) => Left::Dropped,
-        (None, _) => Left::Aside,
+/// Why there is no report behind a line that isn't answered, by where the reader stood before it.
+fn unanswered(before: Stand) -> ReportFault {
+    match before {
+        Stand::Dropping => ReportFault::Dropped,
+        _ => ReportFault::Aside,
     }
 }
 
-/// Takes the lines of a script up to a line, and on to the end of its statement; or all of them.
+/// Takes the lines of a script up to a line, and on to the end of its statement, with the last answer in a room. Where
+/// the script ends before, it gives the place behind the last line feed.
 fn take_to<P: Watch>(
     session: &mut Session,
     script: &[u8],
     line: u32,
+    last: &mut Told,
     watch: &mut P,
-) -> Result<Left, ReportFault> {
+) -> Result<Option<usize>, ReportFault> {
     let mut at = 0;
-    let mut last = None;
     'lines: while at < script.len() {
         let before = session.stand();
         let step = match session.take_line(script, at) {
             Ok(Some(step)) => step,
-            Ok(None) => return Ok(Left::AtEnd(at, last)),
+            Ok(None) => return Ok(Some(at)),
             Err(_) => return Err(ReportFault::TooLong),
         };
         watch.line(session.lines());
         at = step.next;
-        if session.lines() >= line && session.stand() != Stand::Gathering {
-            return Ok(left_by(before, step.told));
+        let answered = step.told.is_some();
+        if answered {
+            *last = step.told;
         }
-        if step.told.is_some() {
-            last = step.told;
+        if session.lines() >= line && session.stand() != Stand::Gathering {
+            return if answered {
+                Ok(None)
+            } else {
+                Err(unanswered(before))
+            };
         }
     }
-    Ok(Left::AtEnd(at, last))
+    Ok(Some(at))
 }
 
 /// Takes what stands behind the last line feed, which begins at a place. Gives how many lines the script has.
@@ -90,7 +82,7 @@ fn end_text<W: Write>(
 }
 
 /// Puts the first line of a report: which statement it stands behind, and what that was answered.
-fn put_first<W: Write>(gathered: &mut Gathered, writer: &mut W, told: &Option<(u32, Response)>) {
+fn put_first<W: Write>(gathered: &mut Gathered, writer: &mut W, told: &Told) {
     match told {
         Some((line, response)) => {
             gathered.put(writer, b"line ");
@@ -104,11 +96,7 @@ fn put_first<W: Write>(gathered: &mut Gathered, writer: &mut W, told: &Option<(u
 }
 
 /// Writes the report of a bench behind a statement.
-fn write_report<W: Write>(
-    bench: &Bench,
-    told: &Option<(u32, Response)>,
-    out: &mut W,
-) -> Result<(), ReportFault> {
+fn write_report<W: Write>(bench: &Bench, told: &Told, out: &mut W) -> Result<(), ReportFault> {
     let mut gathered = Gathered::new();
     let moment = moment_of(bench.storage());
     put_first(&mut gathered, out, told);
@@ -116,26 +104,74 @@ fn write_report<W: Write>(
     end_text(gathered, out, Ok(()))
 }
 
-/// Takes what stands behind the last line feed, and reports what the script left.
+/// Reports what the end of a script left: behind the answer that the end brought, or behind the last before it where no
+/// line is said.
 fn report_end<W: Write>(
-    session: Session,
-    script: &[u8],
-    at: usize,
-    line: Option<u32>,
-    told: Option<(u32, Response)>,
+    ending: &Ending,
+    has_line: bool,
+    last: &Told,
     out: &mut W,
 ) -> Result<(), ReportFault> {
-    let mut session = session;
-    let lines = take_rest(&mut session, script, at)?;
-    let ending = session.end();
+    if ending.open_statement.is_some() {
+        write_report(&ending.bench, &ending.open_statement, out)
+    } else if ending.last.is_some() {
+        write_report(&ending.bench, &ending.last, out)
+    } else if has_line {
+        Err(ReportFault::Aside)
+    } else {
+        write_report(&ending.bench, last, out)
+    }
+}
+
+/// Takes a script up to the end of the statement of a line, or all of it, with the last answer in a room. Gives whether
+/// all of it was taken.
+fn take_script<P: Watch>(
+    session: &mut Session,
+    script: &[u8],
+    line: Option<u32>,
+    last: &mut Told,
+    watch: &mut P,
+) -> Result<bool, ReportFault> {
+    if line == Some(0) {
+        return Err(ReportFault::NoLine(0));
+    }
+    let Some(at) = take_to(session, script, line.unwrap_or(u32::MAX), last, watch)? else {
+        return Ok(false);
+    };
+    let lines = take_rest(session, script, at)?;
     if line.unwrap_or(0) > lines {
         return Err(ReportFault::NoLine(lines));
     }
-    let last = ending.open_statement.or(ending.last);
-    if line.is_some() && last.is_none() {
-        return Err(ReportFault::Aside);
+    Ok(true)
+}
+
+/// Reports on a session over no bytes yet, which it lets go, with the last answer in a room.
+fn report_on<W: Write, P: Watch>(
+    session: Session,
+    script: &[u8],
+    line: Option<u32>,
+    last: &mut Told,
+    out: &mut W,
+    watch: &mut P,
+) -> Result<(), ReportFault> {
+    let mut session = session;
+    match take_script(&mut session, script, line, last, watch) {
+        Ok(true) => {
+            let ending = session.end();
+            let outcome = report_end(&ending, line.is_some(), last, out);
+            drop(ending);
+            outcome
+        }
+        Ok(false) => {
+            let outcome = write_report(session.bench(), last, out);
+            drop(session);
+            outcome
+        }
+        Err(fault) => {
+            drop(session);
+            Err(fault)
+        }
     }
-    write_report(&ending.bench, &last.or(told), out)
 }
 
 /// Writes what each subpool of a script's storage has, and what is unassigned, behind the statement of a line: the
@@ -148,18 +184,11 @@ pub fn report<W: Write, P: Watch>(
     out: &mut W,
     watch: &mut P,
 ) -> Result<(), ReportFault> {
-    let mut session = new_session(alloc, settings)?;
-    if line == Some(0) {
-        return Err(ReportFault::NoLine(0));
-    }
-    match take_to(&mut session, script, line.unwrap_or(u32::MAX), watch)? {
-        Left::Behind(number, response) => {
-            write_report(&session.end().bench, &Some((number, response)), out)
-        }
-        Left::Aside => Err(ReportFault::Aside),
-        Left::Dropped => Err(ReportFault::Dropped),
-        Left::AtEnd(at, told) => report_end(session, script, at, line, told, out),
-    }
+    let session = new_session(alloc, settings)?;
+    let mut last = None;
+    let outcome = report_on(session, script, line, &mut last, out, watch);
+    drop(last);
+    outcome
 }
 
 /// Whether what was answered may have changed the storage.
@@ -177,7 +206,7 @@ fn put_answer<W: Write>(
     out: &mut W,
     bench: &Bench,
     moment: Moment,
-    told: &Option<(u32, Response)>,
+    told: &Told,
 ) -> Moment {
     let Some((line, response)) = told else {
         return moment;
@@ -192,31 +221,19 @@ fn put_answer<W: Write>(
 }
 
 /// Puts the rows of what a script's end brings.
-fn put_end<W: Write>(
-    session: Session,
-    gathered: &mut Gathered,
-    out: &mut W,
-    moment: Moment,
-    script: &[u8],
-    at: usize,
-) -> Result<(), ReportFault> {
-    let mut session = session;
-    let _ = take_rest(&mut session, script, at)?;
-    let ending = session.end();
+fn put_end<W: Write>(gathered: &mut Gathered, out: &mut W, moment: Moment, ending: &Ending) {
     let moment = put_answer(gathered, out, &ending.bench, moment, &ending.last);
     let _ = put_answer(gathered, out, &ending.bench, moment, &ending.open_statement);
-    Ok(())
 }
 
-/// Puts the rows of a script.
-fn put_rows<W: Write, P: Watch>(
-    session: Session,
+/// Takes a script and puts the rows of its lines. Gives what the storage comes to behind the last row.
+fn put_lines<W: Write, P: Watch>(
+    session: &mut Session,
     script: &[u8],
     gathered: &mut Gathered,
     out: &mut W,
     watch: &mut P,
-) -> Result<(), ReportFault> {
-    let mut session = session;
+) -> Result<Moment, ReportFault> {
     let mut moment = moment_of(session.bench().storage());
     let mut at = 0;
     'lines: while at < script.len() {
@@ -229,7 +246,31 @@ fn put_rows<W: Write, P: Watch>(
         at = step.next;
         moment = put_answer(gathered, out, session.bench(), moment, &step.told);
     }
-    put_end(session, gathered, out, moment, script, at)
+    let _ = take_rest(session, script, at)?;
+    Ok(moment)
+}
+
+/// Puts the rows of a script.
+fn put_rows<W: Write, P: Watch>(
+    session: Session,
+    script: &[u8],
+    gathered: &mut Gathered,
+    out: &mut W,
+    watch: &mut P,
+) -> Result<(), ReportFault> {
+    let mut session = session;
+    match put_lines(&mut session, script, gathered, out, watch) {
+        Ok(moment) => {
+            let ending = session.end();
+            put_end(gathered, out, moment, &ending);
+            drop(ending);
+            Ok(())
+        }
+        Err(fault) => {
+            drop(session);
+            Err(fault)
+        }
+    }
 }
 
 /// Writes a row for each answer of a script, as values with commas between: the line of the statement; on each side of

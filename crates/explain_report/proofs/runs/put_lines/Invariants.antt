@@ -1,5 +1,5 @@
 use Rattle.std.proofs.Common.{◌≤◌, ◌-◌, length}
-use Rattle.explain_report.proofs.runs.put_rows.Given as goal
+use Rattle.explain_report.proofs.runs.put_lines.Given as goal
 
 abbrev pub invariant-lines : goal.invariant-lines
 invariant-lines g l = l.at ≤ length l.script
