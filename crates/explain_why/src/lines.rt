@@ -15,7 +15,7 @@ use crate::faults::WhyFault;
 use crate::headings::put_fault_heading;
 use bench_core::{Bench, Refusal};
 use place_reasons::{Piece, put_pieces};
-use script_steps::{LINES, Response, Session, Stand, Watch, put_response};
+use script_steps::{Ending, LINES, Response, Session, Stand, Told, Watch, put_response};
 use std::alloc::Global;
 use std::io::Write;
 use text_output::Gathered;
@@ -120,35 +120,54 @@ fn seek<P: Watch>(
     Err(WhyFault::TooLong)
 }
 
+/// The answer that the end of a script brings, if any: the first of two.
+fn told_at_end(ending: Ending) -> Told {
+    let Ending {
+        bench,
+        last,
+        open_statement,
+        ..
+    } = ending;
+    drop(bench);
+    last.or(open_statement)
+}
+
 /// What the end of the script is answered, where the statement isn't answered before.
-fn answer_at_end(session: Session, rest: &[u8]) -> Result<Option<Response>, WhyFault>
+fn answer_at_end(session: Session, rest: &[u8]) -> Result<Told, WhyFault>
     requires { NoFeed rest.now }
 {
     let mut session = session;
-    session.take_bytes(rest)?;
-    let ending = session.end();
-    match (ending.last, ending.open_statement) {
-        (Some((_, response)), _) => Ok(Some(response)),
-        (None, Some((_, response))) => Ok(Some(response)),
-        (None, None) => Ok(None),
+    match session.take_bytes(rest) {
+        Ok(()) => Ok(told_at_end(session.end())),
+        Err(_) => {
+            drop(session);
+            Err(WhyFault::TooLong)
+        }
     }
 }
 
 /// Carries out the statement that begins at a place, before which the session stands, and gives its answer.
-fn answer(session: Session, script: &[u8], at: usize) -> Result<Option<Response>, WhyFault>
+fn answer(session: Session, script: &[u8], at: usize) -> Result<Told, WhyFault>
     requires { at ≤ length script.now }
 {
     let mut session = session;
     let mut at = at;
     for _ in 0..STATEMENT_LINES {
-        let Some(step) = session.take_line(script, at)? else {
-            return answer_at_end(session, &script[at..]);
+        let step = match session.take_line(script, at) {
+            Ok(Some(step)) => step,
+            Ok(None) => return answer_at_end(session, &script[at..]),
+            Err(_) => {
+                drop(session);
+                return Err(WhyFault::TooLong);
+            }
         };
-        if let Some((_, response)) = step.told {
-            return Ok(Some(response));
+        if let Some(told) = step.told {
+            drop(session);
+            return Ok(Some(told));
         }
         at = step.next;
     }
+    drop(session);
     Ok(None)
 }
 
@@ -226,14 +245,10 @@ fn put_answered<W: Write>(gathered: &mut Gathered, writer: &mut W, response: &Re
 }
 
 /// Puts an answer, and says whether it's a refusal.
-fn put_answer<W: Write>(
-    gathered: &mut Gathered,
-    writer: &mut W,
-    response: &Option<Response>,
-) -> bool
+fn put_answer<W: Write>(gathered: &mut Gathered, writer: &mut W, told: &Told) -> bool
     ensures { PutsSome (W.contents writer.old) (W.contents writer.new) gathered.old gathered.new }
 {
-    let Some(response) = response else {
+    let Some((_, response)) = told else {
         gathered.put(writer, b"  answered: nothing\n");
         return false;
     };
@@ -257,8 +272,8 @@ fn tell<W: Write>(
 {
     let mut gathered = Gathered::new();
     put_why(&mut gathered, out, session.bench(), line, place);
-    let response = answer(session, script, place.at)?;
-    let refused = put_answer(&mut gathered, out, &response);
+    let told = answer(session, script, place.at)?;
+    let refused = put_answer(&mut gathered, out, &told);
     match gathered.finish(out) {
         Ok(()) => Ok(refused),
         Err(_) => Err(WhyFault::Write),
