@@ -73,8 +73,10 @@ fn check_end<W: Write>(
     gathered.put(writer, page.words());
     page.compose_open(Form::Check(name), script, &ending);
     gathered.put(writer, page.words());
+    let is_refused = ending.totals.refused > 0;
+    drop(ending);
     match gathered.hand_out(writer) {
-        Ok(()) => Ok(ending.totals.refused > 0),
+        Ok(()) => Ok(is_refused),
         Err(_) => Err(ListFault::Write),
     }
 }
@@ -108,7 +110,10 @@ fn check_rest<W: Write>(
     let rest = rest_from(script, at);
     match session.take_bytes(rest) {
         Ok(()) => check_end(session, gathered, writer, page, script, name, at),
-        Err(_) => Err(stop(gathered, writer)),
+        Err(_) => {
+            drop(session);
+            Err(stop(gathered, writer))
+        }
     }
 }
 
@@ -137,7 +142,10 @@ fn check_on<W: Write, P: Watch>(
         watch,
     ) {
         Ok(at) => check_rest(session, &mut gathered, out, &mut page, script, name, at),
-        Err(_) => Err(stop(&mut gathered, out)),
+        Err(_) => {
+            drop(session);
+            Err(stop(&mut gathered, out))
+        }
     }
 }
 

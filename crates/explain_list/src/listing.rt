@@ -347,8 +347,10 @@ fn list_end<W: Write>(
     let ending = session.end();
     page.compose_last(Form::Listing, script, line, before, &ending);
     put_ending(gathered, writer, page, script, &ending);
+    let is_refused = ending.totals.refused > 0;
+    drop(ending);
     match gathered.hand_out(writer) {
-        Ok(()) => Ok(ending.totals.refused > 0),
+        Ok(()) => Ok(is_refused),
         Err(_) => Err(ListFault::Write),
     }
 }
@@ -372,7 +374,10 @@ fn list_rest<W: Write>(
     let rest = rest_from(script, at);
     match session.take_bytes(rest) {
         Ok(()) => list_end(session, gathered, writer, page, script, at),
-        Err(_) => stop(gathered, writer),
+        Err(_) => {
+            drop(session);
+            stop(gathered, writer)
+        }
     }
 }
 
@@ -393,7 +398,10 @@ fn list_on<W: Write, P: Watch>(
     put_words(&mut gathered, out, page.words());
     match list_lines(&mut session, &mut gathered, out, &mut page, script, watch) {
         Ok(at) => list_rest(session, &mut gathered, out, &mut page, script, at),
-        Err(_) => stop(&mut gathered, out),
+        Err(_) => {
+            drop(session);
+            stop(&mut gathered, out)
+        }
     }
 }
 

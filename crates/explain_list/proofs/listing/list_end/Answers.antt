@@ -16,8 +16,8 @@ returns-in-Ok g c = λ settings first h.
     let held = holds_more settings first _ _ _ _ h.answers e.0 _ told c.put_ending.ensures h.held in
     (h.answers ++ e.0, e.2, ap (nat_lt 0) e.3.1, (held.0, held.1, c.in-Ok.ensures.writes first _ held.2))
 
-pub returns : goal.returns
-returns g c = λ settings first h.
+pub returns-in-Err : goal.returns-in-Err
+returns-in-Err g c = λ settings first h.
     let b = c.end-ending.result.bench in
     let last = c.end-ending.result.last in
     let open_statement = c.end-ending.result.open_statement in
