@@ -66,6 +66,48 @@ fn missing(asked: Asked) -> Option<WhoFault> {
     }
 }
 
+/// Writes what was found of a script that was followed, or says what isn't there.
+fn write_found<W: Write>(
+    script: &[u8],
+    traced: &Traced,
+    found: &[NamedChange<'_>],
+    asked: Asked,
+    out: &mut W,
+) -> Result<(), WhoFault> {
+    if found.is_empty() && is_absent(&traced.first) {
+        if let Some(fault) = missing(asked) {
+            return Err(fault);
+        }
+    }
+    let mut gathered = Gathered::new();
+    let starts = traced.starts.as_slice();
+    for change in found.iter().rev() {
+        put_change(&mut gathered, out, script, starts, change);
+    }
+    put_looked(
+        &mut gathered,
+        out,
+        found.len(),
+        traced.trail.standing().len(),
+    );
+    gathered.hand_out(out)?;
+    Ok(())
+}
+
+/// Writes the changes of a script that was followed.
+fn write_changes<W: Write>(
+    alloc: Global,
+    script: &[u8],
+    traced: &Traced,
+    asked: Asked,
+    out: &mut W,
+) -> Result<(), WhoFault> {
+    let found = changes(alloc, traced)?;
+    let outcome = write_found(script, traced, found.as_slice(), asked, out);
+    drop(found);
+    outcome
+}
+
 /// Writes the lines of a script whose statements changed what is asked for, the newest first, with what is read before
 /// and behind each; then how many statements stand, all of which are looked at, whatever the bench's history forgot.
 ///
@@ -82,25 +124,9 @@ pub fn who<W: Write, P: Watch>(
         return Err(WhoFault::Count);
     }
     let traced = follow(alloc, script, settings, &Some(asked), watch)?;
-    let found = changes(alloc, &traced)?;
-    if found.is_empty() && is_absent(&traced.first) {
-        if let Some(fault) = missing(asked) {
-            return Err(fault);
-        }
-    }
-    let mut gathered = Gathered::new();
-    let starts = traced.starts.as_slice();
-    for change in found.as_slice().iter().rev() {
-        put_change(&mut gathered, out, script, starts, change);
-    }
-    put_looked(
-        &mut gathered,
-        out,
-        found.len(),
-        traced.trail.standing().len(),
-    );
-    gathered.hand_out(out)?;
-    Ok(())
+    let outcome = write_changes(alloc, script, &traced, asked, out);
+    drop(traced);
+    outcome
 }
 
 /// Puts one statement with what became of it.
@@ -174,6 +200,7 @@ pub fn log<W: Write, P: Watch>(
     put_standing(&mut gathered, out, script, &traced);
     put_standing_count(&mut gathered, out, traced.trail.standing().len());
     put_decimal(&mut gathered, out, u64::from(traced.kept));
+    drop(traced);
     gathered.put(out, b" of them kept\n");
     gathered.hand_out(out)?;
     Ok(())

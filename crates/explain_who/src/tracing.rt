@@ -55,7 +55,7 @@ fn note_start(starts: &mut Vec<usize>, at: usize) -> Result<(), AllocError> {
 
 /// Follows the line that begins at a place of the script, and gives the place of the next. `None`, and nothing is
 /// taken, where no line feed stands from there on.
-fn follow_line(
+fn follow_at(
     session: &mut Session,
     trail: &mut Trail<Seen>,
     script: &[u8],
@@ -77,6 +77,24 @@ fn follow_line(
     }
 }
 
+/// Notes where a line begins, and follows it as `follow_at` does.
+fn follow_line(
+    session: &mut Session,
+    trail: &mut Trail<Seen>,
+    starts: &mut Vec<usize>,
+    script: &[u8],
+    at: usize,
+    asked: &Option<Asked>,
+) -> Result<Option<usize>, WhoFault>
+    requires { at ≤ length script.now }
+    ensures { IsLineFollowed asked.now script.now at session.old session.new trail.old trail.new result }
+{
+    match note_start(starts, at) {
+        Ok(()) => follow_at(session, trail, script, at, asked),
+        Err(_) => Err(WhoFault::Memory),
+    }
+}
+
 /// Follows what stands behind the last line feed, and gives how many changes are kept then.
 fn follow_end(
     session: Session,
@@ -91,18 +109,30 @@ fn follow_end(
     let before = session.bench().kept();
     match session.take_bytes(rest) {
         Ok(()) => (),
-        Err(_) => return Err(WhoFault::TooLong),
+        Err(_) => {
+            drop(session);
+            return Err(WhoFault::TooLong);
+        }
     }
     let ending = session.end();
     let bench = &ending.bench;
     match note(trail, bench, asked, before, &ending.last) {
         Ok(()) => (),
-        Err(_) => return Err(WhoFault::Memory),
+        Err(_) => {
+            drop(ending);
+            return Err(WhoFault::Memory);
+        }
     }
     let kept = bench.kept();
     match note(trail, bench, asked, kept, &ending.open_statement) {
-        Ok(()) => Ok(kept),
-        Err(_) => Err(WhoFault::Memory),
+        Ok(()) => {
+            drop(ending);
+            Ok(kept)
+        }
+        Err(_) => {
+            drop(ending);
+            Err(WhoFault::Memory)
+        }
     }
 }
 
@@ -133,12 +163,10 @@ pub fn follow<P: Watch>(
     let mut starts = Vec::new(alloc);
     let mut session = Session::new(bench);
     let mut at = 0;
-    while let Some(next) = follow_line(&mut session, &mut trail, script, at, asked)? {
-        note_start(&mut starts, at)?;
+    while let Some(next) = follow_line(&mut session, &mut trail, &mut starts, script, at, asked)? {
         watch.line(session.lines());
         at = next;
     }
-    note_start(&mut starts, at)?;
     let rest = rest_from(script, at);
     let kept = follow_end(session, &mut trail, rest, asked)?;
     Ok(Traced {

@@ -5,7 +5,7 @@ use Rattle.script_steps.specs.Steps.{BringsStep}
 use Rattle.explain_who.specs.Notes.{with_told}
 use Rattle.explain_who.specs.Readings.{read_of}
 use Rattle.explain_who.proofs.Followed.{line_followed}
-use Rattle.explain_who.proofs.tracing.follow_line.Goals as goal
+use Rattle.explain_who.proofs.tracing.follow_at.Goals as goal
 
 pub returns-in-Ok : goal.returns-in-Ok
 returns-in-Ok c =
