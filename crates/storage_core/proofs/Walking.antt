@@ -1,5 +1,5 @@
 -- Extents and free areas that are walked over: where one ends, and that none comes behind the last.
-use Rattle.std.proofs.Common.{◌≡◌, ℕ, ◌+◌, ◌^◌, ◌<◌, List, Some, None, sym, ap, ◌∙◌}
+use Rattle.std.proofs.Common.{◌≡◌, ℕ, zero, suc, ◌+◌, ◌^◌, ◌<◌, ◌≤◌, List, [], ◌∷◌, Some, None, refl, sym, ap, ◌∙◌, arith}
 use Rattle.std.proofs.Props.{props}
 use Rattle.std.specs.Prelude.{slice_get, option_map, Option, IfSome}
 use mathlib.Core.Logic.{∥∥₁_elim}
@@ -18,6 +18,13 @@ use Rattle.storage_core.specs.declared.walks.ExtentPlace.{ExtentPlace}
 use Rattle.storage_core.specs.declared.walks.FreeAreaPlace.{FreeAreaPlace}
 use Rattle.storage_core.specs.Meaning.{state_in_place, settings_of}
 use Rattle.storage_core.specs.Walks.{IsExtentPlace, IsFreeAreaPlace}
+
+-- behind a position without an item there is none
+pub none_behind : {A : Type 0} (xs : List A) (j i : ℕ) → slice_get xs j ≡ None → j ≤ i → slice_get xs i ≡ None
+none_behind [] j i none behind = refl
+none_behind (x ∷ xs) zero i none behind = cc
+none_behind (x ∷ xs) (suc j) zero none behind = absurd (omega (arith, behind))
+none_behind (x ∷ xs) (suc j) (suc i) none behind = none_behind xs j i none (omega (arith, behind))
 
 module _ (law : ExtentsEndInRegions) (s : Storage) where
   extent_end : (p : Subpool) (i : ℕ) (r : Run) → slice_get (extents (state_in_place s).subpools p) i ≡ Some r

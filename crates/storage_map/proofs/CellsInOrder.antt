@@ -1,7 +1,9 @@
--- Cell pools one after the other: what comes next, and that none comes behind the last.
-use Rattle.std.proofs.Common.{◌≡◌, ℕ, List, [], ◌∷◌, Option, Some, None, IsSome, refl, sym, ◌∙◌, subst}
+-- Cell pools one after the other, and lists that are walked over: what comes next, and that none comes behind the last.
+use Rattle.std.proofs.Common.{◌≡◌, ℕ, ◌+◌, ◌≤◌, true, false, zero, suc, List, [], ◌∷◌, Option, Some, None, IsSome, length, drop, refl, sym, ap, ◌∙◌, subst, arith, length-drop}
 use Rattle.std.proofs.Props.{props}
-use Rattle.std.specs.Prelude.{IfSome, IfNone}
+use Rattle.std.specs.Prelude.{slice_get, IfSome, IfNone}
+use Rattle.std.proofs.lemmas.List.{drop-drop}
+use Rattle.std.proofs.lemmas.Option.{slice_get_past}
 use mathlib.Core.Logic.{∥∥₁_elim}
 use Rattle.vsm_elements.specs.Store.{Store}
 use Rattle.cell_pool.specs.declared.pools.CellPools.{CellPools}
@@ -13,9 +15,27 @@ use Rattle.storage_changes.specs.NamedPools.{AreNamed}
 use Rattle.storage_changes.specs.TableOrder.{rows_behind, NoneIsBehind, IsFirstBehind, ComesInOrder}
 use Rattle.storage_changes.specs.PoolTable.{cell_pool_of, cell_pools_in}
 use Rattle.change_laws.specs.MapCells.{EndInRegions, CellExtentsEndInRegions}
+use Rattle.vsm_model.specs.CellPools.{CellPools as CellRows}
 use Rattle.storage_core.specs.declared.storage.Storage.{Storage}
 use Rattle.storage_map.specs.Cells.{cell_pool}
 use Rattle.storage_core.specs.Meaning.{state_in_place, settings_of}
+
+-- Of two lists of which one is the other from an index on: what comes next, and where none does.
+module _ {A : Type 0} (left all : List A) (k : ℕ) (is : left ≡ drop k all) where
+  pub step_left : (x : A) (rest : List A) → left ≡ x ∷ rest → rest ≡ drop (k + 1) all
+  step_left x rest next = ap (drop 1) (sym next ∙ is) ∙ drop-drop 1 k all
+
+  pub none_left : (i : ℕ) → left ≡ [] → k ≤ i → slice_get all i ≡ None
+  none_left i none behind = slice_get_past all i (omega (arith, length-drop k all, ap length (sym is ∙ none), behind))
+
+at_front : {A : Type 0} (all : List A) (k : ℕ) (x : A) (rest : List A) → drop k all ≡ x ∷ rest → slice_get all k ≡ Some x
+at_front [] zero x rest e = cc
+at_front [] (suc k) x rest e = cc
+at_front (y ∷ all) zero x rest e = cc
+at_front (y ∷ all) (suc k) x rest e = at_front all k x rest e
+
+pub here_left : {A : Type 0} (left all : List A) (k : ℕ) (x : A) (rest : List A) → left ≡ drop k all → left ≡ x ∷ rest → slice_get all k ≡ Some x
+here_left left all k x rest is next = at_front all k x rest (sym is ∙ next)
 
 -- what holds of a cell pool that is there
 pub of_some : (o : Option Pool) (P Q : Pool → Type 0) → ((p : Pool) → o ≡ Some p → P p → Q p) → IfSome o P → IfSome o Q
@@ -61,3 +81,12 @@ ends_in_regions law s named id = go (cell_pool s id) refl where
   go : (o : Option Pool) → cell_pool s id ≡ o → IfSome o EndInRegions
   go None e = tt
   go (Some p) e = ∥∥₁_elim s.held.sound (hlevel props) (λ sound. law (settings_of s) (state_in_place s) id p s.held.valid sound named e)
+
+-- The rows behind the name of the cell pool whose row stands at an index are those from the next index on.
+pub rows_left : (table : CellRows) (bytes : List ℕ) (k : ℕ) (o : Option Pool) → IsSome o
+    → IfSome o (λ p. drop k table ≡ (p.name, cell_pool_of p) ∷ rows_behind table (Some p.name)) → IfSome o (λ p. bytes ≡ p.name)
+    → rows_behind table (Some bytes) ≡ drop (k + 1) table
+rows_left table bytes k None there left named = absurd (let no : false ≡ true = there in cc)
+rows_left table bytes k (Some p) there left named =
+    ap (λ n. rows_behind table (Some n)) named
+    ∙ step_left (drop k table) table k refl (p.name, cell_pool_of p) (rows_behind table (Some p.name)) left

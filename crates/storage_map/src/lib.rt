@@ -9,6 +9,7 @@ mod counts;
 mod fields;
 mod maps;
 mod pools;
+mod positions;
 mod subpools;
 mod sums;
 mod tasks;
@@ -18,5 +19,6 @@ pub use cell_pool::{CellExtentPlace, CellId, CellPlace, CellSettings, Extent, He
 pub use counts::Totals;
 pub use maps::{put_history, put_map, write_history, write_map};
 pub use pools::{cell_pool_header, cell_pool_name, cell_pool_settings, next_cell_pool};
+pub use positions::{cell_extent_at, cell_pool_at, free_cell_at};
 pub use sums::totals;
 pub use walks::{first_cell_extent, first_free_cell, next_cell_extent, next_free_cell};

@@ -4,7 +4,7 @@ use Rattle.std.specs.Prelude.{if◌then◌else◌}
 use Rattle.vsm_elements.specs.Store.{Store, at, among}
 use Rattle.vsm_elements.specs.Ownership.{Leaves, Apart}
 use Rattle.vsm_elements.proofs.ChainFrame.{stays, false_if}
-use Rattle.row_table.specs.Rows.{same_key}
+use Rattle.row_table.specs.Rows.{same_key, either_of}
 use Rattle.row_table.proofs.RowLemmas.{either, not_both, if_true, if_false, none_some, same_parts, same_by, eqb_same, eqb_refl}
 use Rattle.descriptor_queue.specs.declared.extents.Extents.{Extents}
 use Rattle.descriptor_queue.specs.Extents.{IsExtents, extents_of}
@@ -13,9 +13,9 @@ use Rattle.free_queue.specs.declared.queue.FreeQueue.{FreeQueue}
 use Rattle.free_queue.specs.FreeQueue.{IsFreeQueue, queue_of}
 use Rattle.free_queue.specs.FreeQueue
 use Rattle.subpool_set.specs.declared.queues.Queues.{Queues}
-use Rattle.subpool_set.specs.Pools.{Pool, Pools, no_queues, pools_with, pools_given}
+use Rattle.subpool_set.specs.Pools.{Pool, Pools, no_queues, pools_with, pools_given, pool_alone}
 use Rattle.subpool_set.specs.QueueElements.{ids_of, StandApart, AreApart}
-use Rattle.subpool_set.proofs.HeadLemmas.{both_live, both_kept, both_stay}
+use Rattle.subpool_set.proofs.HeadLemmas.{both_live, both_kept, both_stay, in_left, in_right, in_either}
 
 -- a subpool whose queues are those of another, which was there
 pub record Came (f : Pools) (n o : ℕ) (p : Pool) : Type 0 where
@@ -83,6 +83,14 @@ pub stay_apart : (s t : Store) (had has : List ℕ) → Leaves s t had has → (
 stay_apart s t had has call f g same was =
     apart_after s t had has call f g (λ n o. o) (λ n o p e. inr (record { pool = p; there = sym (same n o) ∙ e; same = refl })) (λ n o r p x e k h. h) was
 
+-- fewer subpools, and fewer others
+pub part_apart : (s : Store) (f g : Pools) (xs ys : List ℕ) → ((n o : ℕ) (p : Pool) → g n o ≡ Some p → f n o ≡ Some p) → ((i : ℕ) → among i ys ≡ true → among i xs ≡ true) → AreApart s f xs → AreApart s g ys
+part_apart s f g xs ys less fewer was = record {
+  stand = λ n o p e. was.stand n o p (less n o p e);
+  apart = λ n o m r p x e k d. was.apart n o m r p x (less n o p e) (less m r x k) d;
+  beside = λ n o p e i z. was.beside n o p (less n o p e) i (fewer i z);
+}
+
 -- a new subpool, whose queues are empty
 pub new_apart : (s t : Store) (had has : List ℕ) → Leaves s t had has → (f g : Pools) (number owner id : ℕ)
     → ((n o : ℕ) → g n o ≡ pools_with f number owner (Some (record { id = id; queues = no_queues })) n o)
@@ -141,6 +149,32 @@ pub given_apart : (s t : Store) (had has : List ℕ) → Leaves s t had has → 
 given_apart s t had has call f g number giver to given was =
     apart_after s t had has call f g (home f number giver to) (λ n o p e. inr (record { pool = p; there = given_home f number giver to n o p (sym (given n o) ∙ e); same = refl }))
     (λ n o r p x e k h. home_one f number giver to n o r p x (sym (given n o) ∙ e) (sym (given n r) ∙ k) h) was
+
+-- a subpool that was taken out, and the others, are together what was there
+pub taken_apart : (s t : Store) (had xs ys : List ℕ) → Leaves s t had (xs ++ ys) → (f left out : Pools) (number owner : ℕ)
+    → ((n o : ℕ) → left n o ≡ pools_with f number owner None n o) → ((n o : ℕ) → out n o ≡ pool_alone f number owner n o) → AreApart s f had
+    → AreApart t (λ n o. either_of (out n o) (left n o)) (xs ++ ys)
+taken_apart s t had xs ys call f left out number owner rest alone was =
+    stay_apart s t had (xs ++ ys) call f (λ n o. either_of (out n o) (left n o)) (λ n o. ap (λ (z : Option Pool). either_of z (left n o)) (alone n o) ∙ ap (either_of (pool_alone f number owner n o)) (rest n o) ∙ whole (same_key owner number o n) (f n o)) was where
+      whole : (b : Bool) (x : Option Pool) → either_of (if b then x else None) (if b then None else x) ≡ x
+      whole true None = refl
+      whole true (Some y) = refl
+      whole false x = refl
+
+pub left_apart : (s : Store) (xs ys : List ℕ) (f left out : Pools) (number owner : ℕ)
+    → ((n o : ℕ) → left n o ≡ pools_with f number owner None n o) → ((n o : ℕ) → out n o ≡ pool_alone f number owner n o)
+    → AreApart s (λ n o. either_of (out n o) (left n o)) (xs ++ ys) → AreApart s left xs × AreApart s out ys
+left_apart s xs ys f left out number owner rest alone both = (
+  part_apart s (λ n o. either_of (out n o) (left n o)) left (xs ++ ys) xs (λ n o p e. ap (λ (z : Option Pool). either_of z (left n o)) (alone n o) ∙ beside (same_key owner number o n) (f n o) (left n o) p (rest n o) e) (λ i z. in_left i xs ys z) both,
+  part_apart s (λ n o. either_of (out n o) (left n o)) out (xs ++ ys) ys (λ n o p e. ap (λ (z : Option Pool). either_of z (left n o)) e) (λ i z. in_right i xs ys z) both,
+) where
+  beside : (b : Bool) (x y : Option Pool) (p : Pool) → y ≡ (if b then None else x) → y ≡ Some p → either_of (if b then x else None) y ≡ Some p
+  beside true x y p h e = absurd (none_some y p h e)
+  beside false x y p h e = e
+
+-- the two parts in the other order
+pub turn_apart : (s : Store) (f : Pools) (xs ys : List ℕ) → AreApart s f (xs ++ ys) → AreApart s f (ys ++ xs)
+turn_apart s f xs ys was = part_apart s f f (xs ++ ys) (ys ++ xs) (λ n o p e. e) (λ i z. elim (in_either i ys xs z) [ inl m ↦ in_right i xs ys m | inr m ↦ in_left i xs ys m ]) was
 
 -- new queues are empty
 pub empty_queues : (t : Store) (e : Extents) (f : FreeQueue) → e ≡ extents_of 0 0 → f ≡ queue_of 0 0 → IsExtents t e → Extents.owned t e ≡ [] → IsFreeQueue t f → FreeQueue.owned t f ≡ []

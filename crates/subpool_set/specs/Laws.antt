@@ -1,5 +1,5 @@
 -- Laws of sets of subpools.
-use Rattle.std.specs.Prelude.{◌≡◌, ℕ, ◌+◌, ◌≤◌, true, false, List, [], Option, Some, None, IsSome}
+use Rattle.std.specs.Prelude.{◌≡◌, ℕ, ◌+◌, ◌≤◌, true, false, List, [], ◌++◌, Option, Some, None, IsSome}
 use Rattle.vsm_elements.specs.Store.{Store, at, among}
 use Rattle.vsm_elements.specs.Owners.{times}
 use Rattle.vsm_elements.specs.Ownership.{Owns, Leaves, Apart}
@@ -8,14 +8,15 @@ use Rattle.descriptor_queue.specs.Extents
 use Rattle.free_queue.specs.FreeQueue.{areas, IsFreeQueue}
 use Rattle.free_queue.specs.FreeQueue
 use Rattle.subpool_set.specs.declared.set.SubpoolSet.{SubpoolSet}
-use Rattle.row_table.specs.Rows.{same_key}
-use Rattle.subpool_set.specs.Pools.{Pool, no_queues, pools_with}
+use Rattle.row_table.specs.Rows.{same_key, either_of}
+use Rattle.subpool_set.specs.Pools.{Pool, Sight, Pools, no_queues, sight_of_pool, sight_without, pools_with, pool_alone}
 use Rattle.subpool_set.specs.SubpoolSet.{sight, pool, owned, number_of, owner_of, IsSubpoolSet, IsPool}
-use Rattle.subpool_set.specs.SubpoolSet.{queue_ids, QueuesStand}
+use Rattle.subpool_set.specs.SubpoolSet.{queue_ids, QueuesStand, IsParked, parked_pool, parked_owned, parked_queue_ids}
 use Rattle.subpool_set.specs.SubpoolSet.{IsPoolPlace, pools_left, IsSharerPlace, sharers_left}
 use Rattle.subpool_set.specs.declared.places.PoolPlace.{PoolPlace}
 use Rattle.subpool_set.specs.declared.places.SharerPlace.{SharerPlace}
-use Rattle.subpool_set.specs.QueueElements.{ids_of, StandApart, AreApart}
+use Rattle.subpool_set.specs.declared.parked.ParkedPool.{ParkedPool}
+use Rattle.subpool_set.specs.QueueElements.{ids_of, StandApart, AreApart, AreApartTogether}
 use Rattle.subpool_set.specs.declared.queues.Queues.{Queues}
 
 -- the queues of a new subpool are empty, in whatever elements
@@ -95,6 +96,16 @@ QueueCallsKeep = (s t : Store) (q : SubpoolSet) (n o : ℕ) (p : Pool) (queues :
     → Leaves s t (ids_of s p.queues) (ids_of t queues) → StandApart t queues
     → AreApart t (pools_with (pool t q) n o (Some (record { id = p.id; queues = queues }))) (owned t q)
 
+-- a set that stands beside parked subpools, and its queues, are as they were once these are discarded
+abbrev pub DiscardsKeep : Type 0
+DiscardsKeep = (s t : Store) (q : SubpoolSet) (p : ParkedPool) → IsSubpoolSet s q → IsParked s p
+    → Apart (parked_owned s p) (owned s q)
+    → AreApartTogether s (parked_pool s p) (pool s q) (parked_owned s p) (owned s q)
+    → ((n o : ℕ) → IsSome (parked_pool s p n o) → pool s q n o ≡ None)
+    → Leaves s t (parked_owned s p ++ parked_queue_ids s p) []
+    → IsSubpoolSet t q × QueuesStand t q × ((task n : ℕ) → sight t q task n ≡ sight s q task n)
+    × ((n o : ℕ) → pool t q n o ≡ pool s q n o)
+
 -- an id is among the queues' just where a subpool's queues have it
 abbrev pub QueueIdsAre : Type 0
 QueueIdsAre = (s : Store) (q : SubpoolSet) (i : ℕ) → IsSubpoolSet s q
@@ -124,3 +135,11 @@ QueueIdsFollow = (s t : Store) (q r : SubpoolSet) (n o : ℕ) (x : Option Pool)
     → ids_of t p.queues ≡ ids_of s p.queues)
     → (i : ℕ)
     → times i (queue_ids t r) + times i (ids_at s (pool s q n o)) ≡ times i (queue_ids s q) + times i (ids_at t x)
+
+-- what was taken out, put back beside what was left, is what was there
+abbrev pub PutBack : Type 0
+PutBack = (f : Sight) (p : Pools) (number owner : ℕ)
+    → ((t n : ℕ) → either_of (sight_of_pool f number owner t n) (sight_without f number owner t n) ≡ f t n)
+    × ((n o : ℕ) → either_of (pool_alone p number owner n o) (pools_with p number owner None n o) ≡ p n o)
+    × ((t n : ℕ) → IsSome (sight_of_pool f number owner t n) → sight_without f number owner t n ≡ None)
+    × ((n o : ℕ) → IsSome (pool_alone p number owner n o) → pools_with p number owner None n o ≡ None)

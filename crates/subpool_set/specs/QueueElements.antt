@@ -6,7 +6,7 @@ use Rattle.descriptor_queue.specs.Extents.{IsExtents}
 use Rattle.descriptor_queue.specs.Extents
 use Rattle.free_queue.specs.FreeQueue.{IsFreeQueue}
 use Rattle.free_queue.specs.FreeQueue
-use Rattle.row_table.specs.Rows.{same_key}
+use Rattle.row_table.specs.Rows.{same_key, either_of}
 use Rattle.subpool_set.specs.declared.queues.Queues.{Queues}
 use Rattle.subpool_set.specs.Pools.{Pool, Pools}
 
@@ -26,3 +26,8 @@ pub record AreApart (s : Store) (pools : Pools) (others : List ℕ) : Type 0 whe
   pub apart : (n o m r : ℕ) (p x : Pool) → pools n o ≡ Some p → pools m r ≡ Some x → same_key n o m r ≡ false
       → Apart (ids_of s p.queues) (ids_of s x.queues)
   pub beside : (n o : ℕ) (p : Pool) → pools n o ≡ Some p → Apart others (ids_of s p.queues)
+
+-- two sets of subpools at once, each with others of its own
+abbrev pub AreApartTogether : Store → Pools → Pools → List ℕ → List ℕ → Type 0
+AreApartTogether s first second others beside =
+    AreApart s (λ n o. either_of (first n o) (second n o)) (others ++ beside)

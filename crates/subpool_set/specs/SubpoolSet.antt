@@ -9,6 +9,7 @@ use Rattle.row_table.specs.Rows.{word}
 use Rattle.row_table.specs.RowTable.{row, rows, words_of, id_before}
 use Rattle.row_table.specs.RowTable
 use Rattle.subpool_set.specs.declared.set.SubpoolSet.{SubpoolSet}
+use Rattle.subpool_set.specs.declared.parked.ParkedPool.{ParkedPool}
 use Rattle.subpool_set.specs.declared.places.PoolPlace.{PoolPlace}
 use Rattle.subpool_set.specs.declared.places.SharerPlace.{SharerPlace}
 use Rattle.subpool_set.specs.Pools.{Sight, Pools}
@@ -76,3 +77,23 @@ IsSharerPlace s q place = RowTable.IsPlace s q.rows place.next
 unfoldable pub sharers_left : Store → SubpoolSet → SharerPlace → ℕ → ℕ → List ℕ
 sharers_left s q place number owner =
     sharer_tasks number owner (drop (RowTable.place_index place.next) (rows s q.rows))
+
+-- A parked pool is a small set of its own.
+
+abbrev pub parked_sight : Store → ParkedPool → Sight
+parked_sight s p = sight s p.set
+
+abbrev pub parked_pool : Store → ParkedPool → Pools
+parked_pool s p = pool s p.set
+
+abbrev pub parked_owned : Store → ParkedPool → List ℕ
+parked_owned s p = owned s p.set
+
+abbrev pub IsParked : Store → ParkedPool → Type 0
+IsParked s p = IsSubpoolSet s p.set
+
+abbrev pub parked_queue_ids : Store → ParkedPool → List ℕ
+parked_queue_ids s p = queue_ids s p.set
+
+abbrev pub ParkedQueuesStand : Store → ParkedPool → Type 0
+ParkedQueuesStand s p = QueuesStand s p.set

@@ -9,6 +9,20 @@ renamed giver to None = None
 renamed giver to (Some r) =
     if owner_in r == giver then Some (record { id = r.id; words = slice_set r.words 2 to }) else Some r
 
+-- the row, if it names this owner
+abbrev pub only_of : ℕ → Option Row → Option Row
+only_of owner None = None
+only_of owner (Some r) = if owner_in r == owner then Some r else None
+
+-- the row, if it names another owner
+abbrev pub all_but : ℕ → Option Row → Option Row
+all_but owner None = None
+all_but owner (Some r) = if owner_in r == owner then None else Some r
+
 -- g is f in change at this number for the tasks below k, and h for all others
 abbrev pub IsSwept : (Option Row → Option Row) → Rows → Rows → ℕ → ℕ → Rows → Type 0
 IsSwept change f h number k g = (a b : ℕ) → g a b ≡ (if (b == number) && nat_lt a k then change (f a b) else h a b)
+
+-- no rows
+abbrev pub no_rows : Rows
+no_rows a b = None

@@ -1,20 +1,22 @@
-ghost use Rattle.std.specs.Prelude.{◌≡◌, ◌≢◌, ℕ, ◌+◌, ◌<◌, ◌≤◌, [], Some, None, IsSome, IfSome, IfNone};
+ghost use Rattle.std.specs.Prelude.{◌≡◌, ◌≢◌, ℕ, ◌+◌, ◌<◌, ◌≤◌, ◌++◌, [], Some, None, IsSome, IfSome, IfNone};
 ghost use Rattle.vsm_elements.specs.Store.{Store, among};
-ghost use Rattle.vsm_elements.specs.Ownership.{Leaves};
-ghost use Rattle.row_table.specs.Rows.{IsInRange};
-ghost use Rattle.subpool_set.specs.Pools.{no_queues, sight_with, pools_with, sight_given, pools_given};
+ghost use Rattle.vsm_elements.specs.Ownership.{Leaves, Apart};
+ghost use Rattle.row_table.specs.Rows.{either_of, IsInRange};
+ghost use Rattle.subpool_set.specs.Pools.{no_queues, sight_with, pools_with, sight_given, pools_given, sight_of_pool};
+ghost use Rattle.subpool_set.specs.Pools.{sight_without, pool_alone};
 ghost use Rattle.row_table.specs.RowTable.{row};
 ghost use Rattle.subpool_set.specs.Kept.{owner_in, AreWords};
-ghost use Rattle.subpool_set.specs.QueueElements.{AreApart};
+ghost use Rattle.subpool_set.specs.QueueElements.{AreApart, AreApartTogether};
 
+use crate::parked::ParkedPool;
 use crate::queues::Queues;
-use crate::sweeps::rename_rows;
+use crate::sweeps::{park_rows, rename_rows};
 use descriptor_queue::Extents;
 use free_queue::FreeQueue;
 use row_table::{Row, RowTable};
 use vsm_elements::{Elements, Id};
 
-/// The name of a subpool: the id of its element, which it keeps when it is given away.
+/// The name of a subpool: the id of its element, which it keeps while it is parked and when it is given away.
 pub type PoolId = Id;
 
 /// The head of the subpools of all tasks, each with its owner, its sharers and the heads of its queues.
@@ -53,7 +55,8 @@ crate::specs::SubpoolSet::number_of, crate::specs::SubpoolSet::owner_of,
 crate::specs::SubpoolSet::owned, crate::specs::SubpoolSet::IsSubpoolSet))]
 impl SubpoolSet {
     ghost use Rattle.subpool_set.specs.SubpoolSet.{sight, pool, owned, number_of, owner_of, IsSubpoolSet, IsPool};
-    ghost use Rattle.subpool_set.specs.SubpoolSet.{QueuesStand};
+    ghost use Rattle.subpool_set.specs.SubpoolSet.{parked_sight, parked_pool, parked_owned, IsParked};
+    ghost use Rattle.subpool_set.specs.SubpoolSet.{QueuesStand, ParkedQueuesStand};
 
     /// The set without subpools. It has no element.
     pub fn new() -> SubpoolSet
@@ -272,5 +275,61 @@ impl SubpoolSet {
         let words = row_words(to, number, to, queues);
         self.rows
             .set_key(elements, u32::from(giver), u32::from(number), words);
+    }
+
+    /// Takes the subpool out, with its sight and its queues. Its elements, and its id, stay.
+    pub fn unplug(&mut self, elements: &mut Elements, id: PoolId) -> ParkedPool
+        requires set { IsSubpoolSet elements.old self.old }
+        requires pool { IsPool elements.old self.old id }
+        ensures set { IsSubpoolSet elements.new self.new }
+        ensures parked { IsParked elements.new result }
+        ensures sight { (t n : ℕ) → sight elements.new self.new t n
+            ≡ sight_without (sight elements.old self.old) (number_of elements.old id) (owner_of elements.old id) t n }
+        ensures pools { (n o : ℕ) → pool elements.new self.new n o
+            ≡ pools_with (pool elements.old self.old) (number_of elements.old id) (owner_of elements.old id) None n o }
+        ensures sight_out { (t n : ℕ) → parked_sight elements.new result t n
+            ≡ sight_of_pool (sight elements.old self.old) (number_of elements.old id) (owner_of elements.old id) t n }
+        ensures pools_out { (n o : ℕ) → parked_pool elements.new result n o
+            ≡ pool_alone (pool elements.old self.old) (number_of elements.old id) (owner_of elements.old id) n o }
+        ensures apart { Apart (parked_owned elements.new result) (owned elements.new self.new) }
+        ensures owned { Leaves elements.old elements.new (owned elements.old self.old)
+            (owned elements.new self.new ++ parked_owned elements.new result) }
+        ensures queues { QueuesStand elements.old self.old → QueuesStand elements.new self.new }
+        ensures queues_out { QueuesStand elements.old self.old → ParkedQueuesStand elements.new result }
+        ensures queues_apart { QueuesStand elements.old self.old → AreApartTogether elements.new
+            (parked_pool elements.new result) (pool elements.new self.new)
+            (parked_owned elements.new result) (owned elements.new self.new) }
+        ensures spares { elements.new.spare ≡ elements.old.spare }
+    {
+        let owner = self.owner(elements, id);
+        let number = self.number(elements, id);
+        let rows = park_rows(&mut self.rows, elements, number, owner);
+        ParkedPool {
+            set: SubpoolSet { rows },
+        }
+    }
+
+    /// Puts parked subpools back, with their sight and their queues.
+    pub fn replug(&mut self, elements: &mut Elements, parked: ParkedPool)
+        requires set { IsSubpoolSet elements.old self.old }
+        requires parked { IsParked elements.old parked }
+        requires free { (t n : ℕ) → IsSome (parked_sight elements.old parked t n)
+            → sight elements.old self.old t n ≡ None }
+        requires apart { Apart (parked_owned elements.old parked) (owned elements.old self.old) }
+        ensures set { IsSubpoolSet elements.new self.new }
+        ensures sight { (t n : ℕ) → sight elements.new self.new t n
+            ≡ either_of (parked_sight elements.old parked t n) (sight elements.old self.old t n) }
+        ensures pools { (n o : ℕ) → pool elements.new self.new n o
+            ≡ either_of (parked_pool elements.old parked n o) (pool elements.old self.old n o) }
+        ensures owned { Leaves elements.old elements.new
+            (parked_owned elements.old parked ++ owned elements.old self.old) (owned elements.new self.new) }
+        ensures queues { AreApartTogether elements.old
+            (parked_pool elements.old parked) (pool elements.old self.old)
+            (parked_owned elements.old parked) (owned elements.old self.old)
+            → QueuesStand elements.new self.new }
+        ensures spares { elements.new.spare ≡ elements.old.spare }
+    {
+        let ParkedPool { set } = parked;
+        set.rows.move_all(elements, &mut self.rows);
     }
 }

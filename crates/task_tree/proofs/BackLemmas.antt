@@ -1,14 +1,24 @@
--- Task 1 is below no other task.
-use Rattle.std.proofs.Common.{◌≡◌, ◌≢◌, ℕ, ◌≤◌, Bool, true, false, not, ◌&&◌, ◌==◌, Option, Some, IsSome, refl, sym, ap, ◌∙◌, subst, arith}
-use Rattle.row_table.proofs.RowLemmas.{not_both, eqb_same}
+-- A subtree that is parked and restored.
+use Rattle.std.proofs.Common.{◌≡◌, ◌≢◌, ℕ, ◌<◌, ◌≤◌, Bool, true, false, not, ◌&&◌, ◌==◌, Option, Some, None, IsSome, ◌⊎◌, inl, inr, refl, sym, ap, ◌∙◌, subst, arith}
+use Rattle.std.specs.Prelude.{if◌then◌else◌, is_some}
+use Rattle.row_table.specs.Rows.{either_of}
+use Rattle.row_table.proofs.RowLemmas.{not_both, none_some, eqb_same, eqb_refl}
 use Rattle.vsm_elements.proofs.ChainFrame.{false_if}
-use Rattle.task_tree.specs.Tasks.{Parents, IsBelow}
+use Rattle.task_tree.specs.Tasks.{Parents, Words, IsBelow, IsTaken, IsLeft}
 use Rattle.task_tree.specs.TaskTree.{parent}
-use Rattle.task_tree.specs.Laws.{RootIsAbove}
+use Rattle.task_tree.specs.Laws.{RootIsAbove, PutBack}
 use Rattle.task_tree.proofs.LawLemmas.{trees_stand}
+
+gone : (o : Option ℕ) → o ≡ None → IsSome o → ⊥
+gone None e h = not_both false h refl
+gone (Some x) e h = none_some (Some x) x e refl
 
 some_of : (o : Option ℕ) (x : ℕ) → o ≡ Some x → IsSome o
 some_of o x e = let P : Option ℕ → Type 0 = λ z. IsSome z in subst P (sym e) refl
+
+not_true : (b : Bool) → not b ≡ true → b ≡ false
+not_true true h = absurd (not_both false h refl)
+not_true false h = refl
 
 and_both : (a b : Bool) → a ≡ true → b ≡ true → (a && b) ≡ true
 and_both a b p q = ap (λ (z : Bool). z && b) p ∙ q
@@ -40,3 +50,45 @@ root_is_above s q top h there ne below =
     root_below (parent s q) top (λ e. no_zero (w.1 top there).0 e) ne w.2 (λ t k e. no_zero (w.1 t k).0 e) below where
       no_zero : {t : ℕ} → 1 ≤ t → t ≡ 0 → ⊥
       no_zero p e = omega (arith, p, e)
+
+-- who isn't there isn't below
+below_there : (f : Parents) (top t : ℕ) → IsSome (f top) → IsBelow f top t → f t ≡ None → ⊥
+below_there f top t there below none = not_both (not (t == t)) (below (λ x. not (x == t)) (other top there) (λ child parent e h. other child (some_of (f child) parent e))) (ap not (eqb_refl t)) where
+  other : (x : ℕ) → IsSome (f x) → not (x == t) ≡ true
+  other x h = not_false (x == t) (differ x t (λ e. gone (f x) (ap f e ∙ none) h))
+
+module _ (f rest out : Parents) (words rest_words out_words : Words) (top : ℕ) (there : IsSome (f top)) where
+  abbrev Parted : ℕ → Type 0
+  Parted t = IsTaken f rest out words out_words top t ⊎ IsLeft f rest out words rest_words top t
+
+  free : (t : ℕ) → Parted t → IsSome (out t) → rest t ≡ None
+  free t (inl h) k = h.gone
+  free t (inr h) k = absurd (gone (out t) h.none k)
+
+  whole : (t : ℕ) → Parted t → either_of (out t) (rest t) ≡ f t
+  whole t (inl h) = ap (λ (z : Option ℕ). either_of z (rest t)) h.parent ∙ ap (either_of (f t)) h.gone ∙ alone (f t) where
+    alone : (x : Option ℕ) → either_of x None ≡ x
+    alone None = refl
+    alone (Some x) = refl
+  whole t (inr h) = ap (λ (z : Option ℕ). either_of z (rest t)) h.none ∙ h.parent
+
+  same_words : (t r : ℕ) → r < 16 → Parted t → (if is_some (out t) then out_words t r else rest_words t r) ≡ words t r
+  same_words t r l (inl h) = go (out t) refl where
+    go : (x : Option ℕ) → out t ≡ x → (if is_some x then out_words t r else rest_words t r) ≡ words t r
+    go None e = absurd (below_there f top t there h.below (sym h.parent ∙ e))
+    go (Some x) e = h.registers r l
+  same_words t r l (inr h) = ap (λ (z : Option ℕ). if is_some z then out_words t r else rest_words t r) h.none ∙ h.registers r l
+
+pub put_back : PutBack
+put_back f rest out words rest_words out_words top there above homes parted = (
+  (λ t k. free f rest out words rest_words out_words top there t (parted t) k),
+  (λ t p e. home t p e (parted t)),
+  (λ t. whole f rest out words rest_words out_words top there t (parted t)),
+  (λ t r l. same_words f rest out words rest_words out_words top there t r l (parted t)),
+) where
+  home : (t p : ℕ) → out t ≡ Some p → IsTaken f rest out words out_words top t ⊎ IsLeft f rest out words rest_words top t → IsSome (either_of (out p) (rest p))
+  home t p e (inl h) =
+      let P : Option ℕ → Type 0 = λ z. IsSome z in
+      let ne : t ≢ 1 = λ q. above (let Q : ℕ → Type 0 = λ z. IsBelow f top z in subst Q q h.below) in
+      subst P (sym (whole f rest out words rest_words out_words top there p (parted p))) (homes t p (sym h.parent ∙ e) ne)
+  home t p e (inr h) = absurd (none_some (out t) p h.none e)

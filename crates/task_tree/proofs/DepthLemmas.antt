@@ -1,10 +1,11 @@
 -- Trees without cycles. That there are depths is truncated: it says that there are some, and not which.
-use Rattle.std.proofs.Common.{◌≡◌, ◌≢◌, ℕ, zero, suc, ◌<◌, ◌≤◌, leb, true, false, ◌==◌, Option, Some, None, IsSome, inl, inr, refl, sym, ap, ◌∙◌, subst, arith}
+use Rattle.std.proofs.Common.{◌≡◌, ◌≢◌, ℕ, zero, suc, ◌+◌, ◌<◌, ◌≤◌, leb, true, false, ◌==◌, Option, Some, None, IsSome, is_some, inl, inr, refl, sym, ap, ◌∙◌, subst, arith}
 use Rattle.std.specs.Prelude.{if◌then◌else◌}
-use Rattle.std.proofs.Math.Logic.{∥∥₁_elim, ∥∥₁_map}
+use Rattle.std.proofs.Math.Logic.{∥∥₁_elim, ∥∥₁_map, ∥∥₁_map₂}
 use Rattle.std.proofs.Props.{props}
 use Rattle.std.proofs.lemmas.Bool.{le-leb, leb-true}
-use Rattle.row_table.proofs.RowLemmas.{either, not_both, if_true, if_false, none_some, eqb_same}
+use Rattle.row_table.specs.Rows.{either_of}
+use Rattle.row_table.proofs.RowLemmas.{either, not_both, if_true, if_false, none_some, eqb_same, eqb_refl}
 use Rattle.task_tree.specs.Tasks.{Parents, IsBelow, HasDepths, parents_with}
 
 some_nat : (x y : ℕ) → Some x ≡ Some y → x ≡ y
@@ -71,6 +72,10 @@ depths_part f g part some = ∥∥₁_map some (λ d. (d.0, λ t p e. d.1 t p (p
 pub depths_same : (f g : Parents) → ((t : ℕ) → g t ≡ f t) → ∥ HasDepths f ∥₁ → ∥ HasDepths g ∥₁
 depths_same f g same d = depths_part f g (λ t p e. sym (same t) ∙ e) d
 
+-- no task
+pub depths_none : (f : Parents) → ((t : ℕ) → f t ≡ None) → ∥ HasDepths f ∥₁
+depths_none f none = ∣ ((λ x. x), λ t p e. absurd (none_some (f t) p (none t) e)) ∣₁
+
 -- the first task alone
 first_depths : (f : Parents) → ((t : ℕ) → f t ≡ (if t == 1 then Some 0 else None)) → HasDepths f
 first_depths f first = (
@@ -120,3 +125,69 @@ pub depths_more : (f g : Parents) (task under : ℕ) → f task ≡ None → 1 �
     → ((t p : ℕ) → f t ≡ Some p → p ≢ 0 → IsSome (f p)) → ∥ HasDepths f ∥₁ → ∥ HasDepths g ∥₁
 depths_more f g task under absent low home added parents some =
     ∥∥₁_map some (λ d. more_depths f g task under absent low home added parents d)
+
+-- a number that no depth up to n exceeds
+abbrev most : (ℕ → ℕ) → ℕ → ℕ
+most d zero = d zero
+most d (suc n) = most d n + d (suc n)
+
+most_of : (d : ℕ → ℕ) (n x : ℕ) → x ≤ n → d x ≤ most d n
+most_of d zero x h = let e : x ≡ 0 = omega (arith, h) in let k : d x ≡ d 0 = ap d e in omega (arith, k)
+most_of d (suc n) x h = elim (either (x == suc n)) [
+  | inl e ↦ (let k : d x ≡ d (suc n) = ap d (eqb_same x (suc n) e) in omega (arith, k))
+  | inr e ↦ (let k : d x ≤ most d n = most_of d n x (omega (arith, h, differs e)) in omega (arith, k))
+] where
+  differs : (x == suc n) ≡ false → x ≢ suc n
+  differs e z = not_both (x == suc n) (ap (λ (y : ℕ). y == suc n) z ∙ eqb_refl (suc n)) e
+
+-- parked tasks are put back
+module _ (f g h : Parents) (df : HasDepths f) (dg : HasDepths g) (rows : (t : ℕ) → h t ≡ either_of (f t) (g t)) (free : (t : ℕ) → IsSome (f t) → g t ≡ None)
+    (range : (t : ℕ) → IsSome (f t) → 1 ≤ t) (high : (t : ℕ) → IsSome (g t) → t ≤ 64) (parents : (t p : ℕ) → g t ≡ Some p → p ≢ 0 → IsSome (g p))
+    (homes : (t p : ℕ) → f t ≡ Some p → IsSome (either_of (f p) (g p))) where
+  abbrev joined_depth : ℕ → ℕ
+  joined_depth x = if is_some (f x) then suc (most dg.0 64) + df.0 x else dg.0 x
+
+  parked : (x : ℕ) → is_some (f x) ≡ true → joined_depth x ≡ suc (most dg.0 64) + df.0 x
+  parked x e = if_true (is_some (f x)) (suc (most dg.0 64) + df.0 x) (dg.0 x) e
+
+  left : (x : ℕ) → is_some (f x) ≡ false → joined_depth x ≡ dg.0 x
+  left x e = if_false (is_some (f x)) (suc (most dg.0 64) + df.0 x) (dg.0 x) e
+
+  at_home : (p : ℕ) → is_some (f p) ≡ false → IsSome (either_of (f p) (g p)) → IsSome (g p)
+  at_home p e s = go (f p) e s where
+    go : (x : Option ℕ) → is_some x ≡ false → IsSome (either_of x (g p)) → IsSome (g p)
+    go None e s = s
+    go (Some y) e s = absurd (not_both true refl e)
+
+  join_depths : HasDepths h
+  join_depths = (joined_depth, λ t p e. go t p (f t) refl (sym (rows t) ∙ e)) where
+    from_parked : (t p : ℕ) → f t ≡ Some p → joined_depth p < joined_depth t
+    from_parked t p e =
+        let a : joined_depth t ≡ suc (most dg.0 64) + df.0 t = parked t (ap is_some e) in
+        elim (either (is_some (f p))) [
+          | inl s ↦ (let b : joined_depth p ≡ suc (most dg.0 64) + df.0 p = parked p s in
+              let k : df.0 p < df.0 t = df.1 t p e in
+              omega (arith, a, b, k))
+          | inr s ↦ (let b : joined_depth p ≡ dg.0 p = left p s in
+              let k : dg.0 p ≤ most dg.0 64 = most_of dg.0 64 p (high p (at_home p s (homes t p e))) in
+              omega (arith, a, b, k))
+        ]
+
+    from_left : (t p : ℕ) → f t ≡ None → g t ≡ Some p → joined_depth p < joined_depth t
+    from_left t p n e =
+        let a : joined_depth t ≡ dg.0 t = left t (ap is_some n) in
+        let k : dg.0 p < dg.0 t = dg.1 t p e in
+        elim (either (is_some (f p))) [
+          | inl s ↦ (let l : 1 ≤ p = range p s in absurd (no_task (g p) (free p s) (parents t p e (positive p l))))
+          | inr s ↦ (let b : joined_depth p ≡ dg.0 p = left p s in omega (arith, a, b, k))
+        ]
+
+    go : (t p : ℕ) (x : Option ℕ) → f t ≡ x → either_of x (g t) ≡ Some p → joined_depth p < joined_depth t
+    go t p None e k = from_left t p e k
+    go t p (Some y) e k = from_parked t p (e ∙ k)
+
+pub depths_join : (f g h : Parents) → ∥ HasDepths f ∥₁ → ∥ HasDepths g ∥₁ → ((t : ℕ) → h t ≡ either_of (f t) (g t)) → ((t : ℕ) → IsSome (f t) → g t ≡ None)
+    → ((t : ℕ) → IsSome (f t) → 1 ≤ t) → ((t : ℕ) → IsSome (g t) → t ≤ 64) → ((t p : ℕ) → g t ≡ Some p → p ≢ 0 → IsSome (g p))
+    → ((t p : ℕ) → f t ≡ Some p → IsSome (either_of (f p) (g p))) → ∥ HasDepths h ∥₁
+depths_join f g h parked left rows free range high parents homes =
+    ∥∥₁_map₂ parked left (λ df dg. join_depths f g h df dg rows free range high parents homes)

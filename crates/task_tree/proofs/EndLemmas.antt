@@ -4,7 +4,7 @@ use Rattle.std.specs.Prelude.{if◌then◌else◌, option_map}
 use Rattle.std.proofs.lemmas.Bool.{cases_lt}
 use Rattle.row_table.specs.declared.row.Row.{Row}
 use Rattle.row_table.specs.Rows.{word}
-use Rattle.row_table.proofs.RowLemmas.{either, not_both, if_true, if_false, none_some, eqb_same}
+use Rattle.row_table.proofs.RowLemmas.{either, not_both, if_true, if_false, none_some, eqb_same, eqb_refl}
 use Rattle.task_tree.specs.Tasks.{IsBelow}
 use Rattle.task_tree.specs.Kept.{Rows, parents_in, IsTree}
 use Rattle.task_tree.proofs.ParkLemmas.{IsSplit, below_four, parent_some, rest_tree, first_stays}
@@ -44,10 +44,15 @@ module _ (f rest : Rows) (task : ℕ) (tree : IsTree f) (there : IsSome (parents
       | inl e ↦ here t k e ∙ sym (if_true (is_some (out t 0)) None (f t k) (in_out t e))
       | inr e ↦ away t k e ∙ sym (if_false (is_some (out t 0)) None (f t k) (not_out t e))
     ];
+    taken = λ t k. elim (either (t == task)) [
+      | inl e ↦ if_true (t == task) (f t k) None e ∙ sym (if_true (is_some (out t 0)) (f t k) None (in_out t e))
+      | inr e ↦ if_false (t == task) (f t k) None e ∙ sym (if_false (is_some (out t 0)) (f t k) None (not_out t e))
+    ];
     below = λ t h. elim (either (t == task)) [
       | inl e ↦ (let P : ℕ → Type 0 = IsBelow (parents_in f) task in subst P (sym (eqb_same t task e)) (λ set begin closed. begin))
       | inr e ↦ absurd (not_both (is_some (out t 0)) h (not_out t e))
     ];
+    begun = in_out task (eqb_refl task);
   }
 
   ended_parents : (t : ℕ) → parents_in rest t ≡ (if t == task then None else parents_in f t)
@@ -68,7 +73,7 @@ module _ (f rest : Rows) (task : ℕ) (tree : IsTree f) (there : IsSome (parents
   ]
 
   pub ended_tree : IsTree rest
-  ended_tree = rest_tree f rest out task split tree.tasks homes tree (first_stays f rest out task split tree there other)
+  ended_tree = rest_tree f rest out task split tree.tasks tree.parents homes tree (first_stays f rest out task split tree there other)
 
   pub ended_running : (t : ℕ) → t ≢ task → IsSome (parents_in f t) → IsSome (parents_in rest t)
   ended_running t ne h = elim (either (t == task)) [

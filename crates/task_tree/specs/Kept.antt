@@ -48,6 +48,11 @@ pub record IsKept (s : Store) (q : RowTable) (current : ℕ) (ids : List ℕ) : 
   pub running : IsSome (parents_in (row s q) current)
   pub quarters : AreQuarters (row s q) current ids
 
+pub record AreParked (s : Store) (q : RowTable) : Type 0 where
+  pub table : IsTable s q
+  pub tasks : AreTasks (row s q)
+  pub depths : ∥ HasDepths (parents_in (row s q)) ∥₁
+
 -- the words of a task's row, whose registers are zero
 abbrev pub zero_words : ℕ → ℕ → ℕ → List ℕ
 zero_words task quarter parent = task ∷ quarter ∷ parent ∷ 0 ∷ 0 ∷ 0 ∷ 0 ∷ []

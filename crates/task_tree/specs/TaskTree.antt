@@ -5,8 +5,9 @@ use Rattle.vsm_elements.specs.Store.{Store}
 use Rattle.row_table.specs.RowTable.{row}
 use Rattle.row_table.specs.RowTable
 use Rattle.task_tree.specs.declared.tree.TaskTree.{TaskTree}
+use Rattle.task_tree.specs.declared.parked.ParkedTasks.{ParkedTasks}
 use Rattle.task_tree.specs.Tasks.{Parents, Words}
-use Rattle.task_tree.specs.Kept.{parents_in, words_in, IsKept}
+use Rattle.task_tree.specs.Kept.{parents_in, words_in, IsKept, AreParked}
 
 -- the parent of a task that is there
 unfoldable pub parent : Store → TaskTree → Parents
@@ -25,3 +26,17 @@ owned s q = RowTable.owned s q.rows
 
 unfoldable pub IsTaskTree : Store → TaskTree → Type 0
 IsTaskTree s q = IsKept s q.rows q.current q.quarters
+
+-- tasks that were taken out
+
+unfoldable pub parked_parent : Store → ParkedTasks → Parents
+parked_parent s p = parents_in (row s p.rows)
+
+unfoldable pub parked_word : Store → ParkedTasks → Words
+parked_word s p = words_in (row s p.rows)
+
+unfoldable pub parked_owned : Store → ParkedTasks → List ℕ
+parked_owned s p = RowTable.owned s p.rows
+
+unfoldable pub IsParkedTasks : Store → ParkedTasks → Type 0
+IsParkedTasks s p = AreParked s p.rows

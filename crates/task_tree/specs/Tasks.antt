@@ -27,6 +27,20 @@ pub record IsLeastFree (f : Parents) (number : ℕ) : Type 0 where
   pub free : f number ≡ None
   pub least : (t : ℕ) → 1 ≤ t → t < number → IsSome (f t)
 
+-- a task that was taken out of f, to out: rest is what was left
+pub record IsTaken (f rest out : Parents) (words out_words : Words) (top task : ℕ) : Type 0 where
+  pub below : IsBelow f top task
+  pub gone : rest task ≡ None
+  pub parent : out task ≡ f task
+  pub registers : (r : ℕ) → r < 16 → out_words task r ≡ words task r
+
+-- a task that was left
+pub record IsLeft (f rest out : Parents) (words rest_words : Words) (top task : ℕ) : Type 0 where
+  pub beside : ¬ IsBelow f top task
+  pub none : out task ≡ None
+  pub parent : rest task ≡ f task
+  pub registers : (r : ℕ) → r < 16 → rest_words task r ≡ words task r
+
 -- all tasks: closed, since they are long
 unfoldable pub tasks : List ℕ
 tasks = range_with_len 1 64

@@ -1,10 +1,11 @@
 //! The four rows of a task.
 
-ghost use Rattle.std.specs.Prelude.{◌≡◌, ◌≢◌, ℕ, ◌+◌, ◌<◌, ◌≤◌, ◌==◌, ◌&&◌, nat_lt, Some, None, IsSome};
-ghost use Rattle.std.specs.Prelude.{option_map, if◌then◌else◌};
-ghost use Rattle.vsm_elements.specs.Ownership.{Leaves};
+ghost use Rattle.std.specs.Prelude.{◌≡◌, ◌≢◌, ℕ, ◌+◌, ◌<◌, ◌≤◌, ◌++◌, ◌==◌, ◌&&◌, nat_lt, length, Some, None, IsSome};
+ghost use Rattle.std.specs.Prelude.{IfNone, IfSome, option_map, if◌then◌else◌};
+ghost use Rattle.vsm_elements.specs.Ownership.{Leaves, Apart};
+ghost use Rattle.row_table.specs.Rows.{same_key};
 ghost use Rattle.row_table.specs.RowTable.{row, owned, IsTable};
-ghost use Rattle.task_tree.specs.Kept.{parents_in, words_at, zero_words, AreQuarters};
+ghost use Rattle.task_tree.specs.Kept.{parents_in, words_at, zero_words, AreTasks, AreQuarters};
 
 use row_table::RowTable;
 use vsm_elements::{Elements, Id};
@@ -41,6 +42,32 @@ pub(crate) fn quarters_of(rows: &RowTable, elements: &Elements, task: u32) -> [I
     let third = id_at(rows, elements, task, 2);
     let fourth = id_at(rows, elements, task, 3);
     [first, second, third, fourth]
+}
+
+// The task's rows move to another table.
+pub(crate) fn move_task(rows: &mut RowTable, elements: &mut Elements, task: u32, to: &mut RowTable)
+    requires table { IsTable elements.old rows.old }
+    requires to { IsTable elements.old to.old }
+    requires there { (k : ℕ) → k < 4 → IsSome (row elements.old rows.old task k) }
+    requires absent { (k : ℕ) → k < 4 → row elements.old to.old task k ≡ None }
+    requires apart { Apart (owned elements.old rows.old) (owned elements.old to.old) }
+    ensures table { IsTable elements.new rows.new }
+    ensures to { IsTable elements.new to.new }
+    ensures left { (a b : ℕ) → row elements.new rows.new a b
+        ≡ (if (a == task) && nat_lt b 4 then None else row elements.old rows.old a b) }
+    ensures moved { (a b : ℕ) → row elements.new to.new a b
+        ≡ (if (a == task) && nat_lt b 4 then row elements.old rows.old a b
+        else row elements.old to.old a b) }
+    ensures fewer { length (owned elements.new rows.new) + 4 ≡ length (owned elements.old rows.old) }
+    ensures apart { Apart (owned elements.new rows.new) (owned elements.new to.new) }
+    ensures owned { Leaves elements.old elements.new
+        (owned elements.old rows.old ++ owned elements.old to.old)
+        (owned elements.new rows.new ++ owned elements.new to.new) }
+    ensures spares { elements.new.spare ≡ elements.old.spare }
+{
+    for quarter in 0..4 {
+        rows.move_row(elements, task, quarter, to);
+    }
 }
 
 // The task's rows go.
@@ -83,4 +110,23 @@ pub(crate) fn add_task(rows: &mut RowTable, elements: &mut Elements, task: u32, 
     for quarter in 0..4 {
         rows.insert(elements, first_words(task, quarter, parent));
     }
+}
+
+// A task whose parent is not there.
+pub(crate) fn orphan(rows: &RowTable, elements: &Elements) -> Option<u32>
+    requires table { IsTable elements.now rows.now }
+    requires tasks { AreTasks (row elements.now rows.now) }
+    ensures none { IfNone result ((t p : ℕ) → parents_in (row elements.now rows.now) t ≡ Some p → p ≢ 0
+        → IsSome (parents_in (row elements.now rows.now) p)) }
+    ensures some { IfSome result (λ t. (p : ℕ) × (parents_in (row elements.now rows.now) t ≡ Some p)
+        × (p ≢ 0) × (parents_in (row elements.now rows.now) p ≡ None)) }
+{
+    for task in 1..65 {
+        if let Some(parent) = parent_in(rows, elements, task) {
+            if parent != 0 && parent_in(rows, elements, parent).is_none() {
+                return Some(task);
+            }
+        }
+    }
+    None
 }

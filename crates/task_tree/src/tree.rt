@@ -1,12 +1,14 @@
-ghost use Rattle.std.specs.Prelude.{◌≡◌, ◌≢◌, ℕ, ◌+◌, ◌<◌, ◌≤◌, ◌==◌, ◌&&◌, ◌⊎◌, [], Some, None, IsSome};
-ghost use Rattle.std.specs.Prelude.{Ok, Err, IfOk, IfErr, slice_get, option_map};
+ghost use Rattle.std.specs.Prelude.{◌≡◌, ◌≢◌, ℕ, ◌+◌, ◌<◌, ◌≤◌, ◌++◌, ◌==◌, ◌&&◌, ◌⊎◌, [], Some, None, IsSome};
+ghost use Rattle.std.specs.Prelude.{is_some, Ok, Err, IfOk, IfErr, slice_get, option_map};
 ghost use Rattle.std.specs.Prelude.{if◌then◌else◌};
-ghost use Rattle.vsm_elements.specs.Ownership.{Leaves};
+ghost use Rattle.vsm_elements.specs.Ownership.{Leaves, Apart};
+ghost use Rattle.row_table.specs.Rows.{either_of};
 ghost use Rattle.row_table.specs.RowTable.{row};
-ghost use Rattle.task_tree.specs.Tasks.{IsLeastFree, parents_with, tasks_in};
+ghost use Rattle.task_tree.specs.Tasks.{IsBelow, IsLeastFree, IsTaken, IsLeft, parents_with, tasks_in};
 
 use crate::faults::TreeFault;
-use crate::moves::{add_task, parent_in, quarters_of, remove_task};
+use crate::moves::{add_task, move_task, orphan, parent_in, quarters_of, remove_task};
+use crate::parked::ParkedTasks;
 use row_table::RowTable;
 use vsm_elements::{Elements, Id};
 
@@ -26,9 +28,14 @@ pub struct TaskTree {
 // the tasks
 crate::specs::TaskTree::parent, crate::specs::TaskTree::word, crate::specs::TaskTree::current,
 // whose the elements are
-crate::specs::TaskTree::owned, crate::specs::TaskTree::IsTaskTree))]
+crate::specs::TaskTree::owned, crate::specs::TaskTree::IsTaskTree,
+// tasks that were taken out
+crate::specs::TaskTree::parked_parent, crate::specs::TaskTree::parked_word,
+// and their elements
+crate::specs::TaskTree::parked_owned, crate::specs::TaskTree::IsParkedTasks))]
 impl TaskTree {
-    ghost use Rattle.task_tree.specs.TaskTree.{parent, word, current, owned, IsTaskTree};
+    ghost use Rattle.task_tree.specs.TaskTree.{parent, word, current, owned, IsTaskTree, parked_parent, parked_word};
+    ghost use Rattle.task_tree.specs.TaskTree.{parked_owned, IsParkedTasks};
 
     /// The task that makes the requests.
     pub fn current(&self) -> u8
@@ -153,6 +160,58 @@ impl TaskTree {
             Some(id) => self.rows.words(elements, id)[3 + usize::from(r % 4)],
             None => 0,
         }
+    }
+
+    /// Takes the task and all below it out, with their parents and registers.
+    pub fn park_subtree(&mut self, elements: &mut Elements, task: u8) -> ParkedTasks
+        requires tree { IsTaskTree elements.old self.old }
+        requires there { IsSome (parent elements.old self.old task) }
+        requires other { task ≢ 1 }
+        requires outside { ¬ IsBelow (parent elements.old self.old) task (current self.old) }
+        ensures tree { IsTaskTree elements.new self.new }
+        ensures parked { IsParkedTasks elements.new result }
+        ensures parted { (t : ℕ)
+            → IsTaken (parent elements.old self.old) (parent elements.new self.new)
+            (parked_parent elements.new result) (word elements.old self.old)
+            (parked_word elements.new result) task t
+            ⊎ IsLeft (parent elements.old self.old) (parent elements.new self.new)
+            (parked_parent elements.new result) (word elements.old self.old)
+            (word elements.new self.new) task t }
+        ensures current { current self.new ≡ current self.old }
+        ensures apart { Apart (owned elements.new self.new) (parked_owned elements.new result) }
+        ensures owned { Leaves elements.old elements.new (owned elements.old self.old)
+            (owned elements.new self.new ++ parked_owned elements.new result) }
+        ensures spares { elements.new.spare ≡ elements.old.spare }
+    {
+        let mut parked = RowTable::new();
+        move_task(&mut self.rows, elements, u32::from(task), &mut parked);
+        while let Some(child) = orphan(&self.rows, elements) {
+            move_task(&mut self.rows, elements, child, &mut parked);
+        }
+        ParkedTasks { rows: parked }
+    }
+
+    /// Puts parked tasks back, with their parents and registers.
+    pub fn restore_tasks(&mut self, elements: &mut Elements, parked: ParkedTasks)
+        requires tree { IsTaskTree elements.old self.old }
+        requires parked { IsParkedTasks elements.old parked }
+        requires free { (t : ℕ) → IsSome (parked_parent elements.old parked t) → parent elements.old self.old t ≡ None }
+        requires homes { (t p : ℕ) → parked_parent elements.old parked t ≡ Some p
+            → IsSome (either_of (parked_parent elements.old parked p) (parent elements.old self.old p)) }
+        requires apart { Apart (parked_owned elements.old parked) (owned elements.old self.old) }
+        ensures tree { IsTaskTree elements.new self.new }
+        ensures parents { (t : ℕ) → parent elements.new self.new t
+            ≡ either_of (parked_parent elements.old parked t) (parent elements.old self.old t) }
+        ensures words { (t r : ℕ) → r < 16 → word elements.new self.new t r
+            ≡ (if is_some (parked_parent elements.old parked t) then parked_word elements.old parked t r
+            else word elements.old self.old t r) }
+        ensures current { current self.new ≡ current self.old }
+        ensures owned { Leaves elements.old elements.new
+            (parked_owned elements.old parked ++ owned elements.old self.old) (owned elements.new self.new) }
+        ensures spares { elements.new.spare ≡ elements.old.spare }
+    {
+        let ParkedTasks { rows } = parked;
+        rows.move_all(elements, &mut self.rows);
     }
 
     /// A new task of this number, with zero words, below its parent.

@@ -5,6 +5,7 @@ ghost use Rattle.subpool_set.specs.SubpoolSet.{IsSubpoolSet, IsPoolPlace, Queues
 use crate::checks::{all_given_back, same, stocked};
 use std::process::Abort;
 use std::test::Fail;
+use subpool_set::laws::{discards_keep, put_back, sets_stay};
 use subpool_set::{PoolId, PoolPlace, SubpoolSet};
 use vsm_elements::Elements;
 
@@ -182,8 +183,15 @@ fn pass(
     }
 }
 
-// The task, which shares the subpool of this number, no longer does.
-fn unshare(rt: &impl Abort, elements: &mut Elements, set: &mut SubpoolSet, task: u8, number: u8)
+// The subpool goes and comes back; `without` is seen in between.
+fn out_and_in(
+    rt: &impl Abort,
+    elements: &mut Elements,
+    set: &mut SubpoolSet,
+    task: u8,
+    number: u8,
+    without: &Seen,
+)
     requires set { IsSubpoolSet elements.old set.old }
     requires queues { QueuesStand elements.old set.old }
     ensures set { IsSubpoolSet elements.new set.new }
@@ -191,11 +199,85 @@ fn unshare(rt: &impl Abort, elements: &mut Elements, set: &mut SubpoolSet, task:
 {
     match set.visible(elements, task, number) {
         Some(id) => {
-            assert!(rt; set.owner(elements, id) != task);
-            set.unshare(elements, task, number);
+            let spare = elements.spare();
+            let parked = set.unplug(elements, id);
+            compare(rt, elements, set, without);
+            put_back();
+            set.replug(elements, parked);
+            assert!(rt; elements.spare() == spare);
         }
         None => assert!(rt; false),
     }
+}
+
+// Two subpools go, one after the other, and come back as one; `without` is seen in between.
+fn both_out_and_in(
+    rt: &impl Abort,
+    elements: &mut Elements,
+    set: &mut SubpoolSet,
+    first: (u8, u8),
+    second: (u8, u8),
+    without: &Seen,
+)
+    requires set { IsSubpoolSet elements.old set.old }
+    requires queues { QueuesStand elements.old set.old }
+    ensures set { IsSubpoolSet elements.new set.new }
+{
+    match set.visible(elements, first.0, first.1) {
+        Some(id) => {
+            let one = set.unplug(elements, id);
+            put_back();
+            match set.visible(elements, second.0, second.1) {
+                Some(id) => {
+                    let other = set.unplug(elements, id);
+                    compare(rt, elements, set, without);
+                    sets_stay();
+                    let both = one.join(elements, other);
+                    set.replug(elements, both);
+                }
+                None => {
+                    set.replug(elements, one);
+                    assert!(rt; false);
+                }
+            }
+        }
+        None => assert!(rt; false),
+    }
+}
+
+// The subpool goes for good.
+fn discard(rt: &impl Abort, elements: &mut Elements, set: &mut SubpoolSet, task: u8, number: u8)
+    requires set { IsSubpoolSet elements.old set.old }
+    requires queues { QueuesStand elements.old set.old }
+    ensures set { IsSubpoolSet elements.new set.new }
+    ensures queues { QueuesStand elements.new set.new }
+{
+    match set.visible(elements, task, number) {
+        Some(id) => {
+            let parked = set.unplug(elements, id);
+            discards_keep();
+            parked.discard(elements);
+        }
+        None => assert!(rt; false),
+    }
+}
+
+// The subpool goes for good, and `left` is seen.
+fn discard_to(
+    rt: &impl Abort,
+    elements: &mut Elements,
+    set: &mut SubpoolSet,
+    task: u8,
+    number: u8,
+    left: &Seen,
+)
+    requires set { IsSubpoolSet elements.old set.old }
+    requires queues { QueuesStand elements.old set.old }
+    ensures set { IsSubpoolSet elements.new set.new }
+    ensures queues { QueuesStand elements.new set.new }
+{
+    discard(rt, elements, set, task, number);
+    compare(rt, elements, set, left);
 }
 
 #[test]
@@ -207,21 +289,42 @@ fn the_set_is_the_plain_one(rt: HostRuntime) -> Result<(), Fail> {
     share_all(&rt, &mut elements, &mut set, &sharers);
     let seen = [[0, 1, 1], [0, 2, 1], [0, 1, 0], [0, 0, 1]];
     compare(&rt, &elements, &set, &seen);
+    let without = [[0, 0, 1], [0, 2, 1], [0, 0, 0], [0, 0, 1]];
+    out_and_in(&rt, &mut elements, &mut set, 3, 1, &without);
+    compare(&rt, &elements, &set, &seen);
     pass(&rt, &mut elements, &mut set, 1, 2, 3);
     let given = [[0, 1, 0], [0, 2, 3], [0, 1, 3], [0, 0, 3]];
+    compare(&rt, &elements, &set, &given);
+    let without = [[0, 1, 0], [0, 2, 0], [0, 1, 0], [0, 0, 0]];
+    out_and_in(&rt, &mut elements, &mut set, 4, 2, &without);
     compare(&rt, &elements, &set, &given);
     list_subpools(&rt, &elements, &set, &[(1, 1), (1, 2), (2, 3)]);
     list_sharers(&rt, &elements, &set, 3, 2, &[2, 4]);
     same!(rt; elements.spare(), 122);
-    let left = [[0, 1, 0], [0, 2, 3], [0, 1, 3], [0, 0, 0]];
-    unshare(&rt, &mut elements, &mut set, 4, 2);
-    compare(&rt, &elements, &set, &left);
-    let left = [[0, 1, 0], [0, 2, 3], [0, 0, 3], [0, 0, 0]];
-    unshare(&rt, &mut elements, &mut set, 3, 1);
-    compare(&rt, &elements, &set, &left);
-    same!(rt; elements.spare(), 124);
-    set.discard(&mut elements);
+    let left = [[0, 1, 0], [0, 0, 3], [0, 1, 3], [0, 0, 3]];
+    discard_to(&rt, &mut elements, &mut set, 2, 1, &left);
+    let left = [[0, 1, 0], [0, 0, 0], [0, 1, 0], [0, 0, 0]];
+    discard_to(&rt, &mut elements, &mut set, 4, 2, &left);
+    discard_to(&rt, &mut elements, &mut set, 1, 1, &[[0; 3]; 4]);
     all_given_back(&rt, elements);
+    Ok(())
+}
+
+#[test]
+fn two_subpools_come_back_as_one(rt: HostRuntime) -> Result<(), Fail> {
+    let mut elements = stocked(rt.alloc(), 64)?;
+    let mut set = SubpoolSet::new();
+    create_all(&rt, &mut elements, &mut set, &[(2, 1), (1, 1), (3, 2)]);
+    share_all(&rt, &mut elements, &mut set, &[(4, 1, 1), (1, 3, 2)]);
+    let seen = [[0, 1, 3], [0, 2, 0], [0, 0, 3], [0, 1, 0]];
+    compare(&rt, &elements, &set, &seen);
+    let without = [[0, 0, 0], [0, 2, 0], [0, 0, 0], [0, 0, 0]];
+    both_out_and_in(&rt, &mut elements, &mut set, (3, 2), (4, 1), &without);
+    compare(&rt, &elements, &set, &seen);
+    list_subpools(&rt, &elements, &set, &[(1, 1), (1, 2), (2, 3)]);
+    list_sharers(&rt, &elements, &set, 1, 1, &[4]);
+    list_sharers(&rt, &elements, &set, 3, 2, &[1]);
+    same!(rt; elements.spare(), 123);
     Ok(())
 }
 

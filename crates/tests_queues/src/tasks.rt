@@ -1,9 +1,12 @@
-//! A tree of six tasks: registers, the current task, and tasks that end.
+//! A tree of six tasks: registers, a subtree that is parked and restored, and tasks that end.
 
 ghost use Rattle.task_tree.specs.TaskTree.{IsTaskTree};
 
 use std::process::Abort;
 use std::test::Fail;
+use task_tree::laws::{
+    a_parent_is_not_below_its_subtask, put_back, root_is_above, trees_stand, trees_stay,
+};
 use task_tree::{TaskTree, TreeFault};
 use vsm_elements::Elements;
 
@@ -59,8 +62,68 @@ fn compare(rt: &impl Abort, elements: &Elements, tree: &TaskTree, tasks: &[(u8, 
     assert_eq!(rt; tree.task_at(elements, i), None);
 }
 
-// The task ends: none is below it.
+// The task and all below it go and come back; these are there in between.
+fn out_and_in(
+    rt: &impl Abort,
+    elements: &mut Elements,
+    tree: &mut TaskTree,
+    task: u8,
+    rest: &[(u8, u8)],
+)
+    requires { IsTaskTree elements.old tree.old }
+    ensures { IsTaskTree elements.new tree.new }
+{
+    assert!(rt; task != 1);
+    assert!(rt; tree.current() == 1);
+    assert!(rt; tree.check_run(elements, task).is_ok());
+    root_is_above();
+    trees_stand();
+    let parked = tree.park_subtree(elements, task);
+    compare(rt, elements, tree, rest);
+    put_back();
+    tree.restore_tasks(elements, parked);
+}
+
+// The current task detaches its subtask, with all below that, which then come back; these are there in between.
+fn detached(
+    rt: &impl Abort,
+    elements: &mut Elements,
+    tree: &mut TaskTree,
+    task: u8,
+    rest: &[(u8, u8)],
+)
+    requires { IsTaskTree elements.old tree.old }
+    ensures { IsTaskTree elements.new tree.new }
+{
+    let caller = tree.current();
+    assert!(rt; task != 1);
+    assert!(rt; tree.check_detach(elements, caller, task).is_ok());
+    a_parent_is_not_below_its_subtask();
+    root_is_above();
+    trees_stand();
+    let parked = tree.park_subtree(elements, task);
+    compare(rt, elements, tree, rest);
+    put_back();
+    tree.restore_tasks(elements, parked);
+    assert!(rt; tree.current() == caller);
+}
+
+// The task ends, with all below it.
 fn end(rt: &impl Abort, elements: &mut Elements, tree: &mut TaskTree, task: u8)
+    requires { IsTaskTree elements.old tree.old }
+    ensures { IsTaskTree elements.new tree.new }
+{
+    assert!(rt; task != 1);
+    assert!(rt; tree.current() == 1);
+    assert!(rt; tree.check_run(elements, task).is_ok());
+    root_is_above();
+    let parked = tree.park_subtree(elements, task);
+    trees_stay();
+    parked.discard(elements);
+}
+
+// The task ends, with none below it.
+fn end_alone(rt: &impl Abort, elements: &mut Elements, tree: &mut TaskTree, task: u8)
     requires { IsTaskTree elements.old tree.old }
     ensures { IsTaskTree elements.new tree.new }
 {
@@ -72,7 +135,7 @@ fn end(rt: &impl Abort, elements: &mut Elements, tree: &mut TaskTree, task: u8)
 }
 
 #[test]
-fn tasks_come_run_and_end(rt: HostRuntime) -> Result<(), Fail> {
+fn a_subtree_comes_back_as_it_was(rt: HostRuntime) -> Result<(), Fail> {
     let mut elements = Elements::new(rt.alloc());
     elements.reserve(64)?;
     let mut tree = TaskTree::new(&mut elements);
@@ -86,16 +149,26 @@ fn tasks_come_run_and_end(rt: HostRuntime) -> Result<(), Fail> {
     }
     let all = [(1, 0), (2, 1), (3, 2), (4, 2), (5, 3), (6, 1)];
     compare(&rt, &elements, &tree, &all);
+    out_and_in(&rt, &mut elements, &mut tree, 2, &[(1, 0), (6, 1)]);
+    compare(&rt, &elements, &tree, &all);
+    out_and_in(
+        &rt,
+        &mut elements,
+        &mut tree,
+        3,
+        &[(1, 0), (2, 1), (4, 2), (6, 1)],
+    );
+    compare(&rt, &elements, &tree, &all);
     run(&rt, &elements, &mut tree, 2);
+    let rest = [(1, 0), (2, 1), (4, 2), (6, 1)];
+    detached(&rt, &mut elements, &mut tree, 3, &rest);
     compare(&rt, &elements, &tree, &all);
     run(&rt, &elements, &mut tree, 1);
     assert_eq!(rt; elements.spare(), 104);
     assert_eq!(rt; tree.check_end(&elements, 3), Err(TreeFault::HasSubtasks));
-    end(&rt, &mut elements, &mut tree, 5);
     end(&rt, &mut elements, &mut tree, 3);
     compare(&rt, &elements, &tree, &[(1, 0), (2, 1), (4, 2), (6, 1)]);
-    end(&rt, &mut elements, &mut tree, 6);
-    end(&rt, &mut elements, &mut tree, 4);
+    end_alone(&rt, &mut elements, &mut tree, 6);
     end(&rt, &mut elements, &mut tree, 2);
     compare(&rt, &elements, &tree, &[(1, 0)]);
     assert_eq!(rt; elements.spare(), 124);

@@ -286,15 +286,18 @@ const FIRST: Subpool = Subpool {
     owner: 1,
 };
 
-// The walk over the subpool's extents comes to these, and to no other.
+// The subpool's extents, as at their positions and as the walk comes to them, are these and no other.
 fn compare_extents(rt: &impl Abort, storage: &Storage, subpool: Subpool, extents: &[Run]) {
     let mut place = storage.first_extent(subpool);
-    for i in 0..8usize {
+    for i in 0..8u32 {
+        let position = storage.extent_at(subpool, i);
         let Some((run, behind)) = storage.next_extent(place) else {
-            same!(rt; i, extents.len());
+            same!(rt; position, None);
+            same!(rt; i as usize, extents.len());
             return;
         };
-        same!(rt; extents.get(i), Some(&run));
+        same!(rt; position, Some(run));
+        same!(rt; extents.get(i as usize), Some(&run));
         place = behind;
     }
     holds!(rt; false);
@@ -303,12 +306,15 @@ fn compare_extents(rt: &impl Abort, storage: &Storage, subpool: Subpool, extents
 // The walk over its free areas likewise.
 fn compare_free_areas(rt: &impl Abort, storage: &Storage, subpool: Subpool, areas: &[Area]) {
     let mut place = storage.first_free_area(subpool);
-    for i in 0..8usize {
+    for i in 0..8u32 {
+        let position = storage.free_at(subpool, i);
         let Some((area, behind)) = storage.next_free_area(place) else {
-            same!(rt; i, areas.len());
+            same!(rt; position, None);
+            same!(rt; i as usize, areas.len());
             return;
         };
-        same!(rt; areas.get(i), Some(&area));
+        same!(rt; position, Some(area));
+        same!(rt; areas.get(i as usize), Some(&area));
         place = behind;
     }
     holds!(rt; false);
@@ -335,6 +341,7 @@ fn count_subpools(rt: &impl Abort, storage: &Storage) -> u32 {
         );
         let front = Storage::first_sharer_place(behind);
         same!(rt; storage.next_sharer(subpool, front), None);
+        same!(rt; storage.sharer_at(subpool, 0), None);
         place = behind;
     }
     8
@@ -391,7 +398,7 @@ fn first_has_two_extents(rt: &impl Abort, storage: &Storage) {
 }
 
 #[test]
-fn extents_and_free_areas_are_walked_over(rt: HostRuntime) -> Result<(), Fail> {
+fn extents_and_free_areas_agree(rt: HostRuntime) -> Result<(), Fail> {
     let mut storage = Storage::new(rt.alloc(), SETTINGS)?;
     make_two_extents(&mut storage)?;
     first_has_two_extents(&rt, &storage);
