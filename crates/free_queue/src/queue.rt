@@ -4,7 +4,7 @@ ghost use Rattle.vsm_elements.specs.Store.{Store};
 ghost use Rattle.vsm_elements.specs.Ownership.{Leaves};
 ghost use Rattle.run_set.specs.Counts.{joins};
 ghost use Rattle.run_set.specs.RunSet.{place_index};
-ghost use Rattle.run_set.specs.Runs.{inside, AreRunsOf, IsCover};
+ghost use Rattle.run_set.specs.Runs.{inside, AreRunsOf, IsCover, IsEndFrom};
 ghost use Rattle.run_set.specs.Fits.{Fits, IsLeastFit, IsLongest};
 
 use run_set::{Cover, Run, RunPlace, RunSet};
@@ -103,6 +103,14 @@ impl FreeQueue {
         ensures { IsCover (λ d. is_free elements.now self.now d) area result }
     {
         self.set.covers(elements, area)
+    }
+
+    /// The first doubleword from this one on that isn't free: where this one is, the end of its free area.
+    pub fn end_from(&self, elements: &Elements, doubleword: u32) -> u32
+        requires { IsFreeQueue elements.now self.now }
+        ensures { IsEndFrom (λ d. is_free elements.now self.now d) doubleword result }
+    {
+        self.set.end_from(elements, doubleword)
     }
 
     /// The least doubleword on the boundary from which `len` doublewords of the region are free.

@@ -3,7 +3,7 @@ ghost use Rattle.std.specs.Prelude.{IfNone, length, option_map};
 ghost use Rattle.vsm_elements.specs.Store.{Store};
 ghost use Rattle.vsm_elements.specs.Ownership.{Leaves};
 ghost use Rattle.run_set.specs.Counts.{joins};
-ghost use Rattle.run_set.specs.Runs.{inside, AllIn, NoneIn, AreRunsOf, IsCover};
+ghost use Rattle.run_set.specs.Runs.{inside, AllIn, NoneIn, AreRunsOf, IsCover, IsEndFrom};
 ghost use Rattle.run_set.specs.Fits.{Fits, IsLeastFit, IsLongest};
 
 use crate::clip::{PAGE, clipped};
@@ -179,6 +179,24 @@ impl RunSet {
             Cover::Part
         } else {
             Cover::All
+        }
+    }
+
+    /// The first number from this one on that isn't in the set: where this one is, the end of its run.
+    pub fn end_from(&self, elements: &Elements, n: u32) -> u32
+        requires { IsRunSet elements.now self.now }
+        ensures { IsEndFrom (λ m. holds elements.now self.now m) n result }
+    {
+        let sought = self.seek(elements, n);
+        let place = sought.place;
+        if place.index == self.tree.count {
+            return n;
+        }
+        let here = self.reached(elements, sought);
+        if here.start <= n {
+            here.start + here.len
+        } else {
+            n
         }
     }
 
