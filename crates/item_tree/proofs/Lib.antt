@@ -1,4 +1,5 @@
 pub mod Lists
+pub mod LastLemmas
 pub mod ShapeLemmas
 pub mod TreeLemmas
 pub mod OrderLemmas

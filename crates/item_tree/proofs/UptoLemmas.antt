@@ -39,7 +39,7 @@ upto_front : (k : ℕ) (xs : List Item) (y : Item) (ys : List Item) → k < key 
 upto_front k [] y ys low = upto_not k y ys low
 upto_front k (x ∷ xs) y ys low = ap (λ (o : Option Item). if nat_le (key x) k then Some (item_or x o) else None) (upto_front k xs y ys low)
 
-or_id : (n : Item) (o : Option Item) → id_or n.id o ≡ (item_or n o).id
+pub or_id : (n : Item) (o : Option Item) → id_or n.id o ≡ (item_or n o).id
 or_id n None = refl
 or_id n (Some m) = refl
 
@@ -55,7 +55,7 @@ module _ (s : Store) (h : ItemTree) (n : Node) (o : Opens s h n) (order : Ascend
 
 -- what is found is stored
 
-last_held : (s : Store) (m n : Item) (o : Option Item) (ids : List ℕ) → (m.words ≡ drop 1 ((element s m.id).words)) × IsSome (at s m.id) → (o ≡ Some n → IsHeld s ids n) → item_or m o ≡ n → IsHeld s (m.id ∷ ids) n
+pub last_held : (s : Store) (m n : Item) (o : Option Item) (ids : List ℕ) → (m.words ≡ drop 1 ((element s m.id).words)) × IsSome (at s m.id) → (o ≡ Some n → IsHeld s ids n) → item_or m o ≡ n → IsHeld s (m.id ∷ ids) n
 last_held s m n None ids here rest e = let P : Item → Type 0 = IsHeld s (m.id ∷ ids) in subst P e (here.0, here.1, among_first m.id ids)
 last_held s m n (Some x) ids here rest e = let r = rest (ap Some e) in (r.0, r.1, among_later n.id m.id ids r.2)
 

@@ -51,3 +51,8 @@ item_or n (Some m) = m
 abbrev pub item_upto : ℕ → List Item → Option Item
 item_upto k [] = None
 item_upto k (n ∷ ns) = if nat_le (key n) k then Some (item_or n (item_upto k ns)) else None
+
+-- the last item
+abbrev pub last_item : List Item → Option Item
+last_item [] = None
+last_item (n ∷ ns) = Some (item_or n (last_item ns))

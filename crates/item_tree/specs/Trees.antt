@@ -20,6 +20,10 @@ owned s h = ids_in (grown s limit h.root)
 unfoldable pub IsTree : Store → ItemTree → Type 0
 IsTree s h = IsTreeOf s h.root (grown s limit h.root)
 
+-- the list whose head is kept in this word
+abbrev pub tree_of : ℕ → ItemTree
+tree_of root = record { root = root }
+
 -- the words of the item of this id
 abbrev pub words_at : Store → ℕ → List ℕ
 words_at s id = drop 1 ((element s id).words)

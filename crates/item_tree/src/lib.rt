@@ -7,4 +7,5 @@ mod shape;
 mod tree;
 
 pub use item::Item;
+pub use shape::Node;
 pub use tree::ItemTree;

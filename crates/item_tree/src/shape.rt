@@ -6,12 +6,12 @@ use crate::item::Item;
 use crate::tree::ItemTree;
 use vsm_elements::{Element, Elements};
 
-/// A node: its item, and the trees before and behind it.
+/// An item of a list, and the lists of those before and behind it.
 #[derive(Clone, Copy)]
-pub(crate) struct Node {
-    pub(crate) left: ItemTree,
-    pub(crate) item: Item,
-    pub(crate) right: ItemTree,
+pub struct Node {
+    pub left: ItemTree,
+    pub item: Item,
+    pub right: ItemTree,
 }
 
 pub(crate) fn last_six(words: [u32; 7]) -> [u32; 6]

@@ -1,12 +1,13 @@
 ghost use Rattle.std.specs.Prelude.{◌≡◌, ℕ, ◌<◌, ◌++◌, ◌∷◌, [], None, IsSome, Some, drop, ◌^◌, true, false};
+ghost use Rattle.std.specs.Prelude.{IfNone, IfSome};
 ghost use Rattle.std.specs.Prelude.{slice_set, slice_index_or};
 ghost use Rattle.vsm_elements.specs.Store.{Store, at, among, Distinct};
 ghost use Rattle.vsm_elements.specs.Ownership.{Leaves};
 ghost use Rattle.vsm_elements.specs.Chain.{element};
-ghost use Rattle.item_tree.specs.Items.{key, item_in, item_from, item_upto, item_named, id_or, Ascends};
+ghost use Rattle.item_tree.specs.Items.{key, item_in, item_from, item_upto, last_item, item_named, id_or, Ascends};
 
 use crate::item::Item;
-use crate::shape::{last_six, with_rest, with_word};
+use crate::shape::{Node, last_six, with_rest, with_word};
 use vsm_elements::{Element, Elements, Id};
 
 /// The head of a list of items, kept in elements as a search tree: their keys ascend.
@@ -24,7 +25,7 @@ fn rank(id: Id) -> u32 {
 }
 
 impl ItemTree {
-    ghost use Rattle.item_tree.specs.Trees.{items, owned, words_at, key_at, IsTree};
+    ghost use Rattle.item_tree.specs.Trees.{items, owned, words_at, key_at, tree_of, IsTree, Opens};
     ghost use Rattle.item_tree.specs.Trees.{Merges, Splits, Puts, Takes, Writes};
 
     // The items of both, those of the other tree behind.
@@ -79,6 +80,32 @@ impl ItemTree {
         ensures owned { (s : Store) → owned s result ≡ [] }
     {
         ItemTree::empty()
+    }
+
+    /// The list as one word, to be kept in another element.
+    pub fn head(self) -> u32
+        ensures { tree_of result ≡ self }
+    {
+        self.root
+    }
+
+    /// The list whose head was kept in this word.
+    pub fn from_head(head: u32) -> ItemTree
+        ensures { result ≡ tree_of head }
+    {
+        ItemTree { root: head }
+    }
+
+    /// An item of the list, with what stands before and behind it; `None` where it has none.
+    pub fn part(self, elements: &Elements) -> Option<Node>
+        requires { IsTree elements.now self }
+        ensures none { IfNone result (items elements.now self ≡ []) }
+        ensures some { IfSome result (λ n. Opens elements.now self n) }
+    {
+        if self.root == 0 {
+            return None;
+        }
+        Some(self.open(elements))
     }
 
     /// The item of this key.
@@ -155,6 +182,30 @@ impl ItemTree {
         ensures { result ≡ item_upto k (items elements.now self) }
     {
         let id = self.last_upto(elements, k, 0);
+        if id == 0 {
+            return None;
+        }
+        Some(self.get(elements, id))
+    }
+
+    // The id of the last item, or `best` where there is none.
+    fn last_or(self, elements: &Elements, best: Id) -> Id
+        requires { IsTree elements.now self }
+        ensures { result ≡ id_or best (last_item (items elements.now self)) }
+    {
+        if self.root == 0 {
+            return best;
+        }
+        let node = self.open(elements);
+        node.right.last_or(elements, node.item.id)
+    }
+
+    /// The last item.
+    pub fn last(self, elements: &Elements) -> Option<Item>
+        requires { IsTree elements.now self }
+        ensures { result ≡ last_item (items elements.now self) }
+    {
+        let id = self.last_or(elements, 0);
         if id == 0 {
             return None;
         }

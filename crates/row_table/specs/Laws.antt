@@ -1,5 +1,5 @@
 -- Laws of tables of rows.
-use Rattle.std.specs.Prelude.{◌≡◌, ℕ, true, List, Some}
+use Rattle.std.specs.Prelude.{◌≡◌, ℕ, true, List, Some, map}
 use Rattle.vsm_elements.specs.Store.{Store, at, among, SameElements}
 use Rattle.vsm_elements.specs.Ownership.{Owns, Leaves, Apart}
 use Rattle.row_table.specs.declared.places.RowPlace.{RowPlace}
@@ -32,6 +32,15 @@ abbrev pub RowIdsAre : Type 0
 RowIdsAre = (s : Store) (q : RowTable) (i : ℕ) → IsTable s q
     → (among i (owned s q) ≡ true → (a : ℕ) × (b : ℕ) × (r : Row) × ((row s q a b ≡ Some r) × (r.id ≡ i)))
     × ((a b : ℕ) (r : Row) → row s q a b ≡ Some r → among r.id (owned s q) ≡ true)
+
+-- a table's elements are those of its rows, in their order
+abbrev pub RowsOwn : Type 0
+RowsOwn = (s : Store) (q : RowTable) → owned s q ≡ map (λ r. r.id) (rows s q)
+
+-- two tables that have one row under each two numbers have the same rows in the same order
+abbrev pub RowsAreOne : Type 0
+RowsAreOne = (xs ys : List Row) → AreInOrder xs → AreInOrder ys
+    → ((a b : ℕ) → row_among a b xs ≡ row_among a b ys) → xs ≡ ys
 
 -- a table whose elements are as they were is as it was
 abbrev pub TablesKept : Type 0

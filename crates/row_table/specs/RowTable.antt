@@ -51,3 +51,7 @@ words_of s id = seven (drop 1 ((element s id).words))
 abbrev pub IsRow : Store → RowTable → ℕ → Type 0
 IsRow s q id =
     row s q (word (words_of s id) 0) (word (words_of s id) 1) ≡ Some (record { id = id; words = words_of s id })
+
+-- the table whose head is kept in this word
+unfoldable pub table_of : ℕ → RowTable
+table_of root = record { tree = Trees.tree_of root }

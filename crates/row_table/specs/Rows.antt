@@ -60,6 +60,16 @@ abbrev pub row_among : ℕ → ℕ → List Row → Option Row
 row_among a b [] = None
 row_among a b (r ∷ rs) = if is_under a b r.words then Some r else row_among a b rs
 
+-- the row, or else this one
+abbrev pub row_or : Row → Option Row → Row
+row_or r None = r
+row_or r (Some q) = q
+
+-- the last of the rows
+abbrev pub last_row : List Row → Option Row
+last_row [] = None
+last_row (r ∷ rs) = Some (row_or r (last_row rs))
+
 -- no two rows stand under the same numbers
 abbrev pub Single : List Link → Type 0
 Single [] = Unit {0}

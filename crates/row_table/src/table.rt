@@ -22,9 +22,11 @@ pub struct RowTable {
 // what stands in the elements
 crate::specs::RowTable::row, crate::specs::RowTable::rows, crate::specs::RowTable::words_of,
 // whose they are
-crate::specs::RowTable::owned, crate::specs::RowTable::IsTable))]
+crate::specs::RowTable::owned, crate::specs::RowTable::IsTable,
+// what a head is
+crate::specs::RowTable::table_of))]
 impl RowTable {
-    ghost use Rattle.row_table.specs.RowTable.{row, rows, owned, words_of, IsTable, IsRow};
+    ghost use Rattle.row_table.specs.RowTable.{row, rows, owned, words_of, table_of, IsTable, IsRow};
 
     /// The table without rows. It has no element.
     pub fn new() -> RowTable
@@ -34,6 +36,22 @@ impl RowTable {
     {
         RowTable {
             tree: ItemTree::new(),
+        }
+    }
+
+    /// The table as one word, to be kept in another element.
+    pub fn head(self) -> u32
+        ensures { table_of result ≡ self }
+    {
+        self.tree.head()
+    }
+
+    /// The table whose head was kept in this word.
+    pub fn from_head(head: u32) -> RowTable
+        ensures { result ≡ table_of head }
+    {
+        RowTable {
+            tree: ItemTree::from_head(head),
         }
     }
 
