@@ -2,41 +2,49 @@ ghost use Rattle.std.specs.Prelude.{◌≡◌, ℕ, ◌+◌, ◌<◌, ◌++◌, 
 ghost use Rattle.vsm_elements.specs.Store.{Store};
 ghost use Rattle.vsm_elements.specs.Ownership.{Leaves, Apart};
 ghost use Rattle.list_table.specs.Kept.{head_in};
+ghost use Rattle.list_table.specs.Stocks.{holdings};
 
 use crate::row::ListRow;
+use crate::stock::Stock;
+use row_table::RowTable;
 use vsm_elements::{Chain, Elements, Id};
 
-/// The head of a table of rows, each with words of its own and a list.
+/// The head of a table of rows, each with words of its own and a [`Stock`].
 ///
-/// It is kept by value. To change a list, a row is taken in hand by [`ListTable::row`], its list is changed as a
-/// [`Chain`], and [`ListTable::write`] puts the row back. A table that is no longer wanted is discarded.
+/// It is kept by value. To change a stock, a row is taken in hand by [`ListTable::row`], its parts are changed as a
+/// [`Chain`] and as [`RowTable`]s, and [`ListTable::write`] puts the row back. A table that is no longer wanted is discarded.
 #[derive(Clone, Copy)]
 pub struct ListTable {
     pub(crate) chain: Chain,
 }
 
-// The words of a row's element: the head of its list, and its own.
-fn row_words(words: [u32; 5], list: Chain) -> [u32; 7]
-    ensures head { head_in result ≡ list }
-    ensures words { drop 2 result ≡ words }
+// The words of a row's element: the heads of its stock, and its own.
+fn row_words(words: [u32; 3], stock: Stock) -> [u32; 7]
+    ensures head { head_in result ≡ stock }
+    ensures words { drop 4 result ≡ words }
 {
-    [
-        list.first, list.count, words[0], words[1], words[2], words[3], words[4],
-    ]
+    let Chain { first, count } = stock.items;
+    let used = stock.used.head();
+    let extents = stock.extents.head();
+    [first, count, used, extents, words[0], words[1], words[2]]
 }
 
-fn own_words(words: [u32; 7]) -> [u32; 5]
-    ensures { result ≡ drop 2 words }
+fn own_words(words: [u32; 7]) -> [u32; 3]
+    ensures { result ≡ drop 4 words }
 {
-    [words[2], words[3], words[4], words[5], words[6]]
+    [words[4], words[5], words[6]]
 }
 
-fn list_head(words: [u32; 7]) -> Chain
+fn stock_head(words: [u32; 7]) -> Stock
     ensures { result ≡ head_in words }
 {
-    Chain {
-        first: words[0],
-        count: words[1],
+    Stock {
+        items: Chain {
+            first: words[0],
+            count: words[1],
+        },
+        used: RowTable::from_head(words[2]),
+        extents: RowTable::from_head(words[3]),
     }
 }
 
@@ -48,7 +56,7 @@ crate::specs::ListTable::owned, crate::specs::ListTable::IsTable,
 // what a head is
 crate::specs::ListTable::table_of))]
 impl ListTable {
-    ghost use Rattle.list_table.specs.ListTable.{entries, earlier, later, owned, owned_but, entry_of, list_ids};
+    ghost use Rattle.list_table.specs.ListTable.{entries, earlier, later, owned, owned_but, entry_of};
     ghost use Rattle.list_table.specs.ListTable.{IsTable, IsPlace, IsOpen, table_of};
 
     /// The table without rows. It has no element.
@@ -87,7 +95,7 @@ impl ListTable {
         ensures parts { entries elements.now self.now
             ≡ earlier elements.now self.now index ++ entry_of elements.now result ∷ later elements.now self.now index }
         ensures owned { (t : Store) (has : List ℕ) → Leaves elements.now t
-            (owned_but elements.now self.now index ++ list_ids elements.now result.list) has
+            (owned_but elements.now self.now index ++ holdings elements.now result.stock) has
             → Leaves elements.now t (owned elements.now self.now) has }
     {
         let id = self.chain.next(elements, index, before);
@@ -96,11 +104,11 @@ impl ListTable {
             index,
             id,
             words: own_words(words),
-            list: list_head(words),
+            stock: stock_head(words),
         }
     }
 
-    /// Puts a row that was in hand back, with its words and its list.
+    /// Puts a row that was in hand back, with its words and its stock.
     pub fn write(&self, elements: &mut Elements, row: ListRow)
         requires { IsOpen elements.old self.now row }
         ensures table { IsTable elements.new self.now }
@@ -108,32 +116,33 @@ impl ListTable {
             ≡ earlier elements.old self.now row.index
             ++ entry_of elements.old row ∷ later elements.old self.now row.index }
         ensures owned { Leaves elements.old elements.new
-            (owned_but elements.old self.now row.index ++ list_ids elements.old row.list)
+            (owned_but elements.old self.now row.index ++ holdings elements.old row.stock)
             (owned elements.new self.now) }
         ensures spares { elements.new.spare ≡ elements.old.spare }
     {
-        let words = row_words(row.words, row.list);
+        let words = row_words(row.words, row.stock);
         self.chain.set_words(elements, row.index, row.id, words);
     }
 
-    /// A row with these words and an empty list, before all others.
+    /// A row with these words and an empty stock, before all others.
     ///
     /// It takes one element.
-    pub fn push(&mut self, elements: &mut Elements, words: [u32; 5]) -> Id
+    pub fn push(&mut self, elements: &mut Elements, words: [u32; 3]) -> Id
         requires table { IsTable elements.old self.old }
         requires room { 0 < elements.old.spare }
         ensures table { IsTable elements.new self.new }
         ensures entries { entries elements.new self.new
-            ≡ record { id = result; words = words; items = [] } ∷ entries elements.old self.old }
+            ≡ record { id = result; words = words; items = []; used = []; extents = [] }
+            ∷ entries elements.old self.old }
         ensures front { IsPlace elements.new self.new 0 0 }
         ensures owned { Leaves elements.old elements.new (owned elements.old self.old) (owned elements.new self.new) }
         ensures spares { elements.new.spare + 1 ≡ elements.old.spare }
     {
-        let words = row_words(words, Chain::new());
+        let words = row_words(words, Stock::new());
         self.chain.insert(elements, 0, 0, words)
     }
 
-    /// The row at an index moves to the front of another table, with its list and its elements.
+    /// The row at an index moves to the front of another table, with its stock and its elements.
     pub fn move_row(&mut self, elements: &mut Elements, index: u32, before: Id, to: &mut ListTable)
         requires table { IsTable elements.old self.old }
         requires place { IsPlace elements.old self.old index before }
@@ -156,7 +165,7 @@ impl ListTable {
         self.chain.move_link(elements, index, before, &mut to.chain);
     }
 
-    /// Takes the first row out, and gives back its elements, those of its list among them.
+    /// Takes the first row out, and gives back its elements, those of its stock among them.
     pub fn drop_first(&mut self, elements: &mut Elements)
         requires table { IsTable elements.old self.old }
         requires some { 0 < length (entries elements.old self.old) }
@@ -165,11 +174,12 @@ impl ListTable {
         ensures owned { Leaves elements.old elements.new
             (owned elements.old self.old) (owned elements.new self.new) }
         ensures spares { IfSome (slice_get (entries elements.old self.old) 0) (λ e.
-            elements.new.spare ≡ elements.old.spare + length e.items + 1) }
+            elements.new.spare
+            ≡ elements.old.spare + (length e.items + length e.used + length e.extents) + 1) }
     {
         let id = self.chain.next(elements, 0, 0);
         let words = self.chain.words(elements, 0, id);
-        list_head(words).discard(elements);
+        stock_head(words).discard(elements);
         self.chain.remove(elements, 0, 0);
     }
 }
