@@ -1,33 +1,22 @@
--- The marks of a pool whose free cells or extents change.
-use Rattle.std.proofs.Common.{◌≡◌, ℕ, suc, ◌+◌, ◌-◌, ◌*◌, ◌/◌, ◌<◌, ◌≤◌, ◌==◌, ◌||◌, ◌&&◌, Bool, true, false, List, [], ◌∷◌, ◌++◌, length, take, drop, get_or, Option, Some, None, refl, sym, ap, ◌∙◌, subst, arith}
-use Rattle.std.specs.Prelude.{slice_get, if◌then◌else◌, not, nat_lt}
+-- The free cells of a pool, and those in use, under the calls.
+use Rattle.std.proofs.Common.{◌≡◌, ℕ, suc, ◌+◌, ◌-◌, ◌*◌, ◌/◌, ◌<◌, ◌≤◌, ◌==◌, ◌&&◌, ◌||◌, Bool, true, false, List, [], ◌∷◌, ◌++◌, drop, Some, None, refl, sym, ap, ◌∙◌, subst, arith}
+use Rattle.std.specs.Prelude.{slice_get, not, nat_lt}
 use Rattle.std.specs.List.{list_any}
 use Rattle.std.proofs.lemmas.Bool.{and_parts, lt-ltb}
-use Rattle.std.proofs.lemmas.List.{get_or-drop, get_or-take, get_or_append_left}
 use Rattle.std.proofs.Math.Nat.{mul-le-mul_right}
 use Rattle.vsm_elements.specs.Store.{among, Distinct}
 use Rattle.vsm_elements.proofs.ChainLemmas.{among-append, not_both}
 use Rattle.vsm_elements.proofs.LiveLemmas.{Distinct-join}
 use Rattle.vsm_elements.proofs.OwnerLemmas.{Distinct-parts}
-use Rattle.cell_extents.specs.declared.marks.Mark.{Mark}
 use Rattle.cell_extents.specs.declared.settings.Extent.{Extent}
-use Rattle.cell_extents.specs.Pool.{Pool, cells_from, cells_of, mark_items, uses, overlaps, meets, rounded, without_first, with_first, extended}
-use Rattle.cell_extents.specs.Items.{set_items}
-use Rattle.cell_extents.specs.Marks.{all_marks, mark_of, is_set, is_marked, IsMarked, IsNoted}
-use Rattle.cell_extents.proofs.EntryLemmas.{eqb_same}
+use Rattle.cell_extents.specs.Pool.{Pool, HasCells, cells_from, cells_of, uses, overlaps, meets, rounded, without_first, with_first, extended}
+use Rattle.cell_extents.specs.Notes.{is_noted, AreNoted}
+use Rattle.cell_extents.proofs.EntryLemmas.{eqb_same, eqb_refl}
 use Rattle.cell_extents.proofs.WalkLemmas.{cell_in, none_true, distinct_cells}
-use Rattle.cell_extents.proofs.BitLemmas.{new_mark, old_mark}
-use Rattle.cell_extents.proofs.MarkLemmas.{if_true, if_false, or_left, or_right, or_neither, cells_more, mark_range, mark_none, mark_some, mark_more, mark_last, apart_more, apart_front, apart_last}
+use Rattle.cell_extents.proofs.CellLemmas.{or_left, or_right, or_neither, cells_more, apart_more, apart_front, apart_last}
 
 abbrev Items : Type 0
 Items = List (List ℕ)
-
--- marks in items that are the same up to a place
-same_mark : (low high : ℕ) (xs ys : Items) (m : Mark) → low + m.item < high → take high ys ≡ take high xs → is_marked (drop low ys) m ≡ is_marked (drop low xs) m
-same_mark low high xs ys m l e =
-    ap (λ (z : List ℕ). is_set z m.bit) (
-    get_or-drop low ys m.item [] ∙ sym (get_or-take high ys (low + m.item) [] l) ∙ ap (λ (z : Items). get_or z (low + m.item) []) e
-    ∙ get_or-take high xs (low + m.item) [] l ∙ sym (get_or-drop low xs m.item []))
 
 one_of : (a b : Bool) → (a || b) ≡ true → a ≡ false → b ≡ true
 one_of true b e f = absurd (not_both true refl f)
@@ -45,48 +34,66 @@ first_is (x ∷ cells) cell h = ap (λ (z : ℕ). z ∷ cells) (some_is h) where
   some_is : Some x ≡ Some cell → x ≡ cell
   some_is e = cc
 
--- one cell is handed out or comes back
-module _ (p : Pool) (size : 0 < p.settings.size) (old mid new : Items) (low high cell : ℕ) (free : Bool) (long : low + all_marks p.extents ≤ high)
-    (marked : IsMarked p (drop low old)) (noted : IsNoted old mid low high p.settings.size p.extents cell free) (front : take high new ≡ take high mid) where
-  noted_mark : (a : ℕ) (m : Mark) → mark_of p.settings.size p.extents a ≡ Some m → is_marked (drop low new) m ≡ (if a == cell then free else among a p.cells)
-  noted_mark a m h =
-      same_mark low high mid new m (omega (arith, long, (mark_range p.settings.size size p.extents a m h).0)) front ∙ noted.marks a m h
-      ∙ ap (λ (z : Bool). if a == cell then free else z) (marked.marks a m h)
+-- one cell is handed out
+module _ (p : Pool) (has : HasCells p) (cell : ℕ) (first : slice_get p.cells 0 ≡ Some cell) where
+  are : p.cells ≡ cell ∷ drop 1 p.cells
+  are = first_is p.cells cell first
 
-  pub taken_marked : slice_get p.cells 0 ≡ Some cell → free ≡ false → IsMarked (without_first p) (drop low new)
-  taken_marked first none = record {
-    distinct = rest.1;
-    within = λ a h. marked.within a (ap (among a) are ∙ or_right (a == cell) (among a (drop 1 p.cells)) h);
-    apart = marked.apart;
-    marks = λ a m h. noted_mark a m h ∙ go a (a == cell) refl;
+  rest : (among cell (drop 1 p.cells) ≡ false) × Distinct (drop 1 p.cells)
+  rest = let P : List ℕ → Type 0 = Distinct in subst P are has.once
+
+  pub taken_cells : HasCells (without_first p)
+  taken_cells = record {
+    once = rest.1;
+    inside = λ a h. has.inside a (ap (among a) are ∙ or_right (a == cell) (among a (drop 1 p.cells)) h);
+    apart = has.apart;
+  }
+
+  own : among cell (cells_of p.settings.size p.extents) ≡ true
+  own = has.inside cell (ap (among cell) are ∙ or_left (cell == cell) (among cell (drop 1 p.cells)) (eqb_refl cell))
+
+  pub was_free : uses p cell ≡ false
+  was_free = ap (λ (z : Bool). among cell (cells_of p.settings.size p.extents) && not z) (ap (among cell) are ∙ or_left (cell == cell) (among cell (drop 1 p.cells)) (eqb_refl cell)) ∙ none (among cell (cells_of p.settings.size p.extents)) where
+    none : (b : Bool) → (b && false) ≡ false
+    none true = refl
+    none false = refl
+
+  pub taken_notes : (old new : Items) → AreNoted p old → ((a : ℕ) → is_noted a new ≡ ((a == cell) || is_noted a old)) → AreNoted (without_first p) new
+  taken_notes old new notes now a l = now a ∙ ap (λ (z : Bool). (a == cell) || z) (notes a l) ∙ go (a == cell) refl where
+    go : (b : Bool) → (a == cell) ≡ b → ((a == cell) || uses p a) ≡ uses (without_first p) a
+    go true e =
+        or_left (a == cell) (uses p a) e
+        ∙ sym (ap (λ (z : Bool). z && not (among a (drop 1 p.cells))) (ap (λ (z : ℕ). among z (cells_of p.settings.size p.extents)) (eqb_same a cell e) ∙ own)
+        ∙ ap not (ap (λ (z : ℕ). among z (drop 1 p.cells)) (eqb_same a cell e) ∙ rest.0))
+    go false e =
+        ap (λ (z : Bool). z || uses p a) e
+        ∙ ap (λ (z : Bool). among a (cells_of p.settings.size p.extents) && not z) (ap (among a) are ∙ ap (λ (z : Bool). z || among a (drop 1 p.cells)) e)
+
+-- one cell comes back
+module _ (p : Pool) (has : HasCells p) (cell : ℕ) (used : uses p cell ≡ true) where
+  both : (among cell (cells_of p.settings.size p.extents) ≡ true) × (not (among cell p.cells) ≡ true)
+  both = and_parts (among cell (cells_of p.settings.size p.extents)) (not (among cell p.cells)) used
+
+  pub put_cells : HasCells (with_first cell p)
+  put_cells = record {
+    once = (not_true (among cell p.cells) both.1, has.once);
+    inside = λ a h. inside a h (a == cell) refl;
+    apart = has.apart;
   } where
-    are : p.cells ≡ cell ∷ drop 1 p.cells
-    are = first_is p.cells cell first
-
-    rest : (among cell (drop 1 p.cells) ≡ false) × Distinct (drop 1 p.cells)
-    rest = let P : List ℕ → Type 0 = Distinct in subst P are marked.distinct
-
-    go : (a : ℕ) (b : Bool) → (a == cell) ≡ b → (if a == cell then free else among a p.cells) ≡ among a (drop 1 p.cells)
-    go a true e = if_true (a == cell) free (among a p.cells) e ∙ none ∙ sym (ap (λ (z : ℕ). among z (drop 1 p.cells)) (eqb_same a cell e) ∙ rest.0)
-    go a false e = if_false (a == cell) free (among a p.cells) e ∙ ap (among a) are ∙ ap (λ (z : Bool). z || among a (drop 1 p.cells)) e
-
-  pub put_marked : uses p cell ≡ true → free ≡ true → IsMarked (with_first cell p) (drop low new)
-  put_marked used all = record {
-    distinct = (not_true (among cell p.cells) both.1, marked.distinct);
-    within = λ a h. inside a h (a == cell) refl;
-    apart = marked.apart;
-    marks = λ a m h. noted_mark a m h ∙ go a (a == cell) refl;
-  } where
-    both : (among cell (cells_of p.settings.size p.extents) ≡ true) × (not (among cell p.cells) ≡ true)
-    both = and_parts (among cell (cells_of p.settings.size p.extents)) (not (among cell p.cells)) used
-
     inside : (a : ℕ) → among a (cell ∷ p.cells) ≡ true → (b : Bool) → (a == cell) ≡ b → among a (cells_of p.settings.size p.extents) ≡ true
     inside a h true e = ap (λ (z : ℕ). among z (cells_of p.settings.size p.extents)) (eqb_same a cell e) ∙ both.0
-    inside a h false e = marked.within a (one_of (a == cell) (among a p.cells) h e)
+    inside a h false e = has.inside a (one_of (a == cell) (among a p.cells) h e)
 
-    go : (a : ℕ) (b : Bool) → (a == cell) ≡ b → (if a == cell then free else among a p.cells) ≡ among a (cell ∷ p.cells)
-    go a true e = if_true (a == cell) free (among a p.cells) e ∙ all ∙ sym (or_left (a == cell) (among a p.cells) e)
-    go a false e = if_false (a == cell) free (among a p.cells) e ∙ sym (ap (λ (z : Bool). z || among a p.cells) e)
+  turn : (a b c : Bool) → (not b && (a && not c)) ≡ (a && not (b || c))
+  turn true true c = refl
+  turn true false c = refl
+  turn false true c = refl
+  turn false false c = refl
+
+  pub put_notes : (old new : Items) → AreNoted p old → ((a : ℕ) → is_noted a new ≡ (not (a == cell) && is_noted a old)) → AreNoted (with_first cell p) new
+  put_notes old new notes now a l =
+      now a ∙ ap (λ (z : Bool). not (a == cell) && z) (notes a l)
+      ∙ turn (among a (cells_of p.settings.size p.extents)) (a == cell) (among a p.cells)
 
 -- an area that overlaps no extent has none of their cells
 past_cell : (size start count j address : ℕ) → 0 < size → j < count → address ≡ start + j * size → (start ≤ address) × (address < start + count * size)
@@ -129,9 +136,25 @@ no_overlap size start count s (x ∷ xs) h a e = none_true (among a (cells_from 
       not_both (among a (cells_from size start count)) f
       (rest apart.1 (one_of (among a (cells_from size x.start x.count)) (among a (cells_of size xs)) (sym (among-append a (cells_from size x.start x.count) (cells_of size xs)) ∙ e) g))
 
+-- with an extent more the cells in use are those that were
+same_use : (size : ℕ) (xs : List Extent) (y : Extent) (cells : List ℕ) → ((a : ℕ) → among a cells ≡ true → among a (cells_of size xs) ≡ true)
+    → ((a : ℕ) → among a (cells_of size xs) ≡ true → among a (cells_from size y.start y.count) ≡ false) → (a : ℕ)
+    → (among a (cells_of size (xs ++ y ∷ [])) && not (among a (cells ++ cells_from size y.start y.count))) ≡ (among a (cells_of size xs) && not (among a cells))
+same_use size xs y cells inside apart a =
+    ap (λ (z : List ℕ). among a z && not (among a (cells ++ cells_from size y.start y.count))) (cells_more size xs y)
+    ∙ ap (λ (z : Bool). z && not (among a (cells ++ cells_from size y.start y.count))) (among-append a (cells_of size xs) (cells_from size y.start y.count))
+    ∙ ap (λ (z : Bool). (among a (cells_of size xs) || among a (cells_from size y.start y.count)) && not z) (among-append a cells (cells_from size y.start y.count))
+    ∙ go (among a (cells_of size xs)) (among a (cells_from size y.start y.count)) (among a cells) (λ h. apart a h) where
+      go : (b f c : Bool) → (b ≡ true → f ≡ false) → ((b || f) && not (c || f)) ≡ (b && not c)
+      go true true c h = absurd (not_both true refl (h refl))
+      go true false true h = refl
+      go true false false h = refl
+      go false true true h = refl
+      go false true false h = refl
+      go false false c h = refl
+
 -- an extent comes
-module _ (p : Pool) (size : 0 < p.settings.size) (start count : ℕ) (old more now : Items) (marked : IsMarked p old) (clear : meets start (count * p.settings.size) p ≡ false)
-    (room : all_marks p.extents ≤ length old) (are : now ≡ set_items (mark_items count) ++ (old ++ more)) where
+module _ (p : Pool) (size : 0 < p.settings.size) (start count : ℕ) (has : HasCells p) (clear : meets start (count * p.settings.size) p ≡ false) where
   abbrev y : Extent
   y = record { start = start; count = count }
 
@@ -144,88 +167,47 @@ module _ (p : Pool) (size : 0 < p.settings.size) (start count : ℕ) (old more n
   apart : (a : ℕ) → among a cells ≡ true → among a fresh ≡ false
   apart a e = no_overlap p.settings.size start count size p.extents clear a e
 
-  some_mark : (m n : Mark) → Some m ≡ Some n → m ≡ n
-  some_mark m n e = cc
-
-  at_old : (a : ℕ) (m : Mark) → mark_of p.settings.size p.extents a ≡ Some m → is_marked now (record { item = mark_items count + m.item; bit = m.bit }) ≡ among a (p.cells ++ fresh)
-  at_old a m h =
-      ap (λ (z : Items). is_marked z (record { item = mark_items count + m.item; bit = m.bit })) are ∙ old_mark (mark_items count) (old ++ more) m
-      ∙ ap (λ (z : List ℕ). is_set z m.bit) (get_or_append_left old more [] m.item (omega (arith, room, (mark_range p.settings.size size p.extents a m h).0)))
-      ∙ marked.marks a m h
-      ∙ sym (among-append a p.cells fresh ∙ without (among a p.cells) (among a fresh) (apart a (mark_some p.settings.size size p.extents a m h))) where
-        without : (c d : Bool) → d ≡ false → (c || d) ≡ c
-        without true d e = refl
-        without false d e = e
-
-  at_new : (a : ℕ) (m : Mark) → mark_of p.settings.size (y ∷ []) a ≡ Some m → is_marked now m ≡ among a (p.cells ++ fresh)
-  at_new a m h =
-      let range : (m.item < all_marks (y ∷ [])) × (m.bit < 224) = mark_range p.settings.size size (y ∷ []) a m h in
-      ap (λ (z : Items). is_marked z m) are ∙ new_mark (mark_items count) (old ++ more) m (omega (arith, range.0)) range.1
-      ∙ sym (among-append a p.cells fresh ∙ or_right (among a p.cells) (among a fresh) (alone (mark_some p.settings.size size (y ∷ []) a m h))) where
-        alone : among a (fresh ++ []) ≡ true → among a fresh ≡ true
-        alone e = go (among a fresh) refl where
-          go : (b : Bool) → among a fresh ≡ b → among a fresh ≡ true
-          go true f = f
-          go false f = absurd (not_both (among a (fresh ++ [])) e (among-append a fresh [] ∙ or_neither (among a fresh) false f refl))
-
-  pub grown_marked : IsMarked (extended start count p) now
-  grown_marked = record {
-    distinct = Distinct-join p.cells fresh marked.distinct (distinct_cells p.settings.size start count size) (λ a e. apart a (marked.within a e));
-    within = λ a e. ap (among a) (cells_more p.settings.size p.extents y) ∙ among-append a cells fresh ∙ inside a (sym (among-append a p.cells fresh) ∙ e) (among a p.cells) refl;
-    apart = apart_more p.settings.size size p.extents y marked.apart apart;
-    marks = λ a m h. go a m h (mark_of p.settings.size p.extents a) refl;
+  pub grown_cells : HasCells (extended start count p)
+  grown_cells = record {
+    once = Distinct-join p.cells fresh has.once (distinct_cells p.settings.size start count size) (λ a e. apart a (has.inside a e));
+    inside = λ a e. ap (among a) (cells_more p.settings.size p.extents y) ∙ among-append a cells fresh ∙ inside a (sym (among-append a p.cells fresh) ∙ e) (among a p.cells) refl;
+    apart = apart_more p.settings.size size p.extents y has.apart apart;
   } where
     inside : (a : ℕ) → (among a p.cells || among a fresh) ≡ true → (b : Bool) → among a p.cells ≡ b → (among a cells || among a fresh) ≡ true
-    inside a e true f = or_left (among a cells) (among a fresh) (marked.within a f)
+    inside a e true f = or_left (among a cells) (among a fresh) (has.inside a f)
     inside a e false f = or_right (among a cells) (among a fresh) (one_of (among a p.cells) (among a fresh) e f)
 
-    go : (a : ℕ) (m : Mark) → mark_of p.settings.size (p.extents ++ y ∷ []) a ≡ Some m → (o : Option Mark) → mark_of p.settings.size p.extents a ≡ o → is_marked now m ≡ among a (p.cells ++ fresh)
-    go a m h None e = at_new a m (sym (mark_last p.settings.size size p.extents y a e) ∙ h)
-    go a m h (Some n) e = ap (is_marked now) (some_mark m (record { item = mark_items count + n.item; bit = n.bit }) (sym h ∙ mark_more p.settings.size size p.extents y a n e)) ∙ at_old a n e
+  pub grown_notes : (used : Items) → AreNoted p used → AreNoted (extended start count p) used
+  grown_notes used notes a l = notes a l ∙ sym (same_use p.settings.size p.extents y p.cells has.inside apart a)
 
 -- the last extent goes
-pub cut_marked : (p : Pool) → 0 < p.settings.size → (start count : ℕ) (old now : Items) → IsMarked (extended start count p) old
-    → ((k : ℕ) → k < all_marks p.extents → get_or now k [] ≡ get_or old (mark_items count + k) []) → IsMarked p now
-cut_marked p size start count old now marked same = record {
-  distinct = distinct_left p.cells marked.distinct;
-  within = λ a e. inside a e (among a cells) refl;
-  apart = apart_front p.settings.size size p.extents y marked.apart;
-  marks = λ a m h.
-      ap (λ (z : List ℕ). is_set z m.bit) (same m.item (mark_range p.settings.size size p.extents a m h).0)
-      ∙ marked.marks a (record { item = mark_items count + m.item; bit = m.bit }) (mark_more p.settings.size size p.extents y a m h)
-      ∙ among-append a p.cells fresh
-      ∙ without (among a p.cells) (among a fresh) (apart_last p.settings.size size p.extents y marked.apart a (mark_some p.settings.size size p.extents a m h));
-} where
-  y : Extent
-  y = record { start = start; count = count }
+module _ (p : Pool) (size : 0 < p.settings.size) (start count : ℕ) (has : HasCells (extended start count p)) where
+  abbrev last : Extent
+  last = record { start = start; count = count }
 
-  fresh : List ℕ
-  fresh = cells_from p.settings.size start count
+  abbrev gone : List ℕ
+  gone = cells_from p.settings.size start count
 
-  cells : List ℕ
-  cells = cells_of p.settings.size p.extents
+  abbrev left : List ℕ
+  left = cells_of p.settings.size p.extents
 
-  without : (c d : Bool) → d ≡ false → (c || d) ≡ c
-  without true d e = refl
-  without false d e = e
-
-  distinct_left : (xs : List ℕ) → Distinct (xs ++ fresh) → Distinct xs
+  distinct_left : (xs : List ℕ) → Distinct (xs ++ gone) → Distinct xs
   distinct_left [] d = record {}
-  distinct_left (x ∷ xs) d = (none_true (among x xs) (λ h. not_both (among x (xs ++ fresh)) (among-append x xs fresh ∙ or_left (among x xs) (among x fresh) h) d.0), distinct_left xs d.1)
+  distinct_left (x ∷ xs) d = (none_true (among x xs) (λ h. not_both (among x (xs ++ gone)) (among-append x xs gone ∙ or_left (among x xs) (among x gone) h) d.0), distinct_left xs d.1)
 
-  inside : (a : ℕ) → among a p.cells ≡ true → (b : Bool) → among a cells ≡ b → among a cells ≡ true
+  inside : (a : ℕ) → among a p.cells ≡ true → (b : Bool) → among a left ≡ b → among a left ≡ true
   inside a e true f = f
   inside a e false f =
-      absurd (not_both (among a fresh)
-      (one_of (among a cells) (among a fresh) (sym (among-append a cells fresh) ∙ sym (ap (among a) (cells_more p.settings.size p.extents y)) ∙ marked.within a (among-append a p.cells fresh ∙ or_left (among a p.cells) (among a fresh) e)) f)
-      ((Distinct-parts p.cells fresh marked.distinct).1 a e))
+      absurd (not_both (among a gone)
+      (one_of (among a left) (among a gone) (sym (among-append a left gone) ∙ sym (ap (among a) (cells_more p.settings.size p.extents last)) ∙ has.inside a (among-append a p.cells gone ∙ or_left (among a p.cells) (among a gone) e)) f)
+      ((Distinct-parts p.cells gone has.once).1 a e))
 
--- what a mark tells of a cell
-module _ (p : Pool) (size : 0 < p.settings.size) (items : Items) (marked : IsMarked p items) (address : ℕ) where
-  pub mark_used : (m : Mark) → mark_of p.settings.size p.extents address ≡ Some m → not (is_marked items m) ≡ uses p address
-  mark_used m h =
-      ap not (marked.marks address m h)
-      ∙ sym (ap (λ (z : Bool). z && not (among address p.cells)) (mark_some p.settings.size size p.extents address m h))
+  pub cut_cells : HasCells p
+  cut_cells = record {
+    once = distinct_left p.cells has.once;
+    inside = λ a e. inside a e (among a left) refl;
+    apart = apart_front p.settings.size size p.extents last has.apart;
+  }
 
-  pub none_used : mark_of p.settings.size p.extents address ≡ None → false ≡ uses p address
-  none_used h = sym (ap (λ (z : Bool). z && not (among address p.cells)) (mark_none p.settings.size size p.extents address h))
+  pub cut_notes : (used : Items) → AreNoted (extended start count p) used → AreNoted p used
+  cut_notes used notes a l = notes a l ∙ same_use p.settings.size p.extents last p.cells (λ b e. inside b e (among b left) refl) (apart_last p.settings.size size p.extents last has.apart) a

@@ -9,7 +9,7 @@ use Rattle.std.proofs.Math.Seq.{take-append_seam, drop-append_seam}
 use Rattle.vsm_elements.specs.Store.{Store}
 use Rattle.vsm_elements.specs.Chain.{Link, links, head_or, last_or, IsChain}
 use Rattle.vsm_elements.specs.declared.chain.Chain.{Chain}
-use Rattle.list_table.specs.Kept.{items_of}
+use Rattle.list_table.specs.Stocks.{items_of}
 use Rattle.list_table.proofs.TableLemmas.{none, drop_link, next_place}
 use Rattle.cell_extents.specs.Pool.{cells_from}
 use Rattle.cell_extents.specs.Items.{cell_item, cell_items}

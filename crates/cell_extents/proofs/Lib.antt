@@ -3,9 +3,9 @@ pub mod NameLemmas
 pub mod TextLemmas
 pub mod ItemLemmas
 pub mod WalkLemmas
-pub mod BitLemmas
-pub mod MarkLemmas
+pub mod CellLemmas
 pub mod FreeLemmas
+pub mod NoteLemmas
+pub mod NumberLemmas
 pub mod ShapeLemmas
 pub mod SoundLemmas
-pub mod TakenLemmas

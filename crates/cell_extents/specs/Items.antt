@@ -1,24 +1,23 @@
--- How a cell pool stands in a row and its list.
+-- How a cell pool stands in a row and its stock.
 --
--- A row's words are the subpool's number, the cell size, the subpool's owner, how many items the extents and the marks
--- take, and how many extents there are. Its list has three items of the name, one of the header and one of its end with
--- the side and both counts, then the extents, then the marks, then the free cells.
-use Rattle.std.specs.Prelude.{◌≡◌, ℕ, zero, suc, ◌+◌, ◌%◌, ◌^◌, ◌≤◌, ◌<◌, List, [], ◌∷◌, length, take, drop}
-use Rattle.std.specs.Prelude.{map, slice_index_or}
+-- A row's words are the subpool's number, the cell size and the subpool's owner. Its list has three items of the name, one
+-- of the header and one of its end with the side and both counts, then the free cells. Its tables have the cells in use,
+-- under their addresses, and the extents, under their numbers.
+use Rattle.std.specs.Prelude.{◌≡◌, ℕ, ◌%◌, ◌^◌, ◌≤◌, ◌<◌, List, [], ◌∷◌, length, drop, map, slice_index_or}
 use Rattle.list_table.specs.Entries.{Entry, word}
 use Rattle.vsm_model.specs.declared.Subpool.{Subpool}
 use Rattle.cell_extents.specs.declared.label.Label.{Label}
 use Rattle.cell_extents.specs.declared.settings.CellSettings.{CellSettings}
 use Rattle.cell_extents.specs.declared.settings.Extent.{Extent}
 use Rattle.cell_extents.specs.Names.{packed, spelled, location_in, header_in, AreTexts}
-use Rattle.cell_extents.specs.Pool.{Pool, cells_from}
-use Rattle.cell_extents.specs.Marks.{all_marks, IsMarked}
+use Rattle.cell_extents.specs.Pool.{Pool, HasCells, cells_from}
+use Rattle.cell_extents.specs.Notes.{AreNoted, AreNumbered}
 
 abbrev pub item : List (List ℕ) → ℕ → List ℕ
 item items k = slice_index_or items k []
 
 abbrev pub extent_of : List ℕ → Extent
-extent_of ws = record { start = word ws 0; count = word ws 1 }
+extent_of ws = record { start = word ws 2; count = word ws 3 }
 
 abbrev pub cell_of : List ℕ → ℕ
 cell_of ws = word ws 0
@@ -54,28 +53,20 @@ made_of id ws label front form extents cells = record {
 -- the pool in a row; closed
 unfoldable pub pool_of : Entry → Pool
 pool_of e =
-    made_of e.id e.words (label_of e.items) (item e.items 3) (item e.items 4)
-    (map extent_of (take (word e.words 4) (drop 5 e.items))) (map cell_of (drop (word e.words 3) (drop 5 e.items)))
+    made_of e.id e.words (label_of e.items) (item e.items 3) (item e.items 4) (map extent_of e.extents)
+    (map cell_of (drop 5 e.items))
 
--- the row has an id of one word, its texts, its extents and their marks, cells of some size, and just the words of its
--- name, which is text
+-- The row has an id of one word, its texts, cells of some size, and just the words of its name, which is text; its
+-- extents are numbered, its free cells are cells of these, and the cells in use are noted.
 pub record IsSound (e : Entry) : Type 0 where
   pub small : e.id < 2 ^ 32
-  pub room : 5 + word e.words 3 ≤ length e.items
-  pub long : word e.words 4 + all_marks (pool_of e).extents ≡ word e.words 3
+  pub room : 5 ≤ length e.items
   pub size : 0 < word e.words 1
   pub named : label_of e.items ≡ packed (pool_of e).name
   pub texts : AreTexts (pool_of e).name (pool_of e).header
-  pub marked : IsMarked (pool_of e) (drop (5 + word e.words 4) e.items)
-
--- the item of marks that are all set
-abbrev pub set_item : List ℕ
-set_item = 0xFFFF_FFFF ∷ 0xFFFF_FFFF ∷ 0xFFFF_FFFF ∷ 0xFFFF_FFFF ∷ 0xFFFF_FFFF ∷ 0xFFFF_FFFF ∷ 0xFFFF_FFFF ∷ []
-
--- and so many of these
-abbrev pub set_items : ℕ → List (List ℕ)
-set_items zero = []
-set_items (suc n) = set_item ∷ set_items n
+  pub numbered : AreNumbered 0 e.extents
+  pub cells : HasCells (pool_of e)
+  pub noted : AreNoted (pool_of e) e.used
 
 -- the item of a free cell
 abbrev pub cell_item : ℕ → List ℕ

@@ -1,4 +1,4 @@
 pub mod Names
 pub mod Pool
-pub mod Marks
+pub mod Notes
 pub mod Items

@@ -53,10 +53,6 @@ overlaps size start len x = nat_lt start (x.start + rounded (x.count * size)) &&
 abbrev pub meets : ℕ → ℕ → Pool → Bool
 meets start len p = list_any (overlaps p.settings.size start len) p.extents
 
--- How many elements the marks of an extent of so many cells take: one bit to a cell, which tells whether it's free.
-abbrev pub mark_items : ℕ → ℕ
-mark_items count = count / 224 + 1
-
 -- What the calls do to a pool.
 
 -- its first cell is handed out

@@ -1,12 +1,12 @@
-//! What one cell pool has, in a list of elements: its name and header, its extents with a mark for each of their cells,
-//! and its free cells.
+//! What one cell pool has, in elements: a list of its name, its header and its free cells, and two tables, of its cells in
+//! use and of its extents.
 #![tactic(auto)]
 
+pub mod extents;
 pub mod label;
 pub mod lists;
-pub mod marks;
 mod settings;
 pub mod texts;
-pub mod walks;
+pub mod used;
 
 pub use settings::{CellId, CellSettings, Extent, Header, Name};

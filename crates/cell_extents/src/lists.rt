@@ -3,7 +3,7 @@
 ghost use Rattle.std.specs.Prelude.{◌≡◌, ◌+◌, ◌*◌, ◌-◌, ◌≤◌, ◌<◌, ◌^◌, ◌++◌, ◌∷◌, Some, slice_get, take, drop};
 ghost use Rattle.vsm_elements.specs.Chain.{links, owned, last_or, IsChain};
 ghost use Rattle.vsm_elements.specs.Ownership.{Leaves};
-ghost use Rattle.list_table.specs.Kept.{items_of};
+ghost use Rattle.list_table.specs.Stocks.{items_of};
 ghost use Rattle.cell_extents.specs.Items.{cell_items, label_of};
 
 use crate::label::{Label, LabelForm};

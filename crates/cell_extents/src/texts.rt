@@ -97,7 +97,7 @@ fn low_byte(word: u32) -> u8
 }
 
 /// The subpool that a row's words say: the first is its number, the third its owner.
-pub fn subpool_of(words: [u32; 5]) -> Subpool
+pub fn subpool_of(words: [u32; 3]) -> Subpool
     ensures { result ≡ subpool_in words }
 {
     Subpool {
@@ -107,7 +107,7 @@ pub fn subpool_of(words: [u32; 5]) -> Subpool
 }
 
 /// Whether a row's words say this subpool.
-pub fn says_subpool(words: [u32; 5], subpool: Subpool) -> bool
+pub fn says_subpool(words: [u32; 3], subpool: Subpool) -> bool
     ensures { result ≡ same_subpool (subpool_in words) subpool }
 {
     let said = subpool_of(words);

@@ -3,7 +3,7 @@ use Rattle.std.specs.Prelude.{map}
 use Rattle.std.specs.List.{range_with_len}
 use Rattle.vsm_elements.specs.Chain.{links, owned, IsChain}
 use Rattle.vsm_elements.specs.Ownership.{Leaves}
-use Rattle.list_table.specs.Kept.{items_of}
+use Rattle.list_table.specs.Stocks.{items_of}
 use Rattle.cell_extents.specs.Items.{cell_item}
 use Rattle.cell_extents.proofs.lists.append_cells.Given as goal
 

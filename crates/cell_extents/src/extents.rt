@@ -1,0 +1,107 @@
+//! The extents: a row for each, under its number, in the order in which they were made.
+
+ghost use Rattle.std.specs.Prelude.{◌≡◌, ◌+◌, ◌≤◌, ◌<◌, ◌++◌, ◌∷◌, [], map, length, option_map};
+ghost use Rattle.std.specs.List.{list_any};
+ghost use Rattle.vsm_elements.specs.Ownership.{Leaves};
+ghost use Rattle.row_table.specs.RowTable.{rows, owned, IsTable};
+ghost use Rattle.list_table.specs.Stocks.{rows_of};
+ghost use Rattle.cell_extents.specs.Pool.{overlaps};
+ghost use Rattle.cell_extents.specs.Items.{extent_of};
+ghost use Rattle.cell_extents.specs.Notes.{AreNumbered};
+
+use crate::settings::Extent;
+use crate::used::NUMBERS;
+use row_table::{Row, RowTable};
+use vsm_elements::Elements;
+
+/// The extent that a row says.
+pub fn extent_of(row: Row) -> Extent
+    ensures { result ≡ extent_of row.words }
+{
+    Extent {
+        start: row.words[2],
+        count: row.words[3],
+    }
+}
+
+// The number behind the last one: how many extents there are.
+fn next_number(extents: &RowTable, elements: &Elements) -> u32
+    requires table { IsTable elements.now extents.now }
+    requires numbered { AreNumbered 0 (rows_of (rows elements.now extents.now)) }
+    ensures { result ≡ length (rows elements.now extents.now) }
+{
+    match extents.last(elements) {
+        Some(row) => row.words[1] * NUMBERS + row.words[0] + 1,
+        None => 0,
+    }
+}
+
+/// An extent more, behind all others. It takes one element.
+pub fn push(extents: &mut RowTable, elements: &mut Elements, extent: Extent)
+    requires table { IsTable elements.old extents.old }
+    requires numbered { AreNumbered 0 (rows_of (rows elements.old extents.old)) }
+    requires room { 0 < elements.old.spare }
+    ensures table { IsTable elements.new extents.new }
+    ensures numbered { AreNumbered 0 (rows_of (rows elements.new extents.new)) }
+    ensures extents { map extent_of (rows_of (rows elements.new extents.new))
+        ≡ map extent_of (rows_of (rows elements.old extents.old)) ++ extent ∷ [] }
+    ensures owned { Leaves elements.old elements.new (owned elements.old extents.old) (owned elements.new extents.new) }
+    ensures spares { elements.new.spare + 1 ≡ elements.old.spare }
+{
+    let number = next_number(extents, elements);
+    let words = [
+        number % NUMBERS,
+        number / NUMBERS,
+        extent.start,
+        extent.count,
+        0,
+        0,
+        0,
+    ];
+    extents.insert(elements, words);
+}
+
+/// Takes the last extent away, if there is one, and tells it. Its element becomes a spare one.
+pub fn pop(extents: &mut RowTable, elements: &mut Elements) -> Extent
+    requires table { IsTable elements.old extents.old }
+    requires numbered { AreNumbered 0 (rows_of (rows elements.old extents.old)) }
+    requires some { 0 < length (rows elements.old extents.old) }
+    ensures table { IsTable elements.new extents.new }
+    ensures numbered { AreNumbered 0 (rows_of (rows elements.new extents.new)) }
+    ensures extents { map extent_of (rows_of (rows elements.old extents.old))
+        ≡ map extent_of (rows_of (rows elements.new extents.new)) ++ result ∷ [] }
+    ensures owned { Leaves elements.old elements.new (owned elements.old extents.old) (owned elements.new extents.new) }
+    ensures spares { elements.new.spare ≡ elements.old.spare + 1 }
+{
+    match extents.last(elements) {
+        Some(row) => {
+            extents.remove(elements, row.words[0], row.words[1]);
+            extent_of(row)
+        }
+        None => Extent { start: 0, count: 0 },
+    }
+}
+
+// Whether an area of so many bytes and an extent have an address in common.
+fn overlaps(size: u32, start: u32, len: u32, extent: Extent) -> bool
+    ensures { result ≡ overlaps size start len extent }
+{
+    let bytes = u64::from(extent.count) * u64::from(size);
+    let rounded = 8 * ((bytes + 7) / 8);
+    u64::from(start) < u64::from(extent.start) + rounded
+        && u64::from(extent.start) < u64::from(start) + u64::from(len)
+}
+
+/// Whether an area of `len` bytes overlaps one of the extents of cells of `size` bytes, each up to the end of its last
+/// doubleword.
+pub fn meets(extents: &RowTable, elements: &Elements, size: u32, start: u32, len: u32) -> bool
+    requires { IsTable elements.now extents.now }
+    ensures { result ≡ list_any (overlaps size start len) (map extent_of (rows_of (rows elements.now extents.now))) }
+{
+    let Some(part) = extents.part(elements) else {
+        return false;
+    };
+    overlaps(size, start, len, extent_of(part.row))
+        || meets(&part.before, elements, size, start, len)
+        || meets(&part.behind, elements, size, start, len)
+}
