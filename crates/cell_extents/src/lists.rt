@@ -4,7 +4,7 @@ ghost use Rattle.std.specs.Prelude.{◌≡◌, ◌+◌, ◌*◌, ◌-◌, ◌≤
 ghost use Rattle.vsm_elements.specs.Chain.{links, owned, last_or, IsChain};
 ghost use Rattle.vsm_elements.specs.Ownership.{Leaves};
 ghost use Rattle.list_table.specs.Stocks.{items_of};
-ghost use Rattle.cell_extents.specs.Items.{cell_items, label_of};
+ghost use Rattle.cell_extents.specs.Items.{cell_items, cell_of, label_of};
 
 use crate::label::{Label, LabelForm};
 use vsm_elements::{Chain, Elements, Id};
@@ -47,6 +47,14 @@ pub fn label(list: Chain, elements: &Elements) -> Label
         second: item(list, elements, 1),
         third: item(list, elements, 2),
     }
+}
+
+/// The address of the cell that an item says.
+pub fn cell_of(words: [u32; 7]) -> u32
+    ensures cell { result ≡ cell_of words }
+    ensures range { result < 2 ^ 32 }
+{
+    words[0]
 }
 
 /// Puts an item at place `k`, in front of what stood there. It takes one element.

@@ -56,7 +56,7 @@ same_place s t q k before same place = record {
 
 -- one row
 abbrev pub given : ℕ → Entry → Entry
-given to e = record { id = e.id; words = word e.words 0 ∷ word e.words 1 ∷ to ∷ word e.words 3 ∷ word e.words 4 ∷ []; items = e.items }
+given to e = record { id = e.id; words = word e.words 0 ∷ word e.words 1 ∷ to ∷ []; items = e.items; used = e.used; extents = e.extents }
 
 abbrev pub hand : Subpool → ℕ → Entry → Entry
 hand subpool to e = if same_subpool (subpool_in e.words) subpool then given to e else e
@@ -87,11 +87,12 @@ module _ (subpool : Subpool) (to : ℕ) (small : to < 256) where
   given_sound e h = record {
     small = h.small;
     room = h.room;
-    long = h.long;
     size = h.size;
     named = h.named;
     texts = h.texts;
-    marked = record { distinct = h.marked.distinct; within = h.marked.within; apart = h.marked.apart; marks = h.marked.marks };
+    numbered = h.numbered;
+    cells = record { once = h.cells.once; inside = h.cells.inside; apart = h.cells.apart };
+    noted = h.noted;
   }
 
   hand_sound : (e : Entry) → IsSound e → IsSound (hand subpool to e)

@@ -95,6 +95,12 @@ get_last xs x k e = ap (slice_get (xs ++ x ∷ [])) e ∙ at_seam xs where
   at_seam [] = refl
   at_seam (z ∷ zs) = at_seam zs
 
+-- the extent at the end of a list is the last one
+pub end_is : (p : Pool) (h : IsExtended p) (xs : List Extent) (x : Extent) → p.extents ≡ xs ++ x ∷ [] → slice_get p.extents (length p.extents - 1) ≡ Some x
+end_is p h xs x e =
+    let n : length p.extents - 1 ≡ length xs = omega (arith, ap length e, length-append xs (x ∷ [])) in
+    ap (λ (z : List Extent). slice_get z (length p.extents - 1)) e ∙ get_last xs x (length p.extents - 1) n
+
 pub last_is : (p : Pool) (h : IsExtended p) (k : ℕ) (x : Extent) → length p.extents ≡ k + 1 → slice_get p.extents k ≡ Some x → h.last ≡ x
 last_is p h k x long there =
     let size : length p.extents ≡ length (h.rest.extents ++ h.last ∷ []) = ap (λ (z : Pool). length z.extents) h.is in
@@ -137,7 +143,7 @@ unfolding by_id IsCellPools
 pools_have_cells s q i p kept h =
     let f : (e : Entry) × IsSound e × (pool_of e ≡ p) = found_sound (is_of i) (entries s q.table) p kept.sound h in
     let P : Pool → Type 0 = HasCells in
-    subst P f.2 (record { once = f.1.marked.distinct; inside = f.1.marked.within; apart = f.1.marked.apart })
+    subst P f.2 f.1.cells
 
 pub ids_are_small : IdsAreSmall
 unfolding by_id IsCellPools

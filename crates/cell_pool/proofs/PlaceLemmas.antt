@@ -1,11 +1,14 @@
 -- Steps of a walk over items.
-use Rattle.std.proofs.Common.{◌≡◌, ℕ, suc, ◌+◌, ◌-◌, ◌<◌, List, ◌∷◌, length, take, drop, get_or, Some, sym, ap, ◌∙◌, arith, length-drop}
-use Rattle.std.specs.Prelude.{slice_get, map}
-use Rattle.std.proofs.lemmas.List.{take_all, drop-drop}
+use Rattle.std.proofs.Common.{◌≡◌, ℕ, zero, suc, ◌+◌, ◌-◌, ◌<◌, List, [], ◌∷◌, None, refl, length, take, drop, get_or, Some, sym, ap, ◌∙◌, arith, length-drop}
+use Rattle.std.specs.Prelude.{slice_get, map, Option, IfNone}
+use Rattle.std.proofs.lemmas.List.{take_all}
 use Rattle.std.proofs.lemmas.Option.{slice_get_within, get_or_from_slice_get}
 use Rattle.std.proofs.Math.Seq.{drop-cons}
-use Rattle.list_table.specs.Entries.{Entry, word}
-use Rattle.cell_extents.specs.Items.{cell_of, pool_of}
+use Rattle.row_table.specs.declared.row.Row.{Row}
+use Rattle.list_table.specs.Entries.{Entry}
+use Rattle.list_table.specs.Stocks.{rows_of}
+use Rattle.cell_extents.specs.declared.settings.Extent.{Extent}
+use Rattle.cell_extents.specs.Items.{extent_of, cell_of, pool_of}
 
 abbrev Items : Type 0
 Items = List (List ℕ)
@@ -20,8 +23,32 @@ items_step items k end words h there =
     ∙ ap (λ (z : List ℕ). z ∷ take (end - (k + 1)) (drop (suc k) items)) (get_or_from_slice_get items k words words there)
     ∙ ap (λ (z : ℕ). words ∷ take (end - (k + 1)) (drop z items)) m
 
--- the free cells of the pool in an entry are all items behind its texts, extents and marks
-pub items_cells : (e : Entry) (n : ℕ) → length e.items ≡ n → map cell_of (take (n - (5 + word e.words 3)) (drop (5 + word e.words 3) e.items)) ≡ (pool_of e).cells
+-- the free cells of the pool in an entry are all items behind its texts
+pub items_cells : (e : Entry) (n : ℕ) → length e.items ≡ n → map cell_of (take (n - 5) (drop 5 e.items)) ≡ (pool_of e).cells
 unfolding pool_of
-items_cells e n long =
-    ap (map cell_of) (take_all (n - (5 + word e.words 3)) (drop (5 + word e.words 3) e.items) (omega (arith, length-drop (5 + word e.words 3) e.items)) ∙ sym (drop-drop (word e.words 3) 5 e.items))
+items_cells e n long = ap (map cell_of) (take_all (n - 5) (drop 5 e.items) (omega (arith, length-drop 5 e.items)))
+
+-- the row at a place, and those behind it
+pub rows_step : (rs : List Row) (k : ℕ) (r : Row) → slice_get rs k ≡ Some r → map extent_of (drop k (rows_of rs)) ≡ extent_of r.words ∷ map extent_of (drop (k + 1) (rows_of rs))
+rows_step [] zero r h = absurd (no h) where
+  no : None ≡ Some r → ⊥
+  no e = cc
+rows_step [] (suc k) r h = absurd (no h) where
+  no : None ≡ Some r → ⊥
+  no e = cc
+rows_step (q ∷ rs) zero r h = ap (λ (z : Row). extent_of z.words ∷ map extent_of (rows_of rs)) (some_is h) where
+  some_is : Some q ≡ Some r → q ≡ r
+  some_is e = cc
+rows_step (q ∷ rs) (suc k) r h = let e : suc k + 1 ≡ suc (k + 1) = omega arith in rows_step rs k r h ∙ ap (λ (z : ℕ). extent_of r.words ∷ map extent_of (drop z (rows_of (q ∷ rs)))) (sym e)
+
+pub rows_end : (rs : List Row) (k : ℕ) → slice_get rs k ≡ None → map extent_of (drop k (rows_of rs)) ≡ []
+rows_end [] zero h = refl
+rows_end [] (suc k) h = refl
+rows_end (q ∷ rs) zero h = absurd (no h) where
+  no : Some q ≡ None → ⊥
+  no e = cc
+rows_end (q ∷ rs) (suc k) h = rows_end rs k h
+
+pub where_none : {A : Type 0} → (o : Option A) (P : Type 0) → P → IfNone o P
+where_none None P p = p
+where_none (Some x) P p = tt

@@ -4,8 +4,8 @@ use Rattle.std.specs.Prelude.{slice_get, IsUtf8}
 use Rattle.std.specs.Str.{bytes_eq}
 use Rattle.vsm_elements.specs.Store.{Store}
 use Rattle.vsm_elements.specs.Chain.{links}
-use Rattle.list_table.specs.Entries.{Entry, word}
-use Rattle.list_table.specs.Kept.{items_of}
+use Rattle.list_table.specs.Entries.{Entry}
+use Rattle.list_table.specs.Stocks.{items_of}
 use Rattle.list_table.specs.ListTable.{entries, entry_of, IsTable, IsOpen}
 use Rattle.list_table.specs.declared.row.ListRow.{ListRow}
 use Rattle.cell_extents.specs.declared.label.Label.{Label}
@@ -30,14 +30,11 @@ module _ (s : Store) (q : CellPools) (kept : IsCellPools s q) (r : ListRow) (xs 
   unfolding IsCellPools
   is_sound = let P : List Entry → Type 0 = AllSound in sound_at xs ys (entry_of s r) (subst P parts kept.sound)
 
-  pub has_items : 5 + word r.words 3 ≤ r.list.count
-  has_items = omega (arith, is_sound.room, length-items (links s r.list), hand.list.count)
-
-  pub has_texts : 5 ≤ r.list.count
-  has_texts = omega (arith, has_items)
+  pub has_texts : 5 ≤ r.stock.items.count
+  has_texts = omega (arith, is_sound.room, length-items (links s r.stock.items), hand.stock.items.count)
 
   -- the name that was read from its list is a text
-  module _ (label : Label) (read : label ≡ label_of (items_of (links s r.list))) where
+  module _ (label : Label) (read : label ≡ label_of (items_of (links s r.stock.items))) where
     pub spells : spelled label ≡ (pool_of (entry_of s r)).name
     spells = ap spelled read ∙ sym (pool_name (entry_of s r))
 

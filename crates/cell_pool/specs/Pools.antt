@@ -6,7 +6,7 @@ use Rattle.vsm_model.specs.Subpools.{same_subpool}
 -- A pool by itself, and its cells and extents.
 pub use Rattle.cell_extents.specs.declared.settings.Extent.{Extent}
 pub use Rattle.cell_extents.specs.declared.settings.CellSettings.{CellSettings}
-pub use Rattle.cell_extents.specs.Pool.{Pool, cells_of, AreApart, HasCells, uses, rounded, overlaps, meets, mark_items}
+pub use Rattle.cell_extents.specs.Pool.{Pool, cells_of, AreApart, HasCells, uses, rounded, overlaps, meets}
 pub use Rattle.cell_extents.specs.Pool.{without_first, with_first, extended, retracted, IsExtended}
 unfoldable pub use Rattle.cell_extents.specs.Pool.{cells_from}
 

@@ -1,5 +1,5 @@
 -- That cell pools stand has one proof at most, and what they are is a set.
-use Rattle.std.specs.Prelude.{ℕ, List, [], ◌∷◌, Option, Some, None, IfSome}
+use Rattle.std.specs.Prelude.{ℕ, ◌+◌, List, [], ◌∷◌, Option, Some, None, IfSome}
 use Rattle.std.proofs.Props.{props}
 use mathlib.Core.HLevel.{Unit-prop, ×_prop}
 use Rattle.vsm_model.specs.declared.Subpool.{Subpool}
@@ -7,7 +7,10 @@ use Rattle.vsm_elements.specs.Store.{Store}
 use Rattle.vsm_elements.specs.Chain.{Link}
 use Rattle.vsm_elements.specs.Props.{Apart-prop, Distinct-prop, IsChain-prop}
 use Rattle.vsm_elements.specs.declared.chain.Chain.{Chain}
+use Rattle.row_table.specs.Props as RowTable
 use Rattle.list_table.specs.Entries.{Entry}
+use Rattle.list_table.specs.Stocks.{IsStock}
+use Rattle.list_table.specs.declared.stock.Stock.{Stock}
 use Rattle.list_table.specs.Kept.{head_of, listed, AllStand}
 use Rattle.list_table.specs.Kept as rows
 use Rattle.list_table.specs.ListTable.{IsTable}
@@ -16,10 +19,10 @@ use Rattle.cell_extents.specs.declared.label.Label.{Label}
 use Rattle.cell_extents.specs.declared.settings.CellSettings.{CellSettings}
 use Rattle.cell_extents.specs.declared.settings.Extent.{Extent}
 use Rattle.cell_extents.specs.Names.{AreBytes, AreTexts}
-use Rattle.cell_extents.specs.Marks.{IsMarked}
+use Rattle.cell_extents.specs.Notes.{AreNumbered}
 use Rattle.cell_extents.specs.Items.{IsSound}
 use Rattle.cell_pool.specs.declared.pools.CellPools.{CellPools}
-use Rattle.cell_pool.specs.Pools.{Pool, AreApart, Single}
+use Rattle.cell_pool.specs.Pools.{Pool, AreApart, HasCells, Single}
 use Rattle.cell_pool.specs.Kept.{AllSound, IsKept}
 use Rattle.cell_pool.specs.CellPools.{IsCellPools}
 
@@ -38,9 +41,12 @@ Pool-set = hlevel (Settings-set, Extent-set, props)
 Label-set : IsSet Label
 Label-set = hlevel props
 
+IsStock-prop : (s : Store) (k : Stock) → IsProp (IsStock s k)
+IsStock-prop s k = hlevel (IsChain-prop, RowTable.IsTable-prop, Apart-prop, props)
+
 AllStand-prop : (s : Store) (ns : List Link) → IsProp (AllStand s ns)
 AllStand-prop s [] = Unit-prop
-AllStand-prop s (n ∷ ns) = hlevel (IsChain-prop, Apart-prop, AllStand-prop s ns, props)
+AllStand-prop s (n ∷ ns) = hlevel (IsStock-prop, Apart-prop, AllStand-prop s ns, props)
 
 rows-prop : (s : Store) (c : Chain) → IsProp (rows.IsKept s c)
 rows-prop s c = hlevel (IsChain-prop, Apart-prop, AllStand-prop, props)
@@ -64,11 +70,15 @@ AreApart-prop : (size : ℕ) (extents : List Extent) → IsProp (AreApart size e
 AreApart-prop size [] = Unit-prop
 AreApart-prop size (x ∷ xs) = ×_prop (hlevel props) (AreApart-prop size xs)
 
-IsMarked-prop : (p : Pool) (items : List (List ℕ)) → IsProp (IsMarked p items)
-IsMarked-prop p items = hlevel (Distinct-prop, AreApart-prop, props)
+AreNumbered-prop : (k : ℕ) (rows : List (List ℕ)) → IsProp (AreNumbered k rows)
+AreNumbered-prop k [] = Unit-prop
+AreNumbered-prop k (ws ∷ rest) = ×_prop (hlevel props) (AreNumbered-prop (k + 1) rest)
+
+HasCells-prop : (p : Pool) → IsProp (HasCells p)
+HasCells-prop p = hlevel (Distinct-prop, AreApart-prop, props)
 
 IsSound-prop : (e : Entry) → IsProp (IsSound e)
-IsSound-prop e = hlevel (Label-set, AreTexts-prop, IsMarked-prop, props)
+IsSound-prop e = hlevel (Label-set, AreTexts-prop, AreNumbered-prop, HasCells-prop, props)
 
 AllSound-prop : (es : List Entry) → IsProp (AllSound es)
 AllSound-prop [] = Unit-prop

@@ -2,7 +2,8 @@
 use Rattle.std.specs.Prelude.{◌≡◌, ℕ, ◌-◌, ◌≤◌, List, map, take, drop}
 use Rattle.vsm_elements.specs.Store.{Store}
 use Rattle.vsm_elements.specs.Chain.{links, last_or, IsChain}
-use Rattle.list_table.specs.Kept.{items_of}
+use Rattle.row_table.specs.RowTable.{rows, place_index, IsTable, IsPlace}
+use Rattle.list_table.specs.Stocks.{items_of, rows_of}
 use Rattle.cell_extents.specs.Items.{cell_of, extent_of}
 use Rattle.cell_extents.specs.declared.settings.Extent.{Extent}
 use Rattle.cell_pool.specs.declared.walks.ItemPlace.{ItemPlace}
@@ -22,10 +23,10 @@ pub record StandsAt (s : Store) (w : ItemPlace) : Type 0 where
 
 -- the place is before, between or behind the extents of a pool, and these are behind it
 unfoldable pub IsExtentPlace : Store → CellExtentPlace → Type 0
-IsExtentPlace s place = StandsAt s place.items
+IsExtentPlace s place = IsTable s place.extents × IsPlace s place.extents place.place
 
 unfoldable pub extents_left : Store → CellExtentPlace → List Extent
-extents_left s place = map extent_of (items_left s place.items)
+extents_left s place = map extent_of (drop (place_index place.place) (rows_of (rows s place.extents)))
 
 -- the place is before, between or behind the free cells of a pool, and these are behind it
 unfoldable pub IsCellPlace : Store → CellPlace → Type 0

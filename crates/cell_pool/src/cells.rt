@@ -4,12 +4,14 @@ ghost use Rattle.std.specs.Prelude.{◌≡◌, ℕ, ◌+◌, ◌-◌, ◌*◌, �
 ghost use Rattle.std.specs.Prelude.{Some, IsSome, IfSome, option_map, slice_get, true, false};
 ghost use Rattle.vsm_elements.specs.Ownership.{Leaves};
 ghost use Rattle.cell_pool.specs.Pools.{at_id, without_first, with_first, extended, retracted, IsExtended};
-ghost use Rattle.cell_pool.specs.Pools.{uses, meets, mark_items};
+ghost use Rattle.cell_pool.specs.Pools.{uses, meets};
 
 use crate::pools::CellPools;
-use cell_extents::lists::{TEXTS, append_cells, insert, item, remove, take_out};
-use cell_extents::marks::{insert_marks, mark_items, note};
+use cell_extents::extents::{pop, push};
+use cell_extents::lists::{TEXTS, append_cells, cell_of, insert, item, remove, take_out};
+use cell_extents::used::{forget, note};
 use cell_extents::{CellId, Extent};
+use list_table::Stock;
 use vsm_elements::Elements;
 
 impl CellPools {
@@ -22,16 +24,16 @@ impl CellPools {
         ensures { IfSome (by_id elements.now self.now id) (λ p. result ≡ slice_get p.cells 0) }
     {
         let row = self.row(elements, id);
-        let front = TEXTS + row.words[3];
-        if front == row.list.count {
+        let items = row.stock.items;
+        if items.count == TEXTS {
             return None;
         }
-        Some(item(row.list, elements, front)[0])
+        Some(cell_of(item(items, elements, TEXTS)))
     }
 
     /// Hands out the first free cell.
     ///
-    /// Its element becomes a spare one.
+    /// It takes no element and gives none: the cell has one among those in use in place of that among the free ones.
     pub fn take_cell(&mut self, elements: &mut Elements, id: CellId) -> u32
         requires pools { IsCellPools elements.old self.old }
         requires there { IsSome (by_id elements.old self.old id) }
@@ -43,83 +45,85 @@ impl CellPools {
         ensures ids { (i : ℕ) → by_id elements.new self.new i
             ≡ option_map (at_id id without_first) (by_id elements.old self.old i) }
         ensures owned { Leaves elements.old elements.new (owned elements.old self.old) (owned elements.new self.new) }
-        ensures spares { elements.new.spare ≡ elements.old.spare + 1 }
+        ensures spares { elements.new.spare ≡ elements.old.spare }
     {
         let mut row = self.row(elements, id);
-        let front = TEXTS + row.words[3];
-        let mut list = row.list;
-        let cell = take_out(&mut list, elements, front)[0];
-        note(list, elements, row.words, cell, false);
-        row.list = list;
+        let mut items = row.stock.items;
+        let mut used = row.stock.used;
+        let cell = cell_of(take_out(&mut items, elements, TEXTS));
+        note(&mut used, elements, cell);
+        row.stock = Stock {
+            items,
+            used,
+            extents: row.stock.extents,
+        };
         self.table.write(elements, row);
         cell
     }
 
     /// Puts a cell in front of the free ones. It has to be in use.
     ///
-    /// It takes one element.
+    /// It takes no element and gives none.
     pub fn put_cell(&mut self, elements: &mut Elements, id: CellId, cell: u32)
         requires pools { IsCellPools elements.old self.old }
         requires there { IsSome (by_id elements.old self.old id) }
         requires used { IfSome (by_id elements.old self.old id) (λ p. uses p cell ≡ true) }
-        requires room { 0 < elements.old.spare }
         ensures pools { IsCellPools elements.new self.new }
         ensures names { (n : List ℕ) → pool elements.new self.new n
             ≡ option_map (at_id id (with_first cell)) (pool elements.old self.old n) }
         ensures ids { (i : ℕ) → by_id elements.new self.new i
             ≡ option_map (at_id id (with_first cell)) (by_id elements.old self.old i) }
         ensures owned { Leaves elements.old elements.new (owned elements.old self.old) (owned elements.new self.new) }
-        ensures spares { elements.new.spare + 1 ≡ elements.old.spare }
+        ensures spares { elements.new.spare ≡ elements.old.spare }
     {
         let mut row = self.row(elements, id);
-        let front = TEXTS + row.words[3];
-        let mut list = row.list;
-        note(list, elements, row.words, cell, true);
-        insert(&mut list, elements, front, [cell, 0, 0, 0, 0, 0, 0]);
-        row.list = list;
+        let mut items = row.stock.items;
+        let mut used = row.stock.used;
+        forget(&mut used, elements, cell);
+        insert(&mut items, elements, TEXTS, [cell, 0, 0, 0, 0, 0, 0]);
+        row.stock = Stock {
+            items,
+            used,
+            extents: row.stock.extents,
+        };
         self.table.write(elements, row);
     }
 
     /// An extent more, behind all others, which overlaps none of them. Its cells stand in ascending order behind
     /// the free ones.
     ///
-    /// It takes an element for the extent, one for each cell, and `count / 224 + 1` for the marks of the cells.
+    /// It takes an element for the extent, and one for each cell.
     pub fn extend(&mut self, elements: &mut Elements, id: CellId, start: u32, count: u32)
         requires pools { IsCellPools elements.old self.old }
         requires there { IsSome (by_id elements.old self.old id) }
         requires range { IfSome (by_id elements.old self.old id) (λ p. start + count * p.settings.size ≤ 2 ^ 32) }
         requires apart { IfSome (by_id elements.old self.old id) (λ p.
             meets start (count * p.settings.size) p ≡ false) }
-        requires room { count + mark_items count + 1 ≤ elements.old.spare }
+        requires room { count + 1 ≤ elements.old.spare }
         ensures pools { IsCellPools elements.new self.new }
         ensures names { (n : List ℕ) → pool elements.new self.new n
             ≡ option_map (at_id id (extended start count)) (pool elements.old self.old n) }
         ensures ids { (i : ℕ) → by_id elements.new self.new i
             ≡ option_map (at_id id (extended start count)) (by_id elements.old self.old i) }
         ensures owned { Leaves elements.old elements.new (owned elements.old self.old) (owned elements.new self.new) }
-        ensures spares { elements.new.spare + count + mark_items count + 1 ≡ elements.old.spare }
+        ensures spares { elements.new.spare + (count + 1) ≡ elements.old.spare }
     {
         let mut row = self.row(elements, id);
-        let end = TEXTS + row.words[4];
-        let mut list = row.list;
-        insert_marks(&mut list, elements, end, mark_items(count));
-        insert(&mut list, elements, end, [start, count, 0, 0, 0, 0, 0]);
-        let front = list.count - (row.list.count - row.words[3]);
-        append_cells(&mut list, elements, row.words[1], start, count);
-        row.words = [
-            row.words[0],
-            row.words[1],
-            row.words[2],
-            front,
-            row.words[4] + 1,
-        ];
-        row.list = list;
+        let mut items = row.stock.items;
+        let mut extents = row.stock.extents;
+        push(&mut extents, elements, Extent { start, count });
+        append_cells(&mut items, elements, row.words[1], start, count);
+        row.stock = Stock {
+            items,
+            used: row.stock.used,
+            extents,
+        };
         self.table.write(elements, row);
     }
 
     /// Takes the last extent back, with its cells, which have to be the end of the free ones.
     ///
-    /// The element of the extent, those of its cells and those of their marks become spare ones.
+    /// The element of the extent and those of its cells become spare ones.
     pub fn retract(&mut self, elements: &mut Elements, id: CellId) -> Extent
         requires pools { IsCellPools elements.old self.old }
         requires there { IsSome (by_id elements.old self.old id) }
@@ -132,28 +136,19 @@ impl CellPools {
         ensures ids { (i : ℕ) → by_id elements.new self.new i
             ≡ option_map (at_id id (retracted result.count)) (by_id elements.old self.old i) }
         ensures owned { Leaves elements.old elements.new (owned elements.old self.old) (owned elements.new self.new) }
-        ensures spares { elements.new.spare ≡ elements.old.spare + result.count + mark_items result.count + 1 }
+        ensures spares { elements.new.spare ≡ elements.old.spare + (result.count + 1) }
     {
         let mut row = self.row(elements, id);
-        let extents = row.words[4] - 1;
-        let words = item(row.list, elements, TEXTS + extents);
-        let extent = Extent {
-            start: words[0],
-            count: words[1],
-        };
-        let mut list = row.list;
-        let end = list.count - extent.count;
-        remove(&mut list, elements, end, extent.count);
-        let gone = mark_items(extent.count) + 1;
-        remove(&mut list, elements, TEXTS + extents, gone);
-        row.words = [
-            row.words[0],
-            row.words[1],
-            row.words[2],
-            row.words[3] - gone,
+        let mut items = row.stock.items;
+        let mut extents = row.stock.extents;
+        let extent = pop(&mut extents, elements);
+        let end = items.count - extent.count;
+        remove(&mut items, elements, end, extent.count);
+        row.stock = Stock {
+            items,
+            used: row.stock.used,
             extents,
-        ];
-        row.list = list;
+        };
         self.table.write(elements, row);
         extent
     }

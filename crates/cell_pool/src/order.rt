@@ -60,7 +60,7 @@ impl CellPools {
         };
         while place.index < count {
             let row = self.table.row(elements, place.index, place.before);
-            let named = name_of(label(row.list, elements));
+            let named = name_of(label(row.stock.items, elements));
             if is_between(behind, &named, &next) {
                 next = Some(Candidate {
                     id: row.id,

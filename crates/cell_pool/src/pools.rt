@@ -1,23 +1,20 @@
-ghost use Rattle.std.specs.Prelude.{◌≡◌, ℕ, ◌+◌, ◌≤◌, ◌<◌, ◌++◌, ◌∷◌, [], length, take, drop, map, List, Option};
+ghost use Rattle.std.specs.Prelude.{◌≡◌, ℕ, ◌+◌, ◌≤◌, ◌<◌, ◌++◌, ◌∷◌, [], length, take, List, Option};
 ghost use Rattle.std.specs.Prelude.{Some, None, IsSome, IfSome, option_map, slice_get, if◌then◌else◌, ◌==◌};
 ghost use Rattle.std.specs.Str.{bytes_eq};
 ghost use Rattle.vsm_elements.specs.Store.{Store};
-ghost use Rattle.vsm_elements.specs.Chain.{links};
 ghost use Rattle.vsm_elements.specs.Ownership.{Leaves, Apart};
-ghost use Rattle.list_table.specs.ListTable.{entries, earlier, later, entry_of, owned_but, list_ids, IsPlace, IsOpen};
-ghost use Rattle.list_table.specs.Entries.{word};
-ghost use Rattle.list_table.specs.Kept.{items_of};
+ghost use Rattle.list_table.specs.ListTable.{entries, earlier, later, entry_of, owned_but, IsPlace, IsOpen};
+ghost use Rattle.list_table.specs.Stocks.{holdings};
 ghost use Rattle.cell_pool.specs.Pools.{only, all_but, either_of, is_of, lies_in, id_in};
-ghost use Rattle.cell_extents.specs.Items.{pool_of, extent_of, IsSound};
+ghost use Rattle.cell_extents.specs.Items.{pool_of, IsSound};
 ghost use Rattle.cell_pool.specs.Kept.{pools_of};
-ghost use Rattle.cell_extents.specs.Marks.{all_marks};
 
 use crate::parked::ParkedCells;
 use cell_extents::label::{form_of, label_of_name};
 use cell_extents::lists::{label, put_texts};
 use cell_extents::texts::says_subpool;
 use cell_extents::{CellId, CellSettings, Header, Name};
-use list_table::{ListRow, ListTable};
+use list_table::{ListRow, ListTable, Stock};
 use vsm_elements::{Elements, Id};
 use vsm_model::Subpool;
 
@@ -80,7 +77,7 @@ impl CellPools {
         };
         while place.index < count {
             let row = self.table.row(elements, place.index, place.before);
-            if wanted.same(label(row.list, elements)) {
+            if wanted.same(label(row.stock.items, elements)) {
                 return Some(row.id);
             }
             place = Place {
@@ -141,11 +138,15 @@ impl CellPools {
         let form = form_of(location, primary, secondary, &header);
         let number = u32::from(subpool.number);
         let owner = u32::from(subpool.owner);
-        self.table.push(elements, [number, size, owner, 0, 0]);
+        self.table.push(elements, [number, size, owner]);
         let mut row = self.table.row(elements, 0, 0);
-        let mut list = row.list;
-        put_texts(&mut list, elements, label_of_name(name), form);
-        row.list = list;
+        let mut items = row.stock.items;
+        put_texts(&mut items, elements, label_of_name(name), form);
+        row.stock = Stock {
+            items,
+            used: row.stock.used,
+            extents: row.stock.extents,
+        };
         self.table.write(elements, row);
         row.id
     }
@@ -278,13 +279,10 @@ impl CellPools {
             ≡ earlier elements.now self.now.table result.index
             ++ entry_of elements.now result ∷ later elements.now self.now.table result.index }
         ensures pool { by_id elements.now self.now id ≡ Some (pool_of (entry_of elements.now result)) }
-        ensures room { 5 + word result.words 3 ≤ result.list.count }
-        ensures marks { word result.words 4
-            + all_marks (map extent_of (take (word result.words 4)
-            (drop 5 (items_of (links elements.now result.list))))) ≡ word result.words 3 }
+        ensures room { 5 ≤ result.stock.items.count }
         ensures sound { IsSound (entry_of elements.now result) }
         ensures owned { (t : Store) (has : List ℕ) → Leaves elements.now t
-            (owned_but elements.now self.now.table result.index ++ list_ids elements.now result.list) has
+            (owned_but elements.now self.now.table result.index ++ holdings elements.now result.stock) has
             → Leaves elements.now t (owned elements.now self.now) has }
     {
         let place = self.seek(elements, id);

@@ -4,10 +4,10 @@ ghost use Rattle.std.specs.Prelude.{◌≡◌, ◌↔◌, IsSome, IsTrue, IfSome
 ghost use Rattle.cell_pool.specs.Pools.{uses, Meets};
 
 use crate::pools::{CellPools, Place};
-use cell_extents::lists::{TEXTS, item, label};
-use cell_extents::marks::{is_marked, mark_of};
+use cell_extents::extents::meets;
+use cell_extents::lists::{item, label};
 use cell_extents::texts::{header_of, location_of, name_of, subpool_of};
-use cell_extents::walks::meets;
+use cell_extents::used::is_noted;
 use cell_extents::{CellId, CellSettings, Header, Name};
 use vsm_elements::Elements;
 
@@ -21,10 +21,7 @@ impl CellPools {
         ensures { IfSome (by_id elements.now self.now id) (λ p. result ≡ uses p address) }
     {
         let row = self.row(elements, id);
-        match mark_of(row.list, elements, row.words, address) {
-            Some(mark) => !is_marked(row.list, elements, TEXTS + row.words[4], mark),
-            None => false,
-        }
+        is_noted(&row.stock.used, elements, address)
     }
 
     /// Whether the area of so many bytes from an address on overlaps an extent of some pool, up to the end of the last
@@ -40,7 +37,7 @@ impl CellPools {
         };
         while place.index < count {
             let row = self.table.row(elements, place.index, place.before);
-            if meets(row.list, elements, row.words[4], row.words[1], start, len) {
+            if meets(&row.stock.extents, elements, row.words[1], start, len) {
                 return true;
             }
             place = Place {
@@ -58,7 +55,7 @@ impl CellPools {
         ensures { IfSome (by_id elements.now self.now id) (λ p. result.bytes ≡ p.name) }
     {
         let row = self.row(elements, id);
-        name_of(label(row.list, elements))
+        name_of(label(row.stock.items, elements))
     }
 
     /// The pool's header; `None` where it was built without one.
@@ -68,8 +65,8 @@ impl CellPools {
         ensures { IfSome (by_id elements.now self.now id) (λ p. option_map (λ h. h.items) result ≡ p.header) }
     {
         let row = self.row(elements, id);
-        let form = item(row.list, elements, 4);
-        header_of(item(row.list, elements, 3), form)
+        let form = item(row.stock.items, elements, 4);
+        header_of(item(row.stock.items, elements, 3), form)
     }
 
     /// What the pool was built with.
@@ -79,7 +76,7 @@ impl CellPools {
         ensures { IfSome (by_id elements.now self.now id) (λ p. result ≡ p.settings) }
     {
         let row = self.row(elements, id);
-        let form = item(row.list, elements, 4);
+        let form = item(row.stock.items, elements, 4);
         let subpool = subpool_of(row.words);
         let location = location_of(form[0]);
         CellSettings {

@@ -1,13 +1,16 @@
-//! Walks over the extents and over the free cells of one pool, in their order, at the cost of an element a step.
+//! Walks over the extents and over the free cells of one pool, in their order: an extent at the cost of a look-up, a cell
+//! at that of an element.
 
 ghost use Rattle.std.specs.Prelude.{◌≡◌, ◌+◌, ◌-◌, ◌≤◌, [], ◌∷◌, take, drop, IsSome, IfSome, IfNone};
 ghost use Rattle.vsm_elements.specs.Chain.{links, IsChain};
-ghost use Rattle.list_table.specs.Kept.{items_of};
+ghost use Rattle.list_table.specs.Stocks.{items_of};
 ghost use Rattle.cell_pool.specs.Walks.{items_left, StandsAt, IsExtentPlace, extents_left, IsCellPlace, cells_left};
 
 use crate::pools::CellPools;
+use cell_extents::extents::extent_of;
 use cell_extents::lists::{TEXTS, before};
 use cell_extents::{CellId, Extent};
+use row_table::{RowPlace, RowTable};
 use vsm_elements::{Chain, Elements, Id};
 
 // A place before, between or behind some items of a pool's list: how many items stand before it, the id of the last of
@@ -24,7 +27,8 @@ struct ItemPlace {
 /// walk. It is one as long as the pools stay as they are.
 #[derive(Clone, Copy)]
 pub struct CellExtentPlace {
-    items: ItemPlace,
+    extents: RowTable,
+    place: RowPlace,
 }
 
 /// A place before, between or behind the free cells of a pool, from which [`CellPools::next_cell`] goes on likewise.
@@ -89,9 +93,9 @@ impl CellPools {
         ensures all { IfSome (by_id elements.now self.now id) (λ p. extents_left elements.now result ≡ p.extents) }
     {
         let row = self.row(elements, id);
-        let end = TEXTS + row.words[4];
         CellExtentPlace {
-            items: ItemPlace::new(row.list, elements, TEXTS, end),
+            extents: row.stock.extents,
+            place: RowTable::first_place(),
         }
     }
 
@@ -106,17 +110,15 @@ impl CellPools {
         ensures next { IfSome result (λ r. extents_left elements.now place ≡ r.0 ∷ extents_left elements.now r.1) }
         ensures place { IfSome result (λ r. IsExtentPlace elements.now r.1) }
     {
-        let (words, items) = place.items.next(elements)?;
-        let extent = Extent {
-            start: words[0],
-            count: words[1],
+        let (row, behind) = place.extents.next_row(elements, place.place)?;
+        let next = CellExtentPlace {
+            extents: place.extents,
+            place: behind,
         };
-        Some((extent, CellExtentPlace { items }))
+        Some((extent_of(row), next))
     }
 
     /// The place before the first free cell of the pool.
-    ///
-    /// It walks over the pool's extents and their marks.
     pub fn first_cell(&self, elements: &Elements, id: CellId) -> CellPlace
         requires pools { IsCellPools elements.now self.now }
         requires there { IsSome (by_id elements.now self.now id) }
@@ -124,9 +126,9 @@ impl CellPools {
         ensures all { IfSome (by_id elements.now self.now id) (λ p. cells_left elements.now result ≡ p.cells) }
     {
         let row = self.row(elements, id);
-        let front = TEXTS + row.words[3];
+        let items = row.stock.items;
         CellPlace {
-            items: ItemPlace::new(row.list, elements, front, row.list.count),
+            items: ItemPlace::new(items, elements, TEXTS, items.count),
         }
     }
 

@@ -15,5 +15,5 @@ unfolding cells_left
 returns-clause-all c =
     let e : Entry = entry_of c.args.elements.now c.row-row.result in
     let P : Option Pool → Type 0 = λ z. IfSome z (λ (p : Pool). cells_left c.args.elements.now (record { items = c.new.result }) ≡ p.cells) in
-    let long : length e.items ≡ c.row-row.result.list.count = omega (arith, length-items (links c.args.elements.now c.row-row.result.list), c.row-row.ensures.open.list.count) in
-    subst P (sym c.row-row.ensures.pool) (ap (map cell_of) c.new.ensures.items ∙ items_cells e c.row-row.result.list.count long)
+    let long : length e.items ≡ c.row-row.result.stock.items.count = omega (arith, length-items (links c.args.elements.now c.row-row.result.stock.items), c.row-row.ensures.open.stock.items.count) in
+    subst P (sym c.row-row.ensures.pool) (ap (map cell_of) c.new.ensures.items ∙ items_cells e c.row-row.result.stock.items.count long)

@@ -2,8 +2,9 @@ use Rattle.std.proofs.Common.{rules, ◌≡◌, ◌+◌, ◌≤◌, take, drop, 
 use Rattle.vsm_elements.specs.Ownership.{Leaves}
 use Rattle.vsm_elements.proofs.ChainFrame.{Leaves-trans}
 use Rattle.list_table.specs.Entries.{Entry}
-use Rattle.list_table.specs.ListTable.{entries, entry_of, owned_but, list_ids}
+use Rattle.list_table.specs.ListTable.{entries, entry_of, owned_but}
 use Rattle.list_table.specs.ListTable
+use Rattle.list_table.specs.Stocks.{holdings}
 use Rattle.cell_pool.specs.CellPools.{owned, IsCellPools}
 use Rattle.cell_pool.proofs.ParkLemmas.{leaves_same}
 use Rattle.cell_pool.proofs.HandLemmas.{hand, given, hand_id, is_given, not_given, written_is, same_place, next_rest, next_long, next_ids, stays_rest, rest_done, handed_kept, handed_names, handed_ids}
@@ -25,7 +26,7 @@ loop-place-init c = record {
 }
 
 pub write-requires : goal.write-requires
-write-requires c = record { table = c.row-row.ensures.open.table; list = c.row-row.ensures.open.list; apart = c.row-row.ensures.open.apart }
+write-requires c = record { table = c.row-row.ensures.open.table; stock = c.row-row.ensures.open.stock; apart = c.row-row.ensures.open.apart }
 
 pub loop-place-preserved-then-says_subpool : goal.loop-place-preserved-then-says_subpool
 loop-place-preserved-then-says_subpool c =
@@ -34,7 +35,7 @@ loop-place-preserved-then-says_subpool c =
     let was : List Entry = entries c.args.elements.now c.args.self.now.table in
     let now : List Entry = entries c.loop-place.elements c.args.self.now.table in
     let next : List Entry = entries c.write.new.elements c.args.self.now.table in
-    let P : ℕ → Type 0 = λ i. Leaves c.loop-place.elements c.write.new.elements (owned_but c.loop-place.elements c.args.self.now.table i ++ list_ids c.loop-place.elements c.row-row.result.list) (ListTable.owned c.write.new.elements c.args.self.now.table) in
+    let P : ℕ → Type 0 = λ i. Leaves c.loop-place.elements c.write.new.elements (owned_but c.loop-place.elements c.args.self.now.table i ++ holdings c.loop-place.elements c.row-row.result.stock) (ListTable.owned c.write.new.elements c.args.self.now.table) in
     let one : given c.from.result e ≡ f e = ap (λ (z : ℕ). given z e) c.from.ensures ∙ sym (is_given c.args.subpool c.args.to e (sym c.says_subpool.ensures ∙ c.if-says_subpool.true)) in
     let is : next ≡ take c.loop-place.place.index now ++ f e ∷ drop (c.loop-place.place.index + 1) now = written_is c.loop-place.elements c.write.new.elements c.args.self.now.table c.loop-place.place.index c.row-row.result.index (given c.from.result e) (f e) c.row-row.ensures.index c.write.ensures.entries one in
     record {

@@ -1,132 +1,93 @@
-use Rattle.std.proofs.Common.{◌≡◌, ◌<◌, ◌≤◌, ◌+◌, ◌-◌, ◌∷◌, ◌++◌, [], ◌∙◌, ap, sym, arith, subst, Option, length, take, drop, Some, refl, ℕ}
-use Rattle.std.specs.Prelude.{slice_get, IfSome}
+use Rattle.std.proofs.Common.{◌≡◌, ◌<◌, ◌≤◌, ◌+◌, ◌-◌, ◌∙◌, ap, sym, arith, subst, Option, length, List, Some, refl, ℕ}
+use Rattle.std.specs.Prelude.{slice_get, map, IfSome}
 use Rattle.vsm_elements.specs.Chain.{links}
-use Rattle.vsm_elements.proofs.ChainFrame.{Leaves-trans}
-use Rattle.list_table.specs.Entries.{word}
-use Rattle.list_table.specs.Kept.{items_of}
-use Rattle.list_table.specs.ListTable.{entry_of}
-use Rattle.cell_extents.specs.declared.settings.Extent.{Extent}
-use Rattle.cell_extents.specs.Marks.{all_marks}
-use Rattle.cell_extents.proofs.MarkLemmas.{all_more}
-use Rattle.cell_pool.specs.Pools.{Pool, IsExtended, extended, retracted, mark_items}
-use Rattle.cell_extents.specs.Items.{pool_of, extent_of}
-use Rattle.cell_pool.specs.CellPools.{IsCellPools}
+use Rattle.row_table.specs.RowTable.{rows}
+use Rattle.list_table.specs.Stocks.{items_of, rows_of}
 use Rattle.cell_extents.proofs.ItemLemmas.{length-items}
-use Rattle.cell_pool.proofs.LawLemmas.{some_extent, last_cells, last_is, retracts_back}
-use Rattle.cell_extents.proofs.ShapeLemmas.{has_room, all_length, extents_length, extent_there}
-use Rattle.cell_extents.proofs.SoundLemmas.{cut_all, cut_sound}
+use Rattle.cell_extents.proofs.ShapeLemmas.{count_extents, own_extents}
+use Rattle.cell_extents.specs.Items.{extent_of}
+use Rattle.cell_pool.specs.Pools.{Pool, IsExtended, retracted}
+use Rattle.cell_pool.proofs.LawLemmas.{some_extent, end_is}
+use Rattle.cell_pool.proofs.PartLemmas.{length-rows, shrinks, shrunk, extents_items}
+use Rattle.list_table.specs.ListTable.{entry_of}
+use Rattle.cell_extents.specs.Items.{pool_of}
+use Rattle.cell_pool.specs.CellPools.{IsCellPools}
 use Rattle.cell_pool.proofs.CallLemmas.{ready, done_kept, done_names, done_ids, done_owned}
 use Rattle.cell_pool.proofs.pools.CellPools.retract.Goals as goal
 
-pub overflow_sub-extents : goal.overflow_sub-extents
-overflow_sub-extents c =
-    let x : IsExtended (pool_of (entry_of c.args.elements.now c.row-row.result)) = (let P : Option Pool → Type 0 = λ z. IfSome z (λ (p : Pool). IsExtended p) in subst P c.row-row.ensures.pool c.requires.last) in
-    let some : 0 < word c.row-row.result.words 4 = omega (arith, some_extent (pool_of (entry_of c.args.elements.now c.row-row.result)) x, extents_length (entry_of c.args.elements.now c.row-row.result) (has_room (entry_of c.args.elements.now c.row-row.result) c.row-row.ensures.sound)) in
-    omega (arith, c.row-row.ensures.room, c.row-row.ensures.marks)
+pub pop-extent-requires-clause-table : goal.pop-extent-requires-clause-table
+pop-extent-requires-clause-table c = c.row-row.ensures.open.stock.extents
 
-pub item-words-requires-clause-within : goal.item-words-requires-clause-within
-item-words-requires-clause-within c =
+pub pop-extent-requires-clause-numbered : goal.pop-extent-requires-clause-numbered
+pop-extent-requires-clause-numbered c = c.row-row.ensures.sound.numbered
+
+pub pop-extent-requires-clause-some : goal.pop-extent-requires-clause-some
+pop-extent-requires-clause-some c =
     let x : IsExtended (pool_of (entry_of c.args.elements.now c.row-row.result)) = (let P : Option Pool → Type 0 = λ z. IfSome z (λ (p : Pool). IsExtended p) in subst P c.row-row.ensures.pool c.requires.last) in
-    let some : 0 < word c.row-row.result.words 4 = omega (arith, some_extent (pool_of (entry_of c.args.elements.now c.row-row.result)) x, extents_length (entry_of c.args.elements.now c.row-row.result) (has_room (entry_of c.args.elements.now c.row-row.result) c.row-row.ensures.sound)) in
-    omega (arith, c.row-row.ensures.room, c.row-row.ensures.marks)
+    omega (arith, some_extent (pool_of (entry_of c.args.elements.now c.row-row.result)) x, count_extents (entry_of c.args.elements.now c.row-row.result), length-rows (rows c.args.elements.now c.row-row.result.stock.extents))
 
 pub overflow_sub-end : goal.overflow_sub-end
 overflow_sub-end c =
     let x : IsExtended (pool_of (entry_of c.args.elements.now c.row-row.result)) = (let P : Option Pool → Type 0 = λ z. IfSome z (λ (p : Pool). IsExtended p) in subst P c.row-row.ensures.pool c.requires.last) in
-    let some : 0 < word c.row-row.result.words 4 = omega (arith, some_extent (pool_of (entry_of c.args.elements.now c.row-row.result)) x, extents_length (entry_of c.args.elements.now c.row-row.result) (has_room (entry_of c.args.elements.now c.row-row.result) c.row-row.ensures.sound)) in
-    let there : slice_get (pool_of (entry_of c.args.elements.now c.row-row.result)).extents (word c.row-row.result.words 4 - 1) ≡ Some (extent_of c.item-words.result) = extent_there (entry_of c.args.elements.now c.row-row.result) (has_room (entry_of c.args.elements.now c.row-row.result) c.row-row.ensures.sound) (word c.row-row.result.words 4 - 1) c.item-words.result (omega arith) c.item-words.ensures in
-    let last : x.last ≡ extent_of c.item-words.result = last_is (pool_of (entry_of c.args.elements.now c.row-row.result)) x (word c.row-row.result.words 4 - 1) (extent_of c.item-words.result) (omega (arith, extents_length (entry_of c.args.elements.now c.row-row.result) (has_room (entry_of c.args.elements.now c.row-row.result) c.row-row.ensures.sound))) there in
-    let few : word c.item-words.result 1 ≤ length (pool_of (entry_of c.args.elements.now c.row-row.result)).cells = last_cells (pool_of (entry_of c.args.elements.now c.row-row.result)) x (word c.row-row.result.words 4 - 1) (extent_of c.item-words.result) (omega (arith, extents_length (entry_of c.args.elements.now c.row-row.result) (has_room (entry_of c.args.elements.now c.row-row.result) c.row-row.ensures.sound))) there in
-    let all : c.row-row.result.list.count ≡ (5 + word c.row-row.result.words 3) + length (pool_of (entry_of c.args.elements.now c.row-row.result)).cells = omega (arith, all_length (entry_of c.args.elements.now c.row-row.result) (has_room (entry_of c.args.elements.now c.row-row.result) c.row-row.ensures.sound), length-items (links c.args.elements.now c.row-row.result.list), c.row-row.ensures.open.list.count) in
-    let marked : mark_items (word c.item-words.result 1) + all_marks x.rest.extents ≡ all_marks (pool_of (entry_of c.args.elements.now c.row-row.result)).extents = sym (ap (λ (p : Pool). all_marks p.extents) x.is ∙ all_more x.rest.extents x.last ∙ ap (λ (z : Extent). mark_items z.count + all_marks x.rest.extents) last) in
-    let fits : word c.row-row.result.words 4 + mark_items (word c.item-words.result 1) ≤ word c.row-row.result.words 3 = omega (arith, marked, c.row-row.ensures.sound.long) in
-    omega (arith, fits, few, all, some)
+    let long : length (items_of (links c.args.elements.now c.row-row.result.stock.items)) ≡ c.row-row.result.stock.items.count = omega (arith, length-items (links c.args.elements.now c.row-row.result.stock.items), c.row-row.ensures.open.stock.items.count) in
+    let f = shrinks (entry_of c.args.elements.now c.row-row.result) x (rows c.pop-extent.new.elements c.pop-extent.new.extents) c.pop-extent.result c.pop-extent.ensures.extents c.row-row.result.stock.items.count long c.row-row.ensures.sound.room in
+    omega (arith, f.fits)
 
-pub overflow_sub-row : goal.overflow_sub-row
-overflow_sub-row c =
-    let x : IsExtended (pool_of (entry_of c.args.elements.now c.row-row.result)) = (let P : Option Pool → Type 0 = λ z. IfSome z (λ (p : Pool). IsExtended p) in subst P c.row-row.ensures.pool c.requires.last) in
-    let some : 0 < word c.row-row.result.words 4 = omega (arith, some_extent (pool_of (entry_of c.args.elements.now c.row-row.result)) x, extents_length (entry_of c.args.elements.now c.row-row.result) (has_room (entry_of c.args.elements.now c.row-row.result) c.row-row.ensures.sound)) in
-    let there : slice_get (pool_of (entry_of c.args.elements.now c.row-row.result)).extents (word c.row-row.result.words 4 - 1) ≡ Some (extent_of c.item-words.result) = extent_there (entry_of c.args.elements.now c.row-row.result) (has_room (entry_of c.args.elements.now c.row-row.result) c.row-row.ensures.sound) (word c.row-row.result.words 4 - 1) c.item-words.result (omega arith) c.item-words.ensures in
-    let last : x.last ≡ extent_of c.item-words.result = last_is (pool_of (entry_of c.args.elements.now c.row-row.result)) x (word c.row-row.result.words 4 - 1) (extent_of c.item-words.result) (omega (arith, extents_length (entry_of c.args.elements.now c.row-row.result) (has_room (entry_of c.args.elements.now c.row-row.result) c.row-row.ensures.sound))) there in
-    let few : word c.item-words.result 1 ≤ length (pool_of (entry_of c.args.elements.now c.row-row.result)).cells = last_cells (pool_of (entry_of c.args.elements.now c.row-row.result)) x (word c.row-row.result.words 4 - 1) (extent_of c.item-words.result) (omega (arith, extents_length (entry_of c.args.elements.now c.row-row.result) (has_room (entry_of c.args.elements.now c.row-row.result) c.row-row.ensures.sound))) there in
-    let all : c.row-row.result.list.count ≡ (5 + word c.row-row.result.words 3) + length (pool_of (entry_of c.args.elements.now c.row-row.result)).cells = omega (arith, all_length (entry_of c.args.elements.now c.row-row.result) (has_room (entry_of c.args.elements.now c.row-row.result) c.row-row.ensures.sound), length-items (links c.args.elements.now c.row-row.result.list), c.row-row.ensures.open.list.count) in
-    let marked : mark_items (word c.item-words.result 1) + all_marks x.rest.extents ≡ all_marks (pool_of (entry_of c.args.elements.now c.row-row.result)).extents = sym (ap (λ (p : Pool). all_marks p.extents) x.is ∙ all_more x.rest.extents x.last ∙ ap (λ (z : Extent). mark_items z.count + all_marks x.rest.extents) last) in
-    let fits : word c.row-row.result.words 4 + mark_items (word c.item-words.result 1) ≤ word c.row-row.result.words 3 = omega (arith, marked, c.row-row.ensures.sound.long) in
-    omega (arith, fits, few, all, some, c.mark_items-gone.ensures)
+pub remove-requires-clause-chain : goal.remove-requires-clause-chain
+remove-requires-clause-chain c = (extents_items c.args.elements.now c.pop-extent.new.elements c.row-row.result.stock c.row-row.ensures.open.stock c.pop-extent.new.extents c.pop-extent.ensures.owned c.pop-extent.ensures.table).0
 
 pub remove-requires-clause-within : goal.remove-requires-clause-within
 remove-requires-clause-within c =
     let x : IsExtended (pool_of (entry_of c.args.elements.now c.row-row.result)) = (let P : Option Pool → Type 0 = λ z. IfSome z (λ (p : Pool). IsExtended p) in subst P c.row-row.ensures.pool c.requires.last) in
-    let some : 0 < word c.row-row.result.words 4 = omega (arith, some_extent (pool_of (entry_of c.args.elements.now c.row-row.result)) x, extents_length (entry_of c.args.elements.now c.row-row.result) (has_room (entry_of c.args.elements.now c.row-row.result) c.row-row.ensures.sound)) in
-    let there : slice_get (pool_of (entry_of c.args.elements.now c.row-row.result)).extents (word c.row-row.result.words 4 - 1) ≡ Some (extent_of c.item-words.result) = extent_there (entry_of c.args.elements.now c.row-row.result) (has_room (entry_of c.args.elements.now c.row-row.result) c.row-row.ensures.sound) (word c.row-row.result.words 4 - 1) c.item-words.result (omega arith) c.item-words.ensures in
-    let last : x.last ≡ extent_of c.item-words.result = last_is (pool_of (entry_of c.args.elements.now c.row-row.result)) x (word c.row-row.result.words 4 - 1) (extent_of c.item-words.result) (omega (arith, extents_length (entry_of c.args.elements.now c.row-row.result) (has_room (entry_of c.args.elements.now c.row-row.result) c.row-row.ensures.sound))) there in
-    let few : word c.item-words.result 1 ≤ length (pool_of (entry_of c.args.elements.now c.row-row.result)).cells = last_cells (pool_of (entry_of c.args.elements.now c.row-row.result)) x (word c.row-row.result.words 4 - 1) (extent_of c.item-words.result) (omega (arith, extents_length (entry_of c.args.elements.now c.row-row.result) (has_room (entry_of c.args.elements.now c.row-row.result) c.row-row.ensures.sound))) there in
-    let all : c.row-row.result.list.count ≡ (5 + word c.row-row.result.words 3) + length (pool_of (entry_of c.args.elements.now c.row-row.result)).cells = omega (arith, all_length (entry_of c.args.elements.now c.row-row.result) (has_room (entry_of c.args.elements.now c.row-row.result) c.row-row.ensures.sound), length-items (links c.args.elements.now c.row-row.result.list), c.row-row.ensures.open.list.count) in
-    let marked : mark_items (word c.item-words.result 1) + all_marks x.rest.extents ≡ all_marks (pool_of (entry_of c.args.elements.now c.row-row.result)).extents = sym (ap (λ (p : Pool). all_marks p.extents) x.is ∙ all_more x.rest.extents x.last ∙ ap (λ (z : Extent). mark_items z.count + all_marks x.rest.extents) last) in
-    let fits : word c.row-row.result.words 4 + mark_items (word c.item-words.result 1) ≤ word c.row-row.result.words 3 = omega (arith, marked, c.row-row.ensures.sound.long) in
-    omega (arith, fits, few, all, some)
-
-pub remove-requires-2-clause-within : goal.remove-requires-2-clause-within
-remove-requires-2-clause-within c =
-    let x : IsExtended (pool_of (entry_of c.args.elements.now c.row-row.result)) = (let P : Option Pool → Type 0 = λ z. IfSome z (λ (p : Pool). IsExtended p) in subst P c.row-row.ensures.pool c.requires.last) in
-    let some : 0 < word c.row-row.result.words 4 = omega (arith, some_extent (pool_of (entry_of c.args.elements.now c.row-row.result)) x, extents_length (entry_of c.args.elements.now c.row-row.result) (has_room (entry_of c.args.elements.now c.row-row.result) c.row-row.ensures.sound)) in
-    let there : slice_get (pool_of (entry_of c.args.elements.now c.row-row.result)).extents (word c.row-row.result.words 4 - 1) ≡ Some (extent_of c.item-words.result) = extent_there (entry_of c.args.elements.now c.row-row.result) (has_room (entry_of c.args.elements.now c.row-row.result) c.row-row.ensures.sound) (word c.row-row.result.words 4 - 1) c.item-words.result (omega arith) c.item-words.ensures in
-    let last : x.last ≡ extent_of c.item-words.result = last_is (pool_of (entry_of c.args.elements.now c.row-row.result)) x (word c.row-row.result.words 4 - 1) (extent_of c.item-words.result) (omega (arith, extents_length (entry_of c.args.elements.now c.row-row.result) (has_room (entry_of c.args.elements.now c.row-row.result) c.row-row.ensures.sound))) there in
-    let few : word c.item-words.result 1 ≤ length (pool_of (entry_of c.args.elements.now c.row-row.result)).cells = last_cells (pool_of (entry_of c.args.elements.now c.row-row.result)) x (word c.row-row.result.words 4 - 1) (extent_of c.item-words.result) (omega (arith, extents_length (entry_of c.args.elements.now c.row-row.result) (has_room (entry_of c.args.elements.now c.row-row.result) c.row-row.ensures.sound))) there in
-    let all : c.row-row.result.list.count ≡ (5 + word c.row-row.result.words 3) + length (pool_of (entry_of c.args.elements.now c.row-row.result)).cells = omega (arith, all_length (entry_of c.args.elements.now c.row-row.result) (has_room (entry_of c.args.elements.now c.row-row.result) c.row-row.ensures.sound), length-items (links c.args.elements.now c.row-row.result.list), c.row-row.ensures.open.list.count) in
-    let marked : mark_items (word c.item-words.result 1) + all_marks x.rest.extents ≡ all_marks (pool_of (entry_of c.args.elements.now c.row-row.result)).extents = sym (ap (λ (p : Pool). all_marks p.extents) x.is ∙ all_more x.rest.extents x.last ∙ ap (λ (z : Extent). mark_items z.count + all_marks x.rest.extents) last) in
-    let fits : word c.row-row.result.words 4 + mark_items (word c.item-words.result 1) ≤ word c.row-row.result.words 3 = omega (arith, marked, c.row-row.ensures.sound.long) in
-    omega (arith, fits, few, all, some, c.remove.ensures.count, c.mark_items-gone.ensures)
+    let long : length (items_of (links c.args.elements.now c.row-row.result.stock.items)) ≡ c.row-row.result.stock.items.count = omega (arith, length-items (links c.args.elements.now c.row-row.result.stock.items), c.row-row.ensures.open.stock.items.count) in
+    let f = shrinks (entry_of c.args.elements.now c.row-row.result) x (rows c.pop-extent.new.elements c.pop-extent.new.extents) c.pop-extent.result c.pop-extent.ensures.extents c.row-row.result.stock.items.count long c.row-row.ensures.sound.room in
+    omega (arith, f.fits)
 
 pub returns-clause-extent : goal.returns-clause-extent
 returns-clause-extent c =
     let x : IsExtended (pool_of (entry_of c.args.elements.now c.row-row.result)) = (let P : Option Pool → Type 0 = λ z. IfSome z (λ (p : Pool). IsExtended p) in subst P c.row-row.ensures.pool c.requires.last) in
-    let some : 0 < word c.row-row.result.words 4 = omega (arith, some_extent (pool_of (entry_of c.args.elements.now c.row-row.result)) x, extents_length (entry_of c.args.elements.now c.row-row.result) (has_room (entry_of c.args.elements.now c.row-row.result) c.row-row.ensures.sound)) in
-    let P : Option Pool → Type 0 = λ z. IfSome z (λ (p : Pool). slice_get p.extents (length p.extents - 1) ≡ Some (extent_of c.item-words.result)) in
-    let k : length (pool_of (entry_of c.args.elements.now c.row-row.result)).extents - 1 ≡ (word c.row-row.result.words 4 - 1) = omega (arith, extents_length (entry_of c.args.elements.now c.row-row.result) (has_room (entry_of c.args.elements.now c.row-row.result) c.row-row.ensures.sound)) in
-    subst P (sym c.row-row.ensures.pool) (ap (slice_get (pool_of (entry_of c.args.elements.now c.row-row.result)).extents) k ∙ extent_there (entry_of c.args.elements.now c.row-row.result) (has_room (entry_of c.args.elements.now c.row-row.result) c.row-row.ensures.sound) (word c.row-row.result.words 4 - 1) c.item-words.result (omega arith) c.item-words.ensures)
+    let P : Option Pool → Type 0 = λ z. IfSome z (λ (p : Pool). slice_get p.extents (length p.extents - 1) ≡ Some c.pop-extent.result) in
+    subst P (sym c.row-row.ensures.pool) (end_is (pool_of (entry_of c.args.elements.now c.row-row.result)) x (map extent_of (rows_of (rows c.pop-extent.new.elements c.pop-extent.new.extents))) c.pop-extent.result (own_extents (entry_of c.args.elements.now c.row-row.result) ∙ c.pop-extent.ensures.extents))
 
 pub write-requires : goal.write-requires
-write-requires c = ready c.args.elements.now c.remove-2.new.elements c.args.self.now c.row-row.result c.remove-2.new.list (word c.row-row.result.words 0 ∷ word c.row-row.result.words 1 ∷ word c.row-row.result.words 2 ∷ (word c.row-row.result.words 3 - (c.mark_items-gone.result + 1)) ∷ (word c.row-row.result.words 4 - 1) ∷ []) c.row-row.ensures.open (Leaves-trans _ _ _ _ _ _ c.remove.ensures.owned c.remove-2.ensures.owned) c.remove-2.ensures.chain
+write-requires c =
+    let x : IsExtended (pool_of (entry_of c.args.elements.now c.row-row.result)) = (let P : Option Pool → Type 0 = λ z. IfSome z (λ (p : Pool). IsExtended p) in subst P c.row-row.ensures.pool c.requires.last) in
+    let long : length (items_of (links c.args.elements.now c.row-row.result.stock.items)) ≡ c.row-row.result.stock.items.count = omega (arith, length-items (links c.args.elements.now c.row-row.result.stock.items), c.row-row.ensures.open.stock.items.count) in
+    let f = shrinks (entry_of c.args.elements.now c.row-row.result) x (rows c.pop-extent.new.elements c.pop-extent.new.extents) c.pop-extent.result c.pop-extent.ensures.extents c.row-row.result.stock.items.count long c.row-row.ensures.sound.room in
+    let b = shrunk c.args.elements.now c.pop-extent.new.elements c.remove.new.elements c.row-row.result c.row-row.ensures.open.stock c.row-row.ensures.sound c.pop-extent.new.extents c.pop-extent.ensures.owned c.pop-extent.ensures.table c.remove.new.list c.remove.ensures.owned c.remove.ensures.chain c.pop-extent.result (c.row-row.result.stock.items.count - c.pop-extent.result.count) c.remove.ensures.items f.whole f.some c.pop-extent.ensures.numbered c.pop-extent.ensures.extents x f.last in
+    ready c.args.elements.now c.remove.new.elements c.args.self.now c.row-row.result (record { items = c.remove.new.list; used = c.row-row.result.stock.used; extents = c.pop-extent.new.extents }) c.row-row.result.words c.row-row.ensures.open b.leaves b.stands
 
 pub returns-clause-pools : goal.returns-clause-pools
 unfolding IsCellPools
 returns-clause-pools c =
     let x : IsExtended (pool_of (entry_of c.args.elements.now c.row-row.result)) = (let P : Option Pool → Type 0 = λ z. IfSome z (λ (p : Pool). IsExtended p) in subst P c.row-row.ensures.pool c.requires.last) in
-    let some : 0 < word c.row-row.result.words 4 = omega (arith, some_extent (pool_of (entry_of c.args.elements.now c.row-row.result)) x, extents_length (entry_of c.args.elements.now c.row-row.result) (has_room (entry_of c.args.elements.now c.row-row.result) c.row-row.ensures.sound)) in
-    let there : slice_get (pool_of (entry_of c.args.elements.now c.row-row.result)).extents (word c.row-row.result.words 4 - 1) ≡ Some (extent_of c.item-words.result) = extent_there (entry_of c.args.elements.now c.row-row.result) (has_room (entry_of c.args.elements.now c.row-row.result) c.row-row.ensures.sound) (word c.row-row.result.words 4 - 1) c.item-words.result (omega arith) c.item-words.ensures in
-    let last : x.last ≡ extent_of c.item-words.result = last_is (pool_of (entry_of c.args.elements.now c.row-row.result)) x (word c.row-row.result.words 4 - 1) (extent_of c.item-words.result) (omega (arith, extents_length (entry_of c.args.elements.now c.row-row.result) (has_room (entry_of c.args.elements.now c.row-row.result) c.row-row.ensures.sound))) there in
-    let few : word c.item-words.result 1 ≤ length (pool_of (entry_of c.args.elements.now c.row-row.result)).cells = last_cells (pool_of (entry_of c.args.elements.now c.row-row.result)) x (word c.row-row.result.words 4 - 1) (extent_of c.item-words.result) (omega (arith, extents_length (entry_of c.args.elements.now c.row-row.result) (has_room (entry_of c.args.elements.now c.row-row.result) c.row-row.ensures.sound))) there in
-    let all : c.row-row.result.list.count ≡ (5 + word c.row-row.result.words 3) + length (pool_of (entry_of c.args.elements.now c.row-row.result)).cells = omega (arith, all_length (entry_of c.args.elements.now c.row-row.result) (has_room (entry_of c.args.elements.now c.row-row.result) c.row-row.ensures.sound), length-items (links c.args.elements.now c.row-row.result.list), c.row-row.ensures.open.list.count) in
-    let marked : mark_items (word c.item-words.result 1) + all_marks x.rest.extents ≡ all_marks (pool_of (entry_of c.args.elements.now c.row-row.result)).extents = sym (ap (λ (p : Pool). all_marks p.extents) x.is ∙ all_more x.rest.extents x.last ∙ ap (λ (z : Extent). mark_items z.count + all_marks x.rest.extents) last) in
-    let fits : word c.row-row.result.words 4 + mark_items (word c.item-words.result 1) ≤ word c.row-row.result.words 3 = omega (arith, marked, c.row-row.ensures.sound.long) in
-    done_kept c.args.elements.now c.remove-2.new.elements c.args.self.now c.row-row.result c.remove-2.new.list (word c.row-row.result.words 0 ∷ word c.row-row.result.words 1 ∷ word c.row-row.result.words 2 ∷ (word c.row-row.result.words 3 - (c.mark_items-gone.result + 1)) ∷ (word c.row-row.result.words 4 - 1) ∷ []) c.row-row.ensures.open (Leaves-trans _ _ _ _ _ _ c.remove.ensures.owned c.remove-2.ensures.owned) c.remove-2.ensures.chain c.write.new.elements c.requires.pools c.args.id (retracted (word c.item-words.result 1)) c.row-row.ensures.named c.row-row.ensures.parts c.write.ensures.table c.write.ensures.entries (cut_all (entry_of c.args.elements.now c.row-row.result) c.row-row.ensures.sound (items_of (links c.remove.new.elements c.remove.new.list)) (items_of (links c.remove-2.new.elements c.remove-2.new.list)) (c.row-row.result.list.count - (word c.item-words.result 1)) (word c.item-words.result 1) (word c.row-row.result.words 4 - 1) (length (pool_of (entry_of c.args.elements.now c.row-row.result)).cells - (word c.item-words.result 1)) (word c.row-row.result.words 0 ∷ word c.row-row.result.words 1 ∷ word c.row-row.result.words 2 ∷ (word c.row-row.result.words 3 - (c.mark_items-gone.result + 1)) ∷ (word c.row-row.result.words 4 - 1) ∷ []) refl (omega arith) refl (omega (arith, fits, some, c.mark_items-gone.ensures)) fits (omega arith) (omega arith) c.remove.ensures.items (c.remove-2.ensures.items ∙ ap (λ (z : ℕ). take (5 + (word c.row-row.result.words 4 - 1)) (items_of (links c.remove.new.elements c.remove.new.list)) ++ drop ((5 + (word c.row-row.result.words 4 - 1)) + (z + 1)) (items_of (links c.remove.new.elements c.remove.new.list))) c.mark_items-gone.ensures)) (λ p. refl) (λ p. refl) (cut_sound (entry_of c.args.elements.now c.row-row.result) c.row-row.ensures.sound (items_of (links c.remove.new.elements c.remove.new.list)) (items_of (links c.remove-2.new.elements c.remove-2.new.list)) (c.row-row.result.list.count - (word c.item-words.result 1)) (word c.item-words.result 1) (word c.row-row.result.words 4 - 1) (length (pool_of (entry_of c.args.elements.now c.row-row.result)).cells - (word c.item-words.result 1)) (word c.row-row.result.words 0 ∷ word c.row-row.result.words 1 ∷ word c.row-row.result.words 2 ∷ (word c.row-row.result.words 3 - (c.mark_items-gone.result + 1)) ∷ (word c.row-row.result.words 4 - 1) ∷ []) refl (omega arith) refl (omega (arith, fits, some, c.mark_items-gone.ensures)) fits (omega arith) (omega arith) c.remove.ensures.items (c.remove-2.ensures.items ∙ ap (λ (z : ℕ). take (5 + (word c.row-row.result.words 4 - 1)) (items_of (links c.remove.new.elements c.remove.new.list)) ++ drop ((5 + (word c.row-row.result.words 4 - 1)) + (z + 1)) (items_of (links c.remove.new.elements c.remove.new.list))) c.mark_items-gone.ensures) x.rest (word c.item-words.result 0) (x.is ∙ ap (λ (z : Extent). extended z.start z.count x.rest) last) (retracts_back x.rest (word c.item-words.result 0) (word c.item-words.result 1)))
+    let long : length (items_of (links c.args.elements.now c.row-row.result.stock.items)) ≡ c.row-row.result.stock.items.count = omega (arith, length-items (links c.args.elements.now c.row-row.result.stock.items), c.row-row.ensures.open.stock.items.count) in
+    let f = shrinks (entry_of c.args.elements.now c.row-row.result) x (rows c.pop-extent.new.elements c.pop-extent.new.extents) c.pop-extent.result c.pop-extent.ensures.extents c.row-row.result.stock.items.count long c.row-row.ensures.sound.room in
+    let b = shrunk c.args.elements.now c.pop-extent.new.elements c.remove.new.elements c.row-row.result c.row-row.ensures.open.stock c.row-row.ensures.sound c.pop-extent.new.extents c.pop-extent.ensures.owned c.pop-extent.ensures.table c.remove.new.list c.remove.ensures.owned c.remove.ensures.chain c.pop-extent.result (c.row-row.result.stock.items.count - c.pop-extent.result.count) c.remove.ensures.items f.whole f.some c.pop-extent.ensures.numbered c.pop-extent.ensures.extents x f.last in
+    done_kept c.args.elements.now c.remove.new.elements c.args.self.now c.row-row.result (record { items = c.remove.new.list; used = c.row-row.result.stock.used; extents = c.pop-extent.new.extents }) c.row-row.result.words c.row-row.ensures.open b.leaves b.stands c.write.new.elements c.requires.pools c.args.id (retracted c.pop-extent.result.count) c.row-row.ensures.named c.row-row.ensures.parts c.write.ensures.table c.write.ensures.entries b.made (λ p. refl) (λ p. refl) b.sound
 
 pub returns-clause-names : goal.returns-clause-names
 unfolding IsCellPools
 returns-clause-names c =
     let x : IsExtended (pool_of (entry_of c.args.elements.now c.row-row.result)) = (let P : Option Pool → Type 0 = λ z. IfSome z (λ (p : Pool). IsExtended p) in subst P c.row-row.ensures.pool c.requires.last) in
-    let some : 0 < word c.row-row.result.words 4 = omega (arith, some_extent (pool_of (entry_of c.args.elements.now c.row-row.result)) x, extents_length (entry_of c.args.elements.now c.row-row.result) (has_room (entry_of c.args.elements.now c.row-row.result) c.row-row.ensures.sound)) in
-    let there : slice_get (pool_of (entry_of c.args.elements.now c.row-row.result)).extents (word c.row-row.result.words 4 - 1) ≡ Some (extent_of c.item-words.result) = extent_there (entry_of c.args.elements.now c.row-row.result) (has_room (entry_of c.args.elements.now c.row-row.result) c.row-row.ensures.sound) (word c.row-row.result.words 4 - 1) c.item-words.result (omega arith) c.item-words.ensures in
-    let last : x.last ≡ extent_of c.item-words.result = last_is (pool_of (entry_of c.args.elements.now c.row-row.result)) x (word c.row-row.result.words 4 - 1) (extent_of c.item-words.result) (omega (arith, extents_length (entry_of c.args.elements.now c.row-row.result) (has_room (entry_of c.args.elements.now c.row-row.result) c.row-row.ensures.sound))) there in
-    let few : word c.item-words.result 1 ≤ length (pool_of (entry_of c.args.elements.now c.row-row.result)).cells = last_cells (pool_of (entry_of c.args.elements.now c.row-row.result)) x (word c.row-row.result.words 4 - 1) (extent_of c.item-words.result) (omega (arith, extents_length (entry_of c.args.elements.now c.row-row.result) (has_room (entry_of c.args.elements.now c.row-row.result) c.row-row.ensures.sound))) there in
-    let all : c.row-row.result.list.count ≡ (5 + word c.row-row.result.words 3) + length (pool_of (entry_of c.args.elements.now c.row-row.result)).cells = omega (arith, all_length (entry_of c.args.elements.now c.row-row.result) (has_room (entry_of c.args.elements.now c.row-row.result) c.row-row.ensures.sound), length-items (links c.args.elements.now c.row-row.result.list), c.row-row.ensures.open.list.count) in
-    let marked : mark_items (word c.item-words.result 1) + all_marks x.rest.extents ≡ all_marks (pool_of (entry_of c.args.elements.now c.row-row.result)).extents = sym (ap (λ (p : Pool). all_marks p.extents) x.is ∙ all_more x.rest.extents x.last ∙ ap (λ (z : Extent). mark_items z.count + all_marks x.rest.extents) last) in
-    let fits : word c.row-row.result.words 4 + mark_items (word c.item-words.result 1) ≤ word c.row-row.result.words 3 = omega (arith, marked, c.row-row.ensures.sound.long) in
-    done_names c.args.elements.now c.remove-2.new.elements c.args.self.now c.row-row.result c.remove-2.new.list (word c.row-row.result.words 0 ∷ word c.row-row.result.words 1 ∷ word c.row-row.result.words 2 ∷ (word c.row-row.result.words 3 - (c.mark_items-gone.result + 1)) ∷ (word c.row-row.result.words 4 - 1) ∷ []) c.row-row.ensures.open (Leaves-trans _ _ _ _ _ _ c.remove.ensures.owned c.remove-2.ensures.owned) c.remove-2.ensures.chain c.write.new.elements c.requires.pools c.args.id (retracted (word c.item-words.result 1)) c.row-row.ensures.named c.row-row.ensures.parts c.write.ensures.table c.write.ensures.entries (cut_all (entry_of c.args.elements.now c.row-row.result) c.row-row.ensures.sound (items_of (links c.remove.new.elements c.remove.new.list)) (items_of (links c.remove-2.new.elements c.remove-2.new.list)) (c.row-row.result.list.count - (word c.item-words.result 1)) (word c.item-words.result 1) (word c.row-row.result.words 4 - 1) (length (pool_of (entry_of c.args.elements.now c.row-row.result)).cells - (word c.item-words.result 1)) (word c.row-row.result.words 0 ∷ word c.row-row.result.words 1 ∷ word c.row-row.result.words 2 ∷ (word c.row-row.result.words 3 - (c.mark_items-gone.result + 1)) ∷ (word c.row-row.result.words 4 - 1) ∷ []) refl (omega arith) refl (omega (arith, fits, some, c.mark_items-gone.ensures)) fits (omega arith) (omega arith) c.remove.ensures.items (c.remove-2.ensures.items ∙ ap (λ (z : ℕ). take (5 + (word c.row-row.result.words 4 - 1)) (items_of (links c.remove.new.elements c.remove.new.list)) ++ drop ((5 + (word c.row-row.result.words 4 - 1)) + (z + 1)) (items_of (links c.remove.new.elements c.remove.new.list))) c.mark_items-gone.ensures)) (λ p. refl) (λ p. refl) (cut_sound (entry_of c.args.elements.now c.row-row.result) c.row-row.ensures.sound (items_of (links c.remove.new.elements c.remove.new.list)) (items_of (links c.remove-2.new.elements c.remove-2.new.list)) (c.row-row.result.list.count - (word c.item-words.result 1)) (word c.item-words.result 1) (word c.row-row.result.words 4 - 1) (length (pool_of (entry_of c.args.elements.now c.row-row.result)).cells - (word c.item-words.result 1)) (word c.row-row.result.words 0 ∷ word c.row-row.result.words 1 ∷ word c.row-row.result.words 2 ∷ (word c.row-row.result.words 3 - (c.mark_items-gone.result + 1)) ∷ (word c.row-row.result.words 4 - 1) ∷ []) refl (omega arith) refl (omega (arith, fits, some, c.mark_items-gone.ensures)) fits (omega arith) (omega arith) c.remove.ensures.items (c.remove-2.ensures.items ∙ ap (λ (z : ℕ). take (5 + (word c.row-row.result.words 4 - 1)) (items_of (links c.remove.new.elements c.remove.new.list)) ++ drop ((5 + (word c.row-row.result.words 4 - 1)) + (z + 1)) (items_of (links c.remove.new.elements c.remove.new.list))) c.mark_items-gone.ensures) x.rest (word c.item-words.result 0) (x.is ∙ ap (λ (z : Extent). extended z.start z.count x.rest) last) (retracts_back x.rest (word c.item-words.result 0) (word c.item-words.result 1)))
+    let long : length (items_of (links c.args.elements.now c.row-row.result.stock.items)) ≡ c.row-row.result.stock.items.count = omega (arith, length-items (links c.args.elements.now c.row-row.result.stock.items), c.row-row.ensures.open.stock.items.count) in
+    let f = shrinks (entry_of c.args.elements.now c.row-row.result) x (rows c.pop-extent.new.elements c.pop-extent.new.extents) c.pop-extent.result c.pop-extent.ensures.extents c.row-row.result.stock.items.count long c.row-row.ensures.sound.room in
+    let b = shrunk c.args.elements.now c.pop-extent.new.elements c.remove.new.elements c.row-row.result c.row-row.ensures.open.stock c.row-row.ensures.sound c.pop-extent.new.extents c.pop-extent.ensures.owned c.pop-extent.ensures.table c.remove.new.list c.remove.ensures.owned c.remove.ensures.chain c.pop-extent.result (c.row-row.result.stock.items.count - c.pop-extent.result.count) c.remove.ensures.items f.whole f.some c.pop-extent.ensures.numbered c.pop-extent.ensures.extents x f.last in
+    done_names c.args.elements.now c.remove.new.elements c.args.self.now c.row-row.result (record { items = c.remove.new.list; used = c.row-row.result.stock.used; extents = c.pop-extent.new.extents }) c.row-row.result.words c.row-row.ensures.open b.leaves b.stands c.write.new.elements c.requires.pools c.args.id (retracted c.pop-extent.result.count) c.row-row.ensures.named c.row-row.ensures.parts c.write.ensures.table c.write.ensures.entries b.made (λ p. refl) (λ p. refl) b.sound
 
 pub returns-clause-ids : goal.returns-clause-ids
 unfolding IsCellPools
 returns-clause-ids c =
     let x : IsExtended (pool_of (entry_of c.args.elements.now c.row-row.result)) = (let P : Option Pool → Type 0 = λ z. IfSome z (λ (p : Pool). IsExtended p) in subst P c.row-row.ensures.pool c.requires.last) in
-    let some : 0 < word c.row-row.result.words 4 = omega (arith, some_extent (pool_of (entry_of c.args.elements.now c.row-row.result)) x, extents_length (entry_of c.args.elements.now c.row-row.result) (has_room (entry_of c.args.elements.now c.row-row.result) c.row-row.ensures.sound)) in
-    let there : slice_get (pool_of (entry_of c.args.elements.now c.row-row.result)).extents (word c.row-row.result.words 4 - 1) ≡ Some (extent_of c.item-words.result) = extent_there (entry_of c.args.elements.now c.row-row.result) (has_room (entry_of c.args.elements.now c.row-row.result) c.row-row.ensures.sound) (word c.row-row.result.words 4 - 1) c.item-words.result (omega arith) c.item-words.ensures in
-    let last : x.last ≡ extent_of c.item-words.result = last_is (pool_of (entry_of c.args.elements.now c.row-row.result)) x (word c.row-row.result.words 4 - 1) (extent_of c.item-words.result) (omega (arith, extents_length (entry_of c.args.elements.now c.row-row.result) (has_room (entry_of c.args.elements.now c.row-row.result) c.row-row.ensures.sound))) there in
-    let few : word c.item-words.result 1 ≤ length (pool_of (entry_of c.args.elements.now c.row-row.result)).cells = last_cells (pool_of (entry_of c.args.elements.now c.row-row.result)) x (word c.row-row.result.words 4 - 1) (extent_of c.item-words.result) (omega (arith, extents_length (entry_of c.args.elements.now c.row-row.result) (has_room (entry_of c.args.elements.now c.row-row.result) c.row-row.ensures.sound))) there in
-    let all : c.row-row.result.list.count ≡ (5 + word c.row-row.result.words 3) + length (pool_of (entry_of c.args.elements.now c.row-row.result)).cells = omega (arith, all_length (entry_of c.args.elements.now c.row-row.result) (has_room (entry_of c.args.elements.now c.row-row.result) c.row-row.ensures.sound), length-items (links c.args.elements.now c.row-row.result.list), c.row-row.ensures.open.list.count) in
-    let marked : mark_items (word c.item-words.result 1) + all_marks x.rest.extents ≡ all_marks (pool_of (entry_of c.args.elements.now c.row-row.result)).extents = sym (ap (λ (p : Pool). all_marks p.extents) x.is ∙ all_more x.rest.extents x.last ∙ ap (λ (z : Extent). mark_items z.count + all_marks x.rest.extents) last) in
-    let fits : word c.row-row.result.words 4 + mark_items (word c.item-words.result 1) ≤ word c.row-row.result.words 3 = omega (arith, marked, c.row-row.ensures.sound.long) in
-    done_ids c.args.elements.now c.remove-2.new.elements c.args.self.now c.row-row.result c.remove-2.new.list (word c.row-row.result.words 0 ∷ word c.row-row.result.words 1 ∷ word c.row-row.result.words 2 ∷ (word c.row-row.result.words 3 - (c.mark_items-gone.result + 1)) ∷ (word c.row-row.result.words 4 - 1) ∷ []) c.row-row.ensures.open (Leaves-trans _ _ _ _ _ _ c.remove.ensures.owned c.remove-2.ensures.owned) c.remove-2.ensures.chain c.write.new.elements c.requires.pools c.args.id (retracted (word c.item-words.result 1)) c.row-row.ensures.named c.row-row.ensures.parts c.write.ensures.table c.write.ensures.entries (cut_all (entry_of c.args.elements.now c.row-row.result) c.row-row.ensures.sound (items_of (links c.remove.new.elements c.remove.new.list)) (items_of (links c.remove-2.new.elements c.remove-2.new.list)) (c.row-row.result.list.count - (word c.item-words.result 1)) (word c.item-words.result 1) (word c.row-row.result.words 4 - 1) (length (pool_of (entry_of c.args.elements.now c.row-row.result)).cells - (word c.item-words.result 1)) (word c.row-row.result.words 0 ∷ word c.row-row.result.words 1 ∷ word c.row-row.result.words 2 ∷ (word c.row-row.result.words 3 - (c.mark_items-gone.result + 1)) ∷ (word c.row-row.result.words 4 - 1) ∷ []) refl (omega arith) refl (omega (arith, fits, some, c.mark_items-gone.ensures)) fits (omega arith) (omega arith) c.remove.ensures.items (c.remove-2.ensures.items ∙ ap (λ (z : ℕ). take (5 + (word c.row-row.result.words 4 - 1)) (items_of (links c.remove.new.elements c.remove.new.list)) ++ drop ((5 + (word c.row-row.result.words 4 - 1)) + (z + 1)) (items_of (links c.remove.new.elements c.remove.new.list))) c.mark_items-gone.ensures)) (λ p. refl) (λ p. refl) (cut_sound (entry_of c.args.elements.now c.row-row.result) c.row-row.ensures.sound (items_of (links c.remove.new.elements c.remove.new.list)) (items_of (links c.remove-2.new.elements c.remove-2.new.list)) (c.row-row.result.list.count - (word c.item-words.result 1)) (word c.item-words.result 1) (word c.row-row.result.words 4 - 1) (length (pool_of (entry_of c.args.elements.now c.row-row.result)).cells - (word c.item-words.result 1)) (word c.row-row.result.words 0 ∷ word c.row-row.result.words 1 ∷ word c.row-row.result.words 2 ∷ (word c.row-row.result.words 3 - (c.mark_items-gone.result + 1)) ∷ (word c.row-row.result.words 4 - 1) ∷ []) refl (omega arith) refl (omega (arith, fits, some, c.mark_items-gone.ensures)) fits (omega arith) (omega arith) c.remove.ensures.items (c.remove-2.ensures.items ∙ ap (λ (z : ℕ). take (5 + (word c.row-row.result.words 4 - 1)) (items_of (links c.remove.new.elements c.remove.new.list)) ++ drop ((5 + (word c.row-row.result.words 4 - 1)) + (z + 1)) (items_of (links c.remove.new.elements c.remove.new.list))) c.mark_items-gone.ensures) x.rest (word c.item-words.result 0) (x.is ∙ ap (λ (z : Extent). extended z.start z.count x.rest) last) (retracts_back x.rest (word c.item-words.result 0) (word c.item-words.result 1)))
+    let long : length (items_of (links c.args.elements.now c.row-row.result.stock.items)) ≡ c.row-row.result.stock.items.count = omega (arith, length-items (links c.args.elements.now c.row-row.result.stock.items), c.row-row.ensures.open.stock.items.count) in
+    let f = shrinks (entry_of c.args.elements.now c.row-row.result) x (rows c.pop-extent.new.elements c.pop-extent.new.extents) c.pop-extent.result c.pop-extent.ensures.extents c.row-row.result.stock.items.count long c.row-row.ensures.sound.room in
+    let b = shrunk c.args.elements.now c.pop-extent.new.elements c.remove.new.elements c.row-row.result c.row-row.ensures.open.stock c.row-row.ensures.sound c.pop-extent.new.extents c.pop-extent.ensures.owned c.pop-extent.ensures.table c.remove.new.list c.remove.ensures.owned c.remove.ensures.chain c.pop-extent.result (c.row-row.result.stock.items.count - c.pop-extent.result.count) c.remove.ensures.items f.whole f.some c.pop-extent.ensures.numbered c.pop-extent.ensures.extents x f.last in
+    done_ids c.args.elements.now c.remove.new.elements c.args.self.now c.row-row.result (record { items = c.remove.new.list; used = c.row-row.result.stock.used; extents = c.pop-extent.new.extents }) c.row-row.result.words c.row-row.ensures.open b.leaves b.stands c.write.new.elements c.requires.pools c.args.id (retracted c.pop-extent.result.count) c.row-row.ensures.named c.row-row.ensures.parts c.write.ensures.table c.write.ensures.entries b.made (λ p. refl) (λ p. refl) b.sound
 
 pub returns-clause-owned : goal.returns-clause-owned
-returns-clause-owned c = done_owned c.args.elements.now c.remove-2.new.elements c.args.self.now c.row-row.result c.remove-2.new.list (word c.row-row.result.words 0 ∷ word c.row-row.result.words 1 ∷ word c.row-row.result.words 2 ∷ (word c.row-row.result.words 3 - (c.mark_items-gone.result + 1)) ∷ (word c.row-row.result.words 4 - 1) ∷ []) c.row-row.ensures.open (Leaves-trans _ _ _ _ _ _ c.remove.ensures.owned c.remove-2.ensures.owned) c.remove-2.ensures.chain c.write.new.elements c.row-row.ensures.owned c.write.ensures.owned
+returns-clause-owned c =
+    let x : IsExtended (pool_of (entry_of c.args.elements.now c.row-row.result)) = (let P : Option Pool → Type 0 = λ z. IfSome z (λ (p : Pool). IsExtended p) in subst P c.row-row.ensures.pool c.requires.last) in
+    let long : length (items_of (links c.args.elements.now c.row-row.result.stock.items)) ≡ c.row-row.result.stock.items.count = omega (arith, length-items (links c.args.elements.now c.row-row.result.stock.items), c.row-row.ensures.open.stock.items.count) in
+    let f = shrinks (entry_of c.args.elements.now c.row-row.result) x (rows c.pop-extent.new.elements c.pop-extent.new.extents) c.pop-extent.result c.pop-extent.ensures.extents c.row-row.result.stock.items.count long c.row-row.ensures.sound.room in
+    let b = shrunk c.args.elements.now c.pop-extent.new.elements c.remove.new.elements c.row-row.result c.row-row.ensures.open.stock c.row-row.ensures.sound c.pop-extent.new.extents c.pop-extent.ensures.owned c.pop-extent.ensures.table c.remove.new.list c.remove.ensures.owned c.remove.ensures.chain c.pop-extent.result (c.row-row.result.stock.items.count - c.pop-extent.result.count) c.remove.ensures.items f.whole f.some c.pop-extent.ensures.numbered c.pop-extent.ensures.extents x f.last in
+    done_owned c.args.elements.now c.remove.new.elements c.args.self.now c.row-row.result (record { items = c.remove.new.list; used = c.row-row.result.stock.used; extents = c.pop-extent.new.extents }) c.row-row.result.words c.row-row.ensures.open b.leaves b.stands c.write.new.elements c.row-row.ensures.owned c.write.ensures.owned

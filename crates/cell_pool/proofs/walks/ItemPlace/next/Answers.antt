@@ -1,6 +1,6 @@
 use Rattle.std.proofs.Common.{◌<◌, List, arith}
 use Rattle.vsm_elements.specs.Chain.{Link, links}
-use Rattle.list_table.specs.Kept.{items_of}
+use Rattle.list_table.specs.Stocks.{items_of}
 use Rattle.cell_extents.proofs.ItemLemmas.{step_before, count_is, item_at}
 use Rattle.cell_pool.proofs.PlaceLemmas.{items_step}
 use Rattle.cell_pool.proofs.walks.ItemPlace.next.Goals as goal
