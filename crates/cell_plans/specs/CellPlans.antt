@@ -29,7 +29,7 @@ use Rattle.cell_plans.specs.declared.build.BuildPlan.{BuildPlan}
 use Rattle.cell_plans.specs.declared.delete.DeletePlan.{DeletePlan}
 
 -- The pages that come to be assigned are unassigned, its blank elements are few (a further extent of 4,096 cells takes
--- 4,121), and a subpool that is emptied is there.
+-- 4,102), and a subpool that is emptied is there.
 pub record HasRecords (m : StorageState) (plan : StoragePlan) : Type 0 where
   pub few : plan.blanks ≤ 2 ^ 13
   pub range : plan.fresh.start + plan.fresh.len ≤ 2 ^ 20

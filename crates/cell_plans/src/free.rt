@@ -26,7 +26,7 @@ fn plan_given_back(storage: &Parts, pool: CellId, cell: u32) -> StoragePlan
     ensures emptied { result.emptied ≡ None }
     ensures records { result.records.items
         ≡ given_back_records pool cell ++ register_records (state_of storage.now) ((15, 0) ∷ []) }
-    ensures blanks { result.blanks ≡ 1 }
+    ensures blanks { result.blanks ≡ 0 }
     ensures fresh { result.fresh ≡ run_of 0 0 }
     ensures reply { result.reply ≡ Returned 0 }
 {
@@ -40,7 +40,7 @@ fn plan_given_back(storage: &Parts, pool: CellId, cell: u32) -> StoragePlan
     StoragePlan {
         emptied: None,
         records,
-        blanks: 1,
+        blanks: 0,
         fresh: NO_PAGES,
         reply: Reply::Returned(0),
     }

@@ -29,11 +29,11 @@ pub giving_back_cells_leads : ChangedPoolsHaveTheirRow → GivingBackCellsLeads
 giving_back_cells_leads row settings m p cell rows sound named there used are formed =
     let records = given_back_records p.id cell in
     let none : ℕ → Option ℕ = λ a. None in
-    let change = change_of (records ++ register_records m rows) 1 (run_of 0 0) in
+    let change = change_of (records ++ register_records m rows) 0 (run_of 0 0) in
     let n = changed m p.id (with_first cell) in
-    leads_with_rows settings m n (records ++ register_records m rows) 1 (run_of 0 0) change.frames none 0 rows (with_given_back (model_of m) p cell)
-    (goes_on (at m change.frames none 1) records (register_records m rows) n (with_rows n rows) change.frames none change.frames none 0 0
-    (gives_back m change.frames none 1 0 p cell named.ids there used (omega arith))
+    leads_with_rows settings m n (records ++ register_records m rows) 0 (run_of 0 0) change.frames none 0 rows (with_given_back (model_of m) p cell)
+    (goes_on (at m change.frames none 0) records (register_records m rows) n (with_rows n rows) change.frames none change.frames none 0 0
+    (gives_back m change.frames none 0 0 p cell named.ids there used (omega arith))
     (λ s less. rows_go n change.frames none s 0 rows (task_is_there settings m sound) are less))
     none_brought (none_fresh m) (changed_stands settings m p.id (with_first cell) (stands_of settings m sound))
     (changed_leads row m p (with_first cell) named there refl) formed

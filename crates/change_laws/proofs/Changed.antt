@@ -51,25 +51,25 @@ module _ (m : StorageState) (b g : ℕ → Option ℕ) (s left : ℕ) (p : Pool)
   found P h q e = subst P (some_is p q (sym there ∙ e)) h
 
   -- the first free cell is handed out
-  pub hands_out : (rest : List ℕ) → p.cells ≡ cell ∷ rest → uses (without_first p) cell ≡ true → left ≤ s + 1
+  pub hands_out : (rest : List ℕ) → p.cells ≡ cell ∷ rest → uses (without_first p) cell ≡ true → left ≤ s
       → Goes (at m b g s) (handed_out_records p.id cell) (changed m p.id without_first) b g left
   hands_out rest first used less =
       let r : CellRecord = record { pool = p.id; cell = cell; free = false } in
       let cells : p.cells ≡ cell ∷ drop 1 p.cells = first ∙ sym (ap (λ (z : List ℕ). cell ∷ drop 1 z) first) in
       let own : IsCell r p (without_first p) = record { used = used; first = λ e i. record p { cells = cells i } } in
-      goes_step m (changed m p.id without_first) b g b g s (s + 1) left (Cell r)
-      (record { ids = ids; there = ap is_some there; cell = found (λ q. IsCell r q (without_first q)) own; room = omega arith })
+      goes_step m (changed m p.id without_first) b g b g s s left (Cell r)
+      (record { ids = ids; there = ap is_some there; cell = found (λ q. IsCell r q (without_first q)) own })
       refl less
 
   -- and one that is in use is given back
-  pub gives_back : uses p cell ≡ true → left + 1 ≤ s
+  pub gives_back : uses p cell ≡ true → left ≤ s
       → Goes (at m b g s) (given_back_records p.id cell) (changed m p.id (with_first cell)) b g left
   gives_back used less =
       let r : CellRecord = record { pool = p.id; cell = cell; free = true } in
       let own : IsCell r p p = record { used = used; first = λ e. absurd (true≢false e) } in
-      goes_step m (changed m p.id (with_first cell)) b g b g s (s - 1) left (Cell r)
-      (record { ids = ids; there = ap is_some there; cell = found (λ q. IsCell r q q) own; room = omega (arith, less) })
-      refl (omega (arith, less))
+      goes_step m (changed m p.id (with_first cell)) b g b g s s left (Cell r)
+      (record { ids = ids; there = ap is_some there; cell = found (λ q. IsCell r q q) own })
+      refl less
 
   -- so many cells more from an address on
   pub extends : (start count : ℕ) → start + count * p.settings.size ≤ 2 ^ 32 → meets start (count * p.settings.size) p ≡ false → left + extent_blanks count ≤ s

@@ -9,7 +9,7 @@ use Rattle.vsm_model.specs.Obtaining.{with_area}
 use Rattle.vsm_model.specs.Regions.{among, doublewords, pages_for}
 use Rattle.vsm_model.specs.State.{State}
 use Rattle.cell_extents.specs.declared.settings.Extent.{Extent}
-use Rattle.cell_pool.specs.Pools.{Pool, extended, mark_items}
+use Rattle.cell_pool.specs.Pools.{Pool, extended}
 use Rattle.storage_changes.specs.PoolTable.{cell_pool_of}
 use Rattle.storage_changes.specs.declared.record.Record.{Record}
 use Rattle.storage_changes.specs.declared.record.Record.TheVariants.{CellPool as CellPoolRow, CellExtent, Cell}
@@ -29,9 +29,9 @@ abbrev pub extent_records : ℕ → ℕ → ℕ → List Record
 extent_records id start count =
     CellExtent (record { pool = id; start = start; count = count; present = true }) ∷ []
 
--- The elements that an extent takes: one for each cell, those of its marks, and its own.
+-- The elements that an extent takes: one for each cell, and its own.
 abbrev pub extent_blanks : ℕ → ℕ
-extent_blanks count = count + mark_items count + 1
+extent_blanks count = count + 1
 
 -- An area of so many doublewords is taken at its place,
 abbrev pub area_records : Subpool → ℕ → Place → List Record

@@ -55,7 +55,7 @@ GivingBackCellsLeads =
     IsSound settings m → AreNamed m.subpools.cells → m.subpools.cells p.id ≡ Some p → uses p cell ≡ true →
     AreRegisters rows →
     IsWellFormed settings (with_registers (with_given_back (model_of m) p cell) rows) →
-    Leads settings m (change_of (given_back_records p.id cell ++ register_records m rows) 1 (run_of 0 0))
+    Leads settings m (change_of (given_back_records p.id cell ++ register_records m rows) 0 (run_of 0 0))
     (with_registers (with_given_back (model_of m) p cell) rows)
 
 -- a cell pool comes, with its first extent, whose cells are free, in a subpool that is there or is made first.

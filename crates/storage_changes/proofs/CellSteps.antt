@@ -271,14 +271,6 @@ module _ (w : Walk) (k cell : ℕ) where
   abbrev back-cell : Bool → Walk
   back-cell b = cell_step (behind-cell b) (first (not b))
 
-  cell-spare : (b : Bool) → CellFits w (first b) → (back-cell b).spare ≡ w.spare
-  cell-spare true h = omega (arith, h.room)
-  cell-spare false h = omega arith
-
-  cell-room : (b : Bool) → 1 ≤ (behind-cell b).spare + (if not b then 0 else 1)
-  cell-room true = omega arith
-  cell-room false = omega arith
-
   cells-back : (b : Bool) → CellFits w (first b) → (back-cell b).state.subpools ≡ w.state.subpools
   cells-back true h = changed-back w.state.subpools h.ids k (with_first cell) (λ p. refl) without_first (λ p e. refl)
   cells-back false h = changed-back w.state.subpools h.ids k without_first (λ p. refl) (with_first cell) (λ p e. sym ((h.cell p e).first refl))
@@ -286,7 +278,7 @@ module _ (w : Walk) (k cell : ℕ) where
   first-back : (b : Bool) → CellFits w (first b) → back-cell b ≡ flip w
   first-back b h = walk-same (back-cell b) (flip w)
       (state-same (back-cell b).state w.state refl (cells-back b h) (λ page. refl) (λ a. refl))
-      (λ a. refl) (λ a. refl) refl (cell-spare b h)
+      (λ a. refl) (λ a. refl) refl refl
 
   was-put : (p : Pool) → IsCell (first true) p p → IsCell (first false) (with_first cell p) (without_first (with_first cell p))
   was-put p h = record { used = h.used; first = λ s. refl }
@@ -301,7 +293,6 @@ module _ (w : Walk) (k cell : ℕ) where
     cell = λ q e. (let t = is-changed w.state.subpools h.ids k (with_first cell) (λ p. refl) q e in
         let P : Pool → Type 0 = λ z. IsCell (first false) z (without_first z) in
         subst P t.2 (was-put t.0 (h.cell t.0 t.1)));
-    room = cell-room true;
   }
   first-fits false h = record {
     ids = ids-changed w.state.subpools h.ids k without_first (λ p. refl);
@@ -309,7 +300,6 @@ module _ (w : Walk) (k cell : ℕ) where
     cell = λ q e. (let t = is-changed w.state.subpools h.ids k without_first (λ p. refl) q e in
         let P : Pool → Type 0 = λ z. IsCell (first true) z z in
         subst P t.2 (is-taken t.0 (h.cell t.0 t.1)));
-    room = cell-room false;
   }
 
 pub cell-back : (w : Walk) (r : CellRecord) → CellFits w r → cell_step (flip (cell_step w r)) (record r { free = not r.free }) ≡ flip w

@@ -165,7 +165,6 @@ pub record CellFits (w : Walk) (r : CellRecord) : Type 0 where
   pub there : IsSome (w.state.subpools.cells r.pool)
   pub cell :
       (p : Pool) → w.state.subpools.cells r.pool ≡ Some p → IsCell r p (if r.free then p else without_first p)
-  pub room : 1 ≤ w.spare + (if r.free then 0 else 1)
 
 -- there are sixteen bytes, and each of their addresses has one
 pub record BytesFits (w : Walk) (r : BytesRecord) : Type 0 where

@@ -5,7 +5,7 @@ use Rattle.run_set.specs.Runs.{inside}
 use Rattle.run_set.specs.Counts.{joins}
 use Rattle.subpool_storage.specs.Subpools.{with_pages, with_free, with_own, with_storage_of}
 use Rattle.subpool_storage.specs.Subpools.{with_sharer, with_passed, with_pool_of, with_changed}
-use Rattle.cell_pool.specs.Pools.{Pool, mark_items, without_first, with_first, extended, retracted}
+use Rattle.cell_pool.specs.Pools.{Pool, without_first, with_first, extended, retracted}
 use Rattle.storage_changes.specs.declared.record.AreaRecord.{AreaRecord}
 use Rattle.storage_changes.specs.declared.record.ExtentRecord.{ExtentRecord}
 use Rattle.storage_changes.specs.declared.record.PagesRecord.{PagesRecord}
@@ -167,10 +167,10 @@ cell_pool_step w r =
       parked = with_pool_of w.parked w.state.subpools r.pool;
     }
 
--- The last extent of a cell pool: it has an element, and one for each of its cells and each item of their marks.
+-- The last extent of a cell pool: it has an element, and one for each of its cells.
 
 abbrev pub extent_elements : CellExtentRecord → ℕ
-extent_elements r = r.count + mark_items r.count + 1
+extent_elements r = r.count + 1
 
 abbrev pub cell_extent_change : CellExtentRecord → Pool → Pool
 cell_extent_change r = if r.present then extended r.start r.count else retracted r.count
@@ -182,17 +182,14 @@ cell_extent_step w r =
       spare = if r.present then w.spare - extent_elements r else w.spare + extent_elements r;
     }
 
--- the first free cell of a cell pool
+-- the first free cell of a cell pool, which has its element while it's in use, too
 
 abbrev pub cell_change : CellRecord → Pool → Pool
 cell_change r = if r.free then with_first r.cell else without_first
 
 abbrev pub cell_step : Walk → CellRecord → Walk
 cell_step w r =
-    record w {
-      state = record w.state { subpools = with_changed w.state.subpools r.pool (cell_change r) };
-      spare = if r.free then w.spare - 1 else w.spare + 1;
-    }
+    record w { state = record w.state { subpools = with_changed w.state.subpools r.pool (cell_change r) } }
 
 -- sixteen bytes from an address that sixteen divides
 

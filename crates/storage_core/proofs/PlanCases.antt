@@ -22,7 +22,6 @@ use Rattle.storage_plans.proofs.Assigning.{none_assigned}
 use Rattle.task_plans.specs.declared.attach.AttachPlan.{AttachPlan}
 use Rattle.task_plans.specs.declared.end.EndPlan.{EndPlan}
 use Rattle.task_plans.specs.TaskPlans.{IsAttachPlanned, IsEndPlanned}
-use Rattle.cell_pool.specs.Pools.{mark_items}
 use Rattle.cell_plans.specs.declared.build.BuildPlan.{BuildPlan}
 use Rattle.cell_plans.specs.declared.delete.DeletePlan.{DeletePlan}
 use Rattle.cell_plans.specs.CellPlans.{IsBuildPlanned, IsCellPlanned, IsDeletePlanned}
@@ -30,10 +29,6 @@ use Rattle.storage_core.specs.declared.plans.Plan.TheVariants.{Storage, Store, A
 use Rattle.storage_core.specs.Weight.{weight, cells_weight}
 use Rattle.storage_core.proofs.FramesBrought.{only_by}
 use Rattle.storage_core.specs.Planned.{Assigns, CanCarryOut, HasRecords, IsAccepted, IsPlanned, change_for, extents_leaving, reply_of, storage_elements}
-
--- the marks of cells take fewer elements than the cells, and one
-few_marks : (n : ℕ) → mark_items n ≤ n + 1
-few_marks n = omega arith
 
 -- whether an outcome is an accepted one is a question with one answer
 accepted-prop : {S R C : Type 0} (o : Outcome S R C) → IsProp (outcome.IsAccepted o)
@@ -146,7 +141,7 @@ module _ (settings : Settings) (names_full : Bool) (m : StorageState) (x : Servi
       → IsPlanned settings names_full m x (Ok (Build plan))
   build_ok r plan is h =
       let planned : IsBuildPlanned settings names_full m x (Ok plan) = subst (IsBuildPlanned settings names_full m x) is h in
-      record { accepts = planned.0; accepted = λ id free. planned.1 id free.0 free.1; can = planned.2; light = omega (arith, planned.3, few_marks plan.settings.primary); assigned = planned.4; only = λ id free. only_by settings names_full m x id (Build plan) plan.reply (planned.1 id free.0 free.1) }
+      record { accepts = planned.0; accepted = λ id free. planned.1 id free.0 free.1; can = planned.2; light = omega (arith, planned.3); assigned = planned.4; only = λ id free. only_by settings names_full m x id (Build plan) plan.reply (planned.1 id free.0 free.1) }
 
   pub build_err : (r : Result BuildPlan Cause) (cause : Cause) → r ≡ Err cause → IsBuildPlanned settings names_full m x r
       → IsPlanned settings names_full m x (Err cause)

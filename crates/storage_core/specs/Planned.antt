@@ -27,7 +27,6 @@ use Rattle.change_laws.specs.Ending.{ended_below, weight_ended}
 use Rattle.task_plans.specs.TaskPlans.{numbers, attach_change, end_change}
 use Rattle.task_plans.specs.TaskPlans.{CanBeAttached, CanBeEnded}
 pub use Rattle.task_plans.specs.TaskPlans.{IsAccepted}
-use Rattle.cell_pool.specs.Pools.{mark_items}
 use Rattle.cell_plans.specs.CellPlans.{build_change, delete_change, extents_of_pool, CanBeBuilt, CanBeDeleted}
 pub use Rattle.cell_plans.specs.CellPlans.{HasRecords}
 use Rattle.storage_core.specs.Weight.{weight}
@@ -112,15 +111,15 @@ storage_elements m plan = 25 + plan.blanks + 8 * extents_leaving m.subpools plan
 
 -- The change of a plan takes at most so many elements, those that it has parked among them: of a store 17, one for each
 -- block that it touches; of a new task 32, and 4 for each number that is given or shared; of tasks that end 32, and 8
--- for each task, subpool, extent and row of sight that leaves; of a cell pool that comes 30, and those of its cells and
--- of their marks; and of one that goes 32, and 8 for it and for each of its extents.
+-- for each task, subpool, extent and row of sight that leaves; of a cell pool that comes 30, and those of its cells;
+-- and of one that goes 32, and 8 for it and for each of its extents.
 abbrev pub elements_needed : StorageState → Plan → ℕ
 elements_needed m (Storage plan) = storage_elements m plan
 elements_needed m (Store plan) = 17
 elements_needed m (Attach plan) =
     32 + 4 * (length (numbers m plan.attach.given) + length (numbers m plan.attach.shared))
 elements_needed m (End plan) = 32 + 8 * weight_ended m.subpools (ended_below m.tasks.parents plan.top)
-elements_needed m (Build plan) = 30 + (plan.settings.primary + mark_items plan.settings.primary)
+elements_needed m (Build plan) = 30 + plan.settings.primary
 elements_needed m (Delete plan) = 32 + 8 * (1 + extents_of_pool (m.subpools.cells plan.pool))
 
 -- As many elements are spare, and a frame for each of these pages; and the pages have tables.

@@ -116,13 +116,13 @@ module _ (p : Parts) (e : Store) (q : Head) (pool cell : ℕ) where
   abbrev without-cell : Subpools
   without-cell = with_changed (subpools_of p.elements p.subpools) pool without_first
 
-  pub cell-came : Becomes p.elements e p.subpools q with-cell → e.spare + 1 ≡ p.elements.spare
+  pub cell-came : Becomes p.elements e p.subpools q with-cell → e.spare ≡ p.elements.spare
       → (given : List PageFrame) (parked : Head) → StandsWith p parked → Exchanges p (record p { elements = e; subpools = q }) given given parked parked (Cell (cell_record true))
   cell-came b spares given parked k =
       exchanges p e q parked k with-cell b given (Cell (cell_record true))
-      (λ kept le h. (omega (arith, spares, le, h.room), ap (walk_with (walk_of p given parked kept) with-cell) (omega (arith, spares, le, h.room))))
+      (λ kept le h. (omega (arith, spares, le), ap (walk_with (walk_of p given parked kept) with-cell) (omega (arith, spares, le))))
 
-  pub cell-went : Becomes p.elements e p.subpools q without-cell → e.spare ≡ p.elements.spare + 1
+  pub cell-went : Becomes p.elements e p.subpools q without-cell → e.spare ≡ p.elements.spare
       → (given : List PageFrame) (parked : Head) → StandsWith p parked → Exchanges p (record p { elements = e; subpools = q }) given given parked parked (Cell (cell_record false))
   cell-went b spares given parked k =
       exchanges p e q parked k without-cell b given (Cell (cell_record false))
@@ -182,6 +182,3 @@ module _ (w : Walk) (r : CellRecord) (h : CellFits w r) where
   pub cell-first : r.free ≡ false → IfSome (w.state.subpools.cells r.pool) (λ p. slice_get p.cells 0 ≡ Some r.cell)
   cell-first goes = if-found (w.state.subpools.cells r.pool) (λ p. slice_get p.cells 0 ≡ Some r.cell)
       (λ p e. ap (λ (z : Pool). slice_get z.cells 0) ((h.cell p e).first goes))
-
-  pub cell-room : r.free ≡ true → 1 ≤ w.spare
-  cell-room come = room-for r.free 1 w.spare h.room come

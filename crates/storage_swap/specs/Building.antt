@@ -1,6 +1,6 @@
 -- A cell pool that comes, and how many elements the change takes by which it comes.
 use Rattle.std.specs.Prelude.{ℕ, ◌+◌, option_map}
-use Rattle.cell_pool.specs.Pools.{Pool, mark_items}
+use Rattle.cell_pool.specs.Pools.{Pool}
 use Rattle.subpool_storage.specs.Subpools.{built_pool}
 use Rattle.storage_swap.specs.declared.building.NewPool.{NewPool}
 
@@ -8,9 +8,9 @@ use Rattle.storage_swap.specs.declared.building.NewPool.{NewPool}
 abbrev pub pool_as : NewPool → ℕ → Pool
 pool_as p id = built_pool id p.name.now.bytes p.settings (option_map (λ h. h.items) p.header.now) p.start p.count
 
--- six for the cell pool, one for its extent, and those of its cells and of their marks
+-- six for the cell pool, one for its extent, and those of its cells
 abbrev pub pool_elements : NewPool → ℕ
-pool_elements p = 7 + p.count + mark_items p.count
+pool_elements p = 7 + p.count
 
 -- and the record by which it comes, with the others and the blank elements
 abbrev pub elements_to_build : NewPool → ℕ → ℕ → ℕ

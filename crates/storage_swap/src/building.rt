@@ -81,7 +81,7 @@ impl Change {
             → fresh.len ≤ storage.old.region.spare → HaveTables storage.old.region fresh.start fresh.len
             → IsOk result }
     {
-        let cells = 7 + pool.count + (pool.count / 224 + 1);
+        let cells = 7 + pool.count;
         let count = records.len() as u32;
         grow(storage, cells + 1 + (count + blanks), fresh)?;
         Ok(make_building(storage, pool, records, blanks, fresh))

@@ -5,7 +5,7 @@ ghost use Rattle.std.specs.Prelude.{slice_get, option_map, if◌then◌else◌};
 ghost use Rattle.vsm_elements.specs.Store.{made};
 ghost use Rattle.vsm_elements.specs.Owners.{times, Moves};
 ghost use Rattle.cell_pool.specs.CellPools.{by_id, owned as cells_own, IsCellPools};
-ghost use Rattle.cell_pool.specs.Pools.{Pool, uses, meets, mark_items, without_first, with_first, extended, retracted};
+ghost use Rattle.cell_pool.specs.Pools.{Pool, uses, meets, without_first, with_first, extended, retracted};
 ghost use Rattle.subpool_storage.specs.Subpools.{with_changed, with_pool_of, with_new_pool, built_pool};
 ghost use Rattle.subpool_storage.specs.Subpools.{HasPool, IsSingle, IsUnnamed};
 ghost use Rattle.subpool_storage.specs.SubpoolStorage.{subpools_of, hold, Stands, Becomes};
@@ -36,7 +36,7 @@ impl SubpoolStorage {
     /// A cell pool of a name that none has, with one extent: `count` cells from an address on, all of them free, in
     /// ascending order. (z/OS MVS Programming: Assembler Services Reference, CPOOL BUILD.)
     ///
-    /// It takes six elements, one for the extent, one for each cell, and `count / 224 + 1` for the marks of its cells.
+    /// It takes six elements, one for the extent, and one for each cell.
     pub fn build_pool(
         &mut self,
         elements: &mut Elements,
@@ -50,11 +50,11 @@ impl SubpoolStorage {
         requires unnamed { IsUnnamed (subpools_of elements.old self.old) name.now.bytes }
         requires size { 0 < settings.size }
         requires range { start + count * settings.size ≤ 2 ^ 32 }
-        requires room { 7 + count + mark_items count ≤ elements.old.spare }
+        requires room { 7 + count ≤ elements.old.spare }
         ensures becomes { Becomes elements.old elements.new self.old self.new
             (with_new_pool (subpools_of elements.old self.old)
             (built_pool result name.now.bytes settings (option_map (λ h. h.items) header) start count)) }
-        ensures spares { elements.new.spare + (7 + count + mark_items count) ≡ elements.old.spare }
+        ensures spares { elements.new.spare + (7 + count) ≡ elements.old.spare }
     {
         let made = self.cells.build(elements, name, settings, header);
         self.cells.extend(elements, made, start, count);
@@ -64,14 +64,14 @@ impl SubpoolStorage {
     /// The first free cell of a cell pool is in use from now on. (z/OS MVS Programming: Assembler Services Reference,
     /// CPOOL GET.)
     ///
-    /// It gives back one element.
+    /// It takes no element and gives none.
     pub fn take_cell(&mut self, elements: &mut Elements, id: CellId, cell: u32)
         requires stands { Stands elements.old self.old }
         requires there { IsSome ((subpools_of elements.old self.old).cells id) }
         requires first { IfSome ((subpools_of elements.old self.old).cells id) (λ p. slice_get p.cells 0 ≡ Some cell) }
         ensures becomes { Becomes elements.old elements.new self.old self.new
             (with_changed (subpools_of elements.old self.old) id without_first) }
-        ensures spares { elements.new.spare ≡ elements.old.spare + 1 }
+        ensures spares { elements.new.spare ≡ elements.old.spare }
     {
         self.cells.take_cell(elements, id);
     }
@@ -79,15 +79,14 @@ impl SubpoolStorage {
     /// A cell in use is the first free one of its cell pool from now on. (z/OS MVS Programming: Assembler Services
     /// Reference, CPOOL FREE.)
     ///
-    /// It takes one element.
+    /// It takes no element and gives none.
     pub fn put_cell(&mut self, elements: &mut Elements, id: CellId, cell: u32)
         requires stands { Stands elements.old self.old }
         requires there { IsSome ((subpools_of elements.old self.old).cells id) }
         requires used { IfSome ((subpools_of elements.old self.old).cells id) (λ p. uses p cell ≡ true) }
-        requires room { 0 < elements.old.spare }
         ensures becomes { Becomes elements.old elements.new self.old self.new
             (with_changed (subpools_of elements.old self.old) id (with_first cell)) }
-        ensures spares { elements.new.spare + 1 ≡ elements.old.spare }
+        ensures spares { elements.new.spare ≡ elements.old.spare }
     {
         self.cells.put_cell(elements, id, cell);
     }
@@ -95,7 +94,7 @@ impl SubpoolStorage {
     /// A cell pool has an extent more, which overlaps none of its others: `count` cells from an address on, ascending
     /// behind the free ones.
     ///
-    /// It takes an element for each cell, one for the extent, and `count / 224 + 1` for the marks of its cells.
+    /// It takes an element for each cell, and one for the extent.
     pub fn extend(&mut self, elements: &mut Elements, id: CellId, start: u32, count: u32)
         requires stands { Stands elements.old self.old }
         requires there { IsSome ((subpools_of elements.old self.old).cells id) }
@@ -103,10 +102,10 @@ impl SubpoolStorage {
             (λ p. start + count * p.settings.size ≤ 2 ^ 32) }
         requires apart { IfSome ((subpools_of elements.old self.old).cells id)
             (λ p. meets start (count * p.settings.size) p ≡ false) }
-        requires room { count + mark_items count + 1 ≤ elements.old.spare }
+        requires room { count + 1 ≤ elements.old.spare }
         ensures becomes { Becomes elements.old elements.new self.old self.new
             (with_changed (subpools_of elements.old self.old) id (extended start count)) }
-        ensures spares { elements.new.spare + (count + mark_items count + 1) ≡ elements.old.spare }
+        ensures spares { elements.new.spare + (count + 1) ≡ elements.old.spare }
     {
         self.cells.extend(elements, id, start, count);
     }
@@ -121,7 +120,7 @@ impl SubpoolStorage {
             (λ p. p ≡ extended start count (retracted count p)) }
         ensures becomes { Becomes elements.old elements.new self.old self.new
             (with_changed (subpools_of elements.old self.old) id (retracted count)) }
-        ensures spares { elements.new.spare ≡ elements.old.spare + (count + mark_items count + 1) }
+        ensures spares { elements.new.spare ≡ elements.old.spare + (count + 1) }
     {
         self.cells.retract(elements, id);
     }

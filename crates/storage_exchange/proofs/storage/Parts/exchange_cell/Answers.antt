@@ -2,15 +2,12 @@ use Rattle.std.proofs.Common.{true, false, arith}
 use Rattle.storage_changes.specs.declared.record.Record.TheVariants.{Cell}
 use Rattle.storage_exchange.specs.Storage.{walk_of}
 use Rattle.storage_exchange.proofs.SubpoolLemmas.{exchanges-by}
-use Rattle.storage_exchange.proofs.CellLemmas.{cell-came, cell-went, cell-as, cell-used, cell-first, cell-room}
+use Rattle.storage_exchange.proofs.CellLemmas.{cell-came, cell-went, cell-as, cell-used, cell-first}
 use Rattle.storage_exchange.proofs.storage.Parts.exchange_cell.Goals.{then-r, else-r}
 use Rattle.storage_exchange.proofs.storage.Parts.exchange_cell.Goals as goal
 
 pub put_cell-requires-clause-used : goal.put_cell-requires-clause-used
 put_cell-requires-clause-used c = cell-used (walk_of c.args.self.now c.requires.fits.0 c.requires.fits.1 c.requires.fits.2) c.args.r c.requires.fits.3 c.if-r.true
-
-pub put_cell-requires-clause-room : goal.put_cell-requires-clause-room
-put_cell-requires-clause-room c = (let room = cell-room (walk_of c.args.self.now c.requires.fits.0 c.requires.fits.1 c.requires.fits.2) c.args.r c.requires.fits.3 c.if-r.true in omega (arith, room))
 
 pub take_cell-requires-clause-first : goal.take_cell-requires-clause-first
 take_cell-requires-clause-first c = cell-first (walk_of c.args.self.now c.requires.fits.0 c.requires.fits.1 c.requires.fits.2) c.args.r c.requires.fits.3 c.if-r.false

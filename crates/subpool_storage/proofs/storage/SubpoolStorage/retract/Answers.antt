@@ -1,7 +1,7 @@
 use Rattle.std.proofs.Common.{◌≡◌, ℕ, ◌+◌, refl, ap, ◌∙◌, arith}
 use Rattle.std.specs.Prelude.{option_map}
 use Rattle.cell_pool.specs.CellPools.{by_id}
-use Rattle.cell_pool.specs.Pools.{at_id, retracted, mark_items}
+use Rattle.cell_pool.specs.Pools.{at_id, retracted}
 use Rattle.subpool_storage.specs.Subpools.{with_changed}
 use Rattle.subpool_storage.specs.SubpoolStorage.{subpools_of}
 use Rattle.subpool_storage.proofs.LiftLemmas.{cells_become}
@@ -23,4 +23,4 @@ pub returns-clause-spares : goal.returns-clause-spares
 unfolding subpools_of
 returns-clause-spares c =
     let e : c.retract.result.count ≡ c.args.count = count_is (by_id c.args.elements.now c.args.self.now.cells c.args.id) c.args.start c.args.count c.retract.result c.requires.there c.requires.last c.retract.ensures.extent in
-    omega (arith, c.retract.ensures.spares, ap (λ (n : ℕ). n + mark_items n) e)
+    omega (arith, c.retract.ensures.spares, e)
