@@ -1,8 +1,13 @@
 -- Walks over the areas of a cell pool's extents, and the records by which they are given back.
-use Rattle.std.proofs.Common.{◌≡◌, ℕ, zero, suc, ◌+◌, ◌-◌, ◌<◌, ◌≤◌, ◌^◌, true, false, ◌||◌, List, [], ◌∷◌, ◌++◌, length, length-append, length-drop, get_or, take, drop, map, Option, Some, None, IfSome, refl, sym, ap, ◌∙◌, subst, arith}
+use Rattle.std.proofs.Common.{◌≡◌, ℕ, zero, suc, ◌+◌, ◌-◌, ◌<◌, ◌≤◌, ◌*◌, ◌^◌, Bool, true, false, ◌||◌, List, [], ◌∷◌, ◌++◌, length, length-append, length-drop, get_or, take, drop, map, Option, Some, None, IfSome, refl, sym, ap, ◌∙◌, subst, arith}
 use Rattle.std.specs.Prelude.{slice_get}
 use Rattle.std.proofs.Math.Seq.{drop-cons}
-use Rattle.std.proofs.lemmas.List.{drop_all}
+use Rattle.std.proofs.lemmas.List.{drop_all, append_assoc, append-nil}
+use Rattle.vsm_elements.specs.Store.{Store, live_count}
+use Rattle.vsm_elements.specs.Ownership.{Leaves}
+use Rattle.vsm_elements.specs.Owners.{times, Moves}
+use Rattle.free_queue.specs.declared.queue.FreeQueue.{FreeQueue}
+use Rattle.free_queue.specs.FreeQueue.{is_free, owned, IsFreeQueue}
 use Rattle.run_set.specs.Runs.{Run, inside, contains}
 use Rattle.vsm_model.specs.declared.Subpool.{Subpool}
 use Rattle.cell_extents.specs.declared.settings.Extent.{Extent}
@@ -14,14 +19,18 @@ use Rattle.storage_changes.specs.State.{StorageState}
 use Rattle.storage_exchange.specs.declared.storage.Parts.{Parts}
 use Rattle.storage_exchange.specs.Storage.{state_of}
 use Rattle.storage_swap.specs.declared.builder.ChangeBuilder.{ChangeBuilder}
-use Rattle.storage_swap.specs.Builder.{IsBuilding, Builds, Pushes}
-use Rattle.storage_swap.proofs.BuilderLemmas.{Leads, leads-none, leads-more, leads-all, leads-room}
+use Rattle.storage_swap.specs.Builder.{records_in, parked_in, IsBuilding, Builds, Pushes}
+use Rattle.storage_swap.specs.Growth.{all_elements, MakesElements}
+use Rattle.storage_swap.proofs.KeptLemmas.{over}
+use Rattle.storage_swap.proofs.BuilderLemmas.{Leads, leads-all, leads-room, makes-follow}
 use Rattle.change_laws.specs.CellActions.{extents_given_back}
-use Rattle.cell_plans.specs.Areas.{areas_of, first_areas}
+use Rattle.cell_plans.specs.Areas.{areas_of}
 use Rattle.cell_plans.specs.CellPlans.{pool_given_back, extents_of_pool, CanBeDeleted}
 use Rattle.cell_plans.specs.Emptied.{area_of, area_given_back, freed}
-use Rattle.cell_plans.proofs.FreeEnds.{behind, none_behind, or_here, or_there}
+use Rattle.cell_plans.specs.Noted.{noted_count, AreNoted, BuildsBeside, NotesOne, PushesBeside}
+use Rattle.cell_plans.proofs.FreeEnds.{behind, none_behind}
 use Rattle.cell_plans.proofs.GivenAreas.{freed_more}
+use Rattle.cell_plans.proofs.NotedLemmas.{leaves-live, leaves-all, none-noted, stays-free, stays-count, noted-records, noted-parked, noted-builds, gone-moves, builds-on}
 
 -- the first of those that are left
 pub at_first : (r : Run) (rs left : List Run) (n : ℕ) → left ≡ r ∷ rs → n ≡ 0 → slice_get left n ≡ Some r
@@ -33,34 +42,6 @@ at_later (suc n) r rs left some is = let e : suc n - 1 ≡ n = omega arith in ap
 
 pub at_none : (left : List Run) (n : ℕ) → left ≡ [] → slice_get left n ≡ None
 at_none left n is = ap (λ (z : List Run). slice_get z n) is
-
--- so many of those that are left: the first of them, and one fewer
-pub taken_first : (n : ℕ) (r : Run) (rs left : List Run) → 0 < n → left ≡ r ∷ rs → take n left ≡ r ∷ take (n - 1) rs
-taken_first zero r rs left some is = absurd (omega (arith, some))
-taken_first (suc n) r rs left some is = let e : n ≡ suc n - 1 = omega arith in ap (take (suc n)) is ∙ ap (λ (k : ℕ). r ∷ take k rs) e
-
-pub taken_none : (n : ℕ) (left : List Run) → left ≡ [] → take n left ≡ []
-taken_none zero left is = refl
-taken_none (suc n) left is = ap (take (suc n)) is
-
-no_inside : (r : Run) (rs : List Run) (d : ℕ) → inside d r ≡ false → contains d (r ∷ rs) ≡ contains d rs
-no_inside r rs d e = ap (λ b. b || contains d rs) e
-
--- one that hasn't the doubleword is passed over
-pub over_one : (n : ℕ) (r : Run) (rs left : List Run) (d : ℕ) → 0 < n → left ≡ r ∷ rs → inside d r ≡ false → contains d (take (n - 1) rs) ≡ contains d (take n left)
-over_one n r rs left d some is other = sym (ap (contains d) (taken_first n r rs left some is) ∙ no_inside r (take (n - 1) rs) d other)
-
-pub in_later : (n : ℕ) (r : Run) (rs left : List Run) (d : ℕ) → 0 < n → left ≡ r ∷ rs → contains d (take (n - 1) rs) ≡ true → contains d (take n left) ≡ true
-in_later n r rs left d some is own = ap (contains d) (taken_first n r rs left some is) ∙ or_there (inside d r) (contains d (take (n - 1) rs)) own
-
-pub in_first : (n : ℕ) (r : Run) (rs left : List Run) (d : ℕ) → 0 < n → left ≡ r ∷ rs → inside d r ≡ true → contains d (take n left) ≡ true
-in_first n r rs left d some is own = ap (contains d) (taken_first n r rs left some is) ∙ or_here (inside d r) (contains d (take (n - 1) rs)) own
-
-pub none_taken : (n : ℕ) (left : List Run) (d : ℕ) → n ≡ 0 → contains d (take n left) ≡ false
-none_taken n left d is = ap (λ (k : ℕ). contains d (take k left)) is
-
-pub none_is_left : (n : ℕ) (left : List Run) (d : ℕ) → left ≡ [] → contains d (take n left) ≡ false
-none_is_left n left d is = ap (contains d) (taken_none n left is)
 
 -- the first ones, and the next
 pub next_taken : (xs : List Run) (i : ℕ) (x : Run) → slice_get xs i ≡ Some x → take (i + 1) xs ≡ take i xs ++ x ∷ []
@@ -149,9 +130,27 @@ whole_records p pool s = areas_given_back (state_of s).subpools p (all_areas poo
 abbrev pub records_from : Subpool → ℕ → Parts → ℕ → List Record
 records_from p pool s count = areas_given_back (freed (state_of s).subpools p (take count (all_areas pool s))) p (drop count (all_areas pool s))
 
--- Of the areas, so many were given back.
-pub record AreasLead (p : Subpool) (pool : ℕ) (s : Parts) (a : ChangeBuilder) (t : Parts) (b : ChangeBuilder) (count : ℕ) : Type 0 where
-  pub leads : Leads s a (whole_records p pool s) t b (records_from p pool s count)
+-- one area more has its doublewords too
+or-swap : (a b c : Bool) → (a || (b || c)) ≡ (b || (a || c))
+or-swap true true c = refl
+or-swap true false c = refl
+or-swap false b c = refl
+
+contains-more : (xs : List Run) (x : Run) (d : ℕ) → contains d (xs ++ x ∷ []) ≡ (inside d x || contains d xs)
+contains-more [] x d = refl
+contains-more (y ∷ ys) x d = ap (λ b. inside d y || b) (contains-more ys x d) ∙ or-swap (inside d y) (inside d x) (contains d ys)
+
+-- Of the areas, so many were given back, and are noted in a queue. Room is made for so many elements at most as there are
+-- records and blank elements.
+pub record AreasLead (p : Subpool) (pool : ℕ) (s : Parts) (a : ChangeBuilder) (t : Parts) (b : ChangeBuilder) (count : ℕ) (q : FreeQueue) : Type 0 where
+  pub builds : BuildsBeside s a t b q
+  pub records : records_in t b ++ records_from p pool s count ≡ records_in s a ++ whole_records p pool s
+  pub parked : parked_in t b ≡ parked_in s a
+  pub spare : s.elements.spare + length (records_from p pool s count) ≤ t.elements.spare + length (whole_records p pool s) + noted_count t q
+  pub live : live_count t.elements + length (records_from p pool s count) ≤ live_count s.elements + length (whole_records p pool s) + noted_count t q
+  pub made : MakesElements s.elements t.elements (length (whole_records p pool s) + (4 * length (all_areas pool s) + 1))
+  pub held : noted_count t q ≤ count
+  pub same : (d : ℕ) → is_free t.elements q d ≡ contains d (take count (all_areas pool s))
   pub within : count ≤ length (all_areas pool s)
   pub few : count < 2 ^ 30
 
@@ -168,20 +167,45 @@ module _ (p : Subpool) (pool : ℕ) (s : Parts) (a : ChangeBuilder) where
   abbrev rest_from : ℕ → List Record
   rest_from count = records_from p pool s count
 
-  pub areas_none : IsBuilding s a → AreasLead p pool s a s a 0
-  areas_none building = record { leads = leads-none s a whole building; within = omega arith; few = omega arith }
+  pub areas_none : (q : FreeQueue) → IsBuilding s a → IsFreeQueue s.elements q → ((d : ℕ) → is_free s.elements q d ≡ false) → owned s.elements q ≡ [] → AreasLead p pool s a s a 0 q
+  areas_none q building stand free none = record {
+    builds = none-noted s a q building stand none;
+    records = refl;
+    parked = refl;
+    spare = omega arith;
+    live = omega arith;
+    made = omega arith;
+    held = omega (arith, ap length none);
+    same = free;
+    within = omega arith;
+    few = omega arith;
+  }
 
-  module _ (t : Parts) (b : ChangeBuilder) (count : ℕ) (w : AreasLead p pool s a t b count) where
+  module _ (t : Parts) (b : ChangeBuilder) (count : ℕ) (q : FreeQueue) (w : AreasLead p pool s a t b count q) where
     abbrev now : List Run
     now = areas_of ((state_of t).subpools.cells pool)
 
     same_areas : now ≡ all
-    same_areas = ap (λ (x : StorageState). areas_of (x.subpools.cells pool)) w.leads.builds.keeps.shows
+    same_areas = ap (λ (x : StorageState). areas_of (x.subpools.cells pool)) w.builds.keeps.shows
 
-    pub all_came : slice_get now count ≡ None → Pushes s a whole t b
+    -- they are what is noted
+    pub first_noted : AreNoted t (record { pool = pool; count = count; areas = q })
+    first_noted = record {
+      queue = w.builds.beside.queue;
+      same = λ d. w.same d ∙ sym (ap (λ (xs : List Run). contains d (take count xs)) same_areas);
+    }
+
+    pub all_came : slice_get now count ≡ None → PushesBeside s a whole (noted_count t q) (4 * length all + 1) t b
     all_came none =
         let over : slice_get all count ≡ None = ap (λ (xs : List Run). slice_get xs count) (sym same_areas) ∙ none in
-        leads-all s t a b whole (rest_from count) w.leads (ap (areas_given_back (freed m.subpools p (take count all)) p) (none_behind all count over))
+        let left : rest_from count ≡ [] = ap (areas_given_back (freed m.subpools p (take count all)) p) (none_behind all count over) in
+        record {
+          records = sym (append-nil (records_in t b)) ∙ ap (λ (z : List Record). records_in t b ++ z) (sym left) ∙ w.records;
+          parked = w.parked;
+          spare = omega (arith, w.spare);
+          live = omega (arith, w.live);
+          made = w.made;
+        }
 
     pub all_counted : slice_get now count ≡ None → count ≡ length all
     all_counted none =
@@ -198,23 +222,100 @@ module _ (p : Subpool) (pool : ℕ) (s : Parts) (a : ChangeBuilder) where
       is_one_more = at_within all count area here
 
       abbrev added_by : StorageState → List Record
-      added_by x = area_given_back (freed x.subpools p (first_areas x (record { pool = pool; count = count }))) p area
+      added_by x = area_given_back (freed x.subpools p (take count (areas_of (x.subpools.cells pool)))) p area
 
-      front : rest_from count ≡ added_by (state_of t) ++ rest_from (count + 1)
+      abbrev added : List Record
+      added = added_by (state_of t)
+
+      front : rest_from count ≡ added ++ rest_from (count + 1)
       front =
           ap (areas_given_back (freed m.subpools p (take count all)) p) (next_dropped all count area here)
           ∙ ap (λ (u : Subpools). added_by m ++ areas_given_back u p (drop (count + 1) all))
           (sym (ap (freed m.subpools p) (next_taken all count area here) ∙ freed_more m.subpools p (take count all) area))
-          ∙ ap (λ (x : StorageState). added_by x ++ rest_from (count + 1)) (sym w.leads.builds.keeps.shows)
+          ∙ ap (λ (x : StorageState). added_by x ++ rest_from (count + 1)) (sym w.builds.keeps.shows)
 
-      pub area_room : length whole ≤ s.elements.spare → length (added_by (state_of t)) ≤ t.elements.spare
-      area_room room =
-          let r = leads-room s t a b whole (rest_from count) w.leads room in
-          omega (arith, r, ap length front, length-append (added_by (state_of t)) (rest_from (count + 1)))
+      lengths : length (rest_from count) ≡ length added + length (rest_from (count + 1))
+      lengths = ap length front ∙ length-append added (rest_from (count + 1))
 
-      pub area_more : (u : Parts) (c : ChangeBuilder) → count + 1 < 2 ^ 30 → Builds t b u c → Pushes t b (added_by (state_of t)) u c → AreasLead p pool s a u c (count + 1)
-      area_more u c small builds pushes = record {
-        leads = leads-more s t a b whole (rest_from count) w.leads u c (added_by (state_of t)) (rest_from (count + 1)) front builds pushes;
-        within = omega (arith, is_one_more);
-        few = small;
-      }
+      pub area_room : length whole + (4 * length all + 1) ≤ s.elements.spare → length added ≤ t.elements.spare
+      area_room room = omega (arith, w.spare, room, lengths, w.held, w.within)
+
+      -- its records came
+      module _ (u : Parts) (c : ChangeBuilder) (k : Builds t b u c) where
+        pub pushed_builds : BuildsBeside s a u c q
+        pushed_builds = builds-on s a t b q w.builds u c k
+
+        count_stays : noted_count u q ≡ noted_count t q
+        count_stays = stays-count t b q w.builds.beside u c k
+
+        module _ (pushes : Pushes t b added u c) where
+          pub note_room : length whole + (4 * length all + 1) ≤ s.elements.spare → 2 ≤ u.elements.spare
+          note_room room = omega (arith, w.spare, room, lengths, w.held, is_one_more, pushes.spare)
+
+          pushed_made : MakesElements s.elements u.elements (length whole + (4 * length all + 1))
+          pushed_made =
+              makes-follow (all_elements s.elements) (all_elements t.elements) (all_elements u.elements) (live_count s.elements) (live_count t.elements)
+              (length whole + (4 * length all + 1)) (length added) (length whole + (4 * length all + 1)) w.made
+              (omega (arith, w.live, lengths, w.held, w.within)) (omega arith) pushes.made
+
+          pub pushed_records : records_in u c ++ rest_from (count + 1) ≡ records_in s a ++ whole
+          pushed_records =
+              ap (λ (z : List Record). z ++ rest_from (count + 1)) pushes.records ∙ append_assoc (records_in t b) added (rest_from (count + 1))
+              ∙ ap (λ (z : List Record). records_in t b ++ z) (sym front) ∙ w.records
+
+          -- and it was noted
+          module _ (e : Store) (r : FreeQueue) (stand : IsFreeQueue e r) (moves : Moves u.elements e (λ i. times i (owned u.elements q)) (λ i. times i (owned e r))) where
+            pub noted_so : BuildsBeside s a (over u e) c r
+            noted_so = noted-builds s a u c q pushed_builds e r stand moves
+
+            pub area_more :
+                count + 1 < 2 ^ 30 → ((d : ℕ) → is_free e r d ≡ (inside d area || is_free u.elements q d))
+                → NotesOne u.elements e (noted_count u q) (length (owned e r)) → AreasLead p pool s a (over u e) c (count + 1) r
+            area_more small set one = record {
+              builds = noted_so;
+              records = ap (λ (z : List Record). z ++ rest_from (count + 1)) (noted-records u c q pushed_builds.beside e (λ i. times i (owned e r)) moves) ∙ pushed_records;
+              parked = noted-parked u c q pushed_builds.beside e (λ i. times i (owned e r)) moves ∙ pushes.parked ∙ w.parked;
+              spare = omega (arith, w.spare, lengths, pushes.spare, one.spare, count_stays);
+              live = omega (arith, w.live, lengths, pushes.live, one.live, count_stays);
+              made =
+                  makes-follow (all_elements s.elements) (all_elements u.elements) (all_elements e) (live_count s.elements) (live_count u.elements)
+                  (length whole + (4 * length all + 1)) 2 (length whole + (4 * length all + 1)) pushed_made
+                  (omega (arith, w.live, lengths, pushes.live, w.held, is_one_more)) (omega arith) one.made;
+              held = omega (arith, one.few, count_stays, w.held);
+              same = λ d.
+                  set d ∙ ap (λ b. inside d area || b) (stays-free t b q w.builds.beside u c k d ∙ w.same d)
+                  ∙ sym (ap (contains d) (next_taken all count area here) ∙ contains-more (take count all) area d);
+              within = omega (arith, is_one_more);
+              few = small;
+            }
+
+-- The queue is gone.
+module _ (s : Parts) (a : ChangeBuilder) (added : List Record) (room : ℕ) (t : Parts) (b : ChangeBuilder) (q : FreeQueue) (w : BuildsBeside s a t b q) (e : Store)
+    (f : Leaves t.elements e (owned t.elements q) []) (within : noted_count t q ≤ live_count t.elements) where
+  pub all_gone : PushesBeside s a added (noted_count t q) room t b → PushesBeside s a added 0 room (over t e) b
+  all_gone k = record {
+    records = noted-records t b q w.beside e (λ i. 0) (gone-moves s a t b q w e f) ∙ k.records;
+    parked = noted-parked t b q w.beside e (λ i. 0) (gone-moves s a t b q w e f) ∙ k.parked;
+    spare = omega (arith, k.spare, f.spare);
+    live = omega (arith, k.live, leaves-live t.elements e (owned t.elements q) [] f within);
+    made = omega (arith, k.made, leaves-all t.elements e (owned t.elements q) [] f within);
+  }
+
+-- records before and behind
+pub pushed-before : (s t u : Parts) (a b c : ChangeBuilder) (xs ys : List Record) (room : ℕ) → Pushes s a xs t b → PushesBeside t b ys 0 room u c → PushesBeside s a (xs ++ ys) 0 room u c
+pushed-before s t u a b c xs ys room p q = record {
+  records = q.records ∙ ap (λ (z : List Record). z ++ ys) p.records ∙ append_assoc (records_in s a) xs ys;
+  parked = q.parked ∙ p.parked;
+  spare = omega (arith, p.spare, q.spare, length-append xs ys);
+  live = omega (arith, p.live, q.live, length-append xs ys);
+  made = makes-follow (all_elements s.elements) (all_elements t.elements) (all_elements u.elements) (live_count s.elements) (live_count t.elements) (length xs) (length ys + room) (length (xs ++ ys) + room) p.made (omega (arith, p.live, length-append xs ys)) (omega (arith, length-append xs ys)) q.made;
+}
+
+pub pushed-behind : (s t u : Parts) (a b c : ChangeBuilder) (xs ys : List Record) (room : ℕ) → PushesBeside s a xs 0 room t b → Pushes t b ys u c → PushesBeside s a (xs ++ ys) 0 room u c
+pushed-behind s t u a b c xs ys room p q = record {
+  records = q.records ∙ ap (λ (z : List Record). z ++ ys) p.records ∙ append_assoc (records_in s a) xs ys;
+  parked = q.parked ∙ p.parked;
+  spare = omega (arith, p.spare, q.spare, length-append xs ys);
+  live = omega (arith, p.live, q.live, length-append xs ys);
+  made = makes-follow (all_elements s.elements) (all_elements t.elements) (all_elements u.elements) (live_count s.elements) (live_count t.elements) (length xs + room) (length ys) (length (xs ++ ys) + room) p.made (omega (arith, p.live, length-append xs ys)) (omega (arith, length-append xs ys)) q.made;
+}

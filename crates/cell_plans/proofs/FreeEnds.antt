@@ -1,12 +1,12 @@
--- Where free doublewords end that begin with one, and areas that have it.
-use Rattle.std.proofs.Common.{◌≡◌, ℕ, zero, suc, ◌+◌, ◌^◌, ◌<◌, ◌≤◌, Bool, true, false, ◌||◌, List, [], ◌∷◌, drop, Some, None, refl, sym, ap, ◌∙◌, arith, inl, inr}
+-- Where free doublewords end that begin with one.
+use Rattle.std.proofs.Common.{◌≡◌, ℕ, zero, suc, ◌+◌, ◌<◌, ◌≤◌, Bool, true, false, ◌||◌, List, [], ◌∷◌, drop, Some, None, refl, sym, ap, ◌∙◌, arith, inl, inr}
 use Rattle.std.specs.Prelude.{slice_get, nat_le, nat_lt}
 use Rattle.std.proofs.lemmas.Bool.{and_parts, and_from, leb-true, ltb-true, le-leb, lt-ltb, cases_lt}
 use Rattle.std.proofs.lemmas.Option.{slice_get_within, get_or_from_slice_get}
 use Rattle.std.proofs.Math.Seq.{drop-cons}
 use Rattle.vsm_model.specs.Search.{all_pass}
 use Rattle.vsm_model.proofs.Least.{all_pass_from, all_pass_none}
-use Rattle.run_set.specs.Runs.{Run, inside, contains, Spaced}
+use Rattle.run_set.specs.Runs.{Run, inside, IsEndFrom}
 use Rattle.cell_plans.specs.Emptied.{IsFreeUpTo}
 
 -- what is behind an index
@@ -33,46 +33,13 @@ pub or_there : (a b : Bool) → b ≡ true → (a || b) ≡ true
 or_there true b e = refl
 or_there false b e = e
 
--- a doubleword of an area of a list
-pub contains_at : (rs : List Run) (i : ℕ) (r : Run) (d : ℕ) → slice_get rs i ≡ Some r → inside d r ≡ true → contains d rs ≡ true
-contains_at [] i r d at e = cc
-contains_at (x ∷ rs) zero r d at e =
-    let same : x ≡ r = cc in
-    or_here (inside d x) (contains d rs) (ap (inside d) same ∙ e)
-contains_at (x ∷ rs) (suc i) r d at e = or_there (inside d x) (contains d rs) (contains_at rs i r d at e)
-
--- and where it ends
-pub ends_low : (low : ℕ) (rs : List Run) (i : ℕ) (r : Run) → Spaced low rs → slice_get rs i ≡ Some r → r.start + r.len ≤ 2 ^ 29
-ends_low low [] i r h at = cc
-ends_low low (x ∷ rs) zero r h at =
-    let same : x ≡ r = cc in
-    let end : x.start + x.len ≡ r.start + r.len = ap (λ (y : Run). y.start + y.len) same in
-    omega (arith, h.2, end)
-ends_low low (x ∷ rs) (suc i) r h at = ends_low (x.start + x.len + 1) rs i r h.3 at
-
--- the set of a list of areas
-module _ (free : ℕ → Bool) (rs : List Run) (is : (d : ℕ) → contains d rs ≡ free d) (d : ℕ) where
-  pub ends_there : (i : ℕ) (r : Run) → slice_get rs i ≡ Some r → inside d r ≡ true → IsFreeUpTo free d (r.start + r.len)
-  ends_there i r at own =
-      let bounds = in_inside r d own in
-      record {
-        from = omega (arith, bounds.1);
-        each = λ k from below. sym (is k) ∙ contains_at rs i r k at (inside_from r k (omega (arith, bounds.0, from)) below);
-        none = λ e. absurd (omega (arith, bounds.1, e));
-      }
-
-  pub ends_at_once : contains d rs ≡ false → IsFreeUpTo free d d
-  ends_at_once none = record {
-    from = omega arith;
-    each = λ k from below. absurd (omega (arith, from, below));
-    none = λ e. sym (is d) ∙ none;
-  }
-
--- one that hasn't the doubleword is passed over
-pub passed_over : (rs : List Run) (i j : ℕ) (r : Run) (d : ℕ) → slice_get rs i ≡ Some r → j ≡ i + 1 → inside d r ≡ false → contains d (drop j rs) ≡ contains d (drop i rs)
-passed_over rs i j r d at next other =
-    let same : suc i ≡ j = omega (arith, next) in
-    sym (ap (contains d) (behind rs i r at) ∙ ap (λ b. b || contains d (drop (suc i) rs)) other ∙ ap (λ (k : ℕ). contains d (drop k rs)) same)
+-- the end of a set's doublewords, where the set is that of the free ones
+pub up_to_end : (set free : ℕ → Bool) (first end : ℕ) → ((d : ℕ) → set d ≡ free d) → IsEndFrom set first end → IsFreeUpTo free first end
+up_to_end set free first end is its = record {
+  from = its.from;
+  each = λ d from below. sym (is d) ∙ its.each d from below;
+  none = λ e. sym (is first) ∙ ap set (sym e) ∙ its.past;
+}
 
 -- the two sets of which the second is behind the first
 module _ (one two both : ℕ → Bool) (is : (d : ℕ) → both d ≡ (one d || two d)) (d : ℕ) where

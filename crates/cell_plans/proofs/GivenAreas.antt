@@ -45,7 +45,7 @@ all_and P (one ∷ areas) area h its = All-cons P one (areas ++ area ∷ []) (Al
 abbrev pub joined : Run → Run → Run
 joined a b = run_of a.start (a.len + b.len)
 
-inside_joined : (a b : Run) (d : ℕ) → a.start + a.len ≡ b.start → inside d (joined a b) ≡ (inside d a || inside d b)
+pub inside_joined : (a b : Run) (d : ℕ) → a.start + a.len ≡ b.start → inside d (joined a b) ≡ (inside d a || inside d b)
 inside_joined a b d e =
     same_answers (inside d (joined a b)) (inside d a || inside d b)
     (λ h. let at = in_inside (joined a b) d h in elim (cases_lt d b.start) [

@@ -9,6 +9,8 @@ mod HandedOut
 mod BuildPlans
 mod FreeEnds
 mod GivenAreas
+mod NotingLemmas
+mod NotedLemmas
 mod AreaWalks
 mod DeletePlans
 pub mod DeleteCounts

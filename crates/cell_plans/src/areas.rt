@@ -6,6 +6,7 @@ ghost use Rattle.cell_plans.specs.CellPlans.{CanBeDeleted};
 
 use crate::sizes::extent_doublewords;
 use cell_pool::{CellExtentPlace, CellId, CellPools};
+use free_queue::FreeQueue;
 use run_set::Run;
 use storage_exchange::Parts;
 
@@ -16,11 +17,12 @@ pub(crate) struct AreaPlace {
     size: u32,
 }
 
-/// The first extents of a cell pool, so many of them.
+/// The first extents of a cell pool, so many of them, and a queue of their doublewords.
 #[derive(Clone, Copy)]
 pub(crate) struct FirstExtents {
     pub(crate) pool: CellId,
     pub(crate) count: u32,
+    pub(crate) areas: FreeQueue,
 }
 
 /// The place before the first of them.

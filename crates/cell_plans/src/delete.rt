@@ -6,10 +6,11 @@ ghost use Rattle.vsm_model.specs.Regions.{settings_valid};
 ghost use Rattle.vsm_model.specs.Services.{delete};
 ghost use Rattle.storage_exchange.specs.Storage.{hold, state_of, Stand, IsFrameless};
 ghost use Rattle.storage_plans.specs.Places.{StandsSound};
-ghost use Rattle.storage_swap.specs.Builder.{IsBuilding, Builds, Pushes};
+ghost use Rattle.storage_swap.specs.Builder.{IsBuilding, Builds};
 ghost use Rattle.storage_swap.specs.Growth.{MakesElements};
 ghost use Rattle.storage_swap.specs.Reserve.{Grown, Reserves};
 ghost use Rattle.cell_plans.specs.CellPlans.{delete_change, CanBeDeleted, IsDeletePlanned};
+ghost use Rattle.cell_plans.specs.Noted.{PushesBeside};
 
 use crate::giving_back::{Count, push_extents};
 use crate::seen::find_seen;
@@ -92,8 +93,8 @@ impl DeletePlan {
         requires building { IsBuilding storage.old builder.old }
         requires can { CanBeDeleted (state_of storage.old) self }
         ensures builds { Builds storage.old builder.old storage.new builder.new }
-        ensures ok { OnOk result (Pushes storage.old builder.old
-            (delete_change (state_of storage.old) self).records storage.new builder.new) }
+        ensures ok { let d = delete_change (state_of storage.old) self in
+            OnOk result (PushesBeside storage.old builder.old d.records 0 d.blanks storage.new builder.new) }
         ensures blanks { IfOk result (λ n. n ≡ (delete_change (state_of storage.old) self).blanks) }
         ensures needless { let d = delete_change (state_of storage.old) self in
             length d.records + d.blanks ≤ storage.old.elements.spare → IsOk result }

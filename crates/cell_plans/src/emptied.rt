@@ -1,86 +1,42 @@
 //! Which pages an extent of a cell pool empties, once those before it are given back.
-ghost use Rattle.std.specs.Prelude.{◌≡◌, ℕ, ◌+◌, ◌/◌, ◌^◌, ◌<◌, ◌≤◌, true, false};
-ghost use Rattle.run_set.specs.Runs.{contains, inside};
+ghost use Rattle.std.specs.Prelude.{◌≡◌, ◌+◌, ◌/◌, ◌^◌, ◌<◌, ◌≤◌};
+ghost use Rattle.run_set.specs.Runs.{contains};
 ghost use Rattle.vsm_model.specs.Regions.{pages_for};
 ghost use Rattle.vsm_model.specs.Search.{all_pass};
 ghost use Rattle.change_laws.specs.StorageActions.{emptied_pages};
 ghost use Rattle.storage_exchange.specs.Storage.{state_of, Stand};
 ghost use Rattle.cell_plans.specs.Areas.{first_areas};
-ghost use Rattle.cell_plans.specs.CellPlans.{CanBeDeleted};
 ghost use Rattle.cell_plans.specs.Emptied.{freed, IsFreeUpTo};
+ghost use Rattle.cell_plans.specs.Noted.{AreNoted};
 
-use crate::areas::{FirstExtents, first_place, next_area};
-use free_queue::FreeQueue;
-use free_queue::laws::queues_stand;
+use crate::areas::FirstExtents;
 use run_set::Run;
 use storage_exchange::Parts;
 use vsm_model::Subpool;
 use vsm_model::geometry::PAGE_DOUBLEWORDS;
-
-// Whether the area has the doubleword.
-fn has(area: Run, doubleword: u32) -> bool
-    requires { area.start + area.len ≤ 2 ^ 29 }
-    ensures { result ≡ inside doubleword area }
-{
-    area.start <= doubleword && doubleword < area.start + area.len
-}
 
 // The end of the free area of the subpool that has the doubleword, or the doubleword itself where it isn't free.
 fn free_end(storage: &Parts, subpool: Subpool, doubleword: u32) -> u32
     requires { Stand storage.now }
     ensures { IsFreeUpTo ((state_of storage.now).subpools.free subpool) doubleword result }
 {
-    queues_stand();
     let queue = storage.subpools.free_areas(&storage.elements, subpool);
-    let mut place = FreeQueue::first_place();
-    while let Some((area, next)) = queue.next_area(&storage.elements, place) {
-        if has(area, doubleword) {
-            return area.start + area.len;
-        }
-        place = next;
-    }
-    doubleword
+    queue.end_from(&storage.elements, doubleword)
 }
 
-// The end of the area where it has the doubleword, or the doubleword itself.
-fn end_behind(area: Run, doubleword: u32) -> u32
-    requires { area.start + area.len ≤ 2 ^ 29 }
-    ensures from { doubleword ≤ result }
-    ensures each { (d : ℕ) → doubleword ≤ d → d < result → inside d area ≡ true }
-    ensures none { result ≡ doubleword → inside doubleword area ≡ false }
-{
-    if has(area, doubleword) {
-        return area.start + area.len;
-    }
-    doubleword
-}
-
-// The end of the doublewords of these extents that begin with this one, as far as one walk over them finds it; the
-// doubleword itself where none has it.
+// The end of the doublewords of these extents that begin with this one; the doubleword itself where none has it.
 fn given_end(storage: &Parts, given: FirstExtents, doubleword: u32) -> u32
-    requires stands { Stand storage.now }
-    requires can { CanBeDeleted (state_of storage.now) (record { pool = given.pool }) }
+    requires { AreNoted storage.now given }
     ensures { IsFreeUpTo (λ d. contains d (first_areas (state_of storage.now) given)) doubleword result }
 {
-    let mut place = first_place(storage, given.pool);
-    let mut left = given.count;
-    let mut end = doubleword;
-    while left > 0 {
-        let Some((area, next)) = next_area(storage, place) else {
-            return end;
-        };
-        end = end_behind(area, end);
-        left -= 1;
-        place = next;
-    }
-    end
+    given.areas.end_from(&storage.elements, doubleword)
 }
 
 // The end of free doublewords of the subpool, with the extents that were given back, that begin with this one; the
 // doubleword itself where it isn't free.
 fn end_of_free(storage: &Parts, subpool: Subpool, given: FirstExtents, doubleword: u32) -> u32
     requires stands { Stand storage.now }
-    requires can { CanBeDeleted (state_of storage.now) (record { pool = given.pool }) }
+    requires noted { AreNoted storage.now given }
     ensures { IsFreeUpTo ((freed (state_of storage.now).subpools subpool
         (first_areas (state_of storage.now) given)).free subpool) doubleword result }
 {
@@ -96,7 +52,7 @@ fn end_of_free(storage: &Parts, subpool: Subpool, given: FirstExtents, doublewor
 // back.
 fn is_free(storage: &Parts, subpool: Subpool, given: FirstExtents, area: Run) -> bool
     requires stands { Stand storage.now }
-    requires can { CanBeDeleted (state_of storage.now) (record { pool = given.pool }) }
+    requires noted { AreNoted storage.now given }
     requires range { area.start + area.len ≤ 2 ^ 29 }
     ensures { result ≡ all_pass ((freed (state_of storage.now).subpools subpool
         (first_areas (state_of storage.now) given)).free subpool)
@@ -134,7 +90,7 @@ fn pages_of(area: Run) -> Run
 /// Reads alone.
 pub(crate) fn emptied(storage: &Parts, subpool: Subpool, given: FirstExtents, area: Run) -> Run
     requires stands { Stand storage.now }
-    requires can { CanBeDeleted (state_of storage.now) (record { pool = given.pool }) }
+    requires noted { AreNoted storage.now given }
     requires some { 0 < area.len }
     requires range { area.start + area.len ≤ 2 ^ 29 }
     ensures value { result ≡ emptied_pages (freed (state_of storage.now).subpools subpool

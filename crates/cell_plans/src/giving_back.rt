@@ -1,17 +1,21 @@
 //! The records by which the extents of a cell pool are given back.
-ghost use Rattle.std.specs.Prelude.{◌≡◌, ◌+◌, ◌-◌, ◌^◌, ◌<◌, ◌≤◌, ◌++◌, [], length, IsOk, IfOk, OnOk};
+ghost use Rattle.std.specs.Prelude.{◌≡◌, ℕ, false, ◌+◌, ◌-◌, ◌*◌, ◌^◌, ◌<◌, ◌≤◌, ◌++◌, [], length, IsOk, IfOk, OnOk};
 ghost use Rattle.arrayvec.specs.ArrayVec.{array_vec_len};
 ghost use Rattle.change_laws.specs.StorageActions.{area_records, give_back_records, returned_records};
+ghost use Rattle.free_queue.specs.FreeQueue.{is_free, owned, IsFreeQueue};
 ghost use Rattle.storage_exchange.specs.Storage.{state_of};
 ghost use Rattle.storage_swap.specs.Builder.{IsBuilding, Builds, Pushes};
 ghost use Rattle.cell_plans.specs.Areas.{first_areas};
 ghost use Rattle.cell_plans.specs.CellPlans.{pool_given_back, extents_need, extents_of_pool, CanBeDeleted};
 ghost use Rattle.cell_plans.specs.Emptied.{area_given_back, freed};
+ghost use Rattle.cell_plans.specs.Noted.{noted_count, AreNoted, BuildsBeside, PushesBeside};
 
 use crate::areas::{FirstExtents, area_at};
 use crate::emptied::emptied;
+use crate::noting::note;
 use arrayvec::ArrayVec;
 use cell_pool::CellId;
+use free_queue::FreeQueue;
 use run_set::Run;
 use std::alloc::AllocError;
 use storage_changes::{AreaRecord, ExtentRecord, PagesRecord, Record};
@@ -112,7 +116,7 @@ fn push_area(
     area: Run,
 ) -> Result<(), AllocError>
     requires building { IsBuilding storage.old builder.old }
-    requires can { CanBeDeleted (state_of storage.old) (record { pool = given.pool }) }
+    requires noted { AreNoted storage.old given }
     requires some { 0 < area.len }
     requires range { area.start + area.len ≤ 2 ^ 29 }
     ensures builds { Builds storage.old builder.old storage.new builder.new }
@@ -135,16 +139,23 @@ fn spares_are_few(storage: &Parts)
     let _spare = storage.elements.spare();
 }
 
-/// The records by which each extent of the cell pool is given back, the first one first. Answers how many extents it
-/// has.
-///
-/// `AllocError` where memory is refused, or the cell pool has more than 2^30 - 1 extents.
-pub(crate) fn push_extents(storage: &mut Parts, builder: &mut ChangeBuilder, pool: CellId) -> Count
+// The records by which each extent of the cell pool is given back, the first one first, while their areas are noted.
+// Answers how many extents it has.
+fn push_each(
+    storage: &mut Parts,
+    builder: &mut ChangeBuilder,
+    pool: CellId,
+    areas: &mut FreeQueue,
+) -> Count
     requires building { IsBuilding storage.old builder.old }
     requires can { CanBeDeleted (state_of storage.old) (record { pool = pool }) }
-    ensures builds { Builds storage.old builder.old storage.new builder.new }
-    ensures ok { let m = (state_of storage.old).subpools in OnOk result (Pushes storage.old builder.old
-        (pool_given_back m (m.cells pool)) storage.new builder.new) }
+    requires queue { IsFreeQueue storage.old.elements areas.old }
+    requires none { (d : ℕ) → is_free storage.old.elements areas.old d ≡ false }
+    requires owned { owned storage.old.elements areas.old ≡ [] }
+    ensures builds { BuildsBeside storage.old builder.old storage.new builder.new areas.new }
+    ensures ok { let m = (state_of storage.old).subpools in OnOk result (PushesBeside storage.old builder.old
+        (pool_given_back m (m.cells pool)) (noted_count storage.new areas.new) (4 * extents_of_pool (m.cells pool) + 1)
+        storage.new builder.new) }
     ensures count { IfOk result (λ n. n ≡ extents_of_pool ((state_of storage.old).subpools.cells pool)) }
     ensures few { IfOk result (λ n. n < 2 ^ 30) }
     ensures needless { extents_need (state_of storage.old) pool ≤ storage.old.elements.spare → IsOk result }
@@ -157,14 +168,37 @@ pub(crate) fn push_extents(storage: &mut Parts, builder: &mut ChangeBuilder, poo
         if count == EXTENTS_MOST {
             return Err(AllocError);
         }
-        push_area(
-            storage,
-            builder,
-            subpool,
-            FirstExtents { pool, count },
-            area,
-        )?;
+        let given = FirstExtents {
+            pool,
+            count,
+            areas: *areas,
+        };
+        push_area(storage, builder, subpool, given, area)?;
+        note(storage, areas, area)?;
         count += 1;
     }
     Ok(count)
+}
+
+/// The records by which each extent of the cell pool is given back, the first one first. Answers how many extents it
+/// has.
+///
+/// Meanwhile the extents' areas stand in a queue, an element each at most: it's gone at the end.
+///
+/// `AllocError` where memory is refused, or the cell pool has more than 2^30 - 1 extents.
+pub(crate) fn push_extents(storage: &mut Parts, builder: &mut ChangeBuilder, pool: CellId) -> Count
+    requires building { IsBuilding storage.old builder.old }
+    requires can { CanBeDeleted (state_of storage.old) (record { pool = pool }) }
+    ensures builds { Builds storage.old builder.old storage.new builder.new }
+    ensures ok { let m = (state_of storage.old).subpools in OnOk result (PushesBeside storage.old builder.old
+        (pool_given_back m (m.cells pool)) 0 (4 * extents_of_pool (m.cells pool) + 1) storage.new builder.new) }
+    ensures count { IfOk result (λ n. n ≡ extents_of_pool ((state_of storage.old).subpools.cells pool)) }
+    ensures few { IfOk result (λ n. n < 2 ^ 30) }
+    ensures needless { extents_need (state_of storage.old) pool ≤ storage.old.elements.spare → IsOk result }
+{
+    let mut areas = FreeQueue::new();
+    let count = push_each(storage, builder, pool, &mut areas);
+    storage.elements.live_are_counted();
+    areas.discard(&mut storage.elements);
+    count
 }

@@ -8,6 +8,7 @@ mod emptied;
 mod free;
 mod get;
 mod giving_back;
+mod noting;
 mod seen;
 mod sizes;
 

@@ -1,65 +1,25 @@
-use Rattle.std.proofs.Common.{◌≡◌, List, length, ap, sym, ◌∙◌, subst, arith}
-use Rattle.storage_changes.specs.declared.record.Record.{Record}
+use Rattle.std.proofs.Common.{◌+◌, ◌*◌}
+use Rattle.std.proofs.lemmas.Result.{on_ok_weaker}
+use Rattle.free_queue.specs.FreeQueue.{owned}
+use Rattle.free_queue.proofs.QueueLemmas.{queues_stand}
 use Rattle.storage_exchange.specs.Storage.{state_of}
-use Rattle.storage_swap.specs.Builder.{Pushes}
-use Rattle.storage_swap.proofs.BuilderLemmas.{builds-follow}
-use Rattle.cell_plans.specs.Areas.{areas_of}
-use Rattle.cell_plans.specs.CellPlans.{pool_given_back}
-use Rattle.cell_plans.proofs.AreaWalks.{still_can, its_subpool, pool_as_areas, areas_count, areas_given_back, areas_none, all_came, all_counted, is_one_more, area_room, area_more}
+use Rattle.cell_plans.specs.CellPlans.{pool_given_back, extents_of_pool}
+use Rattle.cell_plans.proofs.NotedLemmas.{owned-live, gone-builds}
+use Rattle.cell_plans.proofs.AreaWalks.{all_gone}
 use Rattle.cell_plans.proofs.giving_back.push_extents.Goals as goal
 
-pub loop-area-init : goal.loop-area-init
-loop-area-init c = areas_none _ _ _ _ c.requires.building
-
-pub area_at-requires-clause-can : goal.area_at-requires-clause-can
-area_at-requires-clause-can c = still_can c.args.storage.now c.loop-area.storage c.args.pool c.loop-area.invariant.leads.builds.keeps.shows c.requires.can
-
-pub push_area-requires-clause-can : goal.push_area-requires-clause-can
-push_area-requires-clause-can c = still_can c.args.storage.now c.loop-area.storage c.args.pool c.loop-area.invariant.leads.builds.keeps.shows c.requires.can
-
-pub returns-then-count-eq-EXTENTS_MOST-clause-builds : goal.returns-then-count-eq-EXTENTS_MOST-clause-builds
-returns-then-count-eq-EXTENTS_MOST-clause-builds c = c.loop-area.invariant.leads.builds
-
-pub returns-then-count-eq-EXTENTS_MOST-clause-needless : goal.returns-then-count-eq-EXTENTS_MOST-clause-needless
-returns-then-count-eq-EXTENTS_MOST-clause-needless c = λ room.
-    let more = is_one_more _ _ _ _ _ _ _ c.loop-area.invariant c.in-Some.area (sym c.in-Some.ensures.area) in
-    let o = (state_of c.args.storage.now).subpools.cells c.args.pool in
-    absurd (omega (arith, more, room, areas_count o, c.if-count-eq-EXTENTS_MOST.true, c.spares_are_few.ensures))
-
-pub returns-in_err-push_area-clause-builds : goal.returns-in_err-push_area-clause-builds
-returns-in_err-push_area-clause-builds c = builds-follow _ _ _ _ _ _ c.loop-area.invariant.leads.builds c.push_area.ensures.builds
-
-pub returns-in_err-push_area-clause-needless : goal.returns-in_err-push_area-clause-needless
-returns-in_err-push_area-clause-needless c = λ room.
-    let m = (state_of c.args.storage.now).subpools in
-    let o = m.cells c.args.pool in
-    let p = c.settings.result.subpool in
-    let whole : areas_given_back m p (areas_of o) ≡ pool_given_back m o = pool_as_areas m p o (its_subpool _ o c.settings.result (c.cell_pools-pools.ensures.pools c.args.pool) c.settings.ensures) in
-    absurd (cc (c.in_err-push_area.ensures.needless (area_room _ _ _ _ _ _ _ c.loop-area.invariant c.in-Some.area (sym c.in-Some.ensures.area) (omega (arith, room, ap length whole)))))
-
-pub loop-area-smaller : goal.loop-area-smaller
-loop-area-smaller c =
-    let more = is_one_more _ _ _ _ _ _ _ c.loop-area.invariant c.in-Some.area (sym c.in-Some.ensures.area) in
-    omega (arith, more)
-
-pub loop-area-preserved : goal.loop-area-preserved
-loop-area-preserved c =
-    area_more _ _ _ _ _ _ _ c.loop-area.invariant c.in-Some.area (sym c.in-Some.ensures.area) c.push_area.new.storage c.push_area.new.builder
-    (omega (arith, c.loop-area.invariant.few, c.if-count-eq-EXTENTS_MOST.false)) c.push_area.ensures.builds c.in_ok-push_area.ensures.ok
-
 pub returns-clause-builds : goal.returns-clause-builds
-returns-clause-builds c = c.loop-area.invariant.leads.builds
+returns-clause-builds c =
+    let each = c.push_each-count in
+    gone-builds c.args.storage.now c.args.builder.now each.new.storage each.new.builder each.new.areas each.ensures.builds c.discard.new.elements c.discard.ensures.owned
 
 pub returns-clause-ok : goal.returns-clause-ok
 returns-clause-ok c =
+    let each = c.push_each-count in
+    let t = each.new.storage in
+    let q = each.new.areas in
     let m = (state_of c.args.storage.now).subpools in
     let o = m.cells c.args.pool in
-    let p = c.settings.result.subpool in
-    let whole : areas_given_back m p (areas_of o) ≡ pool_given_back m o = pool_as_areas m p o (its_subpool _ o c.settings.result (c.cell_pools-pools.ensures.pools c.args.pool) c.settings.ensures) in
-    let P : List Record → Type 0 = λ rs. Pushes c.args.storage.now c.args.builder.now rs c.loop-area.storage c.loop-area.builder in
-    subst P whole (all_came _ _ _ _ _ _ _ c.loop-area.invariant (sym c.in_default.ensures.area))
-
-pub returns-clause-count : goal.returns-clause-count
-returns-clause-count c =
-    let o = (state_of c.args.storage.now).subpools.cells c.args.pool in
-    all_counted _ _ _ _ _ _ _ c.loop-area.invariant (sym c.in_default.ensures.area) ∙ areas_count o
+    on_ok_weaker each.result
+    (all_gone c.args.storage.now c.args.builder.now (pool_given_back m o) (4 * extents_of_pool o + 1) t each.new.builder q each.ensures.builds c.discard.new.elements c.discard.ensures.owned
+    (owned-live t.elements (owned t.elements q) (queues_stand t.elements q each.ensures.builds.beside.queue).1 c.live_are_counted.ensures)) each.ensures.ok

@@ -1,9 +1,10 @@
-use Rattle.std.proofs.Common.{List, refl, subst, arith}
+use Rattle.std.proofs.Common.{ℕ, ◌+◌, ◌*◌, List, refl, subst, arith}
 use Rattle.storage_changes.specs.declared.record.Record.{Record}
 use Rattle.storage_exchange.specs.Storage.{state_of}
-use Rattle.storage_swap.specs.Builder.{Pushes}
-use Rattle.storage_swap.proofs.BuilderLemmas.{builds-follow, pushes-follow}
-use Rattle.cell_plans.proofs.AreaWalks.{still_can}
+use Rattle.storage_swap.proofs.BuilderLemmas.{builds-follow}
+use Rattle.cell_plans.specs.CellPlans.{delete_change, extents_of_pool}
+use Rattle.cell_plans.specs.Noted.{PushesBeside}
+use Rattle.cell_plans.proofs.AreaWalks.{still_can, pushed-before, pushed-behind}
 use Rattle.cell_plans.proofs.DeletePlans.{found_pool, records_are, blanks_are, all_counted}
 use Rattle.cell_plans.proofs.delete.DeletePlan.push_records.Goals as goal
 
@@ -53,9 +54,10 @@ returns-clause-ok c =
     let id = c.args.self.pool in
     let found = found_pool (m.subpools.cells id) c.requires.can.there in
     let own = (c.cell_pools_are_named.ensures storage.elements storage.subpools c.requires.building.ready.stands.storage.subpools).ids id found.0 found.1 in
-    let P : List Record → Type 0 = λ rs. Pushes storage c.args.builder.now rs c.push-2.new.storage c.push-2.new.self in
-    subst P (records_are m u same id found.0 found.1 own c.current-current.result c.current-current.ensures)
-    (pushes-follow _ _ _ _ _ _ _ _ (pushes-follow _ _ _ _ _ _ _ _ c.in_ok-push.ensures.ok c.in_ok-extents.ensures.ok) c.in_ok-push-2.ensures.ok)
+    let P : List Record → ℕ → Type 0 = λ rs n. PushesBeside storage c.args.builder.now rs 0 n c.push-2.new.storage c.push-2.new.self in
+    subst (P (delete_change m c.args.self).records) (blanks_are m u same id found.0 found.1 own _ refl)
+    (subst (λ rs. P rs (4 * extents_of_pool (u.subpools.cells id) + 1)) (records_are m u same id found.0 found.1 own c.current-current.result c.current-current.ensures)
+    (pushed-behind _ _ _ _ _ _ _ _ _ (pushed-before _ _ _ _ _ _ _ _ _ c.in_ok-push.ensures.ok c.in_ok-extents.ensures.ok) c.in_ok-push-2.ensures.ok))
 
 pub returns-clause-blanks : goal.returns-clause-blanks
 returns-clause-blanks c =

@@ -52,4 +52,4 @@ returns-in-Ok-clause-made c =
     let d = delete_change (state_of p) c.args.self in
     IfOk-weaker c.finish.result (λ _. MakesElements t.elements u.elements c.in-Ok.blanks) (λ _. MakesElements p.elements u.elements (length d.records + d.blanks))
     (λ change more. makes-follow (all_elements p.elements) (all_elements t.elements) (all_elements u.elements) (live_count p.elements) (live_count t.elements)
-    (length d.records) c.in-Ok.blanks (length d.records + d.blanks) c.in-Ok.ensures.ok.made (omega (arith, c.in-Ok.ensures.ok.live, c.in-Ok.ensures.blanks)) (omega arith) more) c.finish.ensures.made
+    (length d.records + d.blanks) c.in-Ok.blanks (length d.records + d.blanks) c.in-Ok.ensures.ok.made (omega (arith, c.in-Ok.ensures.ok.live, c.in-Ok.ensures.blanks)) (omega arith) more) c.finish.ensures.made
