@@ -64,18 +64,18 @@ module _ (settings : Settings) (names_full : Bool) (m : StorageState) (name : Li
         ∙ (λ i. outcome (sym seen.named i) (pool_is m name id p seen i))
 
     module _ (plan : StoragePlan) (is_emptied : plan.emptied ≡ None) (is_records : plan.records.items ≡ given_back_records id cell ++ register_records m ((15, 0) ∷ []))
-        (is_blanks : plan.blanks ≡ 1) (is_fresh : plan.fresh ≡ run_of 0 0) (is_reply : plan.reply ≡ Returned 0) where
+        (is_blanks : plan.blanks ≡ 0) (is_fresh : plan.fresh ≡ run_of 0 0) (is_reply : plan.reply ≡ Returned 0) where
       pub given_back : GivingBackCellsLeads → FreeLeavesWellFormed → AreNamed m.subpools.cells → ∥ IsSound settings m ∥₁ → uses p cell ≡ true
           → IsCellPlanned settings names_full m (free name cell) (Ok plan)
       given_back leads formed named sound used =
           let records = given_back_records p.id cell ++ register_records m ((15, 0) ∷ []) in
           let with_id = is_records ∙ ap (λ (n : ℕ). given_back_records n cell ++ register_records m ((15, 0) ∷ [])) (sym seen.id_is) in
           let outcome : Reply → Stepped = λ reply. Accepted after reply in (
-            ∥∥₁_map sound (λ h. accepts settings names_full m (free name cell) plan records 1 (run_of 0 0) is_emptied with_id is_blanks is_fresh after
+            ∥∥₁_map sound (λ h. accepts settings names_full m (free name cell) plan records 0 (run_of 0 0) is_emptied with_id is_blanks is_fresh after
                 (accepted used ∙ ap outcome (sym is_reply))
                 (leads settings m p cell ((15, 0) ∷ []) h named (under_its_id m name id p seen) used (register_and 15 0 [] (omega arith) no_registers)
                 (formed settings names_full s after name cell (Returned 0) h.well_formed (accepted used)))),
-            has_records settings names_full m (free name cell) plan records 1 (run_of 0 0) is_emptied with_id is_blanks is_fresh (omega arith) (omega arith) (none_fresh m),
+            has_records settings names_full m (free name cell) plan records 0 (run_of 0 0) is_emptied with_id is_blanks is_fresh (omega arith) (omega arith) (none_fresh m),
             record { none = is_emptied; few = omega (arith, is_blanks) },
-            assigns settings names_full m (free name cell) plan records 1 (run_of 0 0) is_emptied with_id is_blanks is_fresh (none_assigned _),
+            assigns settings names_full m (free name cell) plan records 0 (run_of 0 0) is_emptied with_id is_blanks is_fresh (none_assigned _),
           )

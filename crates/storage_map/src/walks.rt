@@ -35,7 +35,6 @@ pub fn next_cell_extent(
 }
 
 /// The place before the first free cell of a cell pool.
-///
 pub fn first_free_cell(storage: &Storage, id: CellId) -> CellPlace
     requires { IsSome (cell_pool storage.now id) }
     ensures place { IsCellPlace storage.now result }
