@@ -1,6 +1,6 @@
 -- Rows that are numbered: one more behind the last, and the last one gone.
-use Rattle.std.proofs.Common.{◌≡◌, ℕ, ◌+◌, ◌-◌, ◌*◌, ◌/◌, ◌%◌, ◌||◌, ◌<◌, ◌≤◌, ◌==◌, ◌&&◌, Bool, true, false, ◌⊎◌, inl, inr, List, [], ◌∷◌, ◌++◌, length, Option, Some, None, refl, sym, ap, ◌∙◌, subst, arith, length-append}
-use Rattle.std.specs.Prelude.{if◌then◌else◌, map}
+use Rattle.std.proofs.Common.{◌≡◌, ℕ, zero, suc, ◌+◌, ◌-◌, ◌*◌, ◌/◌, ◌%◌, ◌||◌, ◌<◌, ◌≤◌, ◌==◌, ◌&&◌, Bool, true, false, ◌⊎◌, inl, inr, List, [], ◌∷◌, ◌++◌, length, Option, Some, None, refl, sym, ap, ◌∙◌, subst, arith, length-append}
+use Rattle.std.specs.Prelude.{if◌then◌else◌, map, option_map, slice_get}
 use Rattle.std.specs.List.{list_any}
 use Rattle.std.proofs.lemmas.Bool.Decides.{eqb_tells}
 use Rattle.vsm_elements.specs.Store.{Store}
@@ -198,3 +198,31 @@ any_parts size start len (q ∷ xs) r ys =
       turn true false c d = refl
       turn false true c d = refl
       turn false false c d = refl
+
+-- the row of a number
+at_number : (k j : ℕ) (rs : List Row) → AreNumbered k (rows_of rs) → row_among ((k + j) % 256) ((k + j) / 256) rs ≡ slice_get rs j
+at_number k zero [] n = refl
+at_number k (suc j) [] n = refl
+at_number k zero (r ∷ rs) n =
+    let e : k ≡ k + zero = omega arith in
+    ap (λ (z : Bool). if z then Some r else row_among ((k + zero) % 256) ((k + zero) / 256) rs) (ap (λ (z : ℕ). is_at z r.words) (sym e) ∙ n.0)
+at_number k (suc j) (r ∷ rs) n = elim (either (is_at (k + suc j) r.words)) [
+  | inl p ↦ (let a = number_is k r.words n.0 in let b = number_is (k + suc j) r.words p in absurd (omega (arith, a.0, a.1, b.0, b.1)))
+  | inr p ↦ (let e : (k + 1) + j ≡ k + suc j = omega arith in
+      ap (λ (z : Bool). if z then Some r else row_among ((k + suc j) % 256) ((k + suc j) / 256) rs) p
+      ∙ ap (λ (z : ℕ). row_among (z % 256) (z / 256) rs) (sym e) ∙ at_number (k + 1) j rs n.1)
+]
+
+extent_get : (rs : List Row) (j : ℕ) → slice_get (map extent_of (rows_of rs)) j ≡ option_map (λ (r : Row). extent_of r.words) (slice_get rs j)
+extent_get [] zero = refl
+extent_get [] (suc j) = refl
+extent_get (r ∷ rs) zero = refl
+extent_get (r ∷ rs) (suc j) = extent_get rs j
+
+pub extent_of_number : (s : Store) (q : RowTable) → IsTable s q → AreNumbered 0 (rows_of (rows s q)) → (j : ℕ)
+    → slice_get (map extent_of (rows_of (rows s q))) j ≡ option_map (λ (r : Row). extent_of r.words) (row s q (j % 256) (j / 256))
+extent_of_number s q h n j =
+    let e : 0 + j ≡ j = omega arith in
+    extent_get (rows s q) j
+    ∙ ap (option_map (λ (r : Row). extent_of r.words))
+    (sym (at_number 0 j (rows s q) n) ∙ ap (λ (z : ℕ). row_among (z % 256) (z / 256) (rows s q)) e ∙ sym ((rows_ascend s q h).1 (j % 256) (j / 256)))

@@ -1,6 +1,6 @@
 //! The extents: a row for each, under its number, in the order in which they were made.
 
-ghost use Rattle.std.specs.Prelude.{◌≡◌, ◌+◌, ◌≤◌, ◌<◌, ◌++◌, ◌∷◌, [], map, length, option_map};
+ghost use Rattle.std.specs.Prelude.{◌≡◌, ◌+◌, ◌≤◌, ◌<◌, ◌++◌, ◌∷◌, [], map, length, slice_get};
 ghost use Rattle.std.specs.List.{list_any};
 ghost use Rattle.vsm_elements.specs.Ownership.{Leaves};
 ghost use Rattle.row_table.specs.RowTable.{rows, owned, IsTable};
@@ -21,6 +21,18 @@ pub fn extent_of(row: Row) -> Extent
     Extent {
         start: row.words[2],
         count: row.words[3],
+    }
+}
+
+/// The extent of this number; `None` where there are no more than that.
+pub fn extent_at(extents: &RowTable, elements: &Elements, number: u32) -> Option<Extent>
+    requires table { IsTable elements.now extents.now }
+    requires numbered { AreNumbered 0 (rows_of (rows elements.now extents.now)) }
+    ensures { result ≡ slice_get (map extent_of (rows_of (rows elements.now extents.now))) number }
+{
+    match extents.find(elements, number % NUMBERS, number / NUMBERS) {
+        Some(row) => Some(extent_of(row)),
+        None => None,
     }
 }
 

@@ -1,14 +1,14 @@
 //! What is asked of cell pools.
 
-ghost use Rattle.std.specs.Prelude.{◌≡◌, ◌↔◌, IsSome, IsTrue, IfSome, option_map};
+ghost use Rattle.std.specs.Prelude.{◌≡◌, ◌↔◌, IsSome, IsTrue, IfSome, option_map, slice_get};
 ghost use Rattle.cell_pool.specs.Pools.{uses, Meets};
 
 use crate::pools::{CellPools, Place};
-use cell_extents::extents::meets;
+use cell_extents::extents::{extent_at, meets};
 use cell_extents::lists::{item, label};
 use cell_extents::texts::{header_of, location_of, name_of, subpool_of};
 use cell_extents::used::is_noted;
-use cell_extents::{CellId, CellSettings, Header, Name};
+use cell_extents::{CellId, CellSettings, Extent, Header, Name};
 use vsm_elements::Elements;
 
 impl CellPools {
@@ -46,6 +46,17 @@ impl CellPools {
             };
         }
         false
+    }
+
+    /// The pool's extent of this number, in the order in which they were made, from 0 on; `None` where it has no more
+    /// than that. It's found at the cost of a look-up.
+    pub fn extent_at(&self, elements: &Elements, id: CellId, number: u32) -> Option<Extent>
+        requires pools { IsCellPools elements.now self.now }
+        requires there { IsSome (by_id elements.now self.now id) }
+        ensures { IfSome (by_id elements.now self.now id) (λ p. result ≡ slice_get p.extents number) }
+    {
+        let row = self.row(elements, id);
+        extent_at(&row.stock.extents, elements, number)
     }
 
     /// The pool's name.
