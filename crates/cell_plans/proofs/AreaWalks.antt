@@ -32,17 +32,6 @@ use Rattle.cell_plans.proofs.FreeEnds.{behind, none_behind}
 use Rattle.cell_plans.proofs.GivenAreas.{freed_more}
 use Rattle.cell_plans.proofs.NotedLemmas.{leaves-live, leaves-all, none-noted, stays-free, stays-count, noted-records, noted-parked, noted-builds, gone-moves, builds-on}
 
--- the first of those that are left
-pub at_first : (r : Run) (rs left : List Run) (n : ℕ) → left ≡ r ∷ rs → n ≡ 0 → slice_get left n ≡ Some r
-at_first r rs left n is first = ap (slice_get left) first ∙ ap (λ (z : List Run). slice_get z 0) is
-
-pub at_later : (n : ℕ) (r : Run) (rs left : List Run) → 0 < n → left ≡ r ∷ rs → slice_get rs (n - 1) ≡ slice_get left n
-at_later zero r rs left some is = absurd (omega (arith, some))
-at_later (suc n) r rs left some is = let e : suc n - 1 ≡ n = omega arith in ap (slice_get rs) e ∙ sym (ap (λ (z : List Run). slice_get z (suc n)) is)
-
-pub at_none : (left : List Run) (n : ℕ) → left ≡ [] → slice_get left n ≡ None
-at_none left n is = ap (λ (z : List Run). slice_get z n) is
-
 -- the first ones, and the next
 pub next_taken : (xs : List Run) (i : ℕ) (x : Run) → slice_get xs i ≡ Some x → take (i + 1) xs ≡ take i xs ++ x ∷ []
 next_taken [] i x e = cc

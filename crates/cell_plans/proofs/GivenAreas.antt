@@ -1,7 +1,8 @@
 -- The free storage of a subpool once areas are given back, and the records by which they are.
-use Rattle.std.proofs.Common.{◌≡◌, ℕ, ◌+◌, ◌*◌, ◌/◌, ◌^◌, ◌<◌, ◌≤◌, Bool, true, false, ◌&&◌, ◌||◌, if◌then◌else◌, List, [], ◌∷◌, ◌++◌, refl, sym, ap, ◌∙◌, subst, arith, append_assoc, inl, inr}
+use Rattle.std.proofs.Common.{◌≡◌, ℕ, zero, suc, ◌+◌, ◌*◌, ◌/◌, ◌^◌, ◌<◌, ◌≤◌, Bool, true, false, ◌&&◌, ◌||◌, if◌then◌else◌, List, [], ◌∷◌, ◌++◌, refl, sym, ap, ◌∙◌, subst, arith, append_assoc, inl, inr}
 use Rattle.std.proofs.lemmas.Bool.{cases_lt, or_cases}
-use Rattle.std.specs.Prelude.{All}
+use Rattle.std.specs.Prelude.{All, Option, Some, None, IsSome, IfSome, option_map, slice_get}
+use Rattle.std.proofs.lemmas.Option.{slice_get-map}
 use Rattle.std.proofs.lemmas.List.{append-nil}
 use Rattle.std.proofs.lemmas.List.Elements.{All-head, All-tail, All-cons, All-nil}
 use Rattle.run_set.specs.Runs.{Run, inside, contains}
@@ -9,12 +10,15 @@ use Rattle.vsm_model.specs.declared.Subpool.{Subpool}
 use Rattle.vsm_model.specs.Regions.{doublewords}
 use Rattle.vsm_model.specs.Subpools.{same_subpool}
 use Rattle.cell_extents.specs.declared.settings.Extent.{Extent}
+use Rattle.cell_extents.specs.declared.settings.CellSettings.{CellSettings as PoolSettings}
+use Rattle.cell_pool.specs.Pools.{Pool}
 use Rattle.subpool_storage.specs.Subpools.{Subpools, with_free}
 use Rattle.storage_changes.specs.declared.record.Record.{Record}
 use Rattle.storage_changes.proofs.Cases.{same-self}
 use Rattle.change_laws.specs.StorageActions.{emptied_pages, give_back_records, run_of}
 use Rattle.change_laws.proofs.Cases.{same_answers}
 use Rattle.change_laws.specs.CellActions.{extents_given_back}
+use Rattle.cell_plans.specs.Areas.{areas_of}
 use Rattle.cell_plans.specs.Emptied.{area_of, freed}
 use Rattle.cell_plans.proofs.FreeEnds.{inside_from, in_inside, or_here, or_there}
 
@@ -81,17 +85,32 @@ module _ (m : Subpools) (p : Subpool) (old front now : List Run) (last area : Ru
 pub freed_apart : (m : Subpools) (p : Subpool) (old now : List Run) (area : Run) → now ≡ old ++ area ∷ [] → freed m p now ≡ with_free (freed m p old) p area true
 freed_apart m p old now area is = ap (freed m p) is ∙ freed_more m p old area
 
--- what holds of all that are left holds of the first of them, and of the others
-pub first_has : {A : Type 0} (P : A → Type 0) (x : A) (rest left : List A) → left ≡ x ∷ rest → All P left → P x
-first_has P x rest left is h = All-head P x rest (subst (All P) is h)
-
-pub rest_have : {A : Type 0} (P : A → Type 0) (x : A) (rest left : List A) → left ≡ x ∷ rest → All P left → All P rest
-rest_have P x rest left is h = All-tail P x rest (subst (All P) is h)
-
 -- an extent has a doubleword, and ends in storage
 abbrev pub EndsLow : ℕ → Extent → Type 0
 EndsLow size x =
     (0 < doublewords (x.count * size)) × (x.count * size < 2 ^ 32) × (x.start / 8 + doublewords (x.count * size) ≤ 2 ^ 29)
+
+-- what holds of all holds of each
+all_at : {A : Type 0} (P : A → Type 0) (xs : List A) (k : ℕ) (x : A) → All P xs → slice_get xs k ≡ Some x → P x
+all_at P [] k x h e = absurd (no e) where
+  no : None ≡ Some x → ⊥
+  no e = cc
+all_at P (y ∷ ys) zero x h e = let same : y ≡ x = cc in subst P same (All-head P y ys h)
+all_at P (y ∷ ys) (suc k) x h e = all_at P ys k x (All-tail P y ys h) e
+
+-- the extent of a number, by what the cell pool has, if it's there
+module _ (o : Option Pool) (there : IsSome o) (settings : PoolSettings) (are : IfSome o (λ p. settings ≡ p.settings)) (x : Option Extent) (k : ℕ) (is : IfSome o (λ p. x ≡ slice_get p.extents k)) where
+  pub area_there : slice_get (areas_of o) k ≡ option_map (area_of settings.size) x
+  area_there = go o there are is where
+    go : (o : Option Pool) → IsSome o → IfSome o (λ p. settings ≡ p.settings) → IfSome o (λ p. x ≡ slice_get p.extents k) → slice_get (areas_of o) k ≡ option_map (area_of settings.size) x
+    go None h a i = cc
+    go (Some p) h a i = slice_get-map (area_of p.settings.size) p.extents k ∙ ap (option_map (area_of p.settings.size)) (sym i) ∙ ap (λ (z : PoolSettings). option_map (area_of z.size) x) (sym a)
+
+  pub ends_there : IfSome o (λ p. All (EndsLow p.settings.size) p.extents) → (y : Extent) → x ≡ Some y → EndsLow settings.size y
+  ends_there low y e = go o there are is low where
+    go : (o : Option Pool) → IsSome o → IfSome o (λ p. settings ≡ p.settings) → IfSome o (λ p. x ≡ slice_get p.extents k) → IfSome o (λ p. All (EndsLow p.settings.size) p.extents) → EndsLow settings.size y
+    go None h a i l = cc
+    go (Some p) h a i l = let P : PoolSettings → Type 0 = λ z. EndsLow z.size y in subst P (sym a) (all_at (EndsLow p.settings.size) p.extents k y l (sym i ∙ e))
 
 -- The records of the next extent go over, and those of the others are left.
 module _ (m : Subpools) (p : Subpool) (size : ℕ) (given : List Run) (x : Extent) (rest left : List Extent) (is : left ≡ x ∷ rest) where

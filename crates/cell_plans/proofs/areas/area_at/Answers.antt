@@ -1,35 +1,40 @@
-use Rattle.std.proofs.Common.{List, sym, ap, ◌∙◌, length, arith}
-use Rattle.std.specs.Prelude.{slice_get}
+use Rattle.std.proofs.Common.{◌≡◌, ◌∙◌, Option, Some, sym, ap, subst, ℕ, ◌/◌, arith}
+use Rattle.std.specs.Prelude.{option_map, slice_get, IfSome}
 use Rattle.run_set.specs.Runs.{Run}
-use Rattle.cell_plans.specs.Areas.{areas_left}
-use Rattle.cell_plans.proofs.AreaWalks.{at_first, at_later, at_none}
+use Rattle.cell_pool.specs.Pools.{Pool}
+use Rattle.storage_exchange.specs.Storage.{state_of}
+use Rattle.cell_plans.specs.Emptied.{area_of}
+use Rattle.cell_plans.proofs.GivenAreas.{EndsLow, area_there, ends_there}
 use Rattle.cell_plans.proofs.areas.area_at.Goals as goal
 
-pub loop-area-init : goal.loop-area-init
-loop-area-init c = record {
-  place = c.first_place-place.ensures.place;
-  rest = ap (λ (xs : List Run). slice_get xs c.args.index) c.first_place-place.ensures.all;
-}
+pub extent_doublewords-requires : goal.extent_doublewords-requires
+extent_doublewords-requires c =
+    let found = c.cell_pools-pools.ensures.pools c.args.pool in
+    let S : Option Pool → Type 0 = λ o. IfSome o (λ (p : Pool). c.settings-size.result ≡ p.settings) in
+    let X : Option Pool → Type 0 = λ o. IfSome o (λ (p : Pool). c.extent_at.result ≡ slice_get p.extents c.args.number) in
+    (ends_there ((state_of c.args.storage.now).subpools.cells c.args.pool) c.requires.can.there c.settings-size.result (subst S found c.settings-size.ensures) c.extent_at.result c.args.number (subst X found c.extent_at.ensures) c.requires.can.extents c.in-Some.extent c.in-Some.is).1
 
-pub returns-then-before-eq0-clause-area : goal.returns-then-before-eq0-clause-area
-returns-then-before-eq0-clause-area c =
-    let s = c.args.storage.now.elements in
-    sym (at_first c.in-Some.area (areas_left s c.in-Some.next) (areas_left s c.loop-area.place) c.loop-area.before c.in-Some.ensures.next c.if-before-eq0.true)
-    ∙ c.loop-area.invariant.rest
+pub returns-in-Some-clause-area : goal.returns-in-Some-clause-area
+returns-in-Some-clause-area c =
+    let found = c.cell_pools-pools.ensures.pools c.args.pool in
+    let S : Option Pool → Type 0 = λ o. IfSome o (λ (p : Pool). c.settings-size.result ≡ p.settings) in
+    let X : Option Pool → Type 0 = λ o. IfSome o (λ (p : Pool). c.extent_at.result ≡ slice_get p.extents c.args.number) in
+    ap (λ (n : ℕ). Some (record { start = c.in-Some.extent.start / 8; len = n })) c.extent_doublewords.ensures
+    ∙ sym (area_there ((state_of c.args.storage.now).subpools.cells c.args.pool) c.requires.can.there c.settings-size.result (subst S found c.settings-size.ensures) c.extent_at.result c.args.number (subst X found c.extent_at.ensures)
+    ∙ ap (option_map (area_of c.settings-size.result.size)) c.in-Some.is)
 
-pub loop-area-smaller : goal.loop-area-smaller
-loop-area-smaller c = omega (arith, ap length c.in-Some.ensures.next)
+pub returns-in-Some-clause-low : goal.returns-in-Some-clause-low
+returns-in-Some-clause-low c =
+    let found = c.cell_pools-pools.ensures.pools c.args.pool in
+    let S : Option Pool → Type 0 = λ o. IfSome o (λ (p : Pool). c.settings-size.result ≡ p.settings) in
+    let X : Option Pool → Type 0 = λ o. IfSome o (λ (p : Pool). c.extent_at.result ≡ slice_get p.extents c.args.number) in
+    let low = ends_there ((state_of c.args.storage.now).subpools.cells c.args.pool) c.requires.can.there c.settings-size.result (subst S found c.settings-size.ensures) c.extent_at.result c.args.number (subst X found c.extent_at.ensures) c.requires.can.extents c.in-Some.extent c.in-Some.is in
+    (omega (arith, low.0, c.extent_doublewords.ensures), omega (arith, low.2, c.extent_doublewords.ensures))
 
-pub loop-area-preserved : goal.loop-area-preserved
-loop-area-preserved c =
-    let s = c.args.storage.now.elements in
-    record {
-      place = c.in-Some.ensures.place;
-      rest = at_later c.loop-area.before c.in-Some.area (areas_left s c.in-Some.next) (areas_left s c.loop-area.place) (omega (arith, c.if-before-eq0.false)) c.in-Some.ensures.next
-          ∙ c.loop-area.invariant.rest;
-    }
-
-pub returns-clause-area : goal.returns-clause-area
-returns-clause-area c =
-    let s = c.args.storage.now.elements in
-    sym (at_none (areas_left s c.loop-area.place) c.loop-area.before c.in_default.ensures.none) ∙ c.loop-area.invariant.rest
+pub returns-in-None-clause-area : goal.returns-in-None-clause-area
+returns-in-None-clause-area c =
+    let found = c.cell_pools-pools.ensures.pools c.args.pool in
+    let S : Option Pool → Type 0 = λ o. IfSome o (λ (p : Pool). c.settings-size.result ≡ p.settings) in
+    let X : Option Pool → Type 0 = λ o. IfSome o (λ (p : Pool). c.extent_at.result ≡ slice_get p.extents c.args.number) in
+    sym (area_there ((state_of c.args.storage.now).subpools.cells c.args.pool) c.requires.can.there c.settings-size.result (subst S found c.settings-size.ensures) c.extent_at.result c.args.number (subst X found c.extent_at.ensures)
+    ∙ ap (option_map (area_of c.settings-size.result.size)) c.in-None.is)
