@@ -198,6 +198,7 @@ pub(crate) fn push_extents(storage: &mut Parts, builder: &mut ChangeBuilder, poo
 {
     let mut areas = FreeQueue::new();
     let count = push_each(storage, builder, pool, &mut areas);
+    // No fewer elements are live than the queue has.
     storage.elements.live_are_counted();
     areas.discard(&mut storage.elements);
     count

@@ -88,6 +88,7 @@ pub(crate) fn note(storage: &mut Parts, noted: &mut FreeQueue, area: Run) -> Res
     ensures needless { 2 ≤ storage.old.elements.spare → IsOk result }
 {
     storage.elements.reserve(2)?;
+    // No fewer elements are live than the queue has.
     storage.elements.live_are_counted();
     note_area(noted, &mut storage.elements, area);
     Ok(())
