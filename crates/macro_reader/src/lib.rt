@@ -17,8 +17,3 @@ pub use operand_texts::{
     valid_values_are_spelled,
 };
 pub use reading::{Fault, Fed, Reader, Stand};
-
-#[cfg(test)]
-mod reader_tests;
-#[cfg(test)]
-mod spelled_tests;

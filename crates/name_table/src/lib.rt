@@ -10,6 +10,3 @@ mod tables;
 pub use changes::NameChange;
 pub use operand_texts::Name;
 pub use tables::NameTable;
-
-#[cfg(test)]
-mod tests;

@@ -3,7 +3,7 @@ use Rattle.std.proofs.Common.{◌≡◌, true, ap, sym, subst, ◌∙◌}
 use Rattle.name_table.specs.Steps.{CanStep, name_of, step_in, stepped}
 use Rattle.name_table.specs.Table.{knows, rows_of}
 use Rattle.name_table.proofs.StepsBack.{step_back_fits, name_of-turned}
-use Rattle.name_table.proofs.tests.turn.Goals as goal
+use Rattle.tests_scripts.proofs.names.turn.Goals as goal
 
 pub returns-clause-can : goal.returns-clause-can
 returns-clause-can c =

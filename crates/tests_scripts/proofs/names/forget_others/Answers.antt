@@ -3,7 +3,7 @@ use Rattle.std.proofs.Common.{◌≡◌, true, ap, sym, subst, ◌∙◌}
 use Rattle.name_table.specs.Steps.{CanStep, name_of, step_in}
 use Rattle.name_table.specs.Table.{knows, rows_of}
 use Rattle.name_table.proofs.StepsBack.{step_still_fits}
-use Rattle.name_table.proofs.tests.forget_others.Goals as goal
+use Rattle.tests_scripts.proofs.names.forget_others.Goals as goal
 
 pub returns : goal.returns
 returns c =

@@ -4,10 +4,10 @@ use Rattle.name_table.specs.Steps.{CanStep}
 use Rattle.name_table.specs.Table.{knows, rows_of}
 use Rattle.name_table.proofs.SameName.{same_name-self}
 use Rattle.name_table.proofs.StepsBack.{step_to_can}
-use Rattle.name_table.proofs.tests.put.Goals as goal
+use Rattle.tests_scripts.proofs.names.put.Goals as goal
 
 pub turn-requires : goal.turn-requires
-turn-requires c =
+turn-requires g c =
     let t = c.reserve.new.self in
     let name = c.args.name.bytes in
     let known : knows t name ≡ true = c.in-Ok.ensures.ok name ∙ ap (λ b. b || knows c.args.table.now name) (same_name-self name) in
