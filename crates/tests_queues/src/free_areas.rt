@@ -3,6 +3,7 @@
 ghost use Rattle.std.specs.Prelude.{◌+◌, ◌^◌, ◌<◌, ◌≤◌};
 ghost use Rattle.free_queue.specs.FreeQueue.{IsFreeQueue};
 
+use crate::checks::{holds, same};
 use free_queue::{Area, Cover, FreeQueue};
 use std::process::Abort;
 use std::test::Fail;
@@ -121,15 +122,18 @@ fn mark(free: &mut Vec<bool>, area: Area, to: bool) {
 fn compare_in(rt: &impl Abort, elements: &Elements, queue: &FreeQueue, free: &[bool], region: Area)
     requires { IsFreeQueue elements.now queue.now }
 {
-    assert!(rt; region.start <= SIZE && region.len <= SIZE);
+    holds!(rt; region.start <= SIZE);
+    holds!(rt; region.len <= SIZE);
     for boundary in [1, 8, 512] {
-        assert!(rt; boundary > 0 && boundary <= 512);
+        holds!(rt; boundary > 0);
+        holds!(rt; boundary <= 512);
         let most = queue.longest(elements, boundary, region);
-        assert_eq!(rt; most, longest(free, boundary, region));
+        same!(rt; most, longest(free, boundary, region));
         for len in [1, 2, 9, 100, 511, 512, 513, 1024] {
-            assert!(rt; len > 0 && len <= SIZE);
+            holds!(rt; len > 0);
+            holds!(rt; len <= SIZE);
             let least = queue.least_fit(elements, len, boundary, region);
-            assert_eq!(rt; least, least_fit(free, len, boundary, region));
+            same!(rt; least, least_fit(free, len, boundary, region));
         }
     }
 }
@@ -143,12 +147,12 @@ fn compare_areas(rt: &impl Abort, elements: &Elements, queue: &FreeQueue, free: 
         let Some((area, behind)) = queue.next_area(elements, place) else {
             return assert!(rt; false);
         };
-        assert_eq!(rt; Some(area), area_from(free, from));
+        same!(rt; Some(area), area_from(free, from));
         from = area.start.saturating_add(area.len);
         place = behind;
     }
-    assert_eq!(rt; queue.next_area(elements, place), None);
-    assert_eq!(rt; area_from(free, from), None);
+    same!(rt; queue.next_area(elements, place), None);
+    same!(rt; area_from(free, from), None);
 }
 
 fn compare(rt: &impl Abort, elements: &Elements, queue: &FreeQueue, free: &[bool])
@@ -170,10 +174,12 @@ fn turn(
     requires { IsFreeQueue elements.old queue.old }
     ensures { IsFreeQueue elements.new queue.new }
 {
-    assert!(rt; area.len > 0 && area.len <= SIZE && area.start <= SIZE);
-    assert!(rt; elements.spare() > 0);
+    holds!(rt; area.len > 0);
+    holds!(rt; area.len <= SIZE);
+    holds!(rt; area.start <= SIZE);
+    holds!(rt; elements.spare() > 0);
     let cover = queue.covers(elements, area);
-    assert_eq!(rt; cover, covers(free.as_slice(), area));
+    holds!(rt; cover == covers(free.as_slice(), area));
     match cover {
         Cover::None => {
             queue.free(elements, area);
@@ -204,9 +210,9 @@ fn the_queue_is_the_plain_one(rt: HostRuntime) -> Result<(), Fail> {
         );
     }
     let kept = FreeQueue::from_head(queue.head());
-    assert_eq!(rt; kept, queue);
+    same!(rt; kept, queue);
     queue.discard(&mut elements);
-    assert_eq!(rt; elements.spare(), 128);
-    assert_eq!(rt; elements.release(), 1);
+    same!(rt; elements.spare(), 128);
+    same!(rt; elements.release(), 1);
     Ok(())
 }

@@ -2,6 +2,8 @@
 #![tactic(auto)]
 
 #[cfg(test)]
+mod checks;
+#[cfg(test)]
 mod free_areas;
 #[cfg(test)]
 mod runs_of_pages;

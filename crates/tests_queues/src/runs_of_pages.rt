@@ -4,6 +4,7 @@ ghost use Rattle.std.specs.Prelude.{◌≡◌, ◌+◌, ◌^◌, ◌<◌, ◌≤
 ghost use Rattle.descriptor_queue.specs.Extents.{IsExtents};
 ghost use Rattle.descriptor_queue.specs.Pages.{IsPages};
 
+use crate::checks::{holds, same};
 use descriptor_queue::{Extents, Page, Pages, Run};
 use std::process::Abort;
 use std::test::Fail;
@@ -29,8 +30,8 @@ fn join(rt: &impl Abort, elements: &mut Elements, extents: &mut Extents, first: 
     ensures { IsExtents elements.new extents.new }
 {
     for page in first..last {
-        assert!(rt; elements.spare() > 0);
-        assert!(rt; !extents.contains(elements, page));
+        holds!(rt; elements.spare() > 0);
+        holds!(rt; !extents.contains(elements, page));
         extents.insert_run(elements, run(page, 1));
     }
 }
@@ -40,8 +41,8 @@ fn part(rt: &impl Abort, elements: &mut Elements, extents: &mut Extents, page: u
     requires range { page < 2 ^ 20 }
     ensures { IsExtents elements.new extents.new }
 {
-    assert!(rt; elements.spare() > 0);
-    assert!(rt; extents.contains(elements, page));
+    holds!(rt; elements.spare() > 0);
+    holds!(rt; extents.contains(elements, page));
     extents.remove_run(elements, run(page, 1));
 }
 
@@ -67,23 +68,24 @@ fn extents_are_joined_and_split(rt: HostRuntime) -> Result<(), Fail> {
     let mut extents = Extents::new();
     join(&rt, &mut elements, &mut extents, 6, 11);
     join(&rt, &mut elements, &mut extents, 0x8000, 0x8002);
-    assert_eq!(rt;
+    same!(rt;
         first_three(&elements, &extents),
         [Some(run(6, 5)), Some(run(0x8000, 2)), None]
     );
-    assert_eq!(rt; extents.count(), 2);
+    same!(rt; extents.count(), 2);
     part(&rt, &mut elements, &mut extents, 8);
     part(&rt, &mut elements, &mut extents, 0x8001);
-    assert!(rt; !extents.contains(&elements, 8) && extents.contains(&elements, 9));
+    holds!(rt; !extents.contains(&elements, 8));
+    holds!(rt; extents.contains(&elements, 9));
     let extents = Extents::from_head(extents.head());
-    assert_eq!(rt;
+    same!(rt;
         first_three(&elements, &extents),
         [Some(run(6, 2)), Some(run(9, 2)), Some(run(0x8000, 1))]
     );
-    assert_eq!(rt; extents.count(), 3);
-    assert_eq!(rt; elements.spare(), 125);
+    same!(rt; extents.count(), 3);
+    same!(rt; elements.spare(), 125);
     extents.discard(&mut elements);
-    assert_eq!(rt; elements.spare(), 128);
+    same!(rt; elements.spare(), 128);
     Ok(())
 }
 
@@ -105,8 +107,8 @@ fn assign(rt: &impl Abort, elements: &mut Elements, pages: &mut Pages, n: u32) -
     ensures { IsPages elements.new pages.new }
 {
     let page = pages.least_run(elements, LOW, n)?;
-    assert!(rt; elements.spare() > 0);
-    assert!(rt; page < 0x10000);
+    holds!(rt; elements.spare() > 0);
+    holds!(rt; page < 0x10000);
     pages.remove_run(elements, run(page, n));
     Some(page)
 }
@@ -115,19 +117,19 @@ fn assign(rt: &impl Abort, elements: &mut Elements, pages: &mut Pages, n: u32) -
 fn the_least_run_is_the_lowest(rt: HostRuntime) -> Result<(), Fail> {
     let mut elements = Elements::new(rt.alloc());
     elements.reserve(8)?;
-    assert!(rt; elements.spare() > 0);
+    holds!(rt; elements.spare() > 0);
     let mut pages = unassigned(&mut elements, LOW);
-    assert_eq!(rt; pages.longest_run(&elements, LOW), 16);
-    assert_eq!(rt; pages.longest_run(&elements, HIGH), 0);
-    assert_eq!(rt; pages.least_run(&elements, HIGH, 1), None);
-    assert_eq!(rt; assign(&rt, &mut elements, &mut pages, 1), Some(6));
-    assert_eq!(rt; assign(&rt, &mut elements, &mut pages, 4), Some(7));
-    assert_eq!(rt; pages.longest_run(&elements, run(6, 10)), 5);
-    assert_eq!(rt; assign(&rt, &mut elements, &mut pages, 12), None);
-    assert_eq!(rt; assign(&rt, &mut elements, &mut pages, 11), Some(11));
-    assert_eq!(rt; pages.longest_run(&elements, LOW), 0);
+    same!(rt; pages.longest_run(&elements, LOW), 16);
+    same!(rt; pages.longest_run(&elements, HIGH), 0);
+    same!(rt; pages.least_run(&elements, HIGH, 1), None);
+    same!(rt; assign(&rt, &mut elements, &mut pages, 1), Some(6));
+    same!(rt; assign(&rt, &mut elements, &mut pages, 4), Some(7));
+    same!(rt; pages.longest_run(&elements, run(6, 10)), 5);
+    same!(rt; assign(&rt, &mut elements, &mut pages, 12), None);
+    same!(rt; assign(&rt, &mut elements, &mut pages, 11), Some(11));
+    same!(rt; pages.longest_run(&elements, LOW), 0);
     let pages = Pages::from_head(pages.head());
     pages.discard(&mut elements);
-    assert_eq!(rt; elements.release(), 1);
+    same!(rt; elements.release(), 1);
     Ok(())
 }

@@ -2,6 +2,7 @@
 
 ghost use Rattle.task_tree.specs.TaskTree.{IsTaskTree};
 
+use crate::checks::{holds, same};
 use std::process::Abort;
 use std::test::Fail;
 use task_tree::laws::{
@@ -14,11 +15,11 @@ fn attach(rt: &impl Abort, elements: &mut Elements, tree: &mut TaskTree, under: 
     requires { IsTaskTree elements.old tree.old }
     ensures { IsTaskTree elements.new tree.new }
 {
-    assert!(rt; elements.spare() >= 4);
-    assert!(rt; tree.check_run(elements, under).is_ok());
+    holds!(rt; elements.spare() >= 4);
+    holds!(rt; tree.check_run(elements, under).is_ok());
     match tree.check_attach(elements) {
         Ok(number) => {
-            assert_eq!(rt; number, want);
+            same!(rt; number, want);
             tree.attach(elements, under, number);
         }
         Err(_) => assert!(rt; false),
@@ -29,7 +30,7 @@ fn run(rt: &impl Abort, elements: &Elements, tree: &mut TaskTree, task: u8)
     requires { IsTaskTree elements.now tree.old }
     ensures { IsTaskTree elements.now tree.new }
 {
-    assert!(rt; tree.check_run(elements, task).is_ok());
+    holds!(rt; tree.check_run(elements, task).is_ok());
     tree.run(elements, task);
 }
 
@@ -39,9 +40,9 @@ fn fill(rt: &impl Abort, elements: &mut Elements, tree: &mut TaskTree, task: u8)
     ensures { IsTaskTree elements.new tree.new }
 {
     for r in 0..16u8 {
-        assert!(rt; tree.check_run(elements, task).is_ok());
+        holds!(rt; tree.check_run(elements, task).is_ok());
         let word = u32::from(task) * 256 + u32::from(r);
-        assert_eq!(rt; tree.swap_register(elements, task, r, word), 0);
+        same!(rt; tree.swap_register(elements, task, r, word), 0);
     }
 }
 
@@ -51,15 +52,15 @@ fn compare(rt: &impl Abort, elements: &Elements, tree: &TaskTree, tasks: &[(u8, 
 {
     let mut i = 0u32;
     for (task, parent) in tasks {
-        assert_eq!(rt; tree.task_at(elements, i), Some(*task));
-        assert!(rt; *task == 1 || tree.check_detach(elements, *parent, *task).is_ok());
+        same!(rt; tree.task_at(elements, i), Some(*task));
+        holds!(rt; *task == 1 || tree.check_detach(elements, *parent, *task).is_ok());
         for r in 0..16u8 {
             let word = u32::from(*task) * 256 + u32::from(r);
-            assert_eq!(rt; tree.register(elements, *task, r), word);
+            same!(rt; tree.register(elements, *task, r), word);
         }
         i = i.saturating_add(1);
     }
-    assert_eq!(rt; tree.task_at(elements, i), None);
+    same!(rt; tree.task_at(elements, i), None);
 }
 
 // The task and all below it go and come back; these are there in between.
@@ -73,9 +74,9 @@ fn out_and_in(
     requires { IsTaskTree elements.old tree.old }
     ensures { IsTaskTree elements.new tree.new }
 {
-    assert!(rt; task != 1);
-    assert!(rt; tree.current() == 1);
-    assert!(rt; tree.check_run(elements, task).is_ok());
+    holds!(rt; task != 1);
+    holds!(rt; tree.current() == 1);
+    holds!(rt; tree.check_run(elements, task).is_ok());
     root_is_above();
     trees_stand();
     let parked = tree.park_subtree(elements, task);
@@ -96,8 +97,8 @@ fn detached(
     ensures { IsTaskTree elements.new tree.new }
 {
     let caller = tree.current();
-    assert!(rt; task != 1);
-    assert!(rt; tree.check_detach(elements, caller, task).is_ok());
+    holds!(rt; task != 1);
+    holds!(rt; tree.check_detach(elements, caller, task).is_ok());
     a_parent_is_not_below_its_subtask();
     root_is_above();
     trees_stand();
@@ -105,7 +106,7 @@ fn detached(
     compare(rt, elements, tree, rest);
     put_back();
     tree.restore_tasks(elements, parked);
-    assert!(rt; tree.current() == caller);
+    holds!(rt; tree.current() == caller);
 }
 
 // The task ends, with all below it.
@@ -113,9 +114,9 @@ fn end(rt: &impl Abort, elements: &mut Elements, tree: &mut TaskTree, task: u8)
     requires { IsTaskTree elements.old tree.old }
     ensures { IsTaskTree elements.new tree.new }
 {
-    assert!(rt; task != 1);
-    assert!(rt; tree.current() == 1);
-    assert!(rt; tree.check_run(elements, task).is_ok());
+    holds!(rt; task != 1);
+    holds!(rt; tree.current() == 1);
+    holds!(rt; tree.check_run(elements, task).is_ok());
     root_is_above();
     let parked = tree.park_subtree(elements, task);
     trees_stay();
@@ -127,11 +128,63 @@ fn end_alone(rt: &impl Abort, elements: &mut Elements, tree: &mut TaskTree, task
     requires { IsTaskTree elements.old tree.old }
     ensures { IsTaskTree elements.new tree.new }
 {
-    assert!(rt; task > 1);
-    assert!(rt; tree.current() == 1);
-    assert!(rt; tree.check_run(elements, task).is_ok());
-    assert!(rt; tree.check_end(elements, task).is_ok());
+    holds!(rt; task > 1);
+    holds!(rt; tree.current() == 1);
+    holds!(rt; tree.check_run(elements, task).is_ok());
+    holds!(rt; tree.check_end(elements, task).is_ok());
     tree.end_task(elements, task);
+}
+
+// The six tasks, each with its parent.
+const ALL: [(u8, u8); 6] = [(1, 0), (2, 1), (3, 2), (4, 2), (5, 3), (6, 1)];
+
+// Without task 3, and the one below it.
+const WITHOUT_THE_THIRD: [(u8, u8); 4] = [(1, 0), (2, 1), (4, 2), (6, 1)];
+
+// The six tasks come, and each gets its words.
+fn attach_all(rt: &impl Abort, elements: &mut Elements, tree: &mut TaskTree)
+    requires { IsTaskTree elements.old tree.old }
+    ensures { IsTaskTree elements.new tree.new }
+{
+    attach(rt, elements, tree, 1, 2);
+    attach(rt, elements, tree, 2, 3);
+    attach(rt, elements, tree, 2, 4);
+    attach(rt, elements, tree, 3, 5);
+    attach(rt, elements, tree, 1, 6);
+    for task in 1..7u8 {
+        fill(rt, elements, tree, task);
+    }
+    compare(rt, elements, tree, &ALL);
+}
+
+// Subtrees go and come back.
+fn all_out_and_in(rt: &impl Abort, elements: &mut Elements, tree: &mut TaskTree)
+    requires { IsTaskTree elements.old tree.old }
+    ensures { IsTaskTree elements.new tree.new }
+{
+    out_and_in(rt, elements, tree, 2, &[(1, 0), (6, 1)]);
+    compare(rt, elements, tree, &ALL);
+    out_and_in(rt, elements, tree, 3, &WITHOUT_THE_THIRD);
+    compare(rt, elements, tree, &ALL);
+    run(rt, elements, tree, 2);
+    detached(rt, elements, tree, 3, &WITHOUT_THE_THIRD);
+    compare(rt, elements, tree, &ALL);
+    run(rt, elements, tree, 1);
+    same!(rt; elements.spare(), 104);
+}
+
+// All but the first task end.
+fn end_all(rt: &impl Abort, elements: &mut Elements, tree: &mut TaskTree)
+    requires { IsTaskTree elements.old tree.old }
+    ensures { IsTaskTree elements.new tree.new }
+{
+    same!(rt; tree.check_end(elements, 3), Err(TreeFault::HasSubtasks));
+    end(rt, elements, tree, 3);
+    compare(rt, elements, tree, &WITHOUT_THE_THIRD);
+    end_alone(rt, elements, tree, 6);
+    end(rt, elements, tree, 2);
+    compare(rt, elements, tree, &[(1, 0)]);
+    same!(rt; elements.spare(), 124);
 }
 
 #[test]
@@ -139,39 +192,9 @@ fn a_subtree_comes_back_as_it_was(rt: HostRuntime) -> Result<(), Fail> {
     let mut elements = Elements::new(rt.alloc());
     elements.reserve(64)?;
     let mut tree = TaskTree::new(&mut elements);
-    attach(&rt, &mut elements, &mut tree, 1, 2);
-    attach(&rt, &mut elements, &mut tree, 2, 3);
-    attach(&rt, &mut elements, &mut tree, 2, 4);
-    attach(&rt, &mut elements, &mut tree, 3, 5);
-    attach(&rt, &mut elements, &mut tree, 1, 6);
-    for task in 1..7u8 {
-        fill(&rt, &mut elements, &mut tree, task);
-    }
-    let all = [(1, 0), (2, 1), (3, 2), (4, 2), (5, 3), (6, 1)];
-    compare(&rt, &elements, &tree, &all);
-    out_and_in(&rt, &mut elements, &mut tree, 2, &[(1, 0), (6, 1)]);
-    compare(&rt, &elements, &tree, &all);
-    out_and_in(
-        &rt,
-        &mut elements,
-        &mut tree,
-        3,
-        &[(1, 0), (2, 1), (4, 2), (6, 1)],
-    );
-    compare(&rt, &elements, &tree, &all);
-    run(&rt, &elements, &mut tree, 2);
-    let rest = [(1, 0), (2, 1), (4, 2), (6, 1)];
-    detached(&rt, &mut elements, &mut tree, 3, &rest);
-    compare(&rt, &elements, &tree, &all);
-    run(&rt, &elements, &mut tree, 1);
-    assert_eq!(rt; elements.spare(), 104);
-    assert_eq!(rt; tree.check_end(&elements, 3), Err(TreeFault::HasSubtasks));
-    end(&rt, &mut elements, &mut tree, 3);
-    compare(&rt, &elements, &tree, &[(1, 0), (2, 1), (4, 2), (6, 1)]);
-    end_alone(&rt, &mut elements, &mut tree, 6);
-    end(&rt, &mut elements, &mut tree, 2);
-    compare(&rt, &elements, &tree, &[(1, 0)]);
-    assert_eq!(rt; elements.spare(), 124);
-    assert_eq!(rt; elements.release(), 1);
+    attach_all(&rt, &mut elements, &mut tree);
+    all_out_and_in(&rt, &mut elements, &mut tree);
+    end_all(&rt, &mut elements, &mut tree);
+    same!(rt; elements.release(), 1);
     Ok(())
 }

@@ -1,0 +1,36 @@
+//! What tests assert, in functions of one assertion each, which take a test far less to prove than assertions of its
+//! own. A failure shows what stands in the macro's call.
+
+ghost use Rattle.std.specs.Prelude.{◌≡◌, true};
+
+use std::fmt::Debug;
+use std::process::Abort;
+
+/// As `assert!`.
+macro_rules! holds {
+    ($rt:expr; $what:expr $(,)?) => {
+        $crate::checks::is_true(&$rt, $what, stringify!($what))
+    };
+}
+
+/// As `assert_eq!`.
+macro_rules! same {
+    ($rt:expr; $is:expr, $want:expr $(,)?) => {
+        $crate::checks::are_same(&$rt, $is, $want, stringify!($is))
+    };
+}
+
+pub(crate) use holds;
+pub(crate) use same;
+
+/// It holds.
+pub(crate) fn is_true(rt: &impl Abort, what: bool, text: &str)
+    ensures { what ≡ true }
+{
+    assert!(rt; what, "assertion failed: {text}");
+}
+
+/// It is what is wanted.
+pub(crate) fn are_same<T: Copy + PartialEq + Debug>(rt: &impl Abort, is: T, want: T, text: &str) {
+    assert_eq!(rt; is, want, "{text}");
+}
