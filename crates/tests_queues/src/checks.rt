@@ -1,10 +1,12 @@
 //! What tests assert, in functions of one assertion each, which take a test far less to prove than assertions of its
 //! own. A failure shows what stands in the macro's call.
 
-ghost use Rattle.std.specs.Prelude.{◌≡◌, true};
+ghost use Rattle.std.specs.Prelude.{◌≡◌, ◌≤◌, true, IfOk};
 
+use std::alloc::{AllocError, Global};
 use std::fmt::Debug;
 use std::process::Abort;
+use vsm_elements::Elements;
 
 /// As `assert!`.
 macro_rules! holds {
@@ -33,4 +35,13 @@ pub(crate) fn is_true(rt: &impl Abort, what: bool, text: &str)
 /// It is what is wanted.
 pub(crate) fn are_same<T: Copy + PartialEq + Debug>(rt: &impl Abort, is: T, want: T, text: &str) {
     assert_eq!(rt; is, want, "{text}");
+}
+
+/// Elements of which at least so many are spare.
+pub(crate) fn stocked(alloc: Global, n: u32) -> Result<Elements, AllocError>
+    ensures { IfOk result (λ elements. n ≤ elements.spare) }
+{
+    let mut elements = Elements::new(alloc);
+    elements.reserve(n)?;
+    Ok(elements)
 }

@@ -3,7 +3,7 @@
 ghost use Rattle.std.specs.Prelude.{◌+◌, ◌^◌, ◌<◌, ◌≤◌};
 ghost use Rattle.free_queue.specs.FreeQueue.{IsFreeQueue};
 
-use crate::checks::{holds, same};
+use crate::checks::{holds, same, stocked};
 use free_queue::{Area, Cover, FreeQueue};
 use std::process::Abort;
 use std::test::Fail;
@@ -119,21 +119,54 @@ fn mark(free: &mut Vec<bool>, area: Area, to: bool) {
     }
 }
 
-fn compare_in(rt: &impl Abort, elements: &Elements, queue: &FreeQueue, free: &[bool], region: Area)
+// The longest area of a region on this boundary.
+fn compare_longest(
+    rt: &impl Abort,
+    elements: &Elements,
+    queue: &FreeQueue,
+    free: &[bool],
+    region: Area,
+    boundary: u32,
+)
     requires { IsFreeQueue elements.now queue.now }
 {
     holds!(rt; region.start <= SIZE);
     holds!(rt; region.len <= SIZE);
+    holds!(rt; boundary > 0);
+    holds!(rt; boundary <= 512);
+    let most = queue.longest(elements, boundary, region);
+    same!(rt; most, longest(free, boundary, region));
+}
+
+// The lowest place in a region on this boundary for an area of this length.
+fn compare_least(
+    rt: &impl Abort,
+    elements: &Elements,
+    queue: &FreeQueue,
+    free: &[bool],
+    region: Area,
+    boundary: u32,
+    len: u32,
+)
+    requires { IsFreeQueue elements.now queue.now }
+{
+    holds!(rt; region.start <= SIZE);
+    holds!(rt; region.len <= SIZE);
+    holds!(rt; boundary > 0);
+    holds!(rt; boundary <= 512);
+    holds!(rt; len > 0);
+    holds!(rt; len <= SIZE);
+    let least = queue.least_fit(elements, len, boundary, region);
+    same!(rt; least, least_fit(free, len, boundary, region));
+}
+
+fn compare_in(rt: &impl Abort, elements: &Elements, queue: &FreeQueue, free: &[bool], region: Area)
+    requires { IsFreeQueue elements.now queue.now }
+{
     for boundary in [1, 8, 512] {
-        holds!(rt; boundary > 0);
-        holds!(rt; boundary <= 512);
-        let most = queue.longest(elements, boundary, region);
-        same!(rt; most, longest(free, boundary, region));
+        compare_longest(rt, elements, queue, free, region, boundary);
         for len in [1, 2, 9, 100, 511, 512, 513, 1024] {
-            holds!(rt; len > 0);
-            holds!(rt; len <= SIZE);
-            let least = queue.least_fit(elements, len, boundary, region);
-            same!(rt; least, least_fit(free, len, boundary, region));
+            compare_least(rt, elements, queue, free, region, boundary, len);
         }
     }
 }
@@ -194,21 +227,23 @@ fn turn(
     compare(rt, elements, queue, free.as_slice());
 }
 
+// Each area is freed or carved, one after the other.
+fn turn_all(rt: &impl Abort, elements: &mut Elements, queue: &mut FreeQueue, free: &mut Vec<bool>)
+    requires { IsFreeQueue elements.old queue.old }
+    ensures { IsFreeQueue elements.new queue.new }
+{
+    for (start, len) in AREAS {
+        turn(rt, elements, queue, free, Area { start, len });
+    }
+}
+
 #[test]
 fn the_queue_is_the_plain_one(rt: HostRuntime) -> Result<(), Fail> {
-    let mut elements = Elements::new(rt.alloc());
-    elements.reserve(64)?;
-    let mut queue = FreeQueue::new();
     let mut free = vec![in rt.alloc(); false; SIZE as usize]?;
-    for (start, len) in AREAS {
-        turn(
-            &rt,
-            &mut elements,
-            &mut queue,
-            &mut free,
-            Area { start, len },
-        );
-    }
+    let mut elements = stocked(rt.alloc(), 64)?;
+    let mut queue = FreeQueue::new();
+    turn_all(&rt, &mut elements, &mut queue, &mut free);
+    drop(free);
     let kept = FreeQueue::from_head(queue.head());
     same!(rt; kept, queue);
     queue.discard(&mut elements);

@@ -4,7 +4,7 @@ ghost use Rattle.std.specs.Prelude.{◌≡◌, ◌+◌, ◌^◌, ◌<◌, ◌≤
 ghost use Rattle.descriptor_queue.specs.Extents.{IsExtents};
 ghost use Rattle.descriptor_queue.specs.Pages.{IsPages};
 
-use crate::checks::{holds, same};
+use crate::checks::{holds, same, stocked};
 use descriptor_queue::{Extents, Page, Pages, Run};
 use std::process::Abort;
 use std::test::Fail;
@@ -61,22 +61,37 @@ fn first_three(elements: &Elements, extents: &Extents) -> [Option<Run>; 3]
     runs
 }
 
-#[test]
-fn extents_are_joined_and_split(rt: HostRuntime) -> Result<(), Fail> {
-    let mut elements = Elements::new(rt.alloc());
-    elements.reserve(8)?;
-    let mut extents = Extents::new();
-    join(&rt, &mut elements, &mut extents, 6, 11);
-    join(&rt, &mut elements, &mut extents, 0x8000, 0x8002);
+// Pages of both regions come, and are two extents.
+fn join_two(rt: &impl Abort, elements: &mut Elements, extents: &mut Extents)
+    requires { IsExtents elements.old extents.old }
+    ensures { IsExtents elements.new extents.new }
+{
+    join(rt, elements, extents, 6, 11);
+    join(rt, elements, extents, 0x8000, 0x8002);
     same!(rt;
-        first_three(&elements, &extents),
+        first_three(elements, extents),
         [Some(run(6, 5)), Some(run(0x8000, 2)), None]
     );
     same!(rt; extents.count(), 2);
-    part(&rt, &mut elements, &mut extents, 8);
-    part(&rt, &mut elements, &mut extents, 0x8001);
-    holds!(rt; !extents.contains(&elements, 8));
-    holds!(rt; extents.contains(&elements, 9));
+}
+
+// A page in the midst of an extent goes, and one at an extent's end.
+fn part_both(rt: &impl Abort, elements: &mut Elements, extents: &mut Extents)
+    requires { IsExtents elements.old extents.old }
+    ensures { IsExtents elements.new extents.new }
+{
+    part(rt, elements, extents, 8);
+    part(rt, elements, extents, 0x8001);
+    holds!(rt; !extents.contains(elements, 8));
+    holds!(rt; extents.contains(elements, 9));
+}
+
+#[test]
+fn extents_are_joined_and_split(rt: HostRuntime) -> Result<(), Fail> {
+    let mut elements = stocked(rt.alloc(), 8)?;
+    let mut extents = Extents::new();
+    join_two(&rt, &mut elements, &mut extents);
+    part_both(&rt, &mut elements, &mut extents);
     let extents = Extents::from_head(extents.head());
     same!(rt;
         first_three(&elements, &extents),
@@ -86,6 +101,7 @@ fn extents_are_joined_and_split(rt: HostRuntime) -> Result<(), Fail> {
     same!(rt; elements.spare(), 125);
     extents.discard(&mut elements);
     same!(rt; elements.spare(), 128);
+    drop(elements);
     Ok(())
 }
 
@@ -115,9 +131,7 @@ fn assign(rt: &impl Abort, elements: &mut Elements, pages: &mut Pages, n: u32) -
 
 #[test]
 fn the_least_run_is_the_lowest(rt: HostRuntime) -> Result<(), Fail> {
-    let mut elements = Elements::new(rt.alloc());
-    elements.reserve(8)?;
-    holds!(rt; elements.spare() > 0);
+    let mut elements = stocked(rt.alloc(), 8)?;
     let mut pages = unassigned(&mut elements, LOW);
     same!(rt; pages.longest_run(&elements, LOW), 16);
     same!(rt; pages.longest_run(&elements, HIGH), 0);

@@ -2,7 +2,7 @@
 
 ghost use Rattle.task_tree.specs.TaskTree.{IsTaskTree};
 
-use crate::checks::{holds, same};
+use crate::checks::{holds, same, stocked};
 use std::process::Abort;
 use std::test::Fail;
 use task_tree::laws::{
@@ -189,8 +189,7 @@ fn end_all(rt: &impl Abort, elements: &mut Elements, tree: &mut TaskTree)
 
 #[test]
 fn a_subtree_comes_back_as_it_was(rt: HostRuntime) -> Result<(), Fail> {
-    let mut elements = Elements::new(rt.alloc());
-    elements.reserve(64)?;
+    let mut elements = stocked(rt.alloc(), 64)?;
     let mut tree = TaskTree::new(&mut elements);
     attach_all(&rt, &mut elements, &mut tree);
     all_out_and_in(&rt, &mut elements, &mut tree);
