@@ -23,8 +23,9 @@ fn build(rt: &impl Abort, elements: &mut Elements, pools: &mut CellPools, text: 
     ensures { IsCellPools elements.new pools.new }
 {
     let name = named(rt, text);
-    assert!(rt; pools.find(elements, &name).is_none());
-    assert!(rt; elements.spare() >= 10 && start <= 8192);
+    holds!(rt; pools.find(elements, &name).is_none());
+    holds!(rt; elements.spare() >= 10);
+    holds!(rt; start <= 8192);
     let settings = CellSettings {
         subpool: subpool((start / 4096) as u8),
         size: 16,
@@ -83,7 +84,7 @@ fn get(rt: &impl Abort, elements: &mut Elements, pools: &mut CellPools, text: &s
 {
     let id = find(rt, elements, pools, text);
     let first = pools.first_free(elements, id);
-    assert!(rt; first.is_some());
+    holds!(rt; first.is_some());
     let cell = pools.take_cell(elements, id);
     same!(rt; first, Some(cell));
     cell
@@ -94,7 +95,8 @@ fn free(rt: &impl Abort, elements: &mut Elements, pools: &mut CellPools, text: &
     ensures { IsCellPools elements.new pools.new }
 {
     let id = find(rt, elements, pools, text);
-    assert!(rt; pools.in_use(elements, id, cell) && elements.spare() > 0);
+    holds!(rt; pools.in_use(elements, id, cell));
+    holds!(rt; elements.spare() > 0);
     pools.put_cell(elements, id, cell);
     holds!(rt; !pools.in_use(elements, id, cell));
 }

@@ -1,7 +1,10 @@
 //! Steps that several tests of subpools take.
 
-ghost use Rattle.subpool_storage.specs.SubpoolStorage.{Stands};
+ghost use Rattle.std.specs.Prelude.{ℕ, ◌+◌, ◌≤◌};
+ghost use Rattle.subpool_storage.specs.Subpools.{CanExchange};
+ghost use Rattle.subpool_storage.specs.SubpoolStorage.{subpools_of, hold, Stands};
 
+use crate::checks::holds;
 use std::process::Abort;
 use subpool_storage::SubpoolStorage;
 use vsm_elements::Elements;
@@ -17,10 +20,11 @@ pub(crate) fn create(
     requires { Stands elements.old storage.old }
     ensures { Stands elements.new storage.new }
 {
-    assert!(rt;
-        subpool.owner >= 1 && subpool.owner <= 64 && subpool.number <= 127 && elements.spare() > 0
-    );
-    assert!(rt;
+    holds!(rt; subpool.owner >= 1);
+    holds!(rt; subpool.owner <= 64);
+    holds!(rt; subpool.number <= 127);
+    holds!(rt; elements.spare() > 0);
+    holds!(rt;
         storage
             .owner_seen(elements, subpool.owner, subpool.number)
             .is_none()
@@ -39,7 +43,31 @@ pub(crate) fn pass(
     requires { Stands elements.old storage.old }
     ensures { Stands elements.new storage.new }
 {
-    assert!(rt; storage.has_subpool(elements, subpool) && to >= 1 && to <= 64);
-    assert!(rt; storage.owner_seen(elements, to, subpool.number).is_none());
+    holds!(rt; storage.has_subpool(elements, subpool));
+    holds!(rt; to >= 1);
+    holds!(rt; to <= 64);
+    holds!(rt; storage.owner_seen(elements, to, subpool.number).is_none());
     storage.pass(elements, subpool, to);
+}
+
+/// What the subpool has in one storage changes places with what it has in the other, and can again.
+pub(crate) fn exchange(
+    rt: &impl Abort,
+    elements: &mut Elements,
+    one: &mut SubpoolStorage,
+    other: &mut SubpoolStorage,
+    subpool: Subpool,
+)
+    requires stands { Stands elements.old one.old }
+    requires other { Stands elements.old other.old }
+    requires apart { (i : ℕ) → hold elements.old one.old i + hold elements.old other.old i ≤ 1 }
+    requires names { CanExchange (subpools_of elements.old one.old) (subpools_of elements.old other.old) subpool }
+    ensures stands { Stands elements.new one.new }
+    ensures other { Stands elements.new other.new }
+    ensures apart { (i : ℕ) → hold elements.new other.new i + hold elements.new one.new i ≤ 1 }
+    ensures names { CanExchange (subpools_of elements.new other.new) (subpools_of elements.new one.new) subpool }
+{
+    holds!(rt; one.has_subpool(elements, subpool));
+    holds!(rt; other.has_subpool(elements, subpool));
+    one.exchange_storage(elements, other, subpool);
 }

@@ -5,8 +5,8 @@ ghost use Rattle.std.specs.Prelude.{ℕ, ◌+◌, ◌≤◌};
 ghost use Rattle.subpool_storage.specs.Subpools.{CanExchange};
 ghost use Rattle.subpool_storage.specs.SubpoolStorage.{subpools_of, hold, Stands};
 
-use crate::checks::{all_given_back, named, same, stocked};
-use crate::subpool_steps::{create, pass};
+use crate::checks::{all_given_back, holds, named, same, stocked};
+use crate::subpool_steps::{create, exchange, pass};
 use cell_pool::laws::pools_are_one;
 use std::process::Abort;
 use std::test::Fail;
@@ -44,7 +44,7 @@ fn build(
     let name = named(rt, text);
     pools_are_one();
     let pools = storage.cell_pools(elements);
-    assert!(rt; pools.find(elements, &name).is_none());
+    holds!(rt; pools.find(elements, &name).is_none());
     assert!(rt; elements.spare() >= 12 && start <= 8192);
     let settings = CellSettings {
         subpool,
@@ -98,13 +98,11 @@ fn there_and_back(
     requires names { CanExchange (subpools_of elements.old one.old) (subpools_of elements.old other.old)
         (record { number = 9; owner = 1 }) }
 {
-    assert!(rt; one.has_subpool(elements, HERE) && other.has_subpool(elements, HERE));
-    one.exchange_storage(elements, other, HERE);
+    exchange(rt, elements, one, other, HERE);
     is_in(rt, elements, one, "GOES", None);
     is_in(rt, elements, other, "GOES", Some(HERE));
     is_in(rt, elements, one, "STAYS", Some(BESIDE));
-    assert!(rt; one.has_subpool(elements, HERE) && other.has_subpool(elements, HERE));
-    other.exchange_storage(elements, one, HERE);
+    exchange(rt, elements, other, one, HERE);
     is_in(rt, elements, one, "GOES", Some(HERE));
     is_in(rt, elements, other, "GOES", None);
     is_in(rt, elements, one, "STAYS", Some(BESIDE));
@@ -113,7 +111,7 @@ fn there_and_back(
 fn beside(rt: &impl Abort, elements: &mut Elements, one: &mut SubpoolStorage)
     requires { Stands elements.old one.old }
 {
-    assert!(rt; elements.spare() > 0);
+    holds!(rt; elements.spare() > 0);
     let mut other = SubpoolStorage::new();
     other.create(elements, HERE);
     there_and_back(rt, elements, one, &mut other);
@@ -129,6 +127,7 @@ fn cell_pools_go_over_with_their_subpool_and_come_back(rt: HostRuntime) -> Resul
     build(&rt, &mut elements, &mut storage, BESIDE, "STAYS", 8192);
     same!(rt; elements.spare(), 102);
     beside(&rt, &mut elements, &mut storage);
+    drop(elements);
     Ok(())
 }
 

@@ -5,7 +5,7 @@ ghost use Rattle.subpool_storage.specs.Subpools.{CanExchange};
 ghost use Rattle.subpool_storage.specs.SubpoolStorage.{subpools_of, hold, Stands};
 
 use crate::checks::{all_given_back, holds, same, stocked};
-use crate::subpool_steps::create;
+use crate::subpool_steps::{create, exchange};
 use descriptor_queue::{Extents, Run};
 use free_queue::{Area, Cover, FreeQueue};
 use std::process::Abort;
@@ -35,10 +35,10 @@ fn fill(
     requires { Stands elements.old storage.now }
     ensures { Stands elements.new storage.now }
 {
-    assert!(rt; page < 1_048_576 && elements.spare() > 0);
-    assert!(rt;
-        storage.has_subpool(elements, subpool) && !storage.has_page(elements, subpool, page)
-    );
+    holds!(rt; page < 1_048_576);
+    holds!(rt; elements.spare() > 0);
+    holds!(rt; storage.has_subpool(elements, subpool));
+    holds!(rt; !storage.has_page(elements, subpool, page));
     storage.insert_run(
         elements,
         subpool,
@@ -71,14 +71,12 @@ fn free(
     requires { Stands elements.old storage.now }
     ensures { Stands elements.new storage.now }
 {
-    assert!(rt;
-        area.len > 0 && area.len <= 512 && area.start <= 536_870_400 && elements.spare() > 0
-    );
-    assert!(rt; storage.has_subpool(elements, subpool));
-    match storage.covers(elements, subpool, area) {
-        Cover::None => {}
-        _ => assert!(rt; false),
-    }
+    holds!(rt; area.len > 0);
+    holds!(rt; area.len <= 512);
+    holds!(rt; area.start <= 536_870_400);
+    holds!(rt; elements.spare() > 0);
+    holds!(rt; storage.has_subpool(elements, subpool));
+    holds!(rt; storage.covers(elements, subpool, area) == Cover::None);
     storage.free_area(elements, subpool, area);
 }
 
@@ -92,14 +90,12 @@ fn carve(
     requires { Stands elements.old storage.now }
     ensures { Stands elements.new storage.now }
 {
-    assert!(rt;
-        area.len > 0 && area.len <= 512 && area.start <= 536_870_400 && elements.spare() > 0
-    );
-    assert!(rt; storage.has_subpool(elements, subpool));
-    match storage.covers(elements, subpool, area) {
-        Cover::All => {}
-        _ => assert!(rt; false),
-    }
+    holds!(rt; area.len > 0);
+    holds!(rt; area.len <= 512);
+    holds!(rt; area.start <= 536_870_400);
+    holds!(rt; elements.spare() > 0);
+    holds!(rt; storage.has_subpool(elements, subpool));
+    holds!(rt; storage.covers(elements, subpool, area) == Cover::All);
     storage.carve_area(elements, subpool, area);
 }
 
@@ -114,7 +110,7 @@ fn empty(
     requires { Stands elements.old storage.now }
     ensures { Stands elements.new storage.now }
 {
-    assert!(rt; page < 1_048_576);
+    holds!(rt; page < 1_048_576);
     carve(
         rt,
         elements,
@@ -125,10 +121,9 @@ fn empty(
             len: 512,
         },
     );
-    assert!(rt;
-        storage.has_subpool(elements, subpool) && storage.has_page(elements, subpool, page)
-    );
-    assert!(rt; elements.spare() > 0);
+    holds!(rt; storage.has_subpool(elements, subpool));
+    holds!(rt; storage.has_page(elements, subpool, page));
+    holds!(rt; elements.spare() > 0);
     storage.remove_run(
         elements,
         subpool,
@@ -140,29 +135,38 @@ fn empty(
     holds!(rt; !storage.has_page(elements, subpool, page));
 }
 
+// Where areas are looked for.
+const REGION: Area = Area {
+    start: 0,
+    len: 10_000,
+};
+
+// What is left of the first subpool's two pages, of which a hundred doublewords are taken, and of the second's page.
+fn part_is_out(rt: &impl Abort, elements: &Elements, storage: &SubpoolStorage)
+    requires { Stands elements.now storage.now }
+{
+    same!(rt; elements.spare(), 121);
+    let fit = storage.least_fit(elements, FIRST, 41, 1, REGION);
+    same!(rt; fit, Some(2700));
+    let fit = storage.least_fit(elements, FIRST, 40, 1, REGION);
+    same!(rt; fit, Some(2560));
+    let fit = storage.least_fit(elements, SECOND, 1, 1, REGION);
+    same!(rt; fit, Some(3584));
+    same!(rt; storage.longest(elements, FIRST, 512, REGION), 512);
+}
+
 // A part of two pages that are free storage is carved out, and freed again.
 fn carve_out(rt: &impl Abort, elements: &mut Elements, storage: &SubpoolStorage)
     requires { Stands elements.old storage.now }
     ensures { Stands elements.new storage.now }
 {
-    let region = Area {
-        start: 0,
-        len: 10_000,
-    };
     let part = Area {
         start: 2600,
         len: 100,
     };
-    same!(rt; storage.longest(elements, FIRST, 512, region), 1024);
+    same!(rt; storage.longest(elements, FIRST, 512, REGION), 1024);
     carve(rt, elements, storage, FIRST, part);
-    same!(rt; elements.spare(), 121);
-    let fit = storage.least_fit(elements, FIRST, 41, 1, region);
-    same!(rt; fit, Some(2700));
-    let fit = storage.least_fit(elements, FIRST, 40, 1, region);
-    same!(rt; fit, Some(2560));
-    let fit = storage.least_fit(elements, SECOND, 1, 1, region);
-    same!(rt; fit, Some(3584));
-    same!(rt; storage.longest(elements, FIRST, 512, region), 512);
+    part_is_out(rt, elements, storage);
     free(rt, elements, storage, FIRST, part);
 }
 
@@ -190,7 +194,7 @@ fn in_order(rt: &impl Abort, elements: &Elements, storage: &SubpoolStorage)
 {
     let front = SubpoolStorage::first_subpool_place();
     let Some((subpool, place)) = storage.next_subpool(elements, front) else {
-        assert!(rt; false);
+        holds!(rt; false);
         return;
     };
     same!(rt; subpool, FIRST);
@@ -206,7 +210,7 @@ fn in_order(rt: &impl Abort, elements: &Elements, storage: &SubpoolStorage)
     same!(rt; storage.next_sharer(elements, FIRST, sharers), None);
     same!(rt; storage.sharer_at(elements, FIRST, 0), None);
     let Some((subpool, place)) = storage.next_subpool(elements, place) else {
-        assert!(rt; false);
+        holds!(rt; false);
         return;
     };
     same!(rt; subpool, SECOND);
@@ -255,33 +259,40 @@ fn pages_and_areas_come_and_go(rt: HostRuntime) -> Result<(), Fail> {
 
 // A subpool is made, has a page whose doublewords are free storage, is emptied and removed.
 fn live(rt: &impl Abort, elements: &mut Elements, subpool: Subpool, page: u32) {
-    assert!(rt; subpool.owner >= 1 && subpool.owner <= 64 && subpool.number <= 127);
-    assert!(rt; page < 1_048_576 && elements.spare() > 0);
+    holds!(rt; subpool.owner >= 1);
+    holds!(rt; subpool.owner <= 64);
+    holds!(rt; subpool.number <= 127);
+    holds!(rt; page < 1_048_576);
+    holds!(rt; elements.spare() > 0);
     let mut storage = SubpoolStorage::new();
     storage.create(elements, subpool);
     let run = Run {
         start: page,
         len: 1,
     };
-    assert!(rt; storage.has_subpool(elements, subpool) && elements.spare() > 0);
-    assert!(rt; !storage.has_page(elements, subpool, page));
+    holds!(rt; storage.has_subpool(elements, subpool));
+    holds!(rt; elements.spare() > 0);
+    holds!(rt; !storage.has_page(elements, subpool, page));
     storage.insert_run(elements, subpool, run);
     let area = Area {
         start: 512 * page,
         len: 512,
     };
-    assert!(rt; storage.has_subpool(elements, subpool) && elements.spare() > 0);
-    assert!(rt; storage.covers(elements, subpool, area) == Cover::None);
+    holds!(rt; storage.has_subpool(elements, subpool));
+    holds!(rt; elements.spare() > 0);
+    holds!(rt; storage.covers(elements, subpool, area) == Cover::None);
     storage.free_area(elements, subpool, area);
-    assert!(rt; storage.has_subpool(elements, subpool) && elements.spare() > 0);
-    assert!(rt; storage.covers(elements, subpool, area) == Cover::All);
+    holds!(rt; storage.has_subpool(elements, subpool));
+    holds!(rt; elements.spare() > 0);
+    holds!(rt; storage.covers(elements, subpool, area) == Cover::All);
     storage.carve_area(elements, subpool, area);
-    assert!(rt; storage.has_subpool(elements, subpool) && elements.spare() > 0);
-    assert!(rt; storage.has_page(elements, subpool, page));
+    holds!(rt; storage.has_subpool(elements, subpool));
+    holds!(rt; elements.spare() > 0);
+    holds!(rt; storage.has_page(elements, subpool, page));
     storage.remove_run(elements, subpool, run);
-    assert!(rt; storage.has_subpool(elements, subpool));
+    holds!(rt; storage.has_subpool(elements, subpool));
     storage.remove(elements, subpool);
-    assert!(rt; !storage.has_subpool(elements, subpool));
+    holds!(rt; !storage.has_subpool(elements, subpool));
 }
 
 #[test]
@@ -291,6 +302,24 @@ fn every_element_is_given_back(rt: HostRuntime) -> Result<(), Fail> {
     live(&rt, &mut elements, SECOND, 1_048_575);
     all_given_back(&rt, elements);
     Ok(())
+}
+
+// The page and its doublewords are the subpool's in one storage, and not in the other.
+fn is_in(
+    rt: &impl Abort,
+    elements: &Elements,
+    here: &SubpoolStorage,
+    elsewhere: &SubpoolStorage,
+    subpool: Subpool,
+    page: u32,
+)
+    requires here { Stands elements.now here.now }
+    requires elsewhere { Stands elements.now elsewhere.now }
+{
+    holds!(rt; here.has_page(elements, subpool, page));
+    holds!(rt; !elsewhere.has_page(elements, subpool, page));
+    same!(rt; here.longest(elements, subpool, 1, REGION), 512);
+    same!(rt; elsewhere.longest(elements, subpool, 1, REGION), 0);
 }
 
 // What the subpool has in one goes over to the other, and comes back.
@@ -307,18 +336,10 @@ fn there_and_back(
     requires apart { (i : ℕ) → hold elements.old one.old i + hold elements.old other.old i ≤ 1 }
     requires names { CanExchange (subpools_of elements.old one.old) (subpools_of elements.old other.old) subpool }
 {
-    assert!(rt; one.has_subpool(elements, subpool) && other.has_subpool(elements, subpool));
-    one.exchange_storage(elements, other, subpool);
-    assert!(rt; !one.has_page(elements, subpool, page) && other.has_page(elements, subpool, page));
-    let region = Area {
-        start: 0,
-        len: 10_000,
-    };
-    same!(rt; one.longest(elements, subpool, 1, region), 0);
-    same!(rt; other.longest(elements, subpool, 1, region), 512);
-    assert!(rt; one.has_subpool(elements, subpool) && other.has_subpool(elements, subpool));
-    other.exchange_storage(elements, one, subpool);
-    assert!(rt; one.has_page(elements, subpool, page) && !other.has_page(elements, subpool, page));
+    exchange(rt, elements, one, other, subpool);
+    is_in(rt, elements, other, one, subpool, page);
+    exchange(rt, elements, other, one, subpool);
+    is_in(rt, elements, one, other, subpool, page);
 }
 
 fn beside(
@@ -330,8 +351,10 @@ fn beside(
 )
     requires { Stands elements.old one.old }
 {
-    assert!(rt; subpool.owner >= 1 && subpool.owner <= 64 && subpool.number <= 127);
-    assert!(rt; elements.spare() > 0);
+    holds!(rt; subpool.owner >= 1);
+    holds!(rt; subpool.owner <= 64);
+    holds!(rt; subpool.number <= 127);
+    holds!(rt; elements.spare() > 0);
     let mut other = SubpoolStorage::new();
     other.create(elements, subpool);
     there_and_back(rt, elements, one, &mut other, subpool, page);
@@ -344,5 +367,6 @@ fn what_a_subpool_has_goes_over_and_comes_back(rt: HostRuntime) -> Result<(), Fa
     create(&rt, &mut elements, &mut storage, FIRST);
     fill(&rt, &mut elements, &storage, FIRST, 5);
     beside(&rt, &mut elements, &mut storage, FIRST, 5);
+    drop(elements);
     Ok(())
 }

@@ -2,7 +2,7 @@
 
 ghost use Rattle.subpool_storage.specs.SubpoolStorage.{Stands};
 
-use crate::checks::{all_given_back, same, stocked};
+use crate::checks::{all_given_back, holds, same, stocked};
 use crate::subpool_steps::pass;
 use descriptor_queue::Run;
 use free_queue::Area;
@@ -36,13 +36,15 @@ fn made(rt: &impl Abort, elements: &mut Elements) -> SubpoolStorage
     ensures { Stands elements.new result }
 {
     let mut storage = SubpoolStorage::new();
-    assert!(rt; elements.spare() > 0);
+    holds!(rt; elements.spare() > 0);
     storage.create(elements, GIVERS);
-    assert!(rt; storage.has_subpool(elements, GIVERS) && elements.spare() > 0);
-    assert!(rt; !storage.has_page(elements, GIVERS, PAGE.start));
+    holds!(rt; storage.has_subpool(elements, GIVERS));
+    holds!(rt; elements.spare() > 0);
+    holds!(rt; !storage.has_page(elements, GIVERS, PAGE.start));
     storage.insert_run(elements, GIVERS, PAGE);
-    assert!(rt; storage.has_subpool(elements, GIVERS) && elements.spare() > 0);
-    assert!(rt; storage.covers(elements, GIVERS, AREA) == free_queue::Cover::None);
+    holds!(rt; storage.has_subpool(elements, GIVERS));
+    holds!(rt; elements.spare() > 0);
+    holds!(rt; storage.covers(elements, GIVERS, AREA) == free_queue::Cover::None);
     storage.free_area(elements, GIVERS, AREA);
     storage
 }
@@ -51,12 +53,9 @@ fn share(rt: &impl Abort, elements: &mut Elements, storage: &mut SubpoolStorage,
     requires { Stands elements.old storage.old }
     ensures { Stands elements.new storage.new }
 {
-    assert!(rt; storage.has_subpool(elements, subpool) && elements.spare() > 0);
-    assert!(rt;
-        storage
-            .owner_seen(elements, SHARER, subpool.number)
-            .is_none()
-    );
+    holds!(rt; storage.has_subpool(elements, subpool));
+    holds!(rt; elements.spare() > 0);
+    holds!(rt; storage.owner_seen(elements, SHARER, subpool.number).is_none());
     storage.share(elements, subpool, SHARER);
 }
 
@@ -64,8 +63,8 @@ fn unshare(rt: &impl Abort, elements: &mut Elements, storage: &mut SubpoolStorag
     requires { Stands elements.old storage.old }
     ensures { Stands elements.new storage.new }
 {
-    assert!(rt; subpool.owner != SHARER);
-    assert!(rt; storage.owner_seen(elements, SHARER, subpool.number) == Some(subpool.owner));
+    holds!(rt; subpool.owner != SHARER);
+    holds!(rt; storage.owner_seen(elements, SHARER, subpool.number) == Some(subpool.owner));
     storage.unshare(elements, subpool, SHARER);
 }
 

@@ -2,7 +2,7 @@
 
 ghost use Rattle.subpool_set.specs.SubpoolSet.{IsSubpoolSet, IsPoolPlace, QueuesStand};
 
-use crate::checks::{all_given_back, same, stocked};
+use crate::checks::{all_given_back, holds, same, stocked};
 use std::process::Abort;
 use std::test::Fail;
 use subpool_set::laws::{discards_keep, put_back, sets_stay};
@@ -41,7 +41,7 @@ fn list_subpools(rt: &impl Abort, elements: &Elements, set: &SubpoolSet, want: &
                 same!(rt; set.pool_at(elements, i), Some(id));
                 place = behind;
             }
-            None => assert!(rt; false),
+            None => holds!(rt; false),
         }
         i = i.saturating_add(1);
     }
@@ -77,7 +77,7 @@ fn list_sharers(
     requires { IsSubpoolSet elements.now set.now }
 {
     let Some(id) = set.visible(elements, owner, number) else {
-        assert!(rt; false);
+        holds!(rt; false);
         return;
     };
     let mut place = SubpoolSet::first_sharer(place_behind(elements, set, id));
@@ -89,7 +89,7 @@ fn list_sharers(
                 same!(rt; set.sharer_at(elements, id, i), Some(*sharer));
                 place = behind;
             }
-            None => assert!(rt; false),
+            None => holds!(rt; false),
         }
         i = i.saturating_add(1);
     }
@@ -104,9 +104,11 @@ fn create(rt: &impl Abort, elements: &mut Elements, set: &mut SubpoolSet, task: 
     ensures set { IsSubpoolSet elements.new set.new }
     ensures queues { QueuesStand elements.new set.new }
 {
-    assert!(rt; task >= 1 && task <= 64 && number <= 127);
-    assert!(rt; elements.spare() > 0);
-    assert!(rt; set.visible(elements, task, number).is_none());
+    holds!(rt; task >= 1);
+    holds!(rt; task <= 64);
+    holds!(rt; number <= 127);
+    holds!(rt; elements.spare() > 0);
+    holds!(rt; set.visible(elements, task, number).is_none());
     let _id = set.create(elements, task, number);
 }
 
@@ -136,12 +138,13 @@ fn share(
     ensures set { IsSubpoolSet elements.new set.new }
     ensures queues { QueuesStand elements.new set.new }
 {
-    assert!(rt; task >= 1 && task <= 64);
-    assert!(rt; elements.spare() > 0);
-    assert!(rt; set.visible(elements, task, number).is_none());
+    holds!(rt; task >= 1);
+    holds!(rt; task <= 64);
+    holds!(rt; elements.spare() > 0);
+    holds!(rt; set.visible(elements, task, number).is_none());
     match set.visible(elements, from, number) {
         Some(id) => set.share(elements, task, id),
-        None => assert!(rt; false),
+        None => holds!(rt; false),
     }
 }
 
@@ -175,11 +178,12 @@ fn pass(
     ensures set { IsSubpoolSet elements.new set.new }
     ensures queues { QueuesStand elements.new set.new }
 {
-    assert!(rt; to >= 1 && to <= 64);
-    assert!(rt; set.visible(elements, to, number).is_none());
+    holds!(rt; to >= 1);
+    holds!(rt; to <= 64);
+    holds!(rt; set.visible(elements, to, number).is_none());
     match set.visible(elements, giver, number) {
         Some(id) => set.pass(elements, id, to),
-        None => assert!(rt; false),
+        None => holds!(rt; false),
     }
 }
 
@@ -204,9 +208,9 @@ fn out_and_in(
             compare(rt, elements, set, without);
             put_back();
             set.replug(elements, parked);
-            assert!(rt; elements.spare() == spare);
+            holds!(rt; elements.spare() == spare);
         }
-        None => assert!(rt; false),
+        None => holds!(rt; false),
     }
 }
 
@@ -237,11 +241,11 @@ fn both_out_and_in(
                 }
                 None => {
                     set.replug(elements, one);
-                    assert!(rt; false);
+                    holds!(rt; false);
                 }
             }
         }
-        None => assert!(rt; false),
+        None => holds!(rt; false),
     }
 }
 
@@ -258,7 +262,7 @@ fn discard(rt: &impl Abort, elements: &mut Elements, set: &mut SubpoolSet, task:
             discards_keep();
             parked.discard(elements);
         }
-        None => assert!(rt; false),
+        None => holds!(rt; false),
     }
 }
 

@@ -1,9 +1,10 @@
+-- What was exchanged can be exchanged back.
 use Rattle.subpool_storage.specs.SubpoolStorage.{subpools_of}
 use Rattle.subpool_storage.proofs.CellLemmas.{exchanged_back}
-use Rattle.tests_elements.proofs.subpool_storage_pages.there_and_back.Goals as goal
+use Rattle.tests_elements.proofs.subpool_steps.exchange.Goals as goal
 
-pub exchange_storage-requires-2-clause-names : goal.exchange_storage-requires-2-clause-names
-exchange_storage-requires-2-clause-names g c =
+pub returns-clause-names : goal.returns-clause-names
+returns-clause-names g c =
     exchanged_back (subpools_of c.args.elements.now c.args.one.now) (subpools_of c.args.elements.now c.args.other.now)
     (subpools_of c.exchange_storage.new.elements c.exchange_storage.new.self) (subpools_of c.exchange_storage.new.elements c.exchange_storage.new.others)
     c.args.subpool c.exchange_storage.ensures.subpools c.exchange_storage.ensures.other_subpools c.requires.names
