@@ -1,5 +1,6 @@
 mod FormRows
 mod ReadRequests
+mod AskedBy
 pub use Rattle.macro_requests.proofs.ValidNames
 mod FormTexts
 mod ReadForms

@@ -1,5 +1,5 @@
 -- What each statement asks for by what was read is what its operands ask for.
-use Rattle.std.proofs.Common.{◌≡◌, ℕ, Bool, List, Option, Some, None, is_some, Result, Ok, codes, if◌then◌else◌, option_and_then, refl, ap, ◌∙◌, sym}
+use Rattle.std.proofs.Common.{◌≡◌, ℕ, Bool, List, Option, Some, None, is_some, Result, Ok, Err, codes, if◌then◌else◌, option_and_then, refl, ap, ◌∙◌, sym}
 use Rattle.std.specs.Option.{option_map}
 use Rattle.operand_texts.specs.Written.{Written, Stored}
 use Rattle.operand_texts.specs.Values.{number_of, value_of, content_of, size_of}
@@ -88,3 +88,10 @@ peek_read texts h =
 pub count_read : (texts : List (List ℕ)) → first_fault steps_row texts ≡ None → count_by (readings steps_row.entries texts) ≡ count_in texts
 count_read texts h =
     ap count_with (count_said (text_at (position 0) texts)) ∙ no_fault (first_fault steps_row texts) _ h
+
+-- the first fault of what was read is the statement's
+wrong_fault : {A : Type 0} (f : Option FaultKind) (wrong : FaultKind) (r : Result A FaultKind) → f ≡ Some wrong → ◌≡◌ {A = Result A FaultKind} (Err wrong) (unless_fault f r)
+wrong_fault f wrong r h = ap (λ g. unless_fault g r) (sym h)
+
+pub attach_wrong : (texts : List (List ℕ)) (wrong : FaultKind) → first_fault attach_row texts ≡ Some wrong → ◌≡◌ {A = Result Asked FaultKind} (Err wrong) (attach_of texts)
+attach_wrong texts wrong h = wrong_fault (first_fault attach_row texts) wrong _ h

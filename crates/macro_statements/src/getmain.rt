@@ -1,9 +1,17 @@
 //! GETMAIN: its forms that obtain one area.
 
-use crate::forms::{LEFT_OUT_KEYWORDS, StorageForm, StorageMacro, obtaining, storage_row};
-use macro_operands::keyword;
+ghost use Rattle.std.specs.Prelude.{◌≡◌};
+ghost use Rattle.operand_texts.specs.Field.{operands};
+ghost use Rattle.macro_statements.specs.Forms.{macro_of};
+ghost use Rattle.macro_statements.specs.Getmain.{getmain_macro};
+ghost use Rattle.macro_statements.specs.Rooms.{left};
+
+use crate::forms::{
+    LEFT_OUT_KEYWORDS, StorageForm, StorageMacro, obtaining, request_of, storage_row,
+};
 use macro_operands::rows::OperandRow;
-use macro_requests::Form;
+use macro_operands::{FaultKind, keyword};
+use macro_requests::{Form, Request};
 use vsm_model::Family;
 
 /// The operands of a form: LV, A, BNDRY and LOC of these kinds, and SP.
@@ -38,3 +46,10 @@ pub const GETMAIN: StorageMacro = StorageMacro {
     ],
     left_out: &[b"LC", b"LU", b"VC", b"VU"],
 };
+
+/// GETMAIN with its operand field.
+pub(crate) fn getmain(field: &[u8], request: &mut Request) -> Result<(), FaultKind>
+    ensures { left result request.new ≡ macro_of getmain_macro (operands field.now) }
+{
+    request_of(&GETMAIN, field, request)
+}

@@ -1,0 +1,4 @@
+use Rattle.macro_statements.proofs.attach.attach_by.Goals as goal
+
+pub returns : goal.returns
+returns c = cc

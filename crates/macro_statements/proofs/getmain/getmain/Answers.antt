@@ -1,0 +1,4 @@
+use Rattle.macro_statements.proofs.getmain.getmain.Goals as goal
+
+pub returns : goal.returns
+returns c = c.request_of.ensures
