@@ -5,6 +5,7 @@ mod Classes
 pub mod Split
 pub mod Names
 pub mod Digits
+mod Parts
 pub mod Spelling
 pub mod Bytes
 pub mod SpelledBytes

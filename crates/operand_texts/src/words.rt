@@ -1,6 +1,6 @@
 //! Names and the words of a line.
 
-ghost use Rattle.std.specs.Prelude.{◌≡◌, ◌≤◌, IsTrue, length, map};
+ghost use Rattle.std.specs.Prelude.{◌≡◌, ◌==◌, ◌≤◌, IsTrue, length, map};
 ghost use Rattle.std.specs.List.{list_all};
 ghost use Rattle.std.specs.Char.{to_ascii_uppercase};
 ghost use Rattle.std.specs.Str.{IsAscii};
@@ -52,6 +52,13 @@ pub fn upper_name(text: &[u8]) -> Name
     name
 }
 
+/// Whether a byte is this one in upper case.
+fn is_folded(byte: u8, upper: u8) -> bool
+    ensures { result ≡ (to_ascii_uppercase byte == upper) }
+{
+    byte.to_ascii_uppercase() == upper
+}
+
 /// Whether a text is this word, in either case. The word is given in upper case.
 pub fn is_word(text: &[u8], word: &[u8]) -> bool
     ensures { result ≡ is_word text.now word.now }
@@ -60,7 +67,7 @@ pub fn is_word(text: &[u8], word: &[u8]) -> bool
         return false;
     }
     for i in 0..text.len() {
-        if text[i].to_ascii_uppercase() != word[i] {
+        if !is_folded(text[i], word[i]) {
             return false;
         }
     }
