@@ -15,7 +15,7 @@ sys.dont_write_bytecode = True
 sys.path.insert(0, os.path.dirname(os.path.dirname(os.path.realpath(__file__))))
 from vsmtools import bench, loading, maps  # noqa: E402
 from vsmtools.command import Fault  # noqa: E402
-from vsmtools.judge import MOST_POOLS  # noqa: E402
+from vsmtools.judge import MOST_POOLS, MOST_TASKS  # noqa: E402
 from vsmtools.lines import fold  # noqa: E402
 
 WIDE = ["--low", "640", "--high", "256", "--history", "16"]
@@ -276,10 +276,71 @@ def small_script(seed: int) -> str:
                    for _ in range(chance.choice((8, 20, 40, 80, 160))))
 
 
+class Helpers:
+    """The last tasks of a chain that leaves few numbers; some only make storage of the task that attached them, behind
+    addresses that others got in its pages, and end."""
+
+    def __init__(self, chance: random.Random) -> None:
+        self.chance, self.requests = chance, Requests()
+        deep = chance.choice((52, 54, 56, 58, 60))
+        self.requests.by(1, "STORAGE OBTAIN,LENGTH=256,ADDR=L")
+        for task in range(1, deep):
+            self.requests.by(task, "ATTACH")
+        self.tasks = [deep]
+        self.left = list(range(deep + 1, MOST_TASKS + 1))     # numbers that are free
+        self.helpers: dict[int, list[int]] = {}               # with the subpools that each sees
+
+    def attach(self) -> None:
+        self.requests.by(self.chance.choice(self.tasks[-6:]), "ATTACH")
+        self.tasks.append(self.left.pop(0))
+
+    def attach_helper(self) -> None:
+        subpools = sorted(self.chance.sample(range(1, 6), self.chance.randint(1, 3)))
+        actor = self.chance.choice(self.tasks[-6:])
+        self.requests.by(actor, "POKE L,X'%s'" % bytes([len(subpools), *subpools]).hex().upper())
+        self.requests.by(actor, "ATTACH SHSPL=L")
+        self.helpers[self.left.pop(0)] = subpools
+
+    def words(self) -> None:
+        """Addresses of the next pages, for a task."""
+        task, registers = self.chance.choice(self.tasks[-4:]), self.chance.sample(range(2, 13), 3)
+        for register in registers:
+            self.requests.by(task, "STORAGE OBTAIN,LENGTH=4096,ADDR=(%d)" % register)
+        for register in registers:
+            self.requests.by(task, "STORAGE RELEASE,LENGTH=4096,ADDR=(%d)" % register)
+
+    def work(self) -> None:
+        """The storage of a helper's subpools, and its end."""
+        helper = self.chance.choice(list(self.helpers))
+        for subpool in self.helpers.pop(helper):
+            self.requests.by(helper, "STORAGE OBTAIN,LENGTH=8,SP=%d" % subpool)
+        self.requests.by(helper, "ENDTASK")
+        self.requests.task = 0
+        self.left = sorted([*self.left, helper])
+
+    def script(self) -> str:
+        goes = self.chance.choice((0.2, 0.4))
+        while self.left or self.helpers:
+            kind = self.chance.random()
+            if self.helpers and (not self.left or kind < goes / 2):
+                self.words()
+                self.work()
+            elif len(self.left) > 1 and kind < goes:
+                self.attach_helper()
+            elif self.left:
+                self.attach()
+        return self.requests.text()
+
+
+def helpers_script(seed: int) -> str:
+    """64 tasks, some of which had their storage made by tasks that ended."""
+    return Helpers(random.Random(seed)).script()
+
+
 KINDS: dict[str, tuple[Callable[[int], str], list[str]]] = {
     "family": (family_script, WIDE), "address": (address_script, WIDE), "pools": (pools_script, WIDER),
     "building": (building_script, WIDER), "lists": (lists_script, WIDE), "orders": (orders_script, WIDE),
-    "small": (small_script, SMALL),
+    "small": (small_script, SMALL), "helpers": (helpers_script, WIDE),
 }
 
 

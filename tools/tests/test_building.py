@@ -8,7 +8,7 @@ import pytest
 from vsmtools import building, searching
 from vsmtools.building import Build, Builder, core
 from vsmtools.maps import Area
-from vsmtools.searching import Search
+from vsmtools.searching import Reach, Search
 
 Pool = tuple[int, int]            # from one doubleword up to another
 State = frozenset[Pool]
@@ -79,4 +79,5 @@ def test_all_maps_of_a_small_region(monkeypatch: pytest.MonkeyPatch, words: int,
         builds = [Build(Area(8 * start, 8 * (end - start)), KEY, 24) for start, end in pools]
         is_made = State(pools) in made
         assert not (is_made and core(builds, most)), pools
-        assert (Search(Builder(runs, builds, most, is_walled), True).plan() is not None) == is_made, pools
+        for reach in (Reach.KNOWN, Reach.ALL):
+            assert (Search(Builder(runs, builds, most, is_walled), reach).plan() is not None) == is_made, pools

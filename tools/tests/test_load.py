@@ -8,6 +8,7 @@ import os
 import pty
 import random
 import re
+import signal
 import subprocess
 import sys
 from pathlib import Path
@@ -20,6 +21,8 @@ from test_tools import scripts
 
 from vsmtools import bench, building, family, loading, maps
 from vsmtools.command import Fault
+from vsmtools.maps import Area
+from vsmtools.searching import Reach
 
 TOOL = "vsm-load"
 SEEDS, EVERY = 20, 500
@@ -143,6 +146,30 @@ def test_a_helper_before_the_last_of_64_tasks(vsm: str) -> None:
     answer = mapped(vsm, WIDE, script)
     assert count_of(answer, " TASK") == 64
     comes_back(vsm, WIDE, answer, "a helper")
+
+
+def test_a_helper_of_two_subpools_before_the_last_of_64_tasks(vsm: str) -> None:
+    """Task 34's storage waits for addresses of task 33, which 2 leads to, and 2's for those of 64, which 34 leads to.
+    So it's made by a task that 2 attached before: by one, as 63 others are there then, and it has two subpools."""
+    requests = Requests()
+    requests.by(1, "STORAGE OBTAIN,LENGTH=256,ADDR=L")
+    requests.by(1, "POKE L,X'020506'")
+    requests.by(1, "ATTACH")
+    requests.by(2, "ATTACH SHSPL=L")
+    for tasks, worker in (([2, *range(4, 34)], 34), (list(range(34, 65)), 3)):
+        for task in tasks[:-1]:
+            requests.by(task, "ATTACH")
+        for statement, register in itertools.product(("OBTAIN", "RELEASE"), (2, 3)):
+            requests.by(tasks[-1], "STORAGE %s,LENGTH=4096,ADDR=(%d)" % (statement, register))
+        if worker == 34:
+            requests.by(1, "ATTACH")
+        for subpool in (5, 6):
+            requests.by(worker, "STORAGE OBTAIN,LENGTH=8,SP=%d" % subpool)
+    requests.by(3, "ENDTASK")
+    requests.by(64, "ATTACH")
+    answer = mapped(vsm, WIDE, requests.text())
+    assert count_of(answer, " TASK") == 64
+    comes_back(vsm, WIDE, answer, "a helper of two subpools")
 
 
 def test_orders_of_378_pairs(vsm: str) -> None:
@@ -283,7 +310,7 @@ def test_the_map_alone_and_by_a_file(run: Callable, vsm: str, tmp_path: Path) ->
 
 @pytest.mark.parametrize("kind, first, last", [
     ("building", 0, 2), ("building", 2, 4), ("lists", 0, 8), ("orders", 0, 2), ("small", 0, 100),
-    ("family", 2021, 2022)])
+    ("family", 2021, 2022), ("helpers", 0, 40)])
 def test_maps_of_generated_scripts_come_back(vsm: str, kind: str, first: int, last: int) -> None:
     for seed in range(first, last):
         assert told(vsm, kind, seed) is None, seed
@@ -317,7 +344,7 @@ def test_cell_pools_behind_others_that_go(vsm: str, monkeypatch: pytest.MonkeyPa
     lines = map_of_pools(vsm, pools, task)
     loader = loading.Loader(maps.parse_map(lines), "map")
     for is_walled in (False, True)[:task]:
-        script, faults = loader.first_script([loading.Way(False, False, is_walled, True)])
+        script, faults = loader.first_script([loading.Way(False, False, is_walled, Reach.KNOWN)])
         assert script is not None, faults
         text = "".join(line + "\n" for line in script)
         assert map_behind(vsm, [], text) == lines[:-1]
@@ -328,13 +355,17 @@ def test_cell_pools_behind_others_that_go(vsm: str, monkeypatch: pytest.MonkeyPa
             assert count <= 3
 
 
+def searching_words(*words: str, vsm: str) -> list[str]:
+    """A command that is the tool, but says at once what it tries."""
+    code = ("import runpy, sys; sys.path.insert(0, %r); from vsmtools import progress; progress.AFTER = 0; "
+            "progress.EVERY = 0; sys.argv = %r; runpy.run_path(%r, run_name='__main__')"
+            % (str(TOOLS), ["vsm-load", "--vsm", vsm, *words], str(TOOLS / TOOL)))
+    return [sys.executable, "-c", code]
+
+
 def shown_on(vsm: str, given: bytes, stream: int) -> subprocess.CompletedProcess:
     """The tool with another standard error, where it says at once what it tries."""
-    code = ("import runpy, sys; sys.path.insert(0, %r); from vsmtools import progress; progress.AFTER = 0; "
-            "progress.EVERY = 0; sys.argv = ['vsm-load', '--vsm', %r]; runpy.run_path(%r, run_name='__main__')"
-            % (str(TOOLS), vsm, str(TOOLS / TOOL)))
-    return subprocess.run([sys.executable, "-c", code], input=given, stdout=subprocess.PIPE, stderr=stream,
-                          timeout=SECONDS)
+    return subprocess.run(searching_words(vsm=vsm), input=given, stdout=subprocess.PIPE, stderr=stream, timeout=SECONDS)
 
 
 @pytest.mark.parametrize("old, new, told", [("", "", b""), (
@@ -358,6 +389,58 @@ def test_a_line_on_a_terminal_while_it_searches(vsm: str, old: str, new: str, to
 def test_no_line_on_a_pipe_while_it_searches(vsm: str) -> None:
     done = shown_on(vsm, CELLS.encode(), subprocess.PIPE)
     assert done.returncode == 0 and done.stderr == b"" and done.stdout
+
+
+def endless_map() -> str:
+    """A map of task 1 with register 1 0: 200 cell pools of 8 bytes in the middle of a page each, for which no order is
+    found in any time that a trial has."""
+    pages = Area(maps.LOW_START, 200 * maps.PAGE)
+    middles = range(maps.LOW_START + 2048, pages.end, maps.PAGE)
+    ends = [(maps.LOW_START, middles[0])] + [(one + 8, other) for one, other in zip(middles, middles[1:])] + [
+        (middles[-1] + 8, pages.end)]
+    pools = [maps.CellPool("C%d" % at, 0, 1, 8, 1, 1, 24, None, [Area(at, 8)], [at]) for at in middles]
+    shown = maps.Map([maps.Task(1, 0, True, [0] * 16)],
+                     [maps.Subpool(0, 1, [], [pages], [Area(start, end - start) for start, end in ends])],
+                     sorted(pools, key=lambda it: it.name), 200, 256, 0, 16, 1600, pages.length - 1600)
+    return "".join(line + "\n" for line in maps.map_lines(shown))
+
+
+@pytest.mark.parametrize("seconds, told", [("0.5", "0.5"), ("1", "1")])
+def test_a_search_is_given_up(run: Callable, vsm: str, seconds: str, told: str) -> None:
+    done = run(TOOL, "--vsm", vsm, "--low", 1024, "--seconds", seconds, given=endless_map().encode())
+    assert done.returncode == 8 and done.stdout == b""
+    assert one_line(done, TOOL) == "standard input: given up behind %s seconds, before the search was finished: " \
+        "whether a list of statements makes this isn't known" % told
+
+
+@pytest.mark.parametrize("seconds", ["0", "-1", "nan", "soon"])
+def test_no_such_seconds(run: Callable, vsm: str, seconds: str) -> None:
+    done = run(TOOL, "--vsm", vsm, "--seconds=" + seconds, given=CELLS.encode())
+    assert done.returncode == 16 and "--seconds" in one_line(done, TOOL)
+
+
+def test_a_search_that_ends_within_its_seconds(run: Callable, vsm: str) -> None:
+    done = run(TOOL, "--vsm", vsm, "--seconds", 60, given=CELLS.encode())
+    assert done.returncode == 0 and done.stderr == b"" and done.stdout
+
+
+def test_a_search_is_stopped(vsm: str, tmp_path: Path) -> None:
+    """By Ctrl+C, once it says that it searches."""
+    path = tmp_path / "map"
+    path.write_text(endless_map())
+    lead, end = pty.openpty()
+    child = subprocess.Popen(searching_words("--low", "1024", str(path), vsm=vsm), stdout=subprocess.PIPE, stderr=end)
+    os.close(end)
+    text = b""
+    while b"tried .." not in text:
+        text += os.read(lead, 1 << 16)
+    child.send_signal(signal.SIGINT)
+    made = child.communicate(timeout=SECONDS)[0]
+    text = os.read(lead, 1 << 20)
+    os.close(lead)
+    assert child.returncode == 8 and made == b""
+    assert text.split(b"\r")[-2].decode().strip() == (
+        "vsm-load: %s: stopped, before the search was finished: whether a list of statements makes this isn't known" % path)
 
 
 # What is no map.

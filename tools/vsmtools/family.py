@@ -15,7 +15,7 @@ What sets register 1 to another word comes before what sets it for the last time
 from __future__ import annotations
 
 import heapq
-from dataclasses import dataclass, field
+from dataclasses import dataclass, field, replace
 from itertools import combinations, product
 from typing import Callable, Iterable, Optional
 
@@ -31,6 +31,7 @@ Option = list[tuple[Event, Event]]  # pairs of events, the first of which comes 
 RANKS = {kind: k for k, kind in enumerate(("end", "mark", "done", "words", "first", "create", "temp", "make", "begin",
                                            "help"))}
 FIRST_GO = 100     # so many dead ends are met before Choices begins anew
+FIRST_CROWDS = 2   # so often numbers are wanting before helpers may be one task
 
 
 @dataclass(frozen=True)
@@ -40,13 +41,14 @@ class Maker:
     a subpool that stays empty makes it so ("gift")."""
     task: int
     how: str
+    team: Optional[int] = None    # the helper, where Course says which; helpers of a team are one task
 
 
 @dataclass
 class Helper:
     """A task for the work on subpools: which task attaches it, and whose storage it makes."""
     actor: int
-    before: int                                      # the child that gets these subpools, or 0
+    team: Optional[int]
     serves: list[Key] = field(default_factory=list)
 
 
@@ -83,7 +85,7 @@ class Family:
         self.at = {key: k for k, key in enumerate(self.made)}
         self.words = places.all_words()
         self.place: dict[Event, int] = {}      # the places of events in an order that is known
-        self.is_apart = False    # whether each subpool that a helper works for has a helper of its own
+        self.is_placed = False   # whether `place` is of an order of all events
         self.is_late = False     # whether words are had behind the storage, where they can
         self.is_build_last = False     # whether BUILD alone comes behind tasks that obtain, in subpool 0 too
         self.before: Order = {}                # what comes before what, when all is planned
@@ -161,7 +163,9 @@ class Family:
         return self.wants
 
     def is_behind(self, it: Words) -> bool:
-        """Whether words are had behind the storage that they lie in."""
+        """Whether words are had behind the storage that they lie in. No order of events needs that: a task that has
+        some behind could make the storage itself, right behind the last such words, and all be had before. But a
+        cell pool of a moment, for an address between doublewords, may be one too many before."""
         return self.is_late and bool(it.homes)
 
     def line_of(self, task: int) -> set[int]:
@@ -175,18 +179,16 @@ class Family:
     def choose(self, makers: dict[Key, Maker]) -> None:
         """Takes who makes what, with the helpers and the gifts that this asks for."""
         self.makers, self.chains, self.twice = makers, {}, {}
-        helpers: dict[tuple[int, int, Optional[Key]], Helper] = {}
+        helpers: dict[tuple[int, int, Optional[int]], Helper] = {}
         for key, chain in self.shortest.items():
             maker = makers.get(key)
             if maker and maker.task not in chain and maker.task not in self.subpools[key].sharers:
                 chain = [maker.task] + chain
             self.chains[key] = chain
             if maker and maker.how == "help":
-                at = chain.index(maker.task) + 1 if maker.task in chain else len(chain)
-                place = maker.task, chain[at] if at < len(chain) else 0, key if self.is_apart else None
-                if place not in helpers:
-                    helpers[place] = Helper(*place[:2])
-                helpers[place].serves.append(key)
+                at = chain.index(maker.task) + 1 if maker.task in chain and maker.team is None else len(chain)
+                place = maker.task, chain[at] if at < len(chain) else 0, maker.team
+                helpers.setdefault(place, Helper(maker.task, maker.team)).serves.append(key)
         self.helpers = list(helpers.values())
 
     # What comes before what.
@@ -313,7 +315,7 @@ class Family:
         if not (empty and wanted) or len(self.made) < len(self.all_made):
             return
         known = set().union(*(closure(before, event, set()) for event in empty))
-        place = self.place if self.is_apart else {event: k for k, event in enumerate(sort(before))}
+        place = self.place if self.is_placed else {event: k for k, event in enumerate(sort(before))}
         for keys in wanted:
             makes = [("make", self.at[key]) for key in keys]
             ready = [event for event in makes if event in place and event not in known]
@@ -353,20 +355,24 @@ class Family:
         return self.chosen(options)
 
     def chosen(self, options: dict[Key, list[Maker]]) -> list[Event]:
-        """An order of all events, by the makers and orders that Course finds."""
+        """An order of all events, by the makers and orders that Course finds: with a helper for each subpool, or, if
+        there are no numbers for these, with some that are one task."""
         course = Course(self, options)
         order = course.find()
+        if order is None and course.is_crowded:
+            course = Course(self, options, True)
+            order = course.find()
         if order is None:
             raise Fault("this can't be made: whatever task makes the storage, it waits for itself"
                         + ", or for a further task, and there are %d" % MOST_TASKS * course.is_crowded,
                         self.source, self.subpools[course.stuck].line if course.stuck else self.map.bytes_line)
         self.place = {event: k for k, event in enumerate(order)}
-        self.is_apart = True
+        self.is_placed = True
         self.choose(course.makers)
         self.before = arranged(*self.needs(), self.place)
-        own = {("help", self.at[helper.serves[0]]): k for k, helper in enumerate(self.helpers)}
-        self.numbers = {k: self.numbers[number] for (_, number), k in own.items()}
-        return [(kind, own["help", number]) if kind in ("help", "done") else (kind, number)
+        own = {helper.team: k for k, helper in enumerate(self.helpers)}
+        self.numbers = {k: self.numbers[team] for team, k in own.items() if team is not None}
+        return [(kind, own[number]) if kind in ("help", "done") else (kind, number)
                 for kind, number in order if kind not in ("begin", "end", "mark")]
 
     def crowd(self, order: list[Event]) -> list[Option]:
@@ -407,12 +413,17 @@ class Course:
     order a task sees the subpools of a number that it makes and gives.
 
     While a task sees a subpool is a block; where storage may be made in it, or it may end with no event, it has a
-    "begin" and an "end", which have a place in any order where nothing comes between. A helper is there for one
-    subpool alone, as that takes it the least time; "mark" comes behind one that stays empty and takes storage.
+    "begin" and an "end", which have a place in any order where nothing comes between. "mark" comes behind a subpool
+    that stays empty and takes storage.
+
+    A helper is there for one subpool alone, as that takes it the least time: so if there's no order without regard to
+    numbers, there's none with fewer helpers either. Where just numbers are wanting, those that one task attaches may be
+    one task (`is_joint`), which then sees all their subpools at once. A team has the number of the first subpool that
+    it works for, so that each way to part the subpools in teams is one of the choices.
     """
 
-    def __init__(self, family: Family, options: dict[Key, list[Maker]]) -> None:
-        self.family, self.is_crowded = family, False
+    def __init__(self, family: Family, options: dict[Key, list[Maker]], is_joint: bool = False) -> None:
+        self.family, self.is_joint, self.is_crowded = family, is_joint, False
         self.stuck: Optional[Key] = None     # where there's no order, the subpool that nothing could make most often
         self.before = family.bare()
         self.makers: dict[Key, Maker] = {}
@@ -421,7 +432,9 @@ class Course:
         self.sights = family.sights()
         self.above: dict[tuple[int, int], list[Key]] = {}      # subpools that a task may make and give
         self.works: set[tuple[Key, int]] = set()               # blocks in which storage may be made
-        self.options = {key: [it for it in makers if self.is_possible(key, it)] for key, makers in options.items()}
+        possible = {key: [it for it in makers if self.is_possible(key, it)] for key, makers in options.items()}
+        self.options = {key: [team for it in makers for team in self.teams(key, it, possible)]
+                        for key, makers in possible.items()}
         for key, makers in self.options.items():
             self.works.update((key, it.task) for it in makers)
             for task in {it.task for it in makers if self.is_above(key, it)}:
@@ -433,6 +446,17 @@ class Course:
 
     def is_above(self, key: Key, maker: Maker) -> bool:
         return maker.task not in (*self.family.shortest[key], *self.family.subpools[key].sharers)
+
+    def teams(self, key: Key, maker: Maker, possible: dict[Key, list[Maker]]) -> list[Maker]:
+        """A maker with each helper that it can be: one of its own, or of a team with another subpool. possible: the
+        makers of all subpools."""
+        number = self.family.at[key]
+        if maker.how != "help":
+            return [maker]
+        if not self.is_joint:
+            return [replace(maker, team=number)]
+        return [replace(maker, team=maker.task * len(self.family.made) + self.family.at[other])
+                for other, makers in possible.items() if self.family.at[other] <= number and maker in makers]
 
     def is_possible(self, key: Key, maker: Maker) -> bool:
         """Whether a task above the first owner can make a subpool: it or that one may see another to the end."""
@@ -469,16 +493,17 @@ class Course:
         return sorted(block.events)
 
     def see(self, place: tuple[int, int]) -> None:
-        """The blocks of a task for a subpool's number."""
+        """The blocks of a task for a subpool's number. Where it only may make and give one, nothing holds the begin and
+        the end together but `given`: if it doesn't, they're in nothing's way."""
         task, keys = place[0], self.sights.get(place, [])
         first, middle, last = self.family.parts(task, keys)
-        middle += self.above.get(place, [])
         for key in first + middle + last:
-            block = self.family.block(key, task) if key in keys else Block()
+            block = self.family.block(key, task)
             ends = set(self.end(key, task)) - block.events
             begins = self.begin(key, task) if (key, task) in self.works else []
             for pair in [*product(block.all, ends), *product(begins, block.all | ends)]:
                 self.put(*pair)
+        middle += self.above.get(place, [])
         for one, other in [*product(first, middle + last), *product(middle, last)]:
             for pair in product(self.end(one, task), self.begin(other, task)):
                 self.put(*pair)
@@ -500,11 +525,11 @@ class Course:
         """What comes before what where a task makes a subpool's storage."""
         family, task, number = self.family, maker.task, self.family.at[key]
         make, last = ("make", number), family.last(task)
-        event = ("help", number) if maker.how == "help" else make
+        event = ("help", maker.team or 0) if maker.how == "help" else make
         found = [(self.own("begin", key, task), event)] + [(event, it) for it in self.end(key, task)]
         found += [(("create", task), event)] if task != 1 else []
         found += [(event, last)] if last and maker.how in ("self", "help") else []
-        found += [(event, make), (make, ("done", number))] if maker.how == "help" else []
+        found += [(event, make), (make, ("done", event[1]))] if maker.how == "help" else []
         found += [(make, ("mark", number))] if maker.how == "build" and not family.subpools[key].extents else []
         chain = [task] * self.is_above(key, maker) + family.shortest[key]
         if task in chain[:-1]:
@@ -524,8 +549,9 @@ class Course:
         return found
 
     def find(self) -> Optional[list[Event]]:
-        """An order of all events; None where there's none. Where no number is left for a helper in the order that
-        comes of the choices, that's one more choice, as `crowd` has it."""
+        """An order of all events; None where there's none, or where helpers may have to be one task. Where no number is
+        left for a helper in the order that comes of the choices, that's one more choice, as `crowd` has it."""
+        own = len(self.choices)
         for event in {event for options in self.choices for option in options for pair in option for event in pair}:
             self.before.setdefault(event, set())
         while not circles(self.before):
@@ -538,21 +564,26 @@ class Course:
             for one, other in (pair for option in taken for pair in option):
                 found[other].add(one)
             self.makers = dict(self.made_by(taken))
-            order = in_turn({event: others for event, others in found.items() if self.is_there(event)})
+            order = in_turn(self.without_unneeded(found))
             crowd = self.family.crowd(order)
             if not crowd:
                 return order
             self.is_crowded = True
             self.choices.append(crowd)
+            if not self.is_joint and len(self.choices) - own == FIRST_CROWDS:
+                return None
         return None
 
     def made_by(self, taken: list[Option]) -> Iterable[tuple[Key, Maker]]:
         for (key, makers), options, option in zip(self.options.items(), self.choices, taken):
             yield key, next(maker for maker, it in zip(makers, options) if it is option)
 
-    def is_there(self, event: Event) -> bool:
-        """Whether an event is none of a helper that isn't needed."""
-        return event[0] not in ("help", "done") or self.makers[self.family.made[event[1]]].how == "help"
+    def without_unneeded(self, before: Order) -> Order:
+        """An order without the events of helpers that aren't needed. There's none between two others: what isn't
+        attached only ends before something, or begins behind it."""
+        needed = {it.team for it in self.makers.values() if it.how == "help"}
+        unneeded = {event for event in before if event[0] in ("help", "done") and event[1] not in needed}
+        return {event: others - unneeded for event, others in before.items() if event not in unneeded}
 
 
 class Choices:

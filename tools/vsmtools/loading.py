@@ -19,7 +19,7 @@ from .judge import MOST_POOLS, Judge, Refused, refuse
 from .lines import fold
 from .maps import HIGH_START, LOW_START, PAGE, Area, CellPool, Map, Subpool
 from .places import Home, Key, Places, Words, location, unassigned
-from .searching import Search
+from .searching import Reach, Search
 from .walls import Walls
 
 NO_LENGTH = 0xFFFFFFF8   # that has a place nowhere
@@ -49,11 +49,11 @@ class NoOrder(Fault):
 
 
 class Way(NamedTuple):
-    """How a map is tried: with words behind the storage, BUILD alone last, walls, a search for all orders."""
+    """How a map is tried: with words behind the storage, BUILD alone last, walls, and how far orders are searched."""
     is_late: bool
     is_last: bool
     is_walled: bool
-    is_whole: bool = False
+    reach: Reach = Reach.FIRST
 
 
 class Script:
@@ -104,23 +104,37 @@ class Loader:
         self.built = 0                           # cell pools that are there
         self.done: set[Event] = set()
         self.walls = Walls(self, {})
-        self.is_whole = False                    # whether all orders of BUILDs are looked through
+        self.reach = Reach.FIRST                 # how far orders of BUILDs are searched
 
     def load(self) -> list[str]:
         """The script. Where it can't be made with all addresses had before the storage and with as much built by
         BUILD alone as can be, other ways are tried; those for which no order of BUILDs was found at once are then
-        searched whole. What's told is why the first one fails."""
+        searched by all fillers that are known to help, and at last by all states. What's told is why the first one
+        fails.
+
+        Where no task can obtain, there's one way, and all states are a proof. Where some can, it's none: they may have
+        areas at other times than in these ways, so it's told that no script was found."""
         has_homes, can_obtain = any(it.homes for it in self.family.words), any(self.first.values())
         ways = [Way(*way) for way in product(*((False, True)[:1 + can] for can in (
             has_homes, can_obtain, can_obtain)))]
         script, faults = self.first_script(ways)
         if script is None:
             self.judge_pools()
-            script, _ = self.first_script([way._replace(is_whole=True) for way, fault in zip(ways, faults)
-                                           if isinstance(fault, NoOrder)][::-1])
+            script = self.searched([way for way, fault in zip(ways, faults) if isinstance(fault, NoOrder)][::-1])
+        if script is None and not can_obtain and isinstance(faults[0], NoOrder):
+            refuse(self.source, faults[0].line or 0, "no order of BUILDs and DELETEs leads there that has at most %d "
+                   "cell pools at once" % MOST_POOLS)
         if script is None:
             raise faults[0]
         return script
+
+    def searched(self, ways: list[Way]) -> Optional[list[str]]:
+        """The script of the first way for which an order of BUILDs is found by a longer search."""
+        for reach in (Reach.KNOWN, Reach.ALL):
+            script, _ = self.first_script([way._replace(reach=reach) for way in ways])
+            if script is not None:
+                return script
+        return None
 
     def first_script(self, ways: list[Way]) -> tuple[Optional[list[str]], list[Fault]]:
         """The script of the first of some ways by which the map can be made; and why others before it fail."""
@@ -128,7 +142,7 @@ class Loader:
         for way in ways:
             loader = Loader(self.map, self.source, self.tell)
             loader.family.is_late, loader.family.is_build_last = way.is_late, way.is_last
-            loader.is_whole = way.is_whole
+            loader.reach = way.reach
             try:
                 return loader.write(way.is_walled), faults
             except Refused:
@@ -457,10 +471,10 @@ class Loader:
         keeper, is_walled = self.close_walls()
         runs = [run for side in (24, 31) for run in (self.unmade if is_walled else self.unassigned)(side)]
         builder = Builder(runs, wanted, MOST_POOLS - self.built, is_walled, bool(keeper))
-        steps = Search(builder, self.is_whole, self.tell).plan()
+        steps = Search(builder, self.reach, self.tell).plan()
         if steps is None:
-            raise NoOrder("this can't be made: no order of BUILDs is found that takes at most %d cell pools at once"
-                          % MOST_POOLS, self.source, its[0].line)
+            raise NoOrder("no script is found: BUILD alone makes this, and in no order that was tried with at most %d "
+                          "cell pools at once" % MOST_POOLS, self.source, its[0].line)
         self.build_steps(steps, keeper)
         self.built += len(wanted)
         self.made.update(keys)

@@ -1,11 +1,37 @@
-"""A line on a terminal that tells that a search goes on."""
+"""A line on a terminal that tells that a search goes on, and the time after which it's given up."""
 from __future__ import annotations
 
+import signal
 import sys
 import time
+from contextlib import contextmanager
+from typing import Iterator, NoReturn, Optional
 
 AFTER = 2.0      # seconds before the line is shown
 EVERY = 0.2      # seconds before it's shown anew
+
+
+class TimeUp(Exception):
+    """The time for a search is over."""
+
+
+def time_is_up(_number: int, _frame: object) -> NoReturn:
+    raise TimeUp
+
+
+@contextmanager
+def time_limit(seconds: Optional[float]) -> Iterator[None]:
+    """Raises TimeUp in what is done meanwhile, once so many seconds are over; None: never.
+
+    By a signal, as what is done between two tries may take long too.
+    """
+    old = signal.signal(signal.SIGALRM, time_is_up)
+    signal.setitimer(signal.ITIMER_REAL, seconds or 0)
+    try:
+        yield
+    finally:
+        signal.setitimer(signal.ITIMER_REAL, 0)
+        signal.signal(signal.SIGALRM, old)
 
 
 class Progress:

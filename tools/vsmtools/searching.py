@@ -7,35 +7,48 @@ and takes pages behind it. That takes the pool's place in the state, and the sea
 where that leads nowhere. A state of which `core` shows that nothing makes it is left at once, one that was met
 before too.
 
-Of all that could be there before a pool, those are tried that begin or end where gaps, pages and pools do, or are just
-as long as a gap or a doubleword longer: which gaps a filler fits depends on that alone. That these are enough isn't
-shown but tried: in small regions nothing is missed that any list of BUILDs and DELETEs makes.
+Of all that could be there before a pool, those are tried first that begin or end where gaps, pages and pools do, or are
+just as long as a gap or a doubleword longer: which gaps a filler fits depends on that alone. That these are enough
+isn't shown but tried: in small regions nothing is missed that any list of BUILDs and DELETEs makes. So where they lead
+nowhere, all states are looked through: the step before one was the BUILD of one of its pools, or the DELETE of some
+filler, and each filler that there's room for is tried. No state is met twice, and there are finitely many: each is a
+set of at most 256 pools, a pool being two addresses among the doublewords of the pages, a subpool and a side. So that
+ends, though seldom soon; what it finds no order for, nothing makes.
 """
 from __future__ import annotations
 
+from enum import IntEnum
 from itertools import product
 from typing import Callable, Iterable, Iterator, Optional
 
-from .building import Build, Builder, Ground, Step, Turn, core, page_end, page_start
+from .building import Build, Builder, Ground, Step, Turn, core, page_end, page_start, shape
 from .maps import PAGE, Area
 from .places import Key, location
 
 FIRST_GO = 20      # so many dead ends are met at first, with few fillers for each pool
+
+
+class Reach(IntEnum):
+    """How far a search goes."""
+    FIRST = 0      # few fillers for each pool, and few dead ends
+    KNOWN = 1      # all fillers that are known to help, and all states that they lead to
+    ALL = 2        # then all states
+
+
 Move = tuple[list[Turn], list[Build]]     # what comes last, and what is left
 
 
-def span(it: Build, start: int, end: int) -> Build:
-    """A filler in the subpool of a pool."""
-    return Build(Area(start, end - start), it.key, location(start))
+def span(key: Key, start: int, end: int) -> Build:
+    """A filler in a subpool."""
+    return Build(Area(start, end - start), key, location(start))
 
 
 class Search:
     """Looks for the order of a builder's pools."""
 
-    def __init__(self, builder: Builder, is_whole: bool, tell: Callable[[], None] = lambda: None) -> None:
-        """is_whole: whether all fillers are tried that are known to help, and as many states as there are. tell is
-        called for each try."""
-        self.builder, self.is_whole, self.tell = builder, is_whole, tell
+    def __init__(self, builder: Builder, reach: Reach, tell: Callable[[], None] = lambda: None) -> None:
+        """tell is called for each try."""
+        self.builder, self.is_whole, self.is_all, self.tell = builder, reach > Reach.FIRST, reach == Reach.ALL, tell
         self.seen: set[frozenset[tuple[int, int, Key, int]]] = set()
 
     def plan(self) -> Optional[list[Step]]:
@@ -81,6 +94,37 @@ class Search:
         return not core(left, self.builder.most)
 
     def moves(self, left: list[Build]) -> Iterator[Move]:
+        """What the step before a state may have been, and what was there before it."""
+        if not self.is_all:
+            yield from self.known_moves(left)
+        elif len(left) < self.builder.most:
+            for filler in self.fillers(left):
+                self.tell()
+                yield [Turn(filler, [Step(False, filler)])], left + [filler]
+
+    def fillers(self, left: list[Build]) -> Iterator[Build]:
+        """All that there's room for beside some pools."""
+        ground = Ground(self.builder.runs, left)
+        for key, gaps in self.rooms(ground).items():
+            for gap in gaps:
+                for start in range(gap.start, gap.end, 8):
+                    yield from (span(key, start, end) for end in range(start + 8, gap.end + 1, 8)
+                                if shape(end - start))
+
+    def rooms(self, ground: Ground) -> dict[Key, list[Area]]:
+        """For each subpool where a pool of it can be: in its free areas and unassigned pages, one behind another."""
+        found: dict[Key, list[Area]] = {}
+        for key in dict.fromkeys(it.key for it in self.builder.wanted):
+            found[key] = []
+            for area in sorted(ground.gaps(key) + ground.unassigned(), key=lambda area: area.start):
+                last = found[key][-1] if found[key] else None
+                if last and last.end == area.start and location(last.start) == location(area.start):
+                    found[key][-1] = Area(last.start, last.length + area.length)
+                else:
+                    found[key].append(area)
+        return found
+
+    def known_moves(self, left: list[Build]) -> Iterator[Move]:
         """Each pool that can come last if something was there before others, which is in its place then."""
         for at, it in enumerate(left):
             others = left[:at] + left[at + 1:]
@@ -99,14 +143,13 @@ class Search:
         ground, found = Ground(self.builder.runs, left), {}
         runs = ground.unassigned()
         for key in ground.taken:
-            it = next(it for it in left if it.key == key)
             lengths = self.lengths_of(ground, key)
             for gap, run in product(ground.gaps(key), runs):
                 if gap.end == run.start and gap.start % PAGE:
                     ends = {run.start + PAGE - length for length in lengths | {0}}
-                    found.update({span(it, gap.start, end): None for end in ends if run.start < end})
+                    found.update({span(key, gap.start, end): None for end in ends if run.start < end})
                 elif run.end == gap.start:
-                    found[span(it, run.start, gap.end)] = None
+                    found[span(key, run.start, gap.end)] = None
         return list(found)
 
     def steps_behind(self, it: Build, others: list[Build], before: list[Build]) -> Optional[list[Step]]:
@@ -140,7 +183,7 @@ class Search:
         if self.is_whole:
             begins |= {least} | {start - length for length in self.lengths(it)}
         least = max(least, 0 if builder.is_closed else page_start(start))
-        return [[]] + [[span(it, begin, start)] for begin in sorted(begins) if least <= begin < start]
+        return [[]] + [[span(it.key, begin, start)] for begin in sorted(begins) if least <= begin < start]
 
     def holders(self, it: Build) -> list[list[Build]]:
         """What may hold a pool's last page, behind it."""
@@ -150,7 +193,7 @@ class Search:
         begins = {end} | {them[0].area.start for them in self.builder.holders(it) if them}
         ends = {last} | ({min(self.next_taken(it, last), last + PAGE)} if self.builder.is_closed else set())
         found = {(begin, to) for begin in begins for to in ends | {begin + length for length in self.lengths(it)}}
-        return [[]] + [[span(it, *ends)] for ends in sorted(found) if end <= ends[0] < min(last, ends[1])]
+        return [[]] + [[span(it.key, *ends)] for ends in sorted(found) if end <= ends[0] < min(last, ends[1])]
 
     def next_taken(self, it: Build, address: int) -> int:
         """Where what is behind an address begins, or the page of another subpool."""
