@@ -19,7 +19,7 @@ from __future__ import annotations
 from bisect import bisect_left, insort
 from dataclasses import dataclass
 from functools import lru_cache
-from typing import Iterable, NamedTuple, Optional
+from typing import Iterable, Iterator, NamedTuple, Optional
 
 from .judge import MOST_CELLS
 from .maps import HIGH_START, PAGE, Area, CellPool
@@ -63,71 +63,84 @@ class Ground:
         self.runs = sorted(runs, key=lambda run: run.start)
         self.taken: dict[Key, list[tuple[int, int]]] = {}
         self.spans: list[tuple[int, int]] = []       # the pages of each pool
-        self.known: dict[Key, list[Area]] = {}       # the free areas of subpools, as far as they were asked for
+        # The free areas of subpools, and where they begin. They're found anew just where something comes or goes, as a
+        # search asks for them thousands of times.
+        self.known: dict[Key, list[Area]] = {}
+        self.begins: dict[Key, list[int]] = {}
         for it in builds:
             self.add(it)
 
     def add(self, it: Build) -> None:
-        insort(self.taken.setdefault(it.key, []), (it.area.start, it.area.end))
+        areas, area = self.taken.setdefault(it.key, []), (it.area.start, it.area.end)
+        at = bisect_left(areas, area)
+        areas.insert(at, area)
         insort(self.spans, (page_start(it.area.start), page_end(it.area.end)))
-        self.known.pop(it.key, None)
+        self.gaps_anew(it.key, at, at + 1)
 
     def remove(self, it: Build) -> None:
-        self.taken[it.key].remove((it.area.start, it.area.end))
-        self.spans.remove((page_start(it.area.start), page_end(it.area.end)))
-        self.known.pop(it.key, None)
+        areas = self.taken[it.key]
+        at = bisect_left(areas, (it.area.start, it.area.end))
+        assert areas.pop(at) == (it.area.start, it.area.end)
+        del self.spans[bisect_left(self.spans, (page_start(it.area.start), page_end(it.area.end)))]
+        self.gaps_anew(it.key, at, at)
 
     def gaps(self, key: Key) -> list[Area]:
         """The free areas of a subpool."""
-        if key not in self.known:
-            self.known[key] = self.gaps_now(key)
-        return self.known[key]
+        return self.known.get(key, [])
 
-    def gaps_now(self, key: Key) -> list[Area]:
-        found, at = [], 0
-        for start, end in self.taken.get(key, ()):
-            if page_start(start) > page_end(at):
-                found += [(at, page_end(at)), (page_start(start), start)]
-            else:
-                found.append((at, start))
-            at = end
-        return [Area(start, end - start) for start, end in found + [(at, page_end(at))] if start < end]
+    def gaps_anew(self, key: Key, first: int, last: int) -> None:
+        """Finds the free areas anew right before what is taken from the first place up to the last one."""
+        areas, found = self.taken[key], []
+        start = at = areas[first - 1][1] if first else 0
+        for k in range(first, last + 1):
+            begin = areas[k][0] if k < len(areas) else None
+            found += gaps_between(at, begin)
+            at = areas[k][1] if k < len(areas) else at
+        gaps, begins = self.known.setdefault(key, []), self.begins.setdefault(key, [])
+        end = areas[last][0] if last < len(areas) else None
+        old = slice(bisect_left(begins, start), len(begins) if end is None else bisect_left(begins, end))
+        gaps[old], begins[old] = found, [gap.start for gap in found]
 
     def is_own(self, key: Key, address: int) -> bool:
         """Whether the page of an address is a subpool's."""
         page = page_start(address)
         return any(start < page + PAGE and page < end for start, end in self.taken.get(key, ()))
 
-    def unassigned(self) -> list[Area]:
-        """The runs of unassigned pages."""
-        spans = self.spans
-        found: list[Area] = []
-        k = 0
+    def unassigned(self) -> Iterator[Area]:
+        """The runs of unassigned pages, from the lowest on."""
+        spans, k = self.spans, 0
         for run in self.runs:
             at = run.start
             while k < len(spans) and spans[k][1] <= at:
                 k += 1
             while k < len(spans) and spans[k][0] < run.end:
                 if spans[k][0] > at:
-                    found.append(Area(at, spans[k][0] - at))
+                    yield Area(at, spans[k][0] - at)
                 at = max(at, spans[k][1])
                 k += 1
             if at < run.end:
-                found.append(Area(at, run.end - at))
-        return found
+                yield Area(at, run.end - at)
 
     def fit(self, key: Key, length: int, side: int) -> Optional[Area]:
         """The free area or the run of pages where a BUILD goes, to its first byte."""
-        gaps, runs = [area for area in self.gaps(key) if area.length >= length], None
         for each in (31, 24) if side == 31 else (24,):
-            for area in gaps:
-                if location(area.start) == each:
-                    return area
-            runs = self.unassigned() if runs is None else runs
-            for area in runs:
-                if area.length >= length and location(area.start) == each:
-                    return area
+            for areas in (self.gaps(key), self.unassigned()):
+                for area in areas:
+                    if area.length >= length and location(area.start) == each:
+                        return area
         return None
+
+
+def gaps_between(at: int, begin: Optional[int]) -> list[Area]:
+    """The free areas of a subpool behind something that ends at an address and before what begins next, if anything
+    does."""
+    if begin is None:
+        found = [(at, page_end(at))]
+    elif page_start(begin) > page_end(at):
+        found = [(at, page_end(at)), (page_start(begin), begin)]
+    else:
+        found = [(at, begin)]
+    return [Area(start, end - start) for start, end in found if start < end]
 
 
 class Builder:

@@ -116,7 +116,7 @@ class Search:
         found: dict[Key, list[Area]] = {}
         for key in dict.fromkeys(it.key for it in self.builder.wanted):
             found[key] = []
-            for area in sorted(ground.gaps(key) + ground.unassigned(), key=lambda area: area.start):
+            for area in sorted([*ground.gaps(key), *ground.unassigned()], key=lambda area: area.start):
                 last = found[key][-1] if found[key] else None
                 if last and last.end == area.start and location(last.start) == location(area.start):
                     found[key][-1] = Area(last.start, last.length + area.length)
@@ -141,7 +141,7 @@ class Search:
     def wide(self, left: list[Build]) -> list[Build]:
         """Fillers that are in a gap and in unassigned pages too, so that one is enough where two would be needed."""
         ground, found = Ground(self.builder.runs, left), {}
-        runs = ground.unassigned()
+        runs = list(ground.unassigned())
         for key in ground.taken:
             lengths = self.lengths_of(ground, key)
             for gap, run in product(ground.gaps(key), runs):
