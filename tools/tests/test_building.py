@@ -1,12 +1,13 @@
 """The order of cell pools that BUILD and DELETE alone make, against all lists of them in a small region."""
 from __future__ import annotations
 
+import random
 from itertools import chain, combinations
 from typing import Iterator, Optional
 
 import pytest
 from vsmtools import building, searching
-from vsmtools.building import Build, Builder, core
+from vsmtools.building import Build, Builder, Ground, core
 from vsmtools.maps import Area
 from vsmtools.searching import Reach, Search
 
@@ -64,6 +65,38 @@ class Region:
             for end in range(begin + 1, min(begin + 2 * self.words, self.words * self.pages) + 1):
                 if begin % self.words == 0 or -(-begin // self.words) * self.words + self.words > end:
                     yield from (((begin, end), *rest) for rest in self.maps(end, most - 1))
+
+
+def joined(words: set[int]) -> list[Area]:
+    """The runs of some doublewords."""
+    begins = sorted(word for word in words if word - 1 not in words)
+    ends = sorted(word + 1 for word in words if word + 1 not in words)
+    return [Area(8 * start, 8 * (end - start)) for start, end in zip(begins, ends)]
+
+
+def test_free_areas_and_pages_against_doublewords(monkeypatch: pytest.MonkeyPatch) -> None:
+    """Cell pools of two subpools that come and go, in two runs of pages of four doublewords."""
+    monkeypatch.setattr(building, "PAGE", 32)
+    chance, runs = random.Random(1), [Area(0, 8 * 32), Area(10 * 32, 4 * 32)]
+    for _ in range(20):
+        ground, there = Ground(runs, []), []
+        for _ in range(100):
+            if there and chance.random() < 0.4:
+                ground.remove(there.pop(chance.randrange(len(there))))
+                continue
+            key, length = (0, chance.choice((1, 2))), 8 * chance.choice((1, 2, 3, 5, 8))
+            place = ground.fit(key, length, 24)
+            if place is not None:
+                there.append(Build(Area(place.start, length), key, 24))
+                ground.add(there[-1])
+            left = {word for run in runs for word in range(run.start // 8, run.end // 8)}
+            for owner in (1, 2):
+                taken = {word for it in there if it.key == (0, owner)
+                         for word in range(it.area.start // 8, it.area.end // 8)}
+                own = {4 * (word // 4) + k for word in taken for k in range(4)}
+                assert ground.gaps((0, owner)) == joined(own - taken)
+                left -= own
+            assert list(ground.unassigned()) == joined(left)
 
 
 @pytest.mark.parametrize("words, pages, most", [(4, 3, 2), (4, 2, 3), (3, 3, 4), (2, 4, 3)])

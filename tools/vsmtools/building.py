@@ -19,11 +19,15 @@ from __future__ import annotations
 from bisect import bisect_left, insort
 from dataclasses import dataclass
 from functools import lru_cache
+from itertools import takewhile
 from typing import Iterable, Iterator, NamedTuple, Optional
 
 from .judge import MOST_CELLS
 from .maps import HIGH_START, PAGE, Area, CellPool
 from .places import Key, location
+
+
+END = 1 << 32       # of all addresses
 
 
 def page_start(address: int) -> int:
@@ -63,6 +67,7 @@ class Ground:
         self.runs = sorted(runs, key=lambda run: run.start)
         self.taken: dict[Key, list[tuple[int, int]]] = {}
         self.spans: list[tuple[int, int]] = []       # the pages of each pool
+        self.holes: list[tuple[int, int]] = [(0, END)]    # the pages of none
         # The free areas of subpools, and where they begin. They're found anew just where something comes or goes, as a
         # search asks for them thousands of times.
         self.known: dict[Key, list[Area]] = {}
@@ -74,15 +79,33 @@ class Ground:
         areas, area = self.taken.setdefault(it.key, []), (it.area.start, it.area.end)
         at = bisect_left(areas, area)
         areas.insert(at, area)
-        insort(self.spans, (page_start(it.area.start), page_end(it.area.end)))
+        start, end = span = page_start(it.area.start), page_end(it.area.end)
+        place = bisect_left(self.spans, span)
+        self.holes_anew(place, [(self.end_of(place - 1), start), (end, self.start_of(place))])
+        self.spans.insert(place, span)
         self.gaps_anew(it.key, at, at + 1)
 
     def remove(self, it: Build) -> None:
         areas = self.taken[it.key]
         at = bisect_left(areas, (it.area.start, it.area.end))
-        assert areas.pop(at) == (it.area.start, it.area.end)
-        del self.spans[bisect_left(self.spans, (page_start(it.area.start), page_end(it.area.end)))]
+        del areas[at]
+        place = bisect_left(self.spans, (page_start(it.area.start), page_end(it.area.end)))
+        del self.spans[place]
+        self.holes_anew(place, [(self.end_of(place - 1), self.start_of(place))])
         self.gaps_anew(it.key, at, at)
+
+    def end_of(self, place: int) -> int:
+        """Where the pages of a pool end, and so those of all before it, as pools lie one behind another."""
+        return self.spans[place][1] if place >= 0 else 0
+
+    def start_of(self, place: int) -> int:
+        return self.spans[place][0] if place < len(self.spans) else END
+
+    def holes_anew(self, place: int, found: list[tuple[int, int]]) -> None:
+        """Takes what was found right before a pool in place of what was there."""
+        first = bisect_left(self.holes, (self.end_of(place - 1), 0))
+        last = bisect_left(self.holes, (self.start_of(place), 0))
+        self.holes[first:last] = [hole for hole in found if hole[0] < hole[1]]
 
     def gaps(self, key: Key) -> list[Area]:
         """The free areas of a subpool."""
@@ -108,18 +131,12 @@ class Ground:
 
     def unassigned(self) -> Iterator[Area]:
         """The runs of unassigned pages, from the lowest on."""
-        spans, k = self.spans, 0
+        first = 0
         for run in self.runs:
-            at = run.start
-            while k < len(spans) and spans[k][1] <= at:
-                k += 1
-            while k < len(spans) and spans[k][0] < run.end:
-                if spans[k][0] > at:
-                    yield Area(at, spans[k][0] - at)
-                at = max(at, spans[k][1])
-                k += 1
-            if at < run.end:
-                yield Area(at, run.end - at)
+            while self.holes[first][1] <= run.start:
+                first += 1
+            yield from (Area(max(start, run.start), min(end, run.end) - max(start, run.start))
+                        for start, end in takewhile(lambda hole: hole[0] < run.end, self.holes[first:]))
 
     def fit(self, key: Key, length: int, side: int) -> Optional[Area]:
         """The free area or the run of pages where a BUILD goes, to its first byte."""
