@@ -13,7 +13,7 @@ use Rattle.cell_extents.specs.Pool.{Pool, HasCells, cells_from, cells_of, uses, 
 use Rattle.cell_extents.specs.Notes.{is_noted, AreNoted}
 use Rattle.cell_extents.proofs.EntryLemmas.{eqb_same, eqb_refl}
 use Rattle.cell_extents.proofs.WalkLemmas.{cell_in, none_true, distinct_cells}
-use Rattle.cell_extents.proofs.CellLemmas.{or_left, or_right, or_neither, cells_more, apart_more, apart_front, apart_last}
+use Rattle.cell_extents.proofs.CellLemmas.{or_left, or_right, cells_more, apart_more, apart_front, apart_last}
 
 abbrev Items : Type 0
 Items = List (List ℕ)

@@ -1,11 +1,11 @@
 -- Cells that are noted, by the rows of the table in which they are.
-use Rattle.std.proofs.Common.{◌≡◌, ℕ, ◌+◌, ◌*◌, ◌/◌, ◌%◌, ◌==◌, ◌&&◌, ◌||◌, Bool, true, false, List, [], ◌∷◌, Option, Some, None, IsSome, inl, inr, refl, sym, ap, ◌∙◌, arith}
+use Rattle.std.proofs.Common.{◌≡◌, ℕ, ◌/◌, ◌%◌, ◌==◌, ◌&&◌, ◌||◌, Bool, true, false, List, [], ◌∷◌, Option, Some, None, IsSome, inl, inr, refl, sym, ap, ◌∙◌, arith}
 use Rattle.std.specs.Prelude.{if◌then◌else◌, is_some, not}
 use Rattle.std.proofs.lemmas.Bool.Decides.{eqb_tells}
 use Rattle.vsm_elements.specs.Store.{Store}
 use Rattle.row_table.specs.declared.row.Row.{Row}
 use Rattle.row_table.specs.declared.table.RowTable.{RowTable}
-use Rattle.row_table.specs.Rows.{word, same_key, is_under, row_among}
+use Rattle.row_table.specs.Rows.{same_key, row_among}
 use Rattle.row_table.specs.RowTable.{row, rows, IsTable}
 use Rattle.row_table.proofs.TableLemmas.{rows_ascend}
 use Rattle.list_table.specs.Stocks.{rows_of}

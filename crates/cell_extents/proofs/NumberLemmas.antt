@@ -1,12 +1,12 @@
 -- Rows that are numbered: one more behind the last, and the last one gone.
-use Rattle.std.proofs.Common.{◌≡◌, ℕ, zero, suc, ◌+◌, ◌-◌, ◌*◌, ◌/◌, ◌%◌, ◌||◌, ◌<◌, ◌≤◌, ◌==◌, ◌&&◌, Bool, true, false, ◌⊎◌, inl, inr, List, [], ◌∷◌, ◌++◌, length, Option, Some, None, refl, sym, ap, ◌∙◌, subst, arith, length-append}
+use Rattle.std.proofs.Common.{◌≡◌, ℕ, zero, suc, ◌+◌, ◌-◌, ◌*◌, ◌/◌, ◌%◌, ◌||◌, ◌<◌, ◌≤◌, Bool, true, false, ◌⊎◌, inl, inr, List, [], ◌∷◌, ◌++◌, length, Option, Some, None, refl, sym, ap, ◌∙◌, subst, arith, length-append}
 use Rattle.std.specs.Prelude.{if◌then◌else◌, map, option_map, slice_get}
 use Rattle.std.specs.List.{list_any}
 use Rattle.std.proofs.lemmas.Bool.Decides.{eqb_tells}
 use Rattle.vsm_elements.specs.Store.{Store}
 use Rattle.row_table.specs.declared.row.Row.{Row}
 use Rattle.row_table.specs.declared.table.RowTable.{RowTable}
-use Rattle.row_table.specs.Rows.{word, same_key, is_under, comes_before, RowsBehind, AreInOrder, row_among, row_or, last_row}
+use Rattle.row_table.specs.Rows.{word, same_key, is_under, RowsBehind, AreInOrder, row_among, row_or, last_row}
 use Rattle.row_table.specs.RowTable.{row, rows, IsTable}
 use Rattle.row_table.proofs.RowLemmas.{either, not_both, none_some, same_parts, same_self}
 use Rattle.row_table.proofs.NextLemmas.{says_before}
@@ -42,9 +42,10 @@ behind : (k m : ℕ) (r : Row) (rs : List Row) → is_at k r.words ≡ true → 
 behind k m r [] h l n = tt
 behind k m r (q ∷ rs) h l n =
     let a = number_is k r.words h in
-    let b = number_is m q.words n.0 in
-    (says_before (low r) (high r) (low q) (high q) (numbers_less k m (low r) (high r) (low q) (high q) l a.0 a.1 b.0 b.1),
-      behind k (m + 1) r rs h (omega (arith, l)) n.1)
+    let b = number_is m q.words n.0 in (
+      says_before (low r) (high r) (low q) (high q) (numbers_less k m (low r) (high r) (low q) (high q) l a.0 a.1 b.0 b.1),
+      behind k (m + 1) r rs h (omega (arith, l)) n.1,
+    )
 
 pub numbered_order : (k : ℕ) (rs : List Row) → AreNumbered k (rows_of rs) → AreInOrder rs
 numbered_order k [] n = tt
@@ -102,15 +103,15 @@ pub rows_more : (s t : Store) (q q' : RowTable) → IsTable s q → IsTable t q'
     → ((a b : ℕ) → row t q' a b ≡ (if is_under a b x.words then Some x else row s q a b)) → rows t q' ≡ rows s q ++ x ∷ []
 rows_more s t q q' h k n x at now =
     rows_are_one (rows t q') (rows s q ++ x ∷ []) (rows_ascend t q' k).0 (numbered_order 0 (rows s q ++ x ∷ []) (numbered_more 0 (rows s q) x n (ap (λ (z : ℕ). is_at z x.words) behind_all ∙ at))) (λ a b.
-      sym ((rows_ascend t q' k).1 a b) ∙ now a b ∙ ap (λ (o : Option Row). if is_under a b x.words then Some x else o) ((rows_ascend s q h).1 a b)
-      ∙ sym (among_more a b (rows s q) x absent)) where
-  behind_all : 0 + length (rows s q) ≡ length (rows s q)
-  behind_all = omega arith
+    sym ((rows_ascend t q' k).1 a b) ∙ now a b ∙ ap (λ (o : Option Row). if is_under a b x.words then Some x else o) ((rows_ascend s q h).1 a b)
+    ∙ sym (among_more a b (rows s q) x absent)) where
+      behind_all : 0 + length (rows s q) ≡ length (rows s q)
+      behind_all = omega arith
 
-  absent : row_among (low x) (high x) (rows s q) ≡ None
-  absent =
-      let m = number_is (length (rows s q)) x.words at in
-      ap (λ (z : ℕ). row_among z (high x) (rows s q)) m.0 ∙ ap (λ (z : ℕ). row_among (length (rows s q) % 256) z (rows s q)) m.1 ∙ none_there 0 (length (rows s q)) (rows s q) n (omega arith)
+      absent : row_among (low x) (high x) (rows s q) ≡ None
+      absent =
+          let m = number_is (length (rows s q)) x.words at in
+          ap (λ (z : ℕ). row_among z (high x) (rows s q)) m.0 ∙ ap (λ (z : ℕ). row_among (length (rows s q) % 256) z (rows s q)) m.1 ∙ none_there 0 (length (rows s q)) (rows s q) n (omega arith)
 
 -- all but the last
 abbrev pub front : List Row → List Row

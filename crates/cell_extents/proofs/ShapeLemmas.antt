@@ -1,13 +1,11 @@
 -- The parts of a pool's list: its texts, and its free cells.
-use Rattle.std.proofs.Common.{◌≡◌, ℕ, zero, suc, ◌+◌, ◌-◌, ◌<◌, ◌≤◌, List, [], ◌∷◌, ◌++◌, length, take, drop, Option, Some, refl, sym, ap, ◌∙◌, arith, length-append, length-drop}
+use Rattle.std.proofs.Common.{◌≡◌, ℕ, zero, suc, ◌+◌, ◌-◌, ◌≤◌, List, [], ◌∷◌, ◌++◌, length, take, drop, Some, refl, sym, ap, ◌∙◌, arith, length-drop}
 use Rattle.std.specs.Prelude.{map, slice_get, option_map}
 use Rattle.std.specs.List.{list_any}
-use Rattle.std.proofs.lemmas.List.{map-append, drop-map, length-take-le}
 use Rattle.std.proofs.lemmas.Option.{slice_get-map}
 use Rattle.list_table.specs.Entries.{Entry, word}
-use Rattle.cell_extents.specs.declared.settings.Extent.{Extent}
-use Rattle.cell_extents.specs.Pool.{Pool, overlaps, meets}
-use Rattle.cell_extents.specs.Items.{extent_of, cell_of, cell_item, label_of, pool_of, IsSound}
+use Rattle.cell_extents.specs.Pool.{overlaps, meets}
+use Rattle.cell_extents.specs.Items.{extent_of, cell_of, cell_item, label_of, pool_of}
 use Rattle.cell_extents.proofs.EntryLemmas.{pool_size}
 
 abbrev pub Items : Type 0

@@ -1,12 +1,12 @@
 -- The cells of an extent.
-use Rattle.std.proofs.Common.{◌≡◌, ℕ, zero, suc, ◌+◌, ◌-◌, ◌*◌, ◌/◌, ◌<◌, ◌≤◌, ◌==◌, ◌||◌, Bool, true, false, refl, sym, ap, ◌∙◌, arith}
+use Rattle.std.proofs.Common.{◌≡◌, ℕ, zero, suc, ◌+◌, ◌-◌, ◌*◌, ◌/◌, ◌<◌, ◌≤◌, ◌==◌, ◌||◌, Bool, true, false, refl, ap, ◌∙◌, arith}
 use Rattle.std.specs.Prelude.{map}
 use Rattle.std.specs.List.{range_with_len}
 use Rattle.std.proofs.lemmas.Nat.{div-mul-add}
 use Rattle.vsm_elements.specs.Store.{among, Distinct}
 use Rattle.vsm_elements.proofs.ChainLemmas.{not_both}
 use Rattle.cell_extents.specs.Pool.{cells_from}
-use Rattle.cell_extents.proofs.EntryLemmas.{eqb_same, eqb_refl}
+use Rattle.cell_extents.proofs.EntryLemmas.{eqb_same}
 
 -- a cell of an extent
 

@@ -1,8 +1,8 @@
 -- How a cell pool stands in a row and its stock.
 --
--- A row's words are the subpool's number, the cell size and the subpool's owner. Its list has three items of the name, one
--- of the header and one of its end with the side and both counts, then the free cells. Its tables have the cells in use,
--- under their addresses, and the extents, under their numbers.
+-- A row's words are the subpool's number, the cell size and the subpool's owner. Its list has three items of the name,
+-- one of the header and one of its end with the side and both counts, then the free cells. Its tables have the cells in
+-- use, under their addresses, and the extents, under their numbers.
 use Rattle.std.specs.Prelude.{◌≡◌, ℕ, ◌%◌, ◌^◌, ◌≤◌, ◌<◌, List, [], ◌∷◌, length, drop, map, slice_index_or}
 use Rattle.list_table.specs.Entries.{Entry, word}
 use Rattle.vsm_model.specs.declared.Subpool.{Subpool}

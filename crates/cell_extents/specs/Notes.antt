@@ -1,4 +1,5 @@
--- The cells in use and the extents of a pool, as rows of two tables: a cell under its address, an extent under its number.
+-- The cells in use and the extents of a pool, as rows of two tables: a cell under its address, an extent under its
+-- number.
 use Rattle.std.specs.Prelude.{◌≡◌, ℕ, ◌+◌, ◌/◌, ◌%◌, ◌^◌, ◌<◌, Bool, true, false, ◌||◌, List, [], ◌∷◌}
 use Rattle.row_table.specs.Rows.{is_under}
 use Rattle.cell_extents.specs.Pool.{Pool, uses}

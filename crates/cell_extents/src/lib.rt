@@ -1,5 +1,5 @@
-//! What one cell pool has, in elements: a list of its name, its header and its free cells, and two tables, of its cells in
-//! use and of its extents.
+//! What one cell pool has, in elements: a list of its name, its header and its free cells, and two tables, of its cells
+//! in use and of its extents.
 #![tactic(auto)]
 
 pub mod extents;

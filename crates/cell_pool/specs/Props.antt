@@ -11,7 +11,7 @@ use Rattle.row_table.specs.Props as RowTable
 use Rattle.list_table.specs.Entries.{Entry}
 use Rattle.list_table.specs.Stocks.{IsStock}
 use Rattle.list_table.specs.declared.stock.Stock.{Stock}
-use Rattle.list_table.specs.Kept.{head_of, listed, AllStand}
+use Rattle.list_table.specs.Kept.{AllStand}
 use Rattle.list_table.specs.Kept as rows
 use Rattle.list_table.specs.ListTable.{IsTable}
 use Rattle.list_table.specs.declared.table.ListTable.{ListTable}

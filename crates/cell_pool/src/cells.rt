@@ -9,7 +9,7 @@ ghost use Rattle.cell_pool.specs.Pools.{uses, meets};
 use crate::pools::CellPools;
 use cell_extents::extents::{pop, push};
 use cell_extents::lists::{TEXTS, append_cells, cell_of, insert, item, remove, take_out};
-use cell_extents::used::{forget, note};
+use cell_extents::used::{note, strike};
 use cell_extents::{CellId, Extent};
 use list_table::Stock;
 use vsm_elements::Elements;
@@ -79,7 +79,7 @@ impl CellPools {
         let mut row = self.row(elements, id);
         let mut items = row.stock.items;
         let mut used = row.stock.used;
-        forget(&mut used, elements, cell);
+        strike(&mut used, elements, cell);
         insert(&mut items, elements, TEXTS, [cell, 0, 0, 0, 0, 0, 0]);
         row.stock = Stock {
             items,

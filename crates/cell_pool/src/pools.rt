@@ -142,11 +142,7 @@ impl CellPools {
         let mut row = self.table.row(elements, 0, 0);
         let mut items = row.stock.items;
         put_texts(&mut items, elements, label_of_name(name), form);
-        row.stock = Stock {
-            items,
-            used: row.stock.used,
-            extents: row.stock.extents,
-        };
+        row.stock = Stock { items, ..row.stock };
         self.table.write(elements, row);
         row.id
     }

@@ -1,5 +1,5 @@
-//! Walks over the extents and over the free cells of one pool, in their order: an extent at the cost of a look-up, a cell
-//! at that of an element.
+//! Walks over the extents and over the free cells of one pool, in their order: an extent at the cost of a look-up, a
+//! cell at that of an element.
 
 ghost use Rattle.std.specs.Prelude.{◌≡◌, ◌+◌, ◌-◌, ◌≤◌, [], ◌∷◌, take, drop, IsSome, IfSome, IfNone};
 ghost use Rattle.vsm_elements.specs.Chain.{links, IsChain};

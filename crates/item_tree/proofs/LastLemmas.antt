@@ -1,9 +1,8 @@
 -- The last item, by its id.
-use Rattle.std.proofs.Common.{◌≡◌, ◌≢◌, ℕ, true, List, [], ◌∷◌, ◌++◌, drop, Option, Some, None, IsSome, refl, sym, ap, ◌∙◌, arith, subst}
+use Rattle.std.proofs.Common.{◌≡◌, ◌≢◌, ℕ, true, List, [], ◌∷◌, ◌++◌, drop, Option, Some, None, refl, sym, ap, ◌∙◌, arith}
 use Rattle.std.specs.Prelude.{map}
-use Rattle.vsm_elements.specs.Store.{Store, at, among}
+use Rattle.vsm_elements.specs.Store.{Store, among}
 use Rattle.vsm_elements.specs.Chain.{element}
-use Rattle.vsm_elements.proofs.StoreLemmas.{among_first, among_later}
 use Rattle.item_tree.specs.declared.item.Item.{Item}
 use Rattle.item_tree.specs.declared.tree.ItemTree.{ItemTree}
 use Rattle.item_tree.specs.declared.shape.Node.{Node}

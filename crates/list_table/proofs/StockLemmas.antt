@@ -1,13 +1,13 @@
 -- Stocks: what they own, what stays where elements stay, and what a call on one of their parts does.
-use Rattle.std.proofs.Common.{◌≡◌, ℕ, ◌+◌, Bool, true, false, ◌⊎◌, inl, inr, List, [], ◌∷◌, ◌++◌, length, IsSome, refl, sym, ap, ◌∙◌, subst, arith, length-append}
+use Rattle.std.proofs.Common.{◌≡◌, ℕ, ◌+◌, true, inl, inr, List, [], ◌∷◌, ◌++◌, length, IsSome, refl, sym, ap, ◌∙◌, subst, arith, length-append}
 use Rattle.std.specs.Prelude.{map}
 use Rattle.vsm_elements.specs.Store.{Store, at, among, Distinct}
-use Rattle.vsm_elements.specs.Chain.{Link, links, ids, Holds, IsChain, IsChainOf}
+use Rattle.vsm_elements.specs.Chain.{Link, links, ids, IsChain, IsChainOf}
 use Rattle.vsm_elements.specs.Chain
 use Rattle.vsm_elements.specs.Ownership.{Owns, Leaves, Apart}
 use Rattle.vsm_elements.specs.declared.chain.Chain.{Chain}
-use Rattle.vsm_elements.proofs.ChainLemmas.{Holds-same, is_chain, links_are, live_in, not_both}
-use Rattle.vsm_elements.proofs.ChainFrame.{false_if, Leaves-beside, Leaves-behind, Leaves-members, Leaves-trans}
+use Rattle.vsm_elements.proofs.ChainLemmas.{Holds-same, is_chain, links_are, live_in}
+use Rattle.vsm_elements.proofs.ChainFrame.{Leaves-beside, Leaves-behind, Leaves-trans}
 use Rattle.vsm_elements.proofs.LiveLemmas.{Distinct-join}
 use Rattle.vsm_elements.proofs.OwnerLemmas.{others_stay}
 use Rattle.row_table.specs.declared.row.Row.{Row}
@@ -17,8 +17,8 @@ use Rattle.row_table.specs.RowTable.{rows, IsTable}
 use Rattle.row_table.proofs.TableLemmas.{tables_stand, tables_kept}
 use Rattle.row_table.proofs.HalfLemmas.{rows_own}
 use Rattle.list_table.specs.declared.stock.Stock.{Stock}
-use Rattle.list_table.specs.Stocks.{items_of, rows_of, Contents, contents, holdings, IsStock, SameStock}
-use Rattle.list_table.specs.Laws.{ChangesTo, ItemsChange, UsedChange, ExtentsChange}
+use Rattle.list_table.specs.Stocks.{items_of, rows_of, contents, holdings, IsStock, SameStock}
+use Rattle.list_table.specs.Laws.{ItemsChange, UsedChange, ExtentsChange}
 use Rattle.list_table.proofs.ListParts.{in_left, in_right, in_cases, out_both, out_parts, Apart-sym}
 
 pub chain_same : (s t : Store) (c : Chain) → IsChain s c → ((i : ℕ) → among i (Chain.owned s c) ≡ true → at t i ≡ at s i) → IsChain t c × (links t c ≡ links s c)
@@ -204,8 +204,16 @@ length-rows [] = refl
 length-rows (r ∷ rs) = omega (arith, length-rows rs)
 
 pub length-holdings : (s : Store) (k : Stock) → length (holdings s k) ≡ length ((contents s k).items) + length ((contents s k).used) + length ((contents s k).extents)
-length-holdings s k = omega (arith, length-append (Chain.owned s k.items ++ RowTable.owned s k.used) (RowTable.owned s k.extents), length-append (Chain.owned s k.items) (RowTable.owned s k.used),
-    length-items (links s k.items), ap length (rows_own s k.used), ap length (rows_own s k.extents), length-rows (rows s k.used), length-rows (rows s k.extents))
+length-holdings s k = omega (
+  arith,
+  length-append (Chain.owned s k.items ++ RowTable.owned s k.used) (RowTable.owned s k.extents),
+  length-append (Chain.owned s k.items) (RowTable.owned s k.used),
+  length-items (links s k.items),
+  ap length (rows_own s k.used),
+  ap length (rows_own s k.extents),
+  length-rows (rows s k.used),
+  length-rows (rows s k.extents),
+)
 
 -- a table without elements has no row
 pub no_rows : (s : Store) (q : RowTable) → RowTable.owned s q ≡ [] → rows s q ≡ []

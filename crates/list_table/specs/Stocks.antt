@@ -5,7 +5,6 @@ use Rattle.vsm_elements.specs.Chain.{Link, links, IsChain}
 use Rattle.vsm_elements.specs.Chain
 use Rattle.vsm_elements.specs.Ownership.{Apart}
 use Rattle.row_table.specs.declared.row.Row.{Row}
-use Rattle.row_table.specs.declared.table.RowTable.{RowTable}
 use Rattle.row_table.specs.RowTable
 use Rattle.row_table.specs.RowTable.{rows, IsTable}
 use Rattle.list_table.specs.declared.stock.Stock.{Stock}
@@ -26,7 +25,11 @@ pub record Contents : Type 0 where
   pub extents : List (List ℕ)
 
 abbrev pub contents : Store → Stock → Contents
-contents s k = record { items = items_of (links s k.items); used = rows_of (rows s k.used); extents = rows_of (rows s k.extents) }
+contents s k = record {
+  items = items_of (links s k.items);
+  used = rows_of (rows s k.used);
+  extents = rows_of (rows s k.extents);
+}
 
 -- the entry of an id and words, with what stands in its stock
 abbrev pub entry_with : ℕ → List ℕ → Contents → Entry

@@ -12,7 +12,8 @@ use vsm_elements::{Chain, Elements, Id};
 /// The head of a table of rows, each with words of its own and a [`Stock`].
 ///
 /// It is kept by value. To change a stock, a row is taken in hand by [`ListTable::row`], its parts are changed as a
-/// [`Chain`] and as [`RowTable`]s, and [`ListTable::write`] puts the row back. A table that is no longer wanted is discarded.
+/// [`Chain`] and as [`RowTable`]s, and [`ListTable::write`] puts the row back. A table that is no longer wanted is
+/// discarded.
 #[derive(Clone, Copy)]
 pub struct ListTable {
     pub(crate) chain: Chain,

@@ -1,8 +1,7 @@
 -- A table by its parts, its last row, and lists of rows that are one.
-use Rattle.std.proofs.Common.{◌≡◌, ℕ, ◌+◌, ◌≤◌, Bool, true, false, inl, inr, List, [], ◌∷◌, ◌++◌, length, Option, Some, None, refl, sym, ap, ◌∙◌, subst, arith}
+use Rattle.std.proofs.Common.{◌≡◌, ℕ, ◌≤◌, Bool, true, inl, inr, List, [], ◌∷◌, ◌++◌, length, Option, Some, None, refl, sym, ap, ◌∙◌, subst, arith}
 use Rattle.std.specs.Prelude.{map, option_map, if◌then◌else◌}
 use Rattle.vsm_elements.specs.Store.{Store}
-use Rattle.vsm_elements.specs.Chain.{Link}
 use Rattle.item_tree.specs.declared.item.Item.{Item}
 use Rattle.item_tree.specs.declared.tree.ItemTree.{ItemTree}
 use Rattle.item_tree.specs.declared.shape.Node.{Node}
@@ -12,14 +11,12 @@ use Rattle.item_tree.proofs.ShapeLemmas.{id_of}
 use Rattle.item_tree.proofs.OrderLemmas.{ascends_left, ascends_right}
 use Rattle.item_tree.proofs.TreeLemmas.{owned_ids, length-tree, small_tree}
 use Rattle.row_table.specs.declared.row.Row.{Row}
-use Rattle.row_table.specs.declared.table.RowTable.{RowTable}
 use Rattle.row_table.specs.Rows.{word, is_under, comes_before, RowsBehind, AreInOrder, row_among, row_or, last_row}
-use Rattle.row_table.specs.Keys.{row_in_item, link_in, links}
+use Rattle.row_table.specs.Keys.{row_in_item, link_in}
 use Rattle.row_table.specs.Kept.{IsKept}
 use Rattle.row_table.specs.RowTable.{row_of, rows, owned}
 use Rattle.row_table.specs.Laws.{RowsOwn, RowsAreOne}
-use Rattle.row_table.proofs.RowLemmas.{either, not_both, none_some, same_parts, same_self}
-use Rattle.row_table.proofs.KeyLemmas.{length-links}
+use Rattle.row_table.proofs.RowLemmas.{either, none_some, same_parts, same_self}
 use Rattle.row_table.proofs.NextLemmas.{before_more, not_before}
 
 -- the rows of items
@@ -33,9 +30,10 @@ rows-append (x ∷ xs) ys = ap (λ (z : List Row). row_in_item x ∷ z) (rows-ap
 pub half_kept : (s : Store) (q : ItemTree) (n : Node) → IsKept s q → Opens s q n → IsKept s n.left × IsKept s n.right
 half_kept s q n h o =
     let P : List Item → Type 0 = Ascends in
-    let order : Ascends (items s n.left ++ n.item ∷ items s n.right) = subst P o.are h.ascends in
-    (record { tree = o.left; ascends = ascends_left (items s n.left) (n.item ∷ items s n.right) order },
-      record { tree = o.right; ascends = (ascends_right (items s n.left) (n.item ∷ items s n.right) order).1 })
+    let order : Ascends (items s n.left ++ n.item ∷ items s n.right) = subst P o.are h.ascends in (
+      record { tree = o.left; ascends = ascends_left (items s n.left) (n.item ∷ items s n.right) order },
+      record { tree = o.right; ascends = (ascends_right (items s n.left) (n.item ∷ items s n.right) order).1 },
+    )
 
 last_of : (n : Item) (o : Option Item) → row_in_item (item_or n o) ≡ row_or (row_in_item n) (option_map row_in_item o)
 last_of n None = refl

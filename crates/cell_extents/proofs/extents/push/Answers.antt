@@ -1,7 +1,6 @@
-use Rattle.std.proofs.Common.{◌≡◌, ◌+◌, ◌/◌, ◌%◌, ◌++◌, ◌∷◌, [], ℕ, true, List, length, sym, ap, ◌∙◌, subst, arith}
+use Rattle.std.proofs.Common.{◌≡◌, ◌+◌, ◌/◌, ◌%◌, ◌∷◌, [], ℕ, true, List, length, sym, ap, ◌∙◌, subst, arith}
 use Rattle.std.specs.Prelude.{map}
 use Rattle.row_table.specs.declared.row.Row.{Row}
-use Rattle.row_table.specs.Rows.{row_among}
 use Rattle.row_table.specs.RowTable.{rows}
 use Rattle.row_table.proofs.RowLemmas.{same_self}
 use Rattle.row_table.proofs.TableLemmas.{rows_ascend}

@@ -1,6 +1,5 @@
 use Rattle.std.proofs.Common.{◌≡◌, ◌∙◌, Option, sym, subst, arith}
 use Rattle.std.specs.Prelude.{IfSome}
-use Rattle.list_table.specs.ListTable.{entry_of}
 use Rattle.cell_pool.specs.Pools.{Pool, uses}
 use Rattle.cell_pool.proofs.pools.CellPools.in_use.Goals as goal
 

@@ -1,4 +1,4 @@
-use Rattle.std.proofs.Common.{◌≡◌, ◌∙◌, ◌+◌, ◌∷◌, ap, sym, ℕ, List, drop}
+use Rattle.std.proofs.Common.{◌∙◌, ◌+◌, ◌∷◌, ap, sym, ℕ, drop}
 use Rattle.std.specs.Prelude.{map}
 use Rattle.row_table.specs.RowTable.{rows, place_index}
 use Rattle.list_table.specs.Stocks.{rows_of}

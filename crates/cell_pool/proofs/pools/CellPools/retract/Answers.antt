@@ -1,4 +1,4 @@
-use Rattle.std.proofs.Common.{◌≡◌, ◌<◌, ◌≤◌, ◌+◌, ◌-◌, ◌∙◌, ap, sym, arith, subst, Option, length, List, Some, refl, ℕ}
+use Rattle.std.proofs.Common.{◌≡◌, ◌-◌, ◌∙◌, sym, arith, subst, Option, length, Some, refl}
 use Rattle.std.specs.Prelude.{slice_get, map, IfSome}
 use Rattle.vsm_elements.specs.Chain.{links}
 use Rattle.row_table.specs.RowTable.{rows}

@@ -1,4 +1,4 @@
-use Rattle.std.proofs.Common.{sym, ap, ◌∙◌, List, ◌++◌, ◌∷◌}
+use Rattle.std.proofs.Common.{sym, ap, ◌∙◌, ◌++◌, ◌∷◌}
 use Rattle.item_tree.specs.Trees.{items}
 use Rattle.row_table.specs.declared.row.Row.{Row}
 use Rattle.row_table.specs.RowTable.{rows, IsTable}

@@ -1,5 +1,5 @@
 use Rattle.cell_extents.proofs.NoteLemmas.{a_row, noted_less}
-use Rattle.cell_extents.proofs.used.forget.Goals as goal
+use Rattle.cell_extents.proofs.used.strike.Goals as goal
 
 pub remove-requires-clause-there : goal.remove-requires-clause-there
 remove-requires-clause-there c = a_row c.args.elements.now c.args.used.now c.requires.table c.args.address c.requires.there
