@@ -18,8 +18,8 @@ pub(crate) struct FirstExtents {
     pub(crate) areas: FreeQueue,
 }
 
-/// The area of the extent of this number; `None` where the cell pool has no more extents than that. It's found at the cost
-/// of a look-up.
+/// The area of the extent of this number; `None` where the cell pool has no more extents than that. It's found at the
+/// cost of a look-up.
 pub(crate) fn area_at(storage: &Parts, pool: CellId, number: u32) -> Option<Run>
     requires stands { Stand storage.now }
     requires can { CanBeDeleted (state_of storage.now) (record { pool = pool }) }

@@ -31,9 +31,9 @@ impl Storage {
     /// It takes at most 25 elements and its plan's blank ones, and 8 for each extent that leaves with a whole subpool
     /// that is emptied. That of a store takes 17 at most; that of a new task 32, and 4 for each number that it is given
     /// or shares; that of tasks that end 32, and 8 for each task, subpool, extent and row of sight that leaves; that of
-    /// a cell pool that comes 30, and those of its cells; and that of one that goes 32, and 8 for it and for each of its
-    /// extents. These are its records, its blank elements and what it has parked: an element for each empty subpool, or
-    /// the elements of a cell pool that comes. It has just as many frames as pages come to be assigned.
+    /// a cell pool that comes 30, and those of its cells; and that of one that goes 32, and 8 for it and for each of
+    /// its extents. These are its records, its blank elements and what it has parked: an element for each empty
+    /// subpool, or the elements of a cell pool that comes. It has just as many frames as pages come to be assigned.
     ///
     /// `AllocError` where memory is refused: that can be only where fewer elements or frames are spare, or a table
     /// isn't there. What was made before that stays, as spare elements and frames. For a change at most a block of
