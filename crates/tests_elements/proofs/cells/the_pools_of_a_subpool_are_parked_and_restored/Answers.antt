@@ -1,5 +1,5 @@
 use Rattle.std.proofs.Common.{[]}
-use Rattle.list_table.proofs.ListLemmas.{Apart-sym}
+use Rattle.list_table.proofs.ListParts.{Apart-sym}
 use Rattle.cell_pool.specs.CellPools.{owned, parked_owned}
 use Rattle.cell_pool.proofs.LawLemmas.{pools_stay}
 use Rattle.tests_elements.proofs.cells.the_pools_of_a_subpool_are_parked_and_restored.Goals as goal
