@@ -11,11 +11,11 @@ use Rattle.item_tree.proofs.ShapeLemmas.{id_of}
 use Rattle.item_tree.proofs.OrderLemmas.{ascends_left, ascends_right}
 use Rattle.item_tree.proofs.TreeLemmas.{owned_ids, length-tree, small_tree}
 use Rattle.row_table.specs.declared.row.Row.{Row}
-use Rattle.row_table.specs.Rows.{word, is_under, comes_before, RowsBehind, AreInOrder, row_among, row_or, last_row}
+use Rattle.row_table.specs.Rows.{word, is_under, comes_before, RowsBehind, AreInOrder, AreLow, row_among, row_or, last_row}
 use Rattle.row_table.specs.Keys.{row_in_item, link_in}
 use Rattle.row_table.specs.Kept.{IsKept}
 use Rattle.row_table.specs.RowTable.{row_of, rows, owned}
-use Rattle.row_table.specs.Laws.{RowsOwn, RowsAreOne}
+use Rattle.row_table.specs.Laws.{RowsOwn, RowsAreLow, RowsAreOne}
 use Rattle.row_table.proofs.RowLemmas.{either, none_some, same_parts, same_self}
 use Rattle.row_table.proofs.NextLemmas.{before_more, not_before}
 
@@ -34,6 +34,13 @@ half_kept s q n h o =
       record { tree = o.left; ascends = ascends_left (items s n.left) (n.item ∷ items s n.right) order },
       record { tree = o.right; ascends = (ascends_right (items s n.left) (n.item ∷ items s n.right) order).1 },
     )
+
+pub rows_are_low : RowsAreLow
+unfolding rows
+rows_are_low s q = go (items s q.tree) where
+  go : (ns : List Item) → AreLow (rows_in ns)
+  go [] = tt
+  go (n ∷ ns) = (omega arith, go ns)
 
 last_of : (n : Item) (o : Option Item) → row_in_item (item_or n o) ≡ row_or (row_in_item n) (option_map row_in_item o)
 last_of n None = refl

@@ -5,7 +5,7 @@ use Rattle.vsm_elements.specs.Ownership.{Owns, Leaves, Apart}
 use Rattle.row_table.specs.declared.places.RowPlace.{RowPlace}
 use Rattle.row_table.specs.declared.row.Row.{Row}
 use Rattle.row_table.specs.declared.table.RowTable.{RowTable}
-use Rattle.row_table.specs.Rows.{word, AreInOrder, row_among}
+use Rattle.row_table.specs.Rows.{word, AreInOrder, AreLow, row_among}
 use Rattle.row_table.specs.RowTable.{row, rows, owned, words_of, IsTable, IsPlace}
 
 -- a table that stands in elements owns them, and its rows stand under their own first two words, which are
@@ -36,6 +36,10 @@ RowIdsAre = (s : Store) (q : RowTable) (i : ℕ) → IsTable s q
 -- a table's elements are those of its rows, in their order
 abbrev pub RowsOwn : Type 0
 RowsOwn = (s : Store) (q : RowTable) → owned s q ≡ map (λ r. r.id) (rows s q)
+
+-- the first number of each row is one of 256
+abbrev pub RowsAreLow : Type 0
+RowsAreLow = (s : Store) (q : RowTable) → AreLow (rows s q)
 
 -- two tables that have one row under each two numbers have the same rows in the same order
 abbrev pub RowsAreOne : Type 0

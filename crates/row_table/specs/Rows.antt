@@ -55,6 +55,11 @@ abbrev pub AreInOrder : List Row → Type 0
 AreInOrder [] = Unit {0}
 AreInOrder (r ∷ rs) = RowsBehind (word r.words 0) (word r.words 1) rs × AreInOrder rs
 
+-- the first number of each of the rows is one of 256
+abbrev pub AreLow : List Row → Type 0
+AreLow [] = Unit {0}
+AreLow (r ∷ rs) = (word r.words 0 < 256) × AreLow rs
+
 -- the first of the rows under these two numbers
 abbrev pub row_among : ℕ → ℕ → List Row → Option Row
 row_among a b [] = None
