@@ -1,7 +1,10 @@
 -- Stocks: what they own, what stays where elements stay, and what a call on one of their parts does.
-use Rattle.std.proofs.Common.{◌≡◌, ℕ, ◌+◌, true, inl, inr, List, [], ◌∷◌, ◌++◌, length, IsSome, refl, sym, ap, ◌∙◌, subst, arith, length-append}
+--
+-- A stock's parts stand one behind the other. A call on one of them is taken past each part behind it in turn (`past`),
+-- where all that stands before it is as it was (`behind`).
+use Rattle.std.proofs.Common.{◌≡◌, ℕ, ◌+◌, true, inl, inr, List, [], ◌∷◌, ◌++◌, length, refl, sym, ap, ◌∙◌, subst, arith, length-append}
 use Rattle.std.specs.Prelude.{map}
-use Rattle.vsm_elements.specs.Store.{Store, at, among, Distinct}
+use Rattle.vsm_elements.specs.Store.{Store, at, among}
 use Rattle.vsm_elements.specs.Chain.{Link, links, ids, IsChain, IsChainOf}
 use Rattle.vsm_elements.specs.Chain
 use Rattle.vsm_elements.specs.Ownership.{Owns, Leaves, Apart}
@@ -17,58 +20,120 @@ use Rattle.row_table.specs.RowTable.{rows, IsTable}
 use Rattle.row_table.proofs.TableLemmas.{tables_stand, tables_kept}
 use Rattle.row_table.proofs.HalfLemmas.{rows_own}
 use Rattle.list_table.specs.declared.stock.Stock.{Stock}
-use Rattle.list_table.specs.Stocks.{items_of, rows_of, contents, holdings, IsStock, SameStock}
-use Rattle.list_table.specs.Laws.{ItemsChange, UsedChange, ExtentsChange}
-use Rattle.list_table.proofs.ListParts.{in_left, in_right, in_cases, out_both, out_parts, Apart-sym}
+use Rattle.list_table.specs.Stocks.{items_of, rows_of, contents, front, holdings, IsStock, SameStock}
+use Rattle.list_table.specs.Laws.{ItemsChange, UsedChange, ExtentsChange, PlacesChange}
+use Rattle.list_table.proofs.ListParts.{in_left, in_right, in_cases, Apart-sym}
+
+-- what the items and the cells in use own
+abbrev pub pair : Store → Stock → List ℕ
+pair s k = Chain.owned s k.items ++ RowTable.owned s k.used
+
+-- what they own
+
+Owns-join : (s : Store) (xs ys : List ℕ) → Owns s xs → Owns s ys → Apart xs ys → Owns s (xs ++ ys)
+Owns-join s xs ys h k apart = record {
+  distinct = Distinct-join xs ys h.distinct k.distinct apart;
+  live = λ i m. elim (in_cases i xs ys m) [ inl p ↦ h.live i p | inr p ↦ k.live i p ];
+}
+
+chain_owns : (s : Store) (c : Chain) → IsChain s c → Owns s (Chain.owned s c)
+chain_owns s c h = record { distinct = h.distinct; live = live_in s (links s c) 0 h.held }
+
+table_owns : (s : Store) (q : RowTable) → IsTable s q → Owns s (RowTable.owned s q)
+table_owns s q h = (tables_stand s q h).0
+
+pair_owns : (s : Store) (k : Stock) → IsStock s k → Owns s (pair s k)
+pair_owns s k h = Owns-join s (Chain.owned s k.items) (RowTable.owned s k.used) (chain_owns s k.items h.items) (table_owns s k.used h.used) h.aside
+
+front_owns : (s : Store) (k : Stock) → IsStock s k → Owns s (front s k)
+front_owns s k h = Owns-join s (pair s k) (RowTable.owned s k.extents) (pair_owns s k h) (table_owns s k.extents h.extents) h.apart
+
+pub stock_owns : (s : Store) (k : Stock) → IsStock s k → Owns s (holdings s k)
+stock_owns s k h = Owns-join s (front s k) (RowTable.owned s k.places) (front_owns s k h) (table_owns s k.places h.places) h.beside
+
+-- what stays where elements stay
 
 pub chain_same : (s t : Store) (c : Chain) → IsChain s c → ((i : ℕ) → among i (Chain.owned s c) ≡ true → at t i ≡ at s i) → IsChain t c × (links t c ≡ links s c)
 chain_same s t c h same = (is_chain t c (links s c) now, links_are t c (links s c) now) where
   now : IsChainOf t c (links s c)
   now = record { first = h.first; count = h.count; held = Holds-same s t (links s c) 0 h.held same; distinct = h.distinct }
 
-pub stock_live : (s : Store) (k : Stock) → IsStock s k → (i : ℕ) → among i (holdings s k) ≡ true → IsSome (at s i)
-stock_live s k h i m = elim (in_cases i (Chain.owned s k.items ++ RowTable.owned s k.used) (RowTable.owned s k.extents) m) [
-  | inl p ↦ elim (in_cases i (Chain.owned s k.items) (RowTable.owned s k.used) p) [
-    | inl q ↦ live_in s (links s k.items) 0 h.items.held i q
-    | inr q ↦ (tables_stand s k.used h.used).0.live i q
-  ]
-  | inr p ↦ (tables_stand s k.extents h.extents).0.live i p
-]
+record SameTable (s t : Store) (q : RowTable) : Type 0 where
+  stands : IsTable t q
+  own : RowTable.owned t q ≡ RowTable.owned s q
+  is : rows t q ≡ rows s q
 
-pub stock_distinct : (s : Store) (k : Stock) → IsStock s k → Distinct (holdings s k)
-stock_distinct s k h =
-    Distinct-join (Chain.owned s k.items ++ RowTable.owned s k.used) (RowTable.owned s k.extents)
-    (Distinct-join (Chain.owned s k.items) (RowTable.owned s k.used) h.items.distinct (tables_stand s k.used h.used).0.distinct h.aside)
-    (tables_stand s k.extents h.extents).0.distinct h.apart
+table_same : (s t : Store) (q : RowTable) → IsTable s q → ((i : ℕ) → among i (RowTable.owned s q) ≡ true → at t i ≡ at s i) → SameTable s t q
+table_same s t q h same = let k = tables_kept s t q h same in record { stands = k.0; own = k.2; is = k.3 }
 
-pub stock_owns : (s : Store) (k : Stock) → IsStock s k → Owns s (holdings s k)
-stock_owns s k h = record { distinct = stock_distinct s k h; live = stock_live s k h }
+join_same : (xs xs' ys ys' : List ℕ) → xs' ≡ xs → ys' ≡ ys → xs' ++ ys' ≡ xs ++ ys
+join_same xs xs' ys ys' e f = ap (λ (z : List ℕ). z ++ ys') e ∙ ap (λ (z : List ℕ). xs ++ z) f
 
--- what a stock is by its parts
-made_of : (s t : Store) (k : Stock) → IsStock s k → IsChain t k.items × (links t k.items ≡ links s k.items) → IsTable t k.used → RowTable.owned t k.used ≡ RowTable.owned s k.used → rows t k.used ≡ rows s k.used
-    → IsTable t k.extents → RowTable.owned t k.extents ≡ RowTable.owned s k.extents → rows t k.extents ≡ rows s k.extents → SameStock s t k
-made_of s t k h c u uo ur x xo xr = record {
-  stands = record {
-    items = c.0;
-    used = u;
-    extents = x;
-    aside = (let P : List Link → Type 0 = λ z. Apart (ids z) (RowTable.owned t k.used) in let Q : List ℕ → Type 0 = λ z. Apart (Chain.owned s k.items) z in subst P (sym c.1) (subst Q (sym uo) h.aside));
-    apart = (let P : List ℕ → Type 0 = λ z. Apart z (RowTable.owned t k.extents) in let Q : List ℕ → Type 0 = λ z. Apart (Chain.owned s k.items ++ RowTable.owned s k.used) z in subst P (sym front) (subst Q (sym xo) h.apart));
-  };
-  is = ap (λ (z : List Link). record { items = items_of z; used = rows_of (rows t k.used); extents = rows_of (rows t k.extents) }) c.1
-      ∙ ap (λ (z : List Row). record { items = items_of (links s k.items); used = rows_of z; extents = rows_of (rows t k.extents) }) ur
-      ∙ ap (λ (z : List Row). record { items = items_of (links s k.items); used = rows_of (rows s k.used); extents = rows_of z }) xr;
-  own = ap (λ (z : List ℕ). z ++ RowTable.owned t k.extents) front ∙ ap (λ (z : List ℕ). (Chain.owned s k.items ++ RowTable.owned s k.used) ++ z) xo;
+apart_same : (xs xs' ys ys' : List ℕ) → xs' ≡ xs → ys' ≡ ys → Apart xs ys → Apart xs' ys'
+apart_same xs xs' ys ys' e f apart = let P : List ℕ → Type 0 = λ z. Apart z ys' in let Q : List ℕ → Type 0 = λ z. Apart xs z in subst P (sym e) (subst Q (sym f) apart)
+
+record SamePair (s t : Store) (k : Stock) : Type 0 where
+  items : IsChain t k.items
+  are : links t k.items ≡ links s k.items
+  used : SameTable s t k.used
+  aside : Apart (Chain.owned t k.items) (RowTable.owned t k.used)
+  own : pair t k ≡ pair s k
+
+pair_same : (s t : Store) (k : Stock) → IsStock s k → ((i : ℕ) → among i (pair s k) ≡ true → at t i ≡ at s i) → SamePair s t k
+pair_same s t k h same = record {
+  items = c.0;
+  are = c.1;
+  used = u;
+  aside = apart_same (Chain.owned s k.items) (Chain.owned t k.items) (RowTable.owned s k.used) (RowTable.owned t k.used) (ap ids c.1) u.own h.aside;
+  own = join_same (Chain.owned s k.items) (Chain.owned t k.items) (RowTable.owned s k.used) (RowTable.owned t k.used) (ap ids c.1) u.own;
 } where
-  front : Chain.owned t k.items ++ RowTable.owned t k.used ≡ Chain.owned s k.items ++ RowTable.owned s k.used
-  front = ap (λ (z : List Link). ids z ++ RowTable.owned t k.used) c.1 ∙ ap (λ (z : List ℕ). Chain.owned s k.items ++ z) uo
+  c : IsChain t k.items × (links t k.items ≡ links s k.items)
+  c = chain_same s t k.items h.items (λ i m. same i (in_left i (Chain.owned s k.items) (RowTable.owned s k.used) m))
+
+  u : SameTable s t k.used
+  u = table_same s t k.used h.used (λ i m. same i (in_right i (Chain.owned s k.items) (RowTable.owned s k.used) m))
+
+record SameFront (s t : Store) (k : Stock) : Type 0 where
+  inner : SamePair s t k
+  extents : SameTable s t k.extents
+  apart : Apart (pair t k) (RowTable.owned t k.extents)
+  own : front t k ≡ front s k
+
+front_same : (s t : Store) (k : Stock) → IsStock s k → ((i : ℕ) → among i (front s k) ≡ true → at t i ≡ at s i) → SameFront s t k
+front_same s t k h same = record {
+  inner = r;
+  extents = x;
+  apart = apart_same (pair s k) (pair t k) (RowTable.owned s k.extents) (RowTable.owned t k.extents) r.own x.own h.apart;
+  own = join_same (pair s k) (pair t k) (RowTable.owned s k.extents) (RowTable.owned t k.extents) r.own x.own;
+} where
+  r : SamePair s t k
+  r = pair_same s t k h (λ i m. same i (in_left i (pair s k) (RowTable.owned s k.extents) m))
+
+  x : SameTable s t k.extents
+  x = table_same s t k.extents h.extents (λ i m. same i (in_right i (pair s k) (RowTable.owned s k.extents) m))
+
+contents_same : (s t : Store) (k : Stock) → links t k.items ≡ links s k.items → rows t k.used ≡ rows s k.used → rows t k.extents ≡ rows s k.extents → rows t k.places ≡ rows s k.places → contents t k ≡ contents s k
+contents_same s t k c u x p = cc
 
 pub stock_same : (s t : Store) (k : Stock) → IsStock s k → ((i : ℕ) → among i (holdings s k) ≡ true → at t i ≡ at s i) → SameStock s t k
-stock_same s t k h same =
-    let u = tables_kept s t k.used h.used (λ i m. same i (in_left i (Chain.owned s k.items ++ RowTable.owned s k.used) (RowTable.owned s k.extents) (in_right i (Chain.owned s k.items) (RowTable.owned s k.used) m))) in
-    let x = tables_kept s t k.extents h.extents (λ i m. same i (in_right i (Chain.owned s k.items ++ RowTable.owned s k.used) (RowTable.owned s k.extents) m)) in
-    made_of s t k h (chain_same s t k.items h.items (λ i m. same i (in_left i (Chain.owned s k.items ++ RowTable.owned s k.used) (RowTable.owned s k.extents) (in_left i (Chain.owned s k.items) (RowTable.owned s k.used) m))))
-    u.0 u.2 u.3 x.0 x.2 x.3
+stock_same s t k h same = record {
+  stands = record {
+    items = f.inner.items;
+    used = f.inner.used.stands;
+    extents = f.extents.stands;
+    places = p.stands;
+    aside = f.inner.aside;
+    apart = f.apart;
+    beside = apart_same (front s k) (front t k) (RowTable.owned s k.places) (RowTable.owned t k.places) f.own p.own h.beside;
+  };
+  is = contents_same s t k f.inner.are f.inner.used.is f.extents.is p.is;
+  own = join_same (front s k) (front t k) (RowTable.owned s k.places) (RowTable.owned t k.places) f.own p.own;
+} where
+  f : SameFront s t k
+  f = front_same s t k h (λ i m. same i (in_left i (front s k) (RowTable.owned s k.places) m))
+
+  p : SameTable s t k.places
+  p = table_same s t k.places h.places (λ i m. same i (in_right i (front s k) (RowTable.owned s k.places) m))
 
 -- a stock that stands apart from what a call owns is what it was
 pub stock_stays : (s t : Store) (had has : List ℕ) (k : Stock) → Leaves s t had has → IsStock s k → Apart had (holdings s k) → SameStock s t k × Apart has (holdings t k)
@@ -77,122 +142,123 @@ stock_stays s t had has k f h apart =
     let r : SameStock s t k = stock_same s t k h o.2 in
     (r, (let P : List ℕ → Type 0 = λ z. Apart has z in subst P (sym r.own) o.1))
 
--- a call on a part that stands beside another
-module _ (s t : Store) (had has others : List ℕ) (f : Leaves s t had has) (own : Owns s others) (apart : Apart had others) where
-  pub beside_same : (i : ℕ) → among i others ≡ true → at t i ≡ at s i
-  beside_same = (others_stay s t had has others f own apart).2
+-- what a call leaves of the table behind it
+record Past (s t : Store) (had has : List ℕ) (q : RowTable) : Type 0 where
+  stands : IsTable t q
+  is : rows t q ≡ rows s q
+  apart : Apart has (RowTable.owned t q)
+  leaves : Leaves s t (had ++ RowTable.owned s q) (has ++ RowTable.owned t q)
 
-  pub beside_apart : Apart has others
-  beside_apart = (others_stay s t had has others f own apart).1
+past : (s t : Store) (had has : List ℕ) (q : RowTable) → Leaves s t had has → IsTable s q → Apart had (RowTable.owned s q) → Past s t had has q
+past s t had has q f h apart = record {
+  stands = k.stands;
+  is = k.is;
+  apart = (let P : List ℕ → Type 0 = λ z. Apart has z in subst P (sym k.own) o.1);
+  leaves = (let P : List ℕ → Type 0 = λ z. Leaves s t (had ++ RowTable.owned s q) (has ++ z) in subst P (sym k.own) (Leaves-beside s t had has (RowTable.owned s q) f own.live));
+} where
+  own : Owns s (RowTable.owned s q)
+  own = table_owns s q h
 
-pub table_beside : (s t : Store) (had has : List ℕ) (q : RowTable) → Leaves s t had has → IsTable s q → Apart had (RowTable.owned s q)
-    → IsTable t q × (RowTable.owned t q ≡ RowTable.owned s q) × (rows t q ≡ rows s q) × Apart has (RowTable.owned s q)
-table_beside s t had has q f h apart =
-    let own = (tables_stand s q h).0 in
-    let k = tables_kept s t q h (beside_same s t had has (RowTable.owned s q) f own apart) in
-    (k.0, k.2, k.3, beside_apart s t had has (RowTable.owned s q) f own apart)
+  o : Owns t (RowTable.owned s q) × Apart has (RowTable.owned s q) × ((i : ℕ) → among i (RowTable.owned s q) ≡ true → at t i ≡ at s i)
+  o = others_stay s t had has (RowTable.owned s q) f own apart
 
-pub chain_beside : (s t : Store) (had has : List ℕ) (c : Chain) → Leaves s t had has → IsChain s c → Apart had (Chain.owned s c)
-    → IsChain t c × (links t c ≡ links s c) × Apart has (Chain.owned s c)
-chain_beside s t had has c f h apart =
-    let own : Owns s (Chain.owned s c) = record { distinct = h.distinct; live = live_in s (links s c) 0 h.held } in
-    let k = chain_same s t c h (beside_same s t had has (Chain.owned s c) f own apart) in
-    (k.0, k.1, beside_apart s t had has (Chain.owned s c) f own apart)
+  k : SameTable s t q
+  k = table_same s t q h o.2
+
+-- a call on what stands behind other parts
+module _ (s t : Store) (had has rest : List ℕ) (f : Leaves s t had has) (own : Owns s rest) (apart : Apart rest had) where
+  o' : Owns t rest × Apart has rest × ((i : ℕ) → among i rest ≡ true → at t i ≡ at s i)
+  o' = others_stay s t had has rest f own (Apart-sym rest had apart)
+
+  rest_same : (i : ℕ) → among i rest ≡ true → at t i ≡ at s i
+  rest_same = o'.2
+
+  behind : (now : List ℕ) → now ≡ rest → Apart now has × Leaves s t (rest ++ had) (now ++ has)
+  behind now e = (
+    (let P : List ℕ → Type 0 = λ z. Apart z has in subst P (sym e) (Apart-sym has rest o'.1)),
+    (let P : List ℕ → Type 0 = λ z. Leaves s t (rest ++ had) (z ++ has) in subst P (sym e) (Leaves-behind s t had has rest f own.live)),
+  )
+
+-- a call on one part
 
 pub items_change : ItemsChange
 items_change s t k items h f c = (
   record {
-    stands = record {
-      items = c;
-      used = u.0;
-      extents = x.0;
-      aside = (let P : List ℕ → Type 0 = λ z. Apart (Chain.owned t items) z in subst P (sym u.1) u.3);
-      apart = (let P : List ℕ → Type 0 = λ z. Apart (Chain.owned t items ++ z) (RowTable.owned t k.extents) in
-          let Q : List ℕ → Type 0 = λ z. Apart (Chain.owned t items ++ RowTable.owned s k.used) z in
-          subst P (sym u.1) (subst Q (sym x.1) (λ i m. elim (in_cases i (Chain.owned t items) (RowTable.owned s k.used) m) [ inl p ↦ x.3 i p | inr p ↦ h.apart i (in_right i (Chain.owned s k.items) (RowTable.owned s k.used) p) ])));
-    };
-    leaves = (let P : List ℕ → Type 0 = λ z. Leaves s t (holdings s k) ((Chain.owned t items ++ z) ++ RowTable.owned t k.extents) in
-        let Q : List ℕ → Type 0 = λ z. Leaves s t (holdings s k) ((Chain.owned t items ++ RowTable.owned s k.used) ++ z) in
-        subst P (sym u.1) (subst Q (sym x.1) whole));
+    stands = record { items = c; used = u.stands; extents = x.stands; places = p.stands; aside = u.apart; apart = x.apart; beside = p.apart };
+    leaves = p.leaves;
   },
-  u.2,
-  x.2,
+  u.is,
+  x.is,
+  p.is,
 ) where
-  u : IsTable t k.used × (RowTable.owned t k.used ≡ RowTable.owned s k.used) × (rows t k.used ≡ rows s k.used) × Apart (Chain.owned t items) (RowTable.owned s k.used)
-  u = table_beside s t (Chain.owned s k.items) (Chain.owned t items) k.used f h.used h.aside
+  u : Past s t (Chain.owned s k.items) (Chain.owned t items) k.used
+  u = past s t (Chain.owned s k.items) (Chain.owned t items) k.used f h.used h.aside
 
-  x : IsTable t k.extents × (RowTable.owned t k.extents ≡ RowTable.owned s k.extents) × (rows t k.extents ≡ rows s k.extents) × Apart (Chain.owned t items) (RowTable.owned s k.extents)
-  x = table_beside s t (Chain.owned s k.items) (Chain.owned t items) k.extents f h.extents (λ i m. h.apart i (in_left i (Chain.owned s k.items) (RowTable.owned s k.used) m))
+  x : Past s t (pair s k) (Chain.owned t items ++ RowTable.owned t k.used) k.extents
+  x = past s t (pair s k) (Chain.owned t items ++ RowTable.owned t k.used) k.extents u.leaves h.extents h.apart
 
-  inner : Leaves s t (Chain.owned s k.items ++ RowTable.owned s k.used) (Chain.owned t items ++ RowTable.owned s k.used)
-  inner = Leaves-beside s t (Chain.owned s k.items) (Chain.owned t items) (RowTable.owned s k.used) f (tables_stand s k.used h.used).0.live
-
-  whole : Leaves s t (holdings s k) ((Chain.owned t items ++ RowTable.owned s k.used) ++ RowTable.owned s k.extents)
-  whole = Leaves-beside s t (Chain.owned s k.items ++ RowTable.owned s k.used) (Chain.owned t items ++ RowTable.owned s k.used) (RowTable.owned s k.extents) inner (tables_stand s k.extents h.extents).0.live
+  p : Past s t (front s k) ((Chain.owned t items ++ RowTable.owned t k.used) ++ RowTable.owned t k.extents) k.places
+  p = past s t (front s k) ((Chain.owned t items ++ RowTable.owned t k.used) ++ RowTable.owned t k.extents) k.places x.leaves h.places h.beside
 
 pub used_change : UsedChange
 used_change s t k used h f c = (
   record {
-    stands = record {
-      items = r.0;
-      used = c;
-      extents = x.0;
-      aside = (let P : List Link → Type 0 = λ z. Apart (ids z) (RowTable.owned t used) in subst P (sym r.1) (Apart-sym (RowTable.owned t used) (Chain.owned s k.items) r.2));
-      apart = (let P : List Link → Type 0 = λ z. Apart (ids z ++ RowTable.owned t used) (RowTable.owned t k.extents) in
-          let Q : List ℕ → Type 0 = λ z. Apart (Chain.owned s k.items ++ RowTable.owned t used) z in
-          subst P (sym r.1) (subst Q (sym x.1) (λ i m. elim (in_cases i (Chain.owned s k.items) (RowTable.owned t used) m) [ inl p ↦ h.apart i (in_left i (Chain.owned s k.items) (RowTable.owned s k.used) p) | inr p ↦ x.3 i p ])));
-    };
-    leaves = (let P : List Link → Type 0 = λ z. Leaves s t (holdings s k) ((ids z ++ RowTable.owned t used) ++ RowTable.owned t k.extents) in
-        let Q : List ℕ → Type 0 = λ z. Leaves s t (holdings s k) ((Chain.owned s k.items ++ RowTable.owned t used) ++ z) in
-        subst P (sym r.1) (subst Q (sym x.1) whole));
+    stands = record { items = r.0; used = c; extents = x.stands; places = p.stands; aside = b.0; apart = x.apart; beside = p.apart };
+    leaves = p.leaves;
   },
   r.1,
-  x.2,
+  x.is,
+  p.is,
 ) where
-  r : IsChain t k.items × (links t k.items ≡ links s k.items) × Apart (RowTable.owned t used) (Chain.owned s k.items)
-  r = chain_beside s t (RowTable.owned s k.used) (RowTable.owned t used) k.items f h.items (Apart-sym (Chain.owned s k.items) (RowTable.owned s k.used) h.aside)
+  own : Owns s (Chain.owned s k.items)
+  own = chain_owns s k.items h.items
 
-  x : IsTable t k.extents × (RowTable.owned t k.extents ≡ RowTable.owned s k.extents) × (rows t k.extents ≡ rows s k.extents) × Apart (RowTable.owned t used) (RowTable.owned s k.extents)
-  x = table_beside s t (RowTable.owned s k.used) (RowTable.owned t used) k.extents f h.extents (λ i m. h.apart i (in_right i (Chain.owned s k.items) (RowTable.owned s k.used) m))
+  r : IsChain t k.items × (links t k.items ≡ links s k.items)
+  r = chain_same s t k.items h.items (rest_same s t (RowTable.owned s k.used) (RowTable.owned t used) (Chain.owned s k.items) f own h.aside)
 
-  inner : Leaves s t (Chain.owned s k.items ++ RowTable.owned s k.used) (Chain.owned s k.items ++ RowTable.owned t used)
-  inner = Leaves-behind s t (RowTable.owned s k.used) (RowTable.owned t used) (Chain.owned s k.items) f (live_in s (links s k.items) 0 h.items.held)
+  b : Apart (Chain.owned t k.items) (RowTable.owned t used) × Leaves s t (pair s k) (Chain.owned t k.items ++ RowTable.owned t used)
+  b = behind s t (RowTable.owned s k.used) (RowTable.owned t used) (Chain.owned s k.items) f own h.aside (Chain.owned t k.items) (ap ids r.1)
 
-  whole : Leaves s t (holdings s k) ((Chain.owned s k.items ++ RowTable.owned t used) ++ RowTable.owned s k.extents)
-  whole = Leaves-beside s t (Chain.owned s k.items ++ RowTable.owned s k.used) (Chain.owned s k.items ++ RowTable.owned t used) (RowTable.owned s k.extents) inner (tables_stand s k.extents h.extents).0.live
+  x : Past s t (pair s k) (Chain.owned t k.items ++ RowTable.owned t used) k.extents
+  x = past s t (pair s k) (Chain.owned t k.items ++ RowTable.owned t used) k.extents b.1 h.extents h.apart
+
+  p : Past s t (front s k) ((Chain.owned t k.items ++ RowTable.owned t used) ++ RowTable.owned t k.extents) k.places
+  p = past s t (front s k) ((Chain.owned t k.items ++ RowTable.owned t used) ++ RowTable.owned t k.extents) k.places x.leaves h.places h.beside
 
 pub extents_change : ExtentsChange
 extents_change s t k extents h f c = (
   record {
-    stands = record {
-      items = r.0;
-      used = u.0;
-      extents = c;
-      aside = (let P : List Link → Type 0 = λ z. Apart (ids z) (RowTable.owned t k.used) in let Q : List ℕ → Type 0 = λ z. Apart (Chain.owned s k.items) z in subst P (sym r.1) (subst Q (sym u.1) h.aside));
-      apart = (let P : List ℕ → Type 0 = λ z. Apart z (RowTable.owned t extents) in subst P (sym front) (Apart-sym (RowTable.owned t extents) (Chain.owned s k.items ++ RowTable.owned s k.used) (λ i m. out_both i (Chain.owned s k.items) (RowTable.owned s k.used) (r.2 i m) (u.3 i m))));
-    };
-    leaves = (let P : List ℕ → Type 0 = λ z. Leaves s t (holdings s k) (z ++ RowTable.owned t extents) in subst P (sym front) whole);
+    stands = record { items = r.items; used = r.used.stands; extents = c; places = p.stands; aside = r.aside; apart = b.0; beside = p.apart };
+    leaves = p.leaves;
   },
-  r.1,
-  u.2,
+  r.are,
+  r.used.is,
+  p.is,
 ) where
-  had : Apart (RowTable.owned s k.extents) (Chain.owned s k.items ++ RowTable.owned s k.used)
-  had = Apart-sym (Chain.owned s k.items ++ RowTable.owned s k.used) (RowTable.owned s k.extents) h.apart
+  r : SamePair s t k
+  r = pair_same s t k h (rest_same s t (RowTable.owned s k.extents) (RowTable.owned t extents) (pair s k) f (pair_owns s k h) h.apart)
 
-  r : IsChain t k.items × (links t k.items ≡ links s k.items) × Apart (RowTable.owned t extents) (Chain.owned s k.items)
-  r = chain_beside s t (RowTable.owned s k.extents) (RowTable.owned t extents) k.items f h.items (λ i m. (out_parts i (Chain.owned s k.items) (RowTable.owned s k.used) (had i m)).0)
+  b : Apart (pair t k) (RowTable.owned t extents) × Leaves s t (front s k) (pair t k ++ RowTable.owned t extents)
+  b = behind s t (RowTable.owned s k.extents) (RowTable.owned t extents) (pair s k) f (pair_owns s k h) h.apart (pair t k) r.own
 
-  u : IsTable t k.used × (RowTable.owned t k.used ≡ RowTable.owned s k.used) × (rows t k.used ≡ rows s k.used) × Apart (RowTable.owned t extents) (RowTable.owned s k.used)
-  u = table_beside s t (RowTable.owned s k.extents) (RowTable.owned t extents) k.used f h.used (λ i m. (out_parts i (Chain.owned s k.items) (RowTable.owned s k.used) (had i m)).1)
+  p : Past s t (front s k) (pair t k ++ RowTable.owned t extents) k.places
+  p = past s t (front s k) (pair t k ++ RowTable.owned t extents) k.places b.1 h.places h.beside
 
-  front : Chain.owned t k.items ++ RowTable.owned t k.used ≡ Chain.owned s k.items ++ RowTable.owned s k.used
-  front = ap (λ (z : List Link). ids z ++ RowTable.owned t k.used) r.1 ∙ ap (λ (z : List ℕ). Chain.owned s k.items ++ z) u.1
+pub places_change : PlacesChange
+places_change s t k places h f c = (
+  record {
+    stands = record { items = r.inner.items; used = r.inner.used.stands; extents = r.extents.stands; places = c; aside = r.inner.aside; apart = r.apart; beside = b.0 };
+    leaves = b.1;
+  },
+  r.inner.are,
+  r.inner.used.is,
+  r.extents.is,
+) where
+  r : SameFront s t k
+  r = front_same s t k h (rest_same s t (RowTable.owned s k.places) (RowTable.owned t places) (front s k) f (front_owns s k h) h.beside)
 
-  front_live : (i : ℕ) → among i (Chain.owned s k.items ++ RowTable.owned s k.used) ≡ true → IsSome (at s i)
-  front_live i m = elim (in_cases i (Chain.owned s k.items) (RowTable.owned s k.used) m) [ inl q ↦ live_in s (links s k.items) 0 h.items.held i q | inr q ↦ (tables_stand s k.used h.used).0.live i q ]
-
-  whole : Leaves s t (holdings s k) ((Chain.owned s k.items ++ RowTable.owned s k.used) ++ RowTable.owned t extents)
-  whole = Leaves-behind s t (RowTable.owned s k.extents) (RowTable.owned t extents) (Chain.owned s k.items ++ RowTable.owned s k.used) f front_live
+  b : Apart (front t k) (RowTable.owned t places) × Leaves s t (holdings s k) (front t k ++ RowTable.owned t places)
+  b = behind s t (RowTable.owned s k.places) (RowTable.owned t places) (front s k) f (front_owns s k h) h.beside (front t k) r.own
 
 -- how many elements there are
 length-items : (ns : List Link) → length (ids ns) ≡ length (items_of ns)
@@ -203,16 +269,19 @@ length-rows : (rs : List Row) → length (map (λ r. r.id) rs) ≡ length (rows_
 length-rows [] = refl
 length-rows (r ∷ rs) = omega (arith, length-rows rs)
 
-pub length-holdings : (s : Store) (k : Stock) → length (holdings s k) ≡ length ((contents s k).items) + length ((contents s k).used) + length ((contents s k).extents)
+pub length-holdings : (s : Store) (k : Stock) → length (holdings s k) ≡ length ((contents s k).items) + length ((contents s k).used) + length ((contents s k).extents) + length ((contents s k).places)
 length-holdings s k = omega (
   arith,
-  length-append (Chain.owned s k.items ++ RowTable.owned s k.used) (RowTable.owned s k.extents),
+  length-append (front s k) (RowTable.owned s k.places),
+  length-append (pair s k) (RowTable.owned s k.extents),
   length-append (Chain.owned s k.items) (RowTable.owned s k.used),
   length-items (links s k.items),
   ap length (rows_own s k.used),
   ap length (rows_own s k.extents),
+  ap length (rows_own s k.places),
   length-rows (rows s k.used),
   length-rows (rows s k.extents),
+  length-rows (rows s k.places),
 )
 
 -- a table without elements has no row
@@ -224,45 +293,29 @@ no_rows s q e = go (rows s q) (sym (rows_own s q) ∙ e) where
     no : r.id ∷ map (λ r. r.id) rs ≡ [] → ⊥
     no f = cc
 
+-- a part is given back behind those before it
+given_past : (s t r : Store) (had : List ℕ) (q : RowTable) → Leaves s t had [] → IsTable s q → Apart had (RowTable.owned s q) → Leaves t r (RowTable.owned t q) [] → Leaves s r (had ++ RowTable.owned s q) []
+given_past s t r had q first h apart second = Leaves-trans s t r (had ++ RowTable.owned s q) (RowTable.owned t q) [] (past s t had [] q first h apart).leaves second
+
 -- a stock is given back part by part
-module _ (s t1 t2 t3 : Store) (k : Stock) (h : IsStock s k) (first : Leaves s t1 (Chain.owned s k.items) []) (second : Leaves t1 t2 (RowTable.owned t1 k.used) []) where
-  abbrev I : List ℕ
-  I = Chain.owned s k.items
+module _ (s t : Store) (k : Stock) (h : IsStock s k) where
+  module _ (first : Leaves s t (Chain.owned s k.items) []) where
+    pub used_stands : IsTable t k.used
+    used_stands = (past s t (Chain.owned s k.items) [] k.used first h.used h.aside).stands
 
-  abbrev U : List ℕ
-  U = RowTable.owned s k.used
+    pub pair_back : (r : Store) → Leaves t r (RowTable.owned t k.used) [] → Leaves s r (pair s k) []
+    pair_back r second = given_past s t r (Chain.owned s k.items) k.used first h.used h.aside second
 
-  abbrev X : List ℕ
-  X = RowTable.owned s k.extents
+  module _ (first : Leaves s t (pair s k) []) where
+    pub extents_stand : IsTable t k.extents
+    extents_stand = (past s t (pair s k) [] k.extents first h.extents h.apart).stands
 
-  u1 : IsTable t1 k.used × (RowTable.owned t1 k.used ≡ U) × (rows t1 k.used ≡ rows s k.used) × Apart [] U
-  u1 = table_beside s t1 I [] k.used first h.used h.aside
+    pub front_back : (r : Store) → Leaves t r (RowTable.owned t k.extents) [] → Leaves s r (front s k) []
+    front_back r second = given_past s t r (pair s k) k.extents first h.extents h.apart second
 
-  x1 : IsTable t1 k.extents × (RowTable.owned t1 k.extents ≡ X) × (rows t1 k.extents ≡ rows s k.extents) × Apart [] X
-  x1 = table_beside s t1 I [] k.extents first h.extents (λ i m. h.apart i (in_left i I U m))
+  module _ (first : Leaves s t (front s k) []) where
+    pub places_stand : IsTable t k.places
+    places_stand = (past s t (front s k) [] k.places first h.places h.beside).stands
 
-  between : Apart (RowTable.owned t1 k.used) (RowTable.owned t1 k.extents)
-  between = let P : List ℕ → Type 0 = λ z. Apart z (RowTable.owned t1 k.extents) in let Q : List ℕ → Type 0 = λ z. Apart U z in subst P (sym u1.1) (subst Q (sym x1.1) (λ i m. h.apart i (in_right i I U m)))
-
-  x2 : IsTable t2 k.extents × (RowTable.owned t2 k.extents ≡ RowTable.owned t1 k.extents) × (rows t2 k.extents ≡ rows t1 k.extents) × Apart [] (RowTable.owned t1 k.extents)
-  x2 = table_beside t1 t2 (RowTable.owned t1 k.used) [] k.extents second x1.0 between
-
-  pub given_extents : IsTable t2 k.extents
-  given_extents = x2.0
-
-  step1 : Leaves s t1 (holdings s k) (U ++ X)
-  step1 = Leaves-beside s t1 (I ++ U) U X (Leaves-beside s t1 I [] U first (tables_stand s k.used h.used).0.live) (tables_stand s k.extents h.extents).0.live
-
-  step2 : Leaves t1 t2 (U ++ X) X
-  step2 =
-      let P : List ℕ → Type 0 = λ z. Leaves t1 t2 (z ++ X) X in
-      let Q : List ℕ → Type 0 = λ z. Leaves t1 t2 (RowTable.owned t1 k.used ++ z) z in
-      subst P u1.1 (subst Q x1.1 (Leaves-beside t1 t2 (RowTable.owned t1 k.used) [] (RowTable.owned t1 k.extents) second (tables_stand t1 k.extents x1.0).0.live))
-
-  pub given_back : Leaves t2 t3 (RowTable.owned t2 k.extents) [] → Leaves s t3 (holdings s k) []
-  given_back third =
-      let P : List ℕ → Type 0 = λ z. Leaves t2 t3 z [] in
-      Leaves-trans s t2 t3 (holdings s k) X [] (Leaves-trans s t1 t2 (holdings s k) (U ++ X) X step1 step2) (subst P (x2.1 ∙ x1.1) third)
-
-pub given_used : (s t1 : Store) (k : Stock) → IsStock s k → Leaves s t1 (Chain.owned s k.items) [] → IsTable t1 k.used
-given_used s t1 k h first = (table_beside s t1 (Chain.owned s k.items) [] k.used first h.used h.aside).0
+    pub stock_back : (r : Store) → Leaves t r (RowTable.owned t k.places) [] → Leaves s r (holdings s k) []
+    stock_back r second = given_past s t r (front s k) k.places first h.places h.beside second

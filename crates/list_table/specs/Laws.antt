@@ -48,21 +48,27 @@ OpenStays = (s t : Store) (q : ListTable) (r : ListRow) (stock : Stock) (words :
 abbrev pub ItemsChange : Type 0
 ItemsChange = (s t : Store) (k : Stock) (items : Chain) → IsStock s k
     → Leaves s t (Chain.owned s k.items) (Chain.owned t items) → IsChain t items
-    → ChangesTo s t k (record { items = items; used = k.used; extents = k.extents })
-    × (rows t k.used ≡ rows s k.used) × (rows t k.extents ≡ rows s k.extents)
+    → ChangesTo s t k (record { items = items; used = k.used; extents = k.extents; places = k.places })
+    × (rows t k.used ≡ rows s k.used) × (rows t k.extents ≡ rows s k.extents) × (rows t k.places ≡ rows s k.places)
 
--- so does one on the cells in use, and one on the extents
+-- so does one on the cells in use, one on the extents, and one on the places
 abbrev pub UsedChange : Type 0
 UsedChange = (s t : Store) (k : Stock) (used : RowTable) → IsStock s k
     → Leaves s t (RowTable.owned s k.used) (RowTable.owned t used) → IsTable t used
-    → ChangesTo s t k (record { items = k.items; used = used; extents = k.extents })
-    × (links t k.items ≡ links s k.items) × (rows t k.extents ≡ rows s k.extents)
+    → ChangesTo s t k (record { items = k.items; used = used; extents = k.extents; places = k.places })
+    × (links t k.items ≡ links s k.items) × (rows t k.extents ≡ rows s k.extents) × (rows t k.places ≡ rows s k.places)
 
 abbrev pub ExtentsChange : Type 0
 ExtentsChange = (s t : Store) (k : Stock) (extents : RowTable) → IsStock s k
     → Leaves s t (RowTable.owned s k.extents) (RowTable.owned t extents) → IsTable t extents
-    → ChangesTo s t k (record { items = k.items; used = k.used; extents = extents })
-    × (links t k.items ≡ links s k.items) × (rows t k.used ≡ rows s k.used)
+    → ChangesTo s t k (record { items = k.items; used = k.used; extents = extents; places = k.places })
+    × (links t k.items ≡ links s k.items) × (rows t k.used ≡ rows s k.used) × (rows t k.places ≡ rows s k.places)
+
+abbrev pub PlacesChange : Type 0
+PlacesChange = (s t : Store) (k : Stock) (places : RowTable) → IsStock s k
+    → Leaves s t (RowTable.owned s k.places) (RowTable.owned t places) → IsTable t places
+    → ChangesTo s t k (record { items = k.items; used = k.used; extents = k.extents; places = places })
+    × (links t k.items ≡ links s k.items) × (rows t k.used ≡ rows s k.used) × (rows t k.extents ≡ rows s k.extents)
 
 -- no two entries have one id
 abbrev pub EntriesDiffer : Type 0

@@ -2,7 +2,7 @@ ghost use Rattle.std.specs.Prelude.{◌≡◌, ℕ, ◌+◌, ◌<◌, ◌++◌, 
 ghost use Rattle.vsm_elements.specs.Store.{Store};
 ghost use Rattle.vsm_elements.specs.Ownership.{Leaves, Apart};
 ghost use Rattle.list_table.specs.Kept.{head_in};
-ghost use Rattle.list_table.specs.Stocks.{holdings};
+ghost use Rattle.list_table.specs.Stocks.{holdings, IsStock};
 
 use crate::row::ListRow;
 use crate::stock::Stock;
@@ -20,20 +20,21 @@ pub struct ListTable {
 }
 
 // The words of a row's element: the heads of its stock, and its own.
-fn row_words(words: [u32; 3], stock: Stock) -> [u32; 7]
+fn row_words(words: [u32; 2], stock: Stock) -> [u32; 7]
     ensures head { head_in result ≡ stock }
-    ensures words { drop 4 result ≡ words }
+    ensures words { drop 5 result ≡ words }
 {
     let Chain { first, count } = stock.items;
     let used = stock.used.head();
     let extents = stock.extents.head();
-    [first, count, used, extents, words[0], words[1], words[2]]
+    let places = stock.places.head();
+    [first, count, used, extents, places, words[0], words[1]]
 }
 
-fn own_words(words: [u32; 7]) -> [u32; 3]
-    ensures { result ≡ drop 4 words }
+fn own_words(words: [u32; 7]) -> [u32; 2]
+    ensures { result ≡ drop 5 words }
 {
-    [words[4], words[5], words[6]]
+    [words[5], words[6]]
 }
 
 fn stock_head(words: [u32; 7]) -> Stock
@@ -46,7 +47,16 @@ fn stock_head(words: [u32; 7]) -> Stock
         },
         used: RowTable::from_head(words[2]),
         extents: RowTable::from_head(words[3]),
+        places: RowTable::from_head(words[4]),
     }
+}
+
+// Gives back every element of the stock in a row's words.
+fn discard_stock(words: [u32; 7], elements: &mut Elements)
+    requires { IsStock elements.old (head_in words) }
+    ensures { Leaves elements.old elements.new (holdings elements.old (head_in words)) [] }
+{
+    stock_head(words).discard(elements);
 }
 
 #[tactic(auto, unfolding(
@@ -128,12 +138,12 @@ impl ListTable {
     /// A row with these words and an empty stock, before all others.
     ///
     /// It takes one element.
-    pub fn push(&mut self, elements: &mut Elements, words: [u32; 3]) -> Id
+    pub fn push(&mut self, elements: &mut Elements, words: [u32; 2]) -> Id
         requires table { IsTable elements.old self.old }
         requires room { 0 < elements.old.spare }
         ensures table { IsTable elements.new self.new }
         ensures entries { entries elements.new self.new
-            ≡ record { id = result; words = words; items = []; used = []; extents = [] }
+            ≡ record { id = result; words = words; items = []; used = []; extents = []; places = [] }
             ∷ entries elements.old self.old }
         ensures front { IsPlace elements.new self.new 0 0 }
         ensures owned { Leaves elements.old elements.new (owned elements.old self.old) (owned elements.new self.new) }
@@ -176,11 +186,11 @@ impl ListTable {
             (owned elements.old self.old) (owned elements.new self.new) }
         ensures spares { IfSome (slice_get (entries elements.old self.old) 0) (λ e.
             elements.new.spare
-            ≡ elements.old.spare + (length e.items + length e.used + length e.extents) + 1) }
+            ≡ elements.old.spare + (length e.items + length e.used + length e.extents + length e.places) + 1) }
     {
         let id = self.chain.next(elements, 0, 0);
         let words = self.chain.words(elements, 0, id);
-        stock_head(words).discard(elements);
+        discard_stock(words, elements);
         self.chain.remove(elements, 0, 0);
     }
 }
