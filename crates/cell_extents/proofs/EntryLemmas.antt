@@ -35,7 +35,7 @@ pub no_cells : (ns : List ℕ) → length ns ≡ 0 → ◌≡◌ {A = Option ℕ
 no_cells [] h = refl
 no_cells (n ∷ ns) h = absurd (omega arith)
 
-pub pool_size : (e : Entry) → (pool_of e).settings.size ≡ word e.words 1
+pub pool_size : (e : Entry) → (pool_of e).settings.size ≡ word (item e.items 4) 5
 unfolding pool_of
 pool_size e = refl
 

@@ -7,5 +7,8 @@ pub mod CellLemmas
 pub mod FreeLemmas
 pub mod NoteLemmas
 pub mod NumberLemmas
+pub mod SeparateLemmas
+pub mod PlaceLemmas
+pub mod MeetLemmas
 pub mod ShapeLemmas
 pub mod SoundLemmas

@@ -22,7 +22,7 @@ among_rows a (r ∷ rs) = go (is_at a r.words) (row_among (a % 256) (a / 256) rs
 pub noted_row : (s : Store) (q : RowTable) → IsTable s q → (a : ℕ) → is_noted a (rows_of (rows s q)) ≡ is_some (row s q (a % 256) (a / 256))
 noted_row s q h a = among_rows a (rows s q) ∙ sym (ap is_some ((rows_ascend s q h).1 (a % 256) (a / 256)))
 
-same_at : (a b : ℕ) → ((a % 256 == b % 256) && (a / 256 == b / 256)) ≡ (b == a)
+pub same_at : (a b : ℕ) → ((a % 256 == b % 256) && (a / 256 == b / 256)) ≡ (b == a)
 same_at a b = elim (eqb_tells b a) [
   | inl p ↦ ap (λ (z : ℕ). (a % 256 == z % 256) && (a / 256 == z / 256)) p.1 ∙ both (a % 256 == a % 256) (a / 256 == a / 256) (same (a % 256)) (same (a / 256)) ∙ sym p.0
   | inr p ↦ elim (eqb_tells (a % 256) (b % 256)) [

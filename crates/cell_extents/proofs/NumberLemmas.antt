@@ -1,7 +1,6 @@
 -- Rows that are numbered: one more behind the last, and the last one gone.
-use Rattle.std.proofs.Common.{◌≡◌, ℕ, zero, suc, ◌+◌, ◌-◌, ◌*◌, ◌/◌, ◌%◌, ◌||◌, ◌<◌, ◌≤◌, Bool, true, false, ◌⊎◌, inl, inr, List, [], ◌∷◌, ◌++◌, length, Option, Some, None, refl, sym, ap, ◌∙◌, subst, arith, length-append}
+use Rattle.std.proofs.Common.{◌≡◌, ℕ, zero, suc, ◌+◌, ◌-◌, ◌*◌, ◌/◌, ◌%◌, ◌<◌, ◌≤◌, Bool, true, false, ◌⊎◌, inl, inr, List, [], ◌∷◌, ◌++◌, length, Option, Some, None, refl, sym, ap, ◌∙◌, subst, arith, length-append}
 use Rattle.std.specs.Prelude.{if◌then◌else◌, map, option_map, slice_get}
-use Rattle.std.specs.List.{list_any}
 use Rattle.std.proofs.lemmas.Bool.Decides.{eqb_tells}
 use Rattle.vsm_elements.specs.Store.{Store}
 use Rattle.row_table.specs.declared.row.Row.{Row}
@@ -14,7 +13,6 @@ use Rattle.row_table.proofs.TableLemmas.{rows_ascend}
 use Rattle.row_table.proofs.HalfLemmas.{rows_are_one}
 use Rattle.list_table.specs.Stocks.{rows_of}
 use Rattle.cell_extents.specs.declared.settings.Extent.{Extent}
-use Rattle.cell_extents.specs.Pool.{overlaps}
 use Rattle.cell_extents.specs.Items.{extent_of}
 use Rattle.cell_extents.specs.Notes.{is_at, AreNumbered}
 
@@ -186,19 +184,6 @@ none_last (r ∷ rs) e = absurd (no e) where
 pub extents_more : (rs : List Row) (r : Row) → map extent_of (rows_of (rs ++ r ∷ [])) ≡ map extent_of (rows_of rs) ++ extent_of r.words ∷ []
 extents_more [] r = refl
 extents_more (q ∷ rs) r = ap (λ (z : List Extent). extent_of q.words ∷ z) (extents_more rs r)
-
--- whether an area meets one of the extents of rows in parts
-pub any_parts : (size start len : ℕ) (xs : List Row) (r : Row) (ys : List Row) → list_any (overlaps size start len) (map extent_of (rows_of (xs ++ r ∷ ys)))
-    ≡ (overlaps size start len (extent_of r.words) || (list_any (overlaps size start len) (map extent_of (rows_of xs)) || list_any (overlaps size start len) (map extent_of (rows_of ys))))
-any_parts size start len [] r ys = refl
-any_parts size start len (q ∷ xs) r ys =
-    ap (λ (z : Bool). overlaps size start len (extent_of q.words) || z) (any_parts size start len xs r ys)
-    ∙ turn (overlaps size start len (extent_of q.words)) (overlaps size start len (extent_of r.words)) (list_any (overlaps size start len) (map extent_of (rows_of xs))) (list_any (overlaps size start len) (map extent_of (rows_of ys))) where
-      turn : (a b c d : Bool) → (a || (b || (c || d))) ≡ (b || ((a || c) || d))
-      turn true true c d = refl
-      turn true false c d = refl
-      turn false true c d = refl
-      turn false false c d = refl
 
 -- the row of a number
 at_number : (k j : ℕ) (rs : List Row) → AreNumbered k (rows_of rs) → row_among ((k + j) % 256) ((k + j) / 256) rs ≡ slice_get rs j

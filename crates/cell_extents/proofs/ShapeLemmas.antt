@@ -1,12 +1,9 @@
 -- The parts of a pool's list: its texts, and its free cells.
 use Rattle.std.proofs.Common.{◌≡◌, ℕ, zero, suc, ◌+◌, ◌-◌, ◌≤◌, List, [], ◌∷◌, ◌++◌, length, take, drop, Some, refl, sym, ap, ◌∙◌, arith, length-drop}
 use Rattle.std.specs.Prelude.{map, slice_get, option_map}
-use Rattle.std.specs.List.{list_any}
 use Rattle.std.proofs.lemmas.Option.{slice_get-map}
-use Rattle.list_table.specs.Entries.{Entry, word}
-use Rattle.cell_extents.specs.Pool.{overlaps, meets}
+use Rattle.list_table.specs.Entries.{Entry}
 use Rattle.cell_extents.specs.Items.{extent_of, cell_of, cell_item, label_of, pool_of}
-use Rattle.cell_extents.proofs.EntryLemmas.{pool_size}
 
 abbrev pub Items : Type 0
 Items = List (List ℕ)
@@ -16,8 +13,8 @@ length-map f [] = refl
 length-map f (x ∷ xs) = omega (arith, length-map f xs)
 
 -- the entry with other words, items and rows
-abbrev pub entry_as : Entry → List ℕ → Items → Items → Items → Entry
-entry_as x words items used extents = record { id = x.id; words = words; items = items; used = used; extents = extents }
+abbrev pub entry_as : Entry → List ℕ → Items → Items → Items → Items → Entry
+entry_as x words items used extents places = record { id = x.id; words = words; items = items; used = used; extents = extents; places = places }
 
 -- the first five items stay
 pub record Texts (items : Items) : Type 0 where
@@ -38,19 +35,19 @@ texts_of (a ∷ b ∷ c ∷ d ∷ []) h = absurd (omega arith)
 texts_of (a ∷ b ∷ c ∷ d ∷ e ∷ cells) h = record { a = a; b = b; c = c; d = d; e = e; cells = cells; are = refl }
 
 -- the pool with other cells and extents behind the same texts
-module _ (x : Entry) (room : 5 ≤ length x.items) (words : List ℕ) (same : words ≡ x.words) (items cells : Items) (are : items ≡ take 5 x.items ++ cells) (used extents : Items) where
+module _ (x : Entry) (room : 5 ≤ length x.items) (words : List ℕ) (same : words ≡ x.words) (items cells : Items) (are : items ≡ take 5 x.items ++ cells) (used extents places : Items) where
   whole : Texts x.items
   whole = texts_of x.items room
 
   now : items ≡ whole.a ∷ whole.b ∷ whole.c ∷ whole.d ∷ whole.e ∷ cells
   now = are ∙ ap (λ (z : Items). take 5 z ++ cells) whole.are
 
-  pub pool_with : pool_of (entry_as x words items used extents) ≡ record (pool_of x) { extents = map extent_of extents; cells = map cell_of cells }
+  pub pool_with : pool_of (entry_as x words items used extents places) ≡ record (pool_of x) { extents = map extent_of extents; cells = map cell_of cells }
   unfolding pool_of
   pool_with =
-      ap (λ (z : List ℕ). pool_of (entry_as x z items used extents)) same
-      ∙ ap (λ (z : Items). pool_of (entry_as x x.words z used extents)) now
-      ∙ sym (ap (λ (z : Items). record (pool_of (record { id = x.id; words = x.words; items = z; used = x.used; extents = x.extents })) { extents = map extent_of extents; cells = map cell_of cells }) whole.are)
+      ap (λ (z : List ℕ). pool_of (entry_as x z items used extents places)) same
+      ∙ ap (λ (z : Items). pool_of (entry_as x x.words z used extents places)) now
+      ∙ sym (ap (λ (z : Items). record (pool_of (record { id = x.id; words = x.words; items = z; used = x.used; extents = x.extents; places = x.places })) { extents = map extent_of extents; cells = map cell_of cells }) whole.are)
 
   pub label_with : label_of items ≡ label_of x.items
   label_with = ap label_of now ∙ sym (ap label_of whole.are)
@@ -80,10 +77,6 @@ get-drop (x ∷ items) (suc k) = get-drop items k
 
 pub first_cell : (x : Entry) (words : List ℕ) → slice_get x.items 5 ≡ Some words → slice_get (pool_of x).cells 0 ≡ Some (cell_of words)
 first_cell x words h = ap (λ (z : List ℕ). slice_get z 0) (own_cells x) ∙ slice_get-map cell_of (drop 5 x.items) 0 ∙ ap (option_map cell_of) (get-drop x.items 5 ∙ h)
-
-pub met : (x : Entry) (start len : ℕ) → list_any (overlaps (word x.words 1) start len) (map extent_of x.extents) ≡ meets start len (pool_of x)
-met x start len =
-    ap (λ (z : ℕ). list_any (overlaps z start len) (map extent_of x.extents)) (sym (pool_size x)) ∙ ap (list_any (overlaps (pool_of x).settings.size start len)) (sym (own_extents x))
 
 pub cells_back : (ns : List ℕ) → map cell_of (map cell_item ns) ≡ ns
 cells_back [] = refl

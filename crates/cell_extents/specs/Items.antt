@@ -1,8 +1,8 @@
 -- How a cell pool stands in a row and its stock.
 --
--- A row's words are the subpool's number, the cell size and the subpool's owner. Its list has three items of the name,
--- one of the header and one of its end with the side and both counts, then the free cells. Its tables have the cells in
--- use, under their addresses, and the extents, under their numbers.
+-- A row's words are the subpool's number and its owner. Its list has three items of the name, one of the header and one
+-- of its end with the side, both counts and the cell size, then the free cells. Its tables have the cells in use, under
+-- their addresses, the extents, under their numbers, and the extents again, under their addresses.
 use Rattle.std.specs.Prelude.{◌≡◌, ℕ, ◌%◌, ◌^◌, ◌≤◌, ◌<◌, List, [], ◌∷◌, length, drop, map, slice_index_or}
 use Rattle.list_table.specs.Entries.{Entry, word}
 use Rattle.vsm_model.specs.declared.Subpool.{Subpool}
@@ -12,6 +12,7 @@ use Rattle.cell_extents.specs.declared.settings.Extent.{Extent}
 use Rattle.cell_extents.specs.Names.{packed, spelled, location_in, header_in, AreTexts}
 use Rattle.cell_extents.specs.Pool.{Pool, HasCells, cells_from}
 use Rattle.cell_extents.specs.Notes.{AreNoted, AreNumbered}
+use Rattle.cell_extents.specs.Places.{ArePlaced, AreSeparate}
 
 abbrev pub item : List (List ℕ) → ℕ → List ℕ
 item items k = slice_index_or items k []
@@ -27,13 +28,13 @@ label_of items = record { first = item items 0; second = item items 1; third = i
 
 -- the subpool that a row's words say, its number and its owner each a byte
 abbrev pub subpool_in : List ℕ → Subpool
-subpool_in ws = record { number = word ws 0 % 256; owner = word ws 2 % 256 }
+subpool_in ws = record { number = word ws 0 % 256; owner = word ws 1 % 256 }
 
 -- what a row's words and the form say
 abbrev pub settings_in : List ℕ → List ℕ → CellSettings
 settings_in ws form = record {
   subpool = subpool_in ws;
-  size = word ws 1;
+  size = word form 5;
   primary = word form 4;
   secondary = word form 3;
   location = location_in form;
@@ -57,14 +58,17 @@ pool_of e =
     (map cell_of (drop 5 e.items))
 
 -- The row has an id of one word, its texts, cells of some size, and just the words of its name, which is text; its
--- extents are numbered, its free cells are cells of these, and the cells in use are noted.
+-- extents are numbered, lie apart and stand in their places, its free cells are cells of these, and the cells in use
+-- are noted.
 pub record IsSound (e : Entry) : Type 0 where
   pub small : e.id < 2 ^ 32
   pub room : 5 ≤ length e.items
-  pub size : 0 < word e.words 1
+  pub size : 0 < (pool_of e).settings.size
   pub named : label_of e.items ≡ packed (pool_of e).name
   pub texts : AreTexts (pool_of e).name (pool_of e).header
   pub numbered : AreNumbered 0 e.extents
+  pub separate : AreSeparate (pool_of e).settings.size (pool_of e).extents
+  pub placed : ArePlaced (pool_of e) e.places
   pub cells : HasCells (pool_of e)
   pub noted : AreNoted (pool_of e) e.used
 

@@ -1,11 +1,9 @@
 //! The extents: a row for each, under its number, in the order in which they were made.
 
 ghost use Rattle.std.specs.Prelude.{◌≡◌, ◌+◌, ◌≤◌, ◌<◌, ◌++◌, ◌∷◌, [], map, length, slice_get};
-ghost use Rattle.std.specs.List.{list_any};
 ghost use Rattle.vsm_elements.specs.Ownership.{Leaves};
 ghost use Rattle.row_table.specs.RowTable.{rows, owned, IsTable};
 ghost use Rattle.list_table.specs.Stocks.{rows_of};
-ghost use Rattle.cell_extents.specs.Pool.{overlaps};
 ghost use Rattle.cell_extents.specs.Items.{extent_of};
 ghost use Rattle.cell_extents.specs.Notes.{AreNumbered};
 
@@ -92,28 +90,4 @@ pub fn pop(extents: &mut RowTable, elements: &mut Elements) -> Extent
         }
         None => Extent { start: 0, count: 0 },
     }
-}
-
-// Whether an area of so many bytes and an extent have an address in common.
-fn overlaps(size: u32, start: u32, len: u32, extent: Extent) -> bool
-    ensures { result ≡ overlaps size start len extent }
-{
-    let bytes = u64::from(extent.count) * u64::from(size);
-    let rounded = 8 * ((bytes + 7) / 8);
-    u64::from(start) < u64::from(extent.start) + rounded
-        && u64::from(extent.start) < u64::from(start) + u64::from(len)
-}
-
-/// Whether an area of `len` bytes overlaps one of the extents of cells of `size` bytes, each up to the end of its last
-/// doubleword.
-pub fn meets(extents: &RowTable, elements: &Elements, size: u32, start: u32, len: u32) -> bool
-    requires { IsTable elements.now extents.now }
-    ensures { result ≡ list_any (overlaps size start len) (map extent_of (rows_of (rows elements.now extents.now))) }
-{
-    let Some(part) = extents.part(elements) else {
-        return false;
-    };
-    overlaps(size, start, len, extent_of(part.row))
-        || meets(&part.before, elements, size, start, len)
-        || meets(&part.behind, elements, size, start, len)
 }

@@ -19,13 +19,13 @@ pub struct Label {
     pub third: [u32; 7],
 }
 
-/// The words of a header, the last of them in the form, of a side, and both counts.
+/// The words of a header, the last of them in the form, of a side, both counts and a size.
 #[derive(Clone, Copy)]
 pub struct LabelForm {
     /// The words of the header's bytes 0 to 20, zeros where there is none.
     pub header: [u32; 7],
     /// The side (0 is below the 16 MB line), 1 where there is a header, the word of its bytes 21 to 23, the secondary
-    /// count, the primary count, and two zeros.
+    /// count, the primary count, the cell size, and a zero.
     pub form: [u32; 7],
 }
 
@@ -100,16 +100,18 @@ pub fn label_of_name(name: &Name) -> Label
     label_of_text(name.as_str().as_bytes())
 }
 
-/// The words of a side, of the counts, and of a header; without one they say so.
+/// The words of a side, of the counts, of a cell size, and of a header; without one they say so.
 pub fn form_of(
     location: Residence,
     primary: u32,
     secondary: u32,
+    size: u32,
     header: &Option<Header>,
 ) -> LabelForm
     ensures location { location_in result.form ≡ location }
     ensures primary { word result.form 4 ≡ primary }
     ensures secondary { word result.form 3 ≡ secondary }
+    ensures size { word result.form 5 ≡ size }
     ensures header { header_in result.header result.form ≡ option_map (λ h. h.items) header.now }
     ensures bytes { IfSome (option_map (λ h. h.items) header.now) AreBytes }
 {
@@ -122,12 +124,12 @@ pub fn form_of(
             let (front, last) = header_words(text.as_slice());
             LabelForm {
                 header: front,
-                form: [side, 1, last, secondary, primary, 0, 0],
+                form: [side, 1, last, secondary, primary, size, 0],
             }
         }
         None => LabelForm {
             header: [0; 7],
-            form: [side, 0, 0, secondary, primary, 0, 0],
+            form: [side, 0, 0, secondary, primary, size, 0],
         },
     }
 }

@@ -5,6 +5,7 @@
 pub mod extents;
 pub mod label;
 pub mod lists;
+pub mod places;
 mod settings;
 pub mod texts;
 pub mod used;

@@ -1,10 +1,10 @@
 //! Walks and runs of items in a list.
 
-ghost use Rattle.std.specs.Prelude.{◌≡◌, ◌+◌, ◌*◌, ◌-◌, ◌≤◌, ◌<◌, ◌^◌, ◌++◌, ◌∷◌, Some, slice_get, take, drop};
+ghost use Rattle.std.specs.Prelude.{◌≡◌, ◌+◌, ◌*◌, ◌≤◌, ◌<◌, ◌^◌, ◌++◌, ◌∷◌, Some, slice_get, take, drop};
 ghost use Rattle.vsm_elements.specs.Chain.{links, owned, last_or, IsChain};
 ghost use Rattle.vsm_elements.specs.Ownership.{Leaves};
 ghost use Rattle.list_table.specs.Stocks.{items_of};
-ghost use Rattle.cell_extents.specs.Items.{cell_items, cell_of, label_of};
+ghost use Rattle.cell_extents.specs.Items.{cell_items, label_of};
 
 use crate::label::{Label, LabelForm};
 use vsm_elements::{Chain, Elements, Id};
@@ -47,14 +47,6 @@ pub fn label(list: Chain, elements: &Elements) -> Label
         second: item(list, elements, 1),
         third: item(list, elements, 2),
     }
-}
-
-/// The address of the cell that an item says.
-pub fn cell_of(words: [u32; 7]) -> u32
-    ensures cell { result ≡ cell_of words }
-    ensures range { result < 2 ^ 32 }
-{
-    words[0]
 }
 
 /// Puts an item at place `k`, in front of what stood there. It takes one element.
@@ -112,25 +104,6 @@ pub fn append_cells(list: &mut Chain, elements: &mut Elements, size: u32, start:
         let cell = start + left * size;
         list.insert(elements, end, behind, [cell, 0, 0, 0, 0, 0, 0]);
     }
-}
-
-/// Takes the item at place `k` out, and tells its words. Its element becomes a spare one.
-pub fn take_out(list: &mut Chain, elements: &mut Elements, k: u32) -> [u32; 7]
-    requires chain { IsChain elements.old list.old }
-    requires within { k < list.old.count }
-    ensures chain { IsChain elements.new list.new }
-    ensures words { slice_get (items_of (links elements.old list.old)) k ≡ Some result }
-    ensures count { list.new.count + 1 ≡ list.old.count }
-    ensures items { items_of (links elements.new list.new)
-        ≡ take k (items_of (links elements.old list.old)) ++ drop (k + 1) (items_of (links elements.old list.old)) }
-    ensures owned { Leaves elements.old elements.new (owned elements.old list.old) (owned elements.new list.new) }
-    ensures spares { elements.new.spare ≡ elements.old.spare + 1 }
-{
-    let behind = before(*list, elements, k);
-    let id = list.next(elements, k, behind);
-    let words = list.words(elements, k, id);
-    list.remove(elements, k, behind);
-    words
 }
 
 /// Takes `count` items out, from place `k` on. Their elements become spare ones.

@@ -96,18 +96,18 @@ fn low_byte(word: u32) -> u8
     (word % 256) as u8
 }
 
-/// The subpool that a row's words say: the first is its number, the third its owner.
-pub fn subpool_of(words: [u32; 3]) -> Subpool
+/// The subpool that a row's words say: its number and its owner.
+pub fn subpool_of(words: [u32; 2]) -> Subpool
     ensures { result ≡ subpool_in words }
 {
     Subpool {
         number: low_byte(words[0]),
-        owner: low_byte(words[2]),
+        owner: low_byte(words[1]),
     }
 }
 
 /// Whether a row's words say this subpool.
-pub fn says_subpool(words: [u32; 3], subpool: Subpool) -> bool
+pub fn says_subpool(words: [u32; 2], subpool: Subpool) -> bool
     ensures { result ≡ same_subpool (subpool_in words) subpool }
 {
     let said = subpool_of(words);

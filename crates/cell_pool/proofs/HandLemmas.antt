@@ -56,7 +56,7 @@ same_place s t q k before same place = record {
 
 -- one row
 abbrev pub given : ℕ → Entry → Entry
-given to e = record { id = e.id; words = word e.words 0 ∷ word e.words 1 ∷ to ∷ []; items = e.items; used = e.used; extents = e.extents }
+given to e = record { id = e.id; words = word e.words 0 ∷ to ∷ []; items = e.items; used = e.used; extents = e.extents; places = e.places }
 
 abbrev pub hand : Subpool → ℕ → Entry → Entry
 hand subpool to e = if same_subpool (subpool_in e.words) subpool then given to e else e
@@ -91,6 +91,8 @@ module _ (subpool : Subpool) (to : ℕ) (small : to < 256) where
     named = h.named;
     texts = h.texts;
     numbered = h.numbered;
+    separate = h.separate;
+    placed = h.placed;
     cells = record { once = h.cells.once; inside = h.cells.inside; apart = h.cells.apart };
     noted = h.noted;
   }

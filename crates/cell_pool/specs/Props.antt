@@ -20,6 +20,7 @@ use Rattle.cell_extents.specs.declared.settings.CellSettings.{CellSettings}
 use Rattle.cell_extents.specs.declared.settings.Extent.{Extent}
 use Rattle.cell_extents.specs.Names.{AreBytes, AreTexts}
 use Rattle.cell_extents.specs.Notes.{AreNumbered}
+use Rattle.cell_extents.specs.Places.{LiesBeside, AreSeparate}
 use Rattle.cell_extents.specs.Items.{IsSound}
 use Rattle.cell_pool.specs.declared.pools.CellPools.{CellPools}
 use Rattle.cell_pool.specs.Pools.{Pool, AreApart, HasCells, Single}
@@ -74,11 +75,19 @@ AreNumbered-prop : (k : ℕ) (rows : List (List ℕ)) → IsProp (AreNumbered k 
 AreNumbered-prop k [] = Unit-prop
 AreNumbered-prop k (ws ∷ rest) = ×_prop (hlevel props) (AreNumbered-prop (k + 1) rest)
 
+LiesBeside-prop : (size : ℕ) (x : Extent) (ys : List Extent) → IsProp (LiesBeside size x ys)
+LiesBeside-prop size x [] = Unit-prop
+LiesBeside-prop size x (y ∷ ys) = ×_prop (hlevel props) (LiesBeside-prop size x ys)
+
+AreSeparate-prop : (size : ℕ) (extents : List Extent) → IsProp (AreSeparate size extents)
+AreSeparate-prop size [] = Unit-prop
+AreSeparate-prop size (x ∷ xs) = hlevel (LiesBeside-prop, AreSeparate-prop size xs, props)
+
 HasCells-prop : (p : Pool) → IsProp (HasCells p)
 HasCells-prop p = hlevel (Distinct-prop, AreApart-prop, props)
 
 IsSound-prop : (e : Entry) → IsProp (IsSound e)
-IsSound-prop e = hlevel (Label-set, AreTexts-prop, AreNumbered-prop, HasCells-prop, props)
+IsSound-prop e = hlevel (Label-set, AreTexts-prop, AreNumbered-prop, AreSeparate-prop, HasCells-prop, props)
 
 AllSound-prop : (es : List Entry) → IsProp (AllSound es)
 AllSound-prop [] = Unit-prop

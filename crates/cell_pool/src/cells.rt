@@ -2,17 +2,39 @@
 
 ghost use Rattle.std.specs.Prelude.{◌≡◌, ℕ, ◌+◌, ◌-◌, ◌*◌, ◌≤◌, ◌<◌, ◌^◌, length, List};
 ghost use Rattle.std.specs.Prelude.{Some, IsSome, IfSome, option_map, slice_get, true, false};
+ghost use Rattle.vsm_elements.specs.Chain.{IsChain};
 ghost use Rattle.vsm_elements.specs.Ownership.{Leaves};
+ghost use Rattle.list_table.specs.ListTable.{entry_of};
+ghost use Rattle.cell_extents.specs.Items.{cell_of, pool_of};
 ghost use Rattle.cell_pool.specs.Pools.{at_id, without_first, with_first, extended, retracted, IsExtended};
 ghost use Rattle.cell_pool.specs.Pools.{uses, meets};
 
 use crate::pools::CellPools;
 use cell_extents::extents::{pop, push};
-use cell_extents::lists::{TEXTS, append_cells, cell_of, insert, item, remove, take_out};
+use cell_extents::lists::{TEXTS, append_cells, insert, item, remove};
+use cell_extents::places::{displace, place};
 use cell_extents::used::{note, strike};
 use cell_extents::{CellId, Extent};
-use list_table::Stock;
+use list_table::{ListRow, Stock};
 use vsm_elements::Elements;
+
+// The address of the cell that an item says.
+fn cell_of(words: [u32; 7]) -> u32
+    ensures cell { result ≡ cell_of words }
+    ensures range { result < 2 ^ 32 }
+{
+    words[0]
+}
+
+// The size of the cells of the pool in a row, which stands in the form in its list.
+fn cell_size(row: ListRow, elements: &Elements) -> u32
+    requires chain { IsChain elements.now row.stock.items }
+    requires room { 5 ≤ row.stock.items.count }
+    ensures { result ≡ (pool_of (entry_of elements.now row)).settings.size }
+{
+    let form = item(row.stock.items, elements, 4);
+    form[5]
+}
 
 impl CellPools {
     ghost use Rattle.cell_pool.specs.CellPools.{pool, by_id, owned, IsCellPools};
@@ -50,12 +72,13 @@ impl CellPools {
         let mut row = self.row(elements, id);
         let mut items = row.stock.items;
         let mut used = row.stock.used;
-        let cell = cell_of(take_out(&mut items, elements, TEXTS));
+        let cell = cell_of(item(items, elements, TEXTS));
+        remove(&mut items, elements, TEXTS, 1);
         note(&mut used, elements, cell);
         row.stock = Stock {
             items,
             used,
-            extents: row.stock.extents,
+            ..row.stock
         };
         self.table.write(elements, row);
         cell
@@ -84,7 +107,7 @@ impl CellPools {
         row.stock = Stock {
             items,
             used,
-            extents: row.stock.extents,
+            ..row.stock
         };
         self.table.write(elements, row);
     }
@@ -92,38 +115,44 @@ impl CellPools {
     /// An extent more, behind all others, which overlaps none of them. Its cells stand in ascending order behind
     /// the free ones.
     ///
-    /// It takes an element for the extent, and one for each cell.
+    /// It takes two elements for the extent, and one for each cell.
     pub fn extend(&mut self, elements: &mut Elements, id: CellId, start: u32, count: u32)
         requires pools { IsCellPools elements.old self.old }
         requires there { IsSome (by_id elements.old self.old id) }
+        requires some { 0 < count }
         requires range { IfSome (by_id elements.old self.old id) (λ p. start + count * p.settings.size ≤ 2 ^ 32) }
         requires apart { IfSome (by_id elements.old self.old id) (λ p.
             meets start (count * p.settings.size) p ≡ false) }
-        requires room { count + 1 ≤ elements.old.spare }
+        requires room { count + 2 ≤ elements.old.spare }
         ensures pools { IsCellPools elements.new self.new }
         ensures names { (n : List ℕ) → pool elements.new self.new n
             ≡ option_map (at_id id (extended start count)) (pool elements.old self.old n) }
         ensures ids { (i : ℕ) → by_id elements.new self.new i
             ≡ option_map (at_id id (extended start count)) (by_id elements.old self.old i) }
         ensures owned { Leaves elements.old elements.new (owned elements.old self.old) (owned elements.new self.new) }
-        ensures spares { elements.new.spare + (count + 1) ≡ elements.old.spare }
+        ensures spares { elements.new.spare + (count + 2) ≡ elements.old.spare }
     {
         let mut row = self.row(elements, id);
         let mut items = row.stock.items;
         let mut extents = row.stock.extents;
-        push(&mut extents, elements, Extent { start, count });
-        append_cells(&mut items, elements, row.words[1], start, count);
+        let mut places = row.stock.places;
+        let extent = Extent { start, count };
+        let size = cell_size(row, elements);
+        push(&mut extents, elements, extent);
+        place(&mut places, elements, size, extent);
+        append_cells(&mut items, elements, size, start, count);
         row.stock = Stock {
             items,
-            used: row.stock.used,
             extents,
+            places,
+            ..row.stock
         };
         self.table.write(elements, row);
     }
 
     /// Takes the last extent back, with its cells, which have to be the end of the free ones.
     ///
-    /// The element of the extent and those of its cells become spare ones.
+    /// The elements of the extent and those of its cells become spare ones.
     pub fn retract(&mut self, elements: &mut Elements, id: CellId) -> Extent
         requires pools { IsCellPools elements.old self.old }
         requires there { IsSome (by_id elements.old self.old id) }
@@ -136,18 +165,21 @@ impl CellPools {
         ensures ids { (i : ℕ) → by_id elements.new self.new i
             ≡ option_map (at_id id (retracted result.count)) (by_id elements.old self.old i) }
         ensures owned { Leaves elements.old elements.new (owned elements.old self.old) (owned elements.new self.new) }
-        ensures spares { elements.new.spare ≡ elements.old.spare + (result.count + 1) }
+        ensures spares { elements.new.spare ≡ elements.old.spare + (result.count + 2) }
     {
         let mut row = self.row(elements, id);
         let mut items = row.stock.items;
         let mut extents = row.stock.extents;
+        let mut places = row.stock.places;
         let extent = pop(&mut extents, elements);
+        displace(&mut places, elements, extent.start);
         let end = items.count - extent.count;
         remove(&mut items, elements, end, extent.count);
         row.stock = Stock {
             items,
-            used: row.stock.used,
             extents,
+            places,
+            ..row.stock
         };
         self.table.write(elements, row);
         extent

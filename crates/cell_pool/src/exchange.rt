@@ -40,7 +40,7 @@ impl CellPools {
             };
             if says_subpool(row.words, subpool) {
                 let mut given = row;
-                given.words = [row.words[0], row.words[1], u32::from(to)];
+                given.words = [row.words[0], u32::from(to)];
                 self.table.write(elements, given);
             }
         }

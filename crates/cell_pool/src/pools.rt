@@ -135,10 +135,10 @@ impl CellPools {
             secondary,
             location,
         } = settings;
-        let form = form_of(location, primary, secondary, &header);
+        let form = form_of(location, primary, secondary, size, &header);
         let number = u32::from(subpool.number);
         let owner = u32::from(subpool.owner);
-        self.table.push(elements, [number, size, owner]);
+        self.table.push(elements, [number, owner]);
         let mut row = self.table.row(elements, 0, 0);
         let mut items = row.stock.items;
         put_texts(&mut items, elements, label_of_name(name), form);

@@ -4,8 +4,9 @@ ghost use Rattle.std.specs.Prelude.{◌≡◌, ◌↔◌, IsSome, IsTrue, IfSome
 ghost use Rattle.cell_pool.specs.Pools.{uses, Meets};
 
 use crate::pools::{CellPools, Place};
-use cell_extents::extents::{extent_at, meets};
+use cell_extents::extents::extent_at;
 use cell_extents::lists::{item, label};
+use cell_extents::places::meets;
 use cell_extents::texts::{header_of, location_of, name_of, subpool_of};
 use cell_extents::used::is_noted;
 use cell_extents::{CellId, CellSettings, Extent, Header, Name};
@@ -25,7 +26,7 @@ impl CellPools {
     }
 
     /// Whether the area of so many bytes from an address on overlaps an extent of some pool, up to the end of the last
-    /// doubleword of which a cell is a part.
+    /// doubleword of which a cell is a part. A look-up for each pool tells.
     pub fn holds(&self, elements: &Elements, start: u32, len: u32) -> bool
         requires { IsCellPools elements.now self.now }
         ensures { IsTrue result ↔ Meets (pool elements.now self.now) start len }
@@ -37,7 +38,7 @@ impl CellPools {
         };
         while place.index < count {
             let row = self.table.row(elements, place.index, place.before);
-            if meets(&row.stock.extents, elements, row.words[1], start, len) {
+            if meets(&row.stock.places, elements, start, len) {
                 return true;
             }
             place = Place {
@@ -92,7 +93,7 @@ impl CellPools {
         let location = location_of(form[0]);
         CellSettings {
             subpool,
-            size: row.words[1],
+            size: form[5],
             primary: form[4],
             secondary: form[3],
             location,

@@ -1,14 +1,16 @@
-use Rattle.std.proofs.Common.{◌≡◌, ◌-◌, ◌∙◌, sym, arith, subst, Option, length, Some, refl}
-use Rattle.std.specs.Prelude.{slice_get, map, IfSome}
+use Rattle.std.proofs.Common.{◌≡◌, ◌-◌, ◌∙◌, sym, arith, subst, Option, List, length, Some, refl}
+use Rattle.std.specs.Prelude.{slice_get, map, IfSome, IsSome}
 use Rattle.vsm_elements.specs.Chain.{links}
+use Rattle.row_table.specs.declared.row.Row.{Row}
 use Rattle.row_table.specs.RowTable.{rows}
 use Rattle.list_table.specs.Stocks.{items_of, rows_of}
 use Rattle.cell_extents.proofs.ItemLemmas.{length-items}
 use Rattle.cell_extents.proofs.ShapeLemmas.{count_extents, own_extents}
+use Rattle.cell_extents.specs.Places.{placed_at}
 use Rattle.cell_extents.specs.Items.{extent_of}
 use Rattle.cell_pool.specs.Pools.{Pool, IsExtended, retracted}
 use Rattle.cell_pool.proofs.LawLemmas.{some_extent, end_is}
-use Rattle.cell_pool.proofs.PartLemmas.{length-rows, shrinks, shrunk, extents_items}
+use Rattle.cell_pool.proofs.PartLemmas.{length-rows, shrinks, shrunk, grown_leaves, grown_stands, has_place, places_still, items_still}
 use Rattle.list_table.specs.ListTable.{entry_of}
 use Rattle.cell_extents.specs.Items.{pool_of}
 use Rattle.cell_pool.specs.CellPools.{IsCellPools}
@@ -33,8 +35,20 @@ overflow_sub-end c =
     let f = shrinks (entry_of c.args.elements.now c.row-row.result) x (rows c.pop-extent.new.elements c.pop-extent.new.extents) c.pop-extent.result c.pop-extent.ensures.extents c.row-row.result.stock.items.count long c.row-row.ensures.sound.room in
     omega (arith, f.fits)
 
+pub displace-requires-clause-table : goal.displace-requires-clause-table
+displace-requires-clause-table c = (places_still c.args.elements.now c.pop-extent.new.elements c.row-row.result.stock c.row-row.ensures.open.stock c.pop-extent.new.extents c.pop-extent.ensures.owned c.pop-extent.ensures.table).0
+
+pub displace-requires-clause-there : goal.displace-requires-clause-there
+displace-requires-clause-there c =
+    let x : IsExtended (pool_of (entry_of c.args.elements.now c.row-row.result)) = (let P : Option Pool → Type 0 = λ z. IfSome z (λ (p : Pool). IsExtended p) in subst P c.row-row.ensures.pool c.requires.last) in
+    let long : length (items_of (links c.args.elements.now c.row-row.result.stock.items)) ≡ c.row-row.result.stock.items.count = omega (arith, length-items (links c.args.elements.now c.row-row.result.stock.items), c.row-row.ensures.open.stock.items.count) in
+    let f = shrinks (entry_of c.args.elements.now c.row-row.result) x (rows c.pop-extent.new.elements c.pop-extent.new.extents) c.pop-extent.result c.pop-extent.ensures.extents c.row-row.result.stock.items.count long c.row-row.ensures.sound.room in
+    let P : List Row → Type 0 = λ z. IsSome (placed_at c.pop-extent.result.start (rows_of z)) in
+    subst P (sym (places_still c.args.elements.now c.pop-extent.new.elements c.row-row.result.stock c.row-row.ensures.open.stock c.pop-extent.new.extents c.pop-extent.ensures.owned c.pop-extent.ensures.table).1)
+    (has_place (entry_of c.args.elements.now c.row-row.result) c.row-row.ensures.sound x c.pop-extent.result f.last)
+
 pub remove-requires-clause-chain : goal.remove-requires-clause-chain
-remove-requires-clause-chain c = (extents_items c.args.elements.now c.pop-extent.new.elements c.row-row.result.stock c.row-row.ensures.open.stock c.pop-extent.new.extents c.pop-extent.ensures.owned c.pop-extent.ensures.table).0
+remove-requires-clause-chain c = (items_still c.args.elements.now c.pop-extent.new.elements c.row-row.result.stock c.row-row.ensures.open.stock c.pop-extent.new.extents c.pop-extent.ensures.owned c.pop-extent.ensures.table c.displace.new.elements c.displace.new.places c.displace.ensures.owned c.displace.ensures.table).0
 
 pub remove-requires-clause-within : goal.remove-requires-clause-within
 remove-requires-clause-within c =
@@ -51,11 +65,9 @@ returns-clause-extent c =
 
 pub write-requires : goal.write-requires
 write-requires c =
-    let x : IsExtended (pool_of (entry_of c.args.elements.now c.row-row.result)) = (let P : Option Pool → Type 0 = λ z. IfSome z (λ (p : Pool). IsExtended p) in subst P c.row-row.ensures.pool c.requires.last) in
-    let long : length (items_of (links c.args.elements.now c.row-row.result.stock.items)) ≡ c.row-row.result.stock.items.count = omega (arith, length-items (links c.args.elements.now c.row-row.result.stock.items), c.row-row.ensures.open.stock.items.count) in
-    let f = shrinks (entry_of c.args.elements.now c.row-row.result) x (rows c.pop-extent.new.elements c.pop-extent.new.extents) c.pop-extent.result c.pop-extent.ensures.extents c.row-row.result.stock.items.count long c.row-row.ensures.sound.room in
-    let b = shrunk c.args.elements.now c.pop-extent.new.elements c.remove.new.elements c.row-row.result c.row-row.ensures.open.stock c.row-row.ensures.sound c.pop-extent.new.extents c.pop-extent.ensures.owned c.pop-extent.ensures.table c.remove.new.list c.remove.ensures.owned c.remove.ensures.chain c.pop-extent.result (c.row-row.result.stock.items.count - c.pop-extent.result.count) c.remove.ensures.items f.whole f.some c.pop-extent.ensures.numbered c.pop-extent.ensures.extents x f.last in
-    ready c.args.elements.now c.remove.new.elements c.args.self.now c.row-row.result (record { items = c.remove.new.list; used = c.row-row.result.stock.used; extents = c.pop-extent.new.extents }) c.row-row.result.words c.row-row.ensures.open b.leaves b.stands
+    ready c.args.elements.now c.remove.new.elements c.args.self.now c.row-row.result (record { items = c.remove.new.list; used = c.row-row.result.stock.used; extents = c.pop-extent.new.extents; places = c.displace.new.places }) c.row-row.result.words c.row-row.ensures.open
+    (grown_leaves c.args.elements.now c.pop-extent.new.elements c.displace.new.elements c.remove.new.elements c.row-row.result.stock c.row-row.ensures.open.stock c.pop-extent.new.extents c.pop-extent.ensures.owned c.pop-extent.ensures.table c.displace.new.places c.displace.ensures.owned c.displace.ensures.table c.remove.new.list c.remove.ensures.owned c.remove.ensures.chain)
+    (grown_stands c.args.elements.now c.pop-extent.new.elements c.displace.new.elements c.remove.new.elements c.row-row.result.stock c.row-row.ensures.open.stock c.pop-extent.new.extents c.pop-extent.ensures.owned c.pop-extent.ensures.table c.displace.new.places c.displace.ensures.owned c.displace.ensures.table c.remove.new.list c.remove.ensures.owned c.remove.ensures.chain)
 
 pub returns-clause-pools : goal.returns-clause-pools
 unfolding IsCellPools
@@ -63,8 +75,8 @@ returns-clause-pools c =
     let x : IsExtended (pool_of (entry_of c.args.elements.now c.row-row.result)) = (let P : Option Pool → Type 0 = λ z. IfSome z (λ (p : Pool). IsExtended p) in subst P c.row-row.ensures.pool c.requires.last) in
     let long : length (items_of (links c.args.elements.now c.row-row.result.stock.items)) ≡ c.row-row.result.stock.items.count = omega (arith, length-items (links c.args.elements.now c.row-row.result.stock.items), c.row-row.ensures.open.stock.items.count) in
     let f = shrinks (entry_of c.args.elements.now c.row-row.result) x (rows c.pop-extent.new.elements c.pop-extent.new.extents) c.pop-extent.result c.pop-extent.ensures.extents c.row-row.result.stock.items.count long c.row-row.ensures.sound.room in
-    let b = shrunk c.args.elements.now c.pop-extent.new.elements c.remove.new.elements c.row-row.result c.row-row.ensures.open.stock c.row-row.ensures.sound c.pop-extent.new.extents c.pop-extent.ensures.owned c.pop-extent.ensures.table c.remove.new.list c.remove.ensures.owned c.remove.ensures.chain c.pop-extent.result (c.row-row.result.stock.items.count - c.pop-extent.result.count) c.remove.ensures.items f.whole f.some c.pop-extent.ensures.numbered c.pop-extent.ensures.extents x f.last in
-    done_kept c.args.elements.now c.remove.new.elements c.args.self.now c.row-row.result (record { items = c.remove.new.list; used = c.row-row.result.stock.used; extents = c.pop-extent.new.extents }) c.row-row.result.words c.row-row.ensures.open b.leaves b.stands c.write.new.elements c.requires.pools c.args.id (retracted c.pop-extent.result.count) c.row-row.ensures.named c.row-row.ensures.parts c.write.ensures.table c.write.ensures.entries b.made (λ p. refl) (λ p. refl) b.sound
+    let b = shrunk c.args.elements.now c.pop-extent.new.elements c.displace.new.elements c.remove.new.elements c.row-row.result c.row-row.ensures.open.stock c.row-row.ensures.sound c.pop-extent.new.extents c.pop-extent.ensures.owned c.pop-extent.ensures.table c.displace.new.places c.displace.ensures.owned c.displace.ensures.table c.remove.new.list c.remove.ensures.owned c.remove.ensures.chain c.pop-extent.result (c.row-row.result.stock.items.count - c.pop-extent.result.count) c.remove.ensures.items f.whole f.some c.pop-extent.ensures.numbered c.pop-extent.ensures.extents c.displace.ensures.placed x f.last in
+    done_kept c.args.elements.now c.remove.new.elements c.args.self.now c.row-row.result (record { items = c.remove.new.list; used = c.row-row.result.stock.used; extents = c.pop-extent.new.extents; places = c.displace.new.places }) c.row-row.result.words c.row-row.ensures.open b.leaves b.stands c.write.new.elements c.requires.pools c.args.id (retracted c.pop-extent.result.count) c.row-row.ensures.named c.row-row.ensures.parts c.write.ensures.table c.write.ensures.entries b.made (λ p. refl) (λ p. refl) b.sound
 
 pub returns-clause-names : goal.returns-clause-names
 unfolding IsCellPools
@@ -72,8 +84,8 @@ returns-clause-names c =
     let x : IsExtended (pool_of (entry_of c.args.elements.now c.row-row.result)) = (let P : Option Pool → Type 0 = λ z. IfSome z (λ (p : Pool). IsExtended p) in subst P c.row-row.ensures.pool c.requires.last) in
     let long : length (items_of (links c.args.elements.now c.row-row.result.stock.items)) ≡ c.row-row.result.stock.items.count = omega (arith, length-items (links c.args.elements.now c.row-row.result.stock.items), c.row-row.ensures.open.stock.items.count) in
     let f = shrinks (entry_of c.args.elements.now c.row-row.result) x (rows c.pop-extent.new.elements c.pop-extent.new.extents) c.pop-extent.result c.pop-extent.ensures.extents c.row-row.result.stock.items.count long c.row-row.ensures.sound.room in
-    let b = shrunk c.args.elements.now c.pop-extent.new.elements c.remove.new.elements c.row-row.result c.row-row.ensures.open.stock c.row-row.ensures.sound c.pop-extent.new.extents c.pop-extent.ensures.owned c.pop-extent.ensures.table c.remove.new.list c.remove.ensures.owned c.remove.ensures.chain c.pop-extent.result (c.row-row.result.stock.items.count - c.pop-extent.result.count) c.remove.ensures.items f.whole f.some c.pop-extent.ensures.numbered c.pop-extent.ensures.extents x f.last in
-    done_names c.args.elements.now c.remove.new.elements c.args.self.now c.row-row.result (record { items = c.remove.new.list; used = c.row-row.result.stock.used; extents = c.pop-extent.new.extents }) c.row-row.result.words c.row-row.ensures.open b.leaves b.stands c.write.new.elements c.requires.pools c.args.id (retracted c.pop-extent.result.count) c.row-row.ensures.named c.row-row.ensures.parts c.write.ensures.table c.write.ensures.entries b.made (λ p. refl) (λ p. refl) b.sound
+    let b = shrunk c.args.elements.now c.pop-extent.new.elements c.displace.new.elements c.remove.new.elements c.row-row.result c.row-row.ensures.open.stock c.row-row.ensures.sound c.pop-extent.new.extents c.pop-extent.ensures.owned c.pop-extent.ensures.table c.displace.new.places c.displace.ensures.owned c.displace.ensures.table c.remove.new.list c.remove.ensures.owned c.remove.ensures.chain c.pop-extent.result (c.row-row.result.stock.items.count - c.pop-extent.result.count) c.remove.ensures.items f.whole f.some c.pop-extent.ensures.numbered c.pop-extent.ensures.extents c.displace.ensures.placed x f.last in
+    done_names c.args.elements.now c.remove.new.elements c.args.self.now c.row-row.result (record { items = c.remove.new.list; used = c.row-row.result.stock.used; extents = c.pop-extent.new.extents; places = c.displace.new.places }) c.row-row.result.words c.row-row.ensures.open b.leaves b.stands c.write.new.elements c.requires.pools c.args.id (retracted c.pop-extent.result.count) c.row-row.ensures.named c.row-row.ensures.parts c.write.ensures.table c.write.ensures.entries b.made (λ p. refl) (λ p. refl) b.sound
 
 pub returns-clause-ids : goal.returns-clause-ids
 unfolding IsCellPools
@@ -81,13 +93,13 @@ returns-clause-ids c =
     let x : IsExtended (pool_of (entry_of c.args.elements.now c.row-row.result)) = (let P : Option Pool → Type 0 = λ z. IfSome z (λ (p : Pool). IsExtended p) in subst P c.row-row.ensures.pool c.requires.last) in
     let long : length (items_of (links c.args.elements.now c.row-row.result.stock.items)) ≡ c.row-row.result.stock.items.count = omega (arith, length-items (links c.args.elements.now c.row-row.result.stock.items), c.row-row.ensures.open.stock.items.count) in
     let f = shrinks (entry_of c.args.elements.now c.row-row.result) x (rows c.pop-extent.new.elements c.pop-extent.new.extents) c.pop-extent.result c.pop-extent.ensures.extents c.row-row.result.stock.items.count long c.row-row.ensures.sound.room in
-    let b = shrunk c.args.elements.now c.pop-extent.new.elements c.remove.new.elements c.row-row.result c.row-row.ensures.open.stock c.row-row.ensures.sound c.pop-extent.new.extents c.pop-extent.ensures.owned c.pop-extent.ensures.table c.remove.new.list c.remove.ensures.owned c.remove.ensures.chain c.pop-extent.result (c.row-row.result.stock.items.count - c.pop-extent.result.count) c.remove.ensures.items f.whole f.some c.pop-extent.ensures.numbered c.pop-extent.ensures.extents x f.last in
-    done_ids c.args.elements.now c.remove.new.elements c.args.self.now c.row-row.result (record { items = c.remove.new.list; used = c.row-row.result.stock.used; extents = c.pop-extent.new.extents }) c.row-row.result.words c.row-row.ensures.open b.leaves b.stands c.write.new.elements c.requires.pools c.args.id (retracted c.pop-extent.result.count) c.row-row.ensures.named c.row-row.ensures.parts c.write.ensures.table c.write.ensures.entries b.made (λ p. refl) (λ p. refl) b.sound
+    let b = shrunk c.args.elements.now c.pop-extent.new.elements c.displace.new.elements c.remove.new.elements c.row-row.result c.row-row.ensures.open.stock c.row-row.ensures.sound c.pop-extent.new.extents c.pop-extent.ensures.owned c.pop-extent.ensures.table c.displace.new.places c.displace.ensures.owned c.displace.ensures.table c.remove.new.list c.remove.ensures.owned c.remove.ensures.chain c.pop-extent.result (c.row-row.result.stock.items.count - c.pop-extent.result.count) c.remove.ensures.items f.whole f.some c.pop-extent.ensures.numbered c.pop-extent.ensures.extents c.displace.ensures.placed x f.last in
+    done_ids c.args.elements.now c.remove.new.elements c.args.self.now c.row-row.result (record { items = c.remove.new.list; used = c.row-row.result.stock.used; extents = c.pop-extent.new.extents; places = c.displace.new.places }) c.row-row.result.words c.row-row.ensures.open b.leaves b.stands c.write.new.elements c.requires.pools c.args.id (retracted c.pop-extent.result.count) c.row-row.ensures.named c.row-row.ensures.parts c.write.ensures.table c.write.ensures.entries b.made (λ p. refl) (λ p. refl) b.sound
 
 pub returns-clause-owned : goal.returns-clause-owned
 returns-clause-owned c =
     let x : IsExtended (pool_of (entry_of c.args.elements.now c.row-row.result)) = (let P : Option Pool → Type 0 = λ z. IfSome z (λ (p : Pool). IsExtended p) in subst P c.row-row.ensures.pool c.requires.last) in
     let long : length (items_of (links c.args.elements.now c.row-row.result.stock.items)) ≡ c.row-row.result.stock.items.count = omega (arith, length-items (links c.args.elements.now c.row-row.result.stock.items), c.row-row.ensures.open.stock.items.count) in
     let f = shrinks (entry_of c.args.elements.now c.row-row.result) x (rows c.pop-extent.new.elements c.pop-extent.new.extents) c.pop-extent.result c.pop-extent.ensures.extents c.row-row.result.stock.items.count long c.row-row.ensures.sound.room in
-    let b = shrunk c.args.elements.now c.pop-extent.new.elements c.remove.new.elements c.row-row.result c.row-row.ensures.open.stock c.row-row.ensures.sound c.pop-extent.new.extents c.pop-extent.ensures.owned c.pop-extent.ensures.table c.remove.new.list c.remove.ensures.owned c.remove.ensures.chain c.pop-extent.result (c.row-row.result.stock.items.count - c.pop-extent.result.count) c.remove.ensures.items f.whole f.some c.pop-extent.ensures.numbered c.pop-extent.ensures.extents x f.last in
-    done_owned c.args.elements.now c.remove.new.elements c.args.self.now c.row-row.result (record { items = c.remove.new.list; used = c.row-row.result.stock.used; extents = c.pop-extent.new.extents }) c.row-row.result.words c.row-row.ensures.open b.leaves b.stands c.write.new.elements c.row-row.ensures.owned c.write.ensures.owned
+    let b = shrunk c.args.elements.now c.pop-extent.new.elements c.displace.new.elements c.remove.new.elements c.row-row.result c.row-row.ensures.open.stock c.row-row.ensures.sound c.pop-extent.new.extents c.pop-extent.ensures.owned c.pop-extent.ensures.table c.displace.new.places c.displace.ensures.owned c.displace.ensures.table c.remove.new.list c.remove.ensures.owned c.remove.ensures.chain c.pop-extent.result (c.row-row.result.stock.items.count - c.pop-extent.result.count) c.remove.ensures.items f.whole f.some c.pop-extent.ensures.numbered c.pop-extent.ensures.extents c.displace.ensures.placed x f.last in
+    done_owned c.args.elements.now c.remove.new.elements c.args.self.now c.row-row.result (record { items = c.remove.new.list; used = c.row-row.result.stock.used; extents = c.pop-extent.new.extents; places = c.displace.new.places }) c.row-row.result.words c.row-row.ensures.open b.leaves b.stands c.write.new.elements c.row-row.ensures.owned c.write.ensures.owned
