@@ -36,7 +36,7 @@ impl SubpoolStorage {
     /// A cell pool of a name that none has, with one extent: `count` cells from an address on, all of them free, in
     /// ascending order. (z/OS MVS Programming: Assembler Services Reference, CPOOL BUILD.)
     ///
-    /// It takes six elements, one for the extent, and one for each cell.
+    /// It takes six elements, two for the extent, and one for each cell.
     pub fn build_pool(
         &mut self,
         elements: &mut Elements,
@@ -49,12 +49,13 @@ impl SubpoolStorage {
         requires stands { Stands elements.old self.old }
         requires unnamed { IsUnnamed (subpools_of elements.old self.old) name.now.bytes }
         requires size { 0 < settings.size }
+        requires some { 0 < count }
         requires range { start + count * settings.size ≤ 2 ^ 32 }
-        requires room { 7 + count ≤ elements.old.spare }
+        requires room { 8 + count ≤ elements.old.spare }
         ensures becomes { Becomes elements.old elements.new self.old self.new
             (with_new_pool (subpools_of elements.old self.old)
             (built_pool result name.now.bytes settings (option_map (λ h. h.items) header) start count)) }
-        ensures spares { elements.new.spare + (7 + count) ≡ elements.old.spare }
+        ensures spares { elements.new.spare + (8 + count) ≡ elements.old.spare }
     {
         let made = self.cells.build(elements, name, settings, header);
         self.cells.extend(elements, made, start, count);
@@ -94,7 +95,7 @@ impl SubpoolStorage {
     /// A cell pool has an extent more, which overlaps none of its others: `count` cells from an address on, ascending
     /// behind the free ones.
     ///
-    /// It takes an element for each cell, and one for the extent.
+    /// It has a cell at least. It takes an element for each cell, and two for the extent.
     pub fn extend(&mut self, elements: &mut Elements, id: CellId, start: u32, count: u32)
         requires stands { Stands elements.old self.old }
         requires there { IsSome ((subpools_of elements.old self.old).cells id) }
@@ -102,10 +103,11 @@ impl SubpoolStorage {
             (λ p. start + count * p.settings.size ≤ 2 ^ 32) }
         requires apart { IfSome ((subpools_of elements.old self.old).cells id)
             (λ p. meets start (count * p.settings.size) p ≡ false) }
-        requires room { count + 1 ≤ elements.old.spare }
+        requires some { 0 < count }
+        requires room { count + 2 ≤ elements.old.spare }
         ensures becomes { Becomes elements.old elements.new self.old self.new
             (with_changed (subpools_of elements.old self.old) id (extended start count)) }
-        ensures spares { elements.new.spare + (count + 1) ≡ elements.old.spare }
+        ensures spares { elements.new.spare + (count + 2) ≡ elements.old.spare }
     {
         self.cells.extend(elements, id, start, count);
     }
@@ -120,7 +122,7 @@ impl SubpoolStorage {
             (λ p. p ≡ extended start count (retracted count p)) }
         ensures becomes { Becomes elements.old elements.new self.old self.new
             (with_changed (subpools_of elements.old self.old) id (retracted count)) }
-        ensures spares { elements.new.spare ≡ elements.old.spare + (count + 1) }
+        ensures spares { elements.new.spare ≡ elements.old.spare + (count + 2) }
     {
         self.cells.retract(elements, id);
     }
