@@ -227,13 +227,14 @@ module _ (w : Walk) (k start count : ℕ) where
 
   was-added : (p : Pool) → IsExtent (run true) p p → IsExtent (run false) (extended start count p) (retracted count (extended start count p))
   was-added p h = record {
+    some = h.some;
     range = h.range;
     apart = ap (meets start (count * p.settings.size)) (retracts_back p start count) ∙ h.apart;
     last = λ s. ap (extended start count) (sym (retracts_back p start count));
   }
 
   is-gone : (p : Pool) → IsExtent (run false) p (retracted count p) → IsExtent (run true) (retracted count p) (retracted count p)
-  is-gone p h = record { range = h.range; apart = h.apart; last = λ s. cc }
+  is-gone p h = record { some = h.some; range = h.range; apart = h.apart; last = λ s. cc }
 
   run-fits : (b : Bool) → CellExtentFits w (run b) → CellExtentFits (behind b) (run (not b))
   run-fits true h = record {

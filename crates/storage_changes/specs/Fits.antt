@@ -140,9 +140,10 @@ pub record CellPoolFits (w : Walk) (r : CellPoolRecord) : Type 0 where
 abbrev pub AreUnderTheirIds : (ℕ → Option Pool) → Type 0
 AreUnderTheirIds pools = (id : ℕ) (p : Pool) → pools id ≡ Some p → p.id ≡ id
 
--- The extent lies within 32 bits and overlaps no other one of the cell pool; where it's the last one, its cells are the
--- end of the free ones.
+-- The extent has a cell, lies within 32 bits and overlaps no other one of the cell pool; where it's the last one, its
+-- cells are the end of the free ones.
 pub record IsExtent (r : CellExtentRecord) (p rest : Pool) : Type 0 where
+  pub some : 0 < r.count
   pub range : r.start + r.count * rest.settings.size ≤ 2 ^ 32
   pub apart : meets r.start (r.count * rest.settings.size) rest ≡ false
   pub last : r.present ≡ false → p ≡ extended r.start r.count rest

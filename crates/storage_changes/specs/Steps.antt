@@ -167,10 +167,10 @@ cell_pool_step w r =
       parked = with_pool_of w.parked w.state.subpools r.pool;
     }
 
--- The last extent of a cell pool: it has an element, and one for each of its cells.
+-- The last extent of a cell pool: it has two elements, and one for each of its cells.
 
 abbrev pub extent_elements : CellExtentRecord → ℕ
-extent_elements r = r.count + 1
+extent_elements r = r.count + 2
 
 abbrev pub cell_extent_change : CellExtentRecord → Pool → Pool
 cell_extent_change r = if r.present then extended r.start r.count else retracted r.count
