@@ -49,7 +49,7 @@ extending_leads row are_found settings m p count goes rows sound named there emp
     (goes_on (at m frames nothing blanks) (area ++ extent) cell grown end b g b g 0 0
     (goes_on (at m frames nothing blanks) area extent n grown b g b g (extent_blanks count + 1) 0
     (taking.go blanks (extent_blanks count + 1) (omega arith) (omega arith))
-    (λ s less. extends n b g s 0 p start named.ids there start count (omega (arith, range))
+    (λ s less. extends n b g s 0 p start named.ids there start count some (omega (arith, range))
     (meets_none settings m p count goes sound size more room are_found named there) (omega (arith, less))))
     (λ s less. hands_out grown b g s 0 q start (ids_changed m.subpools.cells p.id grow (λ x. refl) named.ids) (found_changed m.subpools.cells p grow there)
     (drop 1 (cells_from p.settings.size start count)) (first_free p start count empty some size) (first_is_used p start count empty some size) (omega arith)))

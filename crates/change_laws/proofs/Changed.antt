@@ -1,5 +1,5 @@
 -- A cell pool that changes: its records, and its row on the plain machine.
-use Rattle.std.proofs.Common.{◌≡◌, ℕ, ◌+◌, ◌-◌, ◌≤◌, Bool, true, false, ◌==◌, if◌then◌else◌, List, ◌∷◌, Option, Some, None, is_some, refl, sym, ◌∙◌, ap, arith, subst, true≢false}
+use Rattle.std.proofs.Common.{◌≡◌, ℕ, ◌+◌, ◌-◌, ◌≤◌, ◌<◌, Bool, true, false, ◌==◌, if◌then◌else◌, List, ◌∷◌, Option, Some, None, is_some, refl, sym, ◌∙◌, ap, arith, subst, true≢false}
 use Rattle.std.specs.Prelude.{◌*◌, ◌^◌, option_map, drop}
 use Rattle.std.proofs.lemmas.Bool.{cond-true, eq-eqb}
 use Rattle.vsm_model.specs.declared.limits.Settings.{Settings}
@@ -72,11 +72,11 @@ module _ (m : StorageState) (b g : ℕ → Option ℕ) (s left : ℕ) (p : Pool)
       refl less
 
   -- so many cells more from an address on
-  pub extends : (start count : ℕ) → start + count * p.settings.size ≤ 2 ^ 32 → meets start (count * p.settings.size) p ≡ false → left + extent_blanks count ≤ s
+  pub extends : (start count : ℕ) → 0 < count → start + count * p.settings.size ≤ 2 ^ 32 → meets start (count * p.settings.size) p ≡ false → left + extent_blanks count ≤ s
       → Goes (at m b g s) (extent_records p.id start count) (changed m p.id (extended start count)) b g left
-  extends start count range apart less =
+  extends start count some range apart less =
       let r : CellExtentRecord = record { pool = p.id; start = start; count = count; present = true } in
-      let own : IsExtent r p p = record { range = range; apart = apart; last = λ e. absurd (true≢false e) } in
+      let own : IsExtent r p p = record { some = some; range = range; apart = apart; last = λ e. absurd (true≢false e) } in
       goes_step m (changed m p.id (extended start count)) b g b g s (s - extent_blanks count) left (CellExtent r)
       (record { ids = ids; there = ap is_some there; extent = found (λ q. IsExtent r q q) own; room = omega (arith, less) })
       refl (omega (arith, less))

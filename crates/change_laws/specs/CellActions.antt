@@ -29,9 +29,9 @@ abbrev pub extent_records : ℕ → ℕ → ℕ → List Record
 extent_records id start count =
     CellExtent (record { pool = id; start = start; count = count; present = true }) ∷ []
 
--- The elements that an extent takes: one for each cell, and its own.
+-- The elements that an extent takes: one for each cell, and two of its own.
 abbrev pub extent_blanks : ℕ → ℕ
-extent_blanks count = count + 1
+extent_blanks count = count + 2
 
 -- An area of so many doublewords is taken at its place,
 abbrev pub area_records : Subpool → ℕ → Place → List Record
