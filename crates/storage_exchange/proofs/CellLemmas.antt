@@ -1,6 +1,6 @@
 -- A record of what one subpool has, of a cell pool, of an extent of its or of a cell, changed sides with the storage.
 use Rattle.std.proofs.Common.{◌≡◌, ℕ, ◌+◌, ◌-◌, ◌*◌, ◌/◌, ◌^◌, ◌≤◌, ◌⊎◌, inl, inr, Bool, true, false, Some, None, Option, IfSome, if◌then◌else◌, List, refl, ap, sym, subst, ◌∙◌, arith}
-use Rattle.std.specs.Prelude.{nat_lt, slice_get}
+use Rattle.std.specs.Prelude.{◌<◌, nat_lt, slice_get, IsSome}
 use Rattle.vsm_elements.specs.Store.{Store, made}
 use Rattle.vsm_elements.specs.Owners.{Moves}
 use Rattle.raw_region.specs.Frames.{PageFrame}
@@ -141,6 +141,11 @@ if-found : (o : Option Pool) (P : Pool → Type 0) → ((p : Pool) → o ≡ Som
 if-found None P h = tt
 if-found (Some p) P h = h p refl
 
+-- what follows from whichever is there, where one is
+of-found : (o : Option Pool) (P : Type 0) → IsSome o → ((p : Pool) → o ≡ Some p → P) → P
+of-found None P there h = cc
+of-found (Some p) P there h = h p refl
+
 room-for : (b : Bool) (n m : ℕ) → n ≤ m + (if b then 0 else n) → b ≡ true → n ≤ m
 room-for true n m h e = omega (arith, h)
 room-for false n m h e = cc
@@ -166,6 +171,9 @@ module _ (w : Walk) (r : CellExtentRecord) (h : CellExtentFits w r) where
 
     pub extent-apart : IfSome (w.state.subpools.cells r.pool) (λ p. meets r.start (r.count * p.settings.size) p ≡ false)
     extent-apart = if-found (w.state.subpools.cells r.pool) (λ p. meets r.start (r.count * p.settings.size) p ≡ false) (λ p e. (comes p e).apart)
+
+    pub extent-some : 0 < r.count
+    extent-some = of-found (w.state.subpools.cells r.pool) (0 < r.count) h.there (λ p e. (comes p e).some)
 
     pub extent-room : extent_elements r ≤ w.spare
     extent-room = room-for r.present (extent_elements r) w.spare h.room come

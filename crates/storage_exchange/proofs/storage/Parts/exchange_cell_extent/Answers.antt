@@ -2,9 +2,12 @@ use Rattle.std.proofs.Common.{true, false, arith}
 use Rattle.storage_changes.specs.declared.record.Record.TheVariants.{CellExtent}
 use Rattle.storage_exchange.specs.Storage.{walk_of}
 use Rattle.storage_exchange.proofs.SubpoolLemmas.{exchanges-by}
-use Rattle.storage_exchange.proofs.CellLemmas.{extent-came, extent-went, cell-extent-as, extent-range, extent-apart, extent-room, extent-last}
+use Rattle.storage_exchange.proofs.CellLemmas.{extent-came, extent-went, cell-extent-as, extent-some, extent-range, extent-apart, extent-room, extent-last}
 use Rattle.storage_exchange.proofs.storage.Parts.exchange_cell_extent.Goals.{then-r, else-r}
 use Rattle.storage_exchange.proofs.storage.Parts.exchange_cell_extent.Goals as goal
+
+pub extend-requires-clause-some : goal.extend-requires-clause-some
+extend-requires-clause-some c = extent-some (walk_of c.args.self.now c.requires.fits.0 c.requires.fits.1 c.requires.fits.2) c.args.r c.requires.fits.3 c.if-r.true
 
 pub extend-requires-clause-range : goal.extend-requires-clause-range
 extend-requires-clause-range c = extent-range (walk_of c.args.self.now c.requires.fits.0 c.requires.fits.1 c.requires.fits.2) c.args.r c.requires.fits.3 c.if-r.true
