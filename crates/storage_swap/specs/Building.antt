@@ -8,9 +8,9 @@ use Rattle.storage_swap.specs.declared.building.NewPool.{NewPool}
 abbrev pub pool_as : NewPool → ℕ → Pool
 pool_as p id = built_pool id p.name.now.bytes p.settings (option_map (λ h. h.items) p.header.now) p.start p.count
 
--- six for the cell pool, one for its extent, and those of its cells
+-- six for the cell pool, two for its extent, and those of its cells
 abbrev pub pool_elements : NewPool → ℕ
-pool_elements p = 7 + p.count
+pool_elements p = 8 + p.count
 
 -- and the record by which it comes, with the others and the blank elements
 abbrev pub elements_to_build : NewPool → ℕ → ℕ → ℕ

@@ -59,6 +59,7 @@ impl Change {
         requires once { (i : ℕ) → hold storage.old i ≤ 1 }
         requires frameless { IsFrameless storage.old }
         requires cells { (0 < pool.now.settings.size) × (pool.now.count ≤ 2 ^ 20) }
+        requires some { 0 < pool.now.count }
         requires high { pool.now.start + pool.now.count * pool.now.settings.size ≤ 2 ^ 32 }
         requires size { length records.now + blanks ≤ 2 ^ 20 }
         requires range { fresh.start + fresh.len ≤ 2 ^ 20 }
@@ -81,7 +82,7 @@ impl Change {
             → fresh.len ≤ storage.old.region.spare → HaveTables storage.old.region fresh.start fresh.len
             → IsOk result }
     {
-        let cells = 7 + pool.count;
+        let cells = 8 + pool.count;
         let count = records.len() as u32;
         grow(storage, cells + 1 + (count + blanks), fresh)?;
         Ok(make_building(storage, pool, records, blanks, fresh))
@@ -100,6 +101,7 @@ fn make_building(
     requires once { (i : ℕ) → hold storage.old i ≤ 1 }
     requires frameless { IsFrameless storage.old }
     requires cells { 0 < pool.now.settings.size }
+    requires some { 0 < pool.now.count }
     requires high { pool.now.start + pool.now.count * pool.now.settings.size ≤ 2 ^ 32 }
     requires spare { elements_to_build pool.now (length records.now) blanks ≤ storage.old.elements.spare }
     requires range { fresh.start + fresh.len ≤ 2 ^ 20 }
@@ -132,6 +134,7 @@ fn make_building(
 // The cell pool alone, parked, and its id.
 fn park_pool(elements: &mut Elements, pool: &NewPool<'_>) -> (SubpoolStorage, CellId)
     requires cells { 0 < pool.now.settings.size }
+    requires some { 0 < pool.now.count }
     requires high { pool.now.start + pool.now.count * pool.now.settings.size ≤ 2 ^ 32 }
     requires room { pool_elements pool.now ≤ elements.old.spare }
     ensures stands { Stands elements.new result.0 }
