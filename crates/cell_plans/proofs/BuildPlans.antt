@@ -246,9 +246,11 @@ module _ (settings : Settings) (names_full : Bool) (m : StorageState) (name : Li
       can_be_built : ∥ IsSound settings m ∥₁ → CanBeBuilt m plan
       can_be_built sound =
           let bounds = cell_bounds b.size b.primary (and_parts (are_cells b.size b.primary) (are_cells b.size (secondary_count b)) can.cells).0 in
+          let least_count : 0 < b.primary = (let count = bounds.2 in omega (arith, count)) in
           let least : 0 < b.size = (let size = bounds.0 in omega (arith, size)) in
           let most : b.primary ≤ 2 ^ 12 = (let few = bounds.3 in omega (arith, few)) in
           record {
+            some = subst (λ (g : CellSettings). 0 < g.primary) (sym with_these) least_count;
             size = subst (λ (g : CellSettings). 0 < g.size) (sym with_these) least;
             count = subst (λ (g : CellSettings). g.primary ≤ 2 ^ 12) (sym with_these) most;
             high = subst (λ (n : ℕ). n + plan.settings.primary * plan.settings.size ≤ 2 ^ 32) (sym is_start)

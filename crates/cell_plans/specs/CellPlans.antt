@@ -84,9 +84,10 @@ new_pool plan id =
 abbrev pub build_change : BuildPlan → ℕ → Change
 build_change plan id = change_building (new_pool plan id) (change_of plan.records.items plan.blanks plan.fresh)
 
--- Its cells have a size and an end in storage, its records and blank elements are few, and the pages that come to be
--- assigned are unassigned.
+-- It has cells, with a size and an end in storage, its records and blank elements are few, and the pages that come to
+-- be assigned are unassigned.
 pub record CanBeBuilt (m : StorageState) (plan : BuildPlan) : Type 0 where
+  pub some : 0 < plan.settings.primary
   pub size : 0 < plan.settings.size
   pub count : plan.settings.primary ≤ 2 ^ 12
   pub high : plan.start + plan.settings.primary * plan.settings.size ≤ 2 ^ 32

@@ -69,12 +69,12 @@ fn plan_cell(storage: &Parts, pool: CellId, cell: u32, register: Option<u8>) -> 
     }
 }
 
-// The elements that a further extent of so many cells takes: one for each cell, and its own.
+// The elements that a further extent of so many cells takes: one for each cell, and two of its own.
 fn extent_blanks(count: u32) -> u32
     requires { count ≤ 2 ^ 12 }
     ensures { result ≡ blanks_for count }
 {
-    count + 1
+    count + 2
 }
 
 // The plan by which the cell pool has a further extent at its place, whose first cell is handed out.
