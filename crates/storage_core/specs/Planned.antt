@@ -111,7 +111,7 @@ storage_elements m plan = 25 + plan.blanks + 8 * extents_leaving m.subpools plan
 
 -- The change of a plan takes at most so many elements, those that it has parked among them: of a store 17, one for each
 -- block that it touches; of a new task 32, and 4 for each number that is given or shared; of tasks that end 32, and 8
--- for each task, subpool, extent and row of sight that leaves; of a cell pool that comes 30, and those of its cells;
+-- for each task, subpool, extent and row of sight that leaves; of a cell pool that comes 31, and those of its cells;
 -- and of one that goes 32, and 8 for it and for each of its extents.
 abbrev pub elements_needed : StorageState → Plan → ℕ
 elements_needed m (Storage plan) = storage_elements m plan
@@ -119,7 +119,7 @@ elements_needed m (Store plan) = 17
 elements_needed m (Attach plan) =
     32 + 4 * (length (numbers m plan.attach.given) + length (numbers m plan.attach.shared))
 elements_needed m (End plan) = 32 + 8 * weight_ended m.subpools (ended_below m.tasks.parents plan.top)
-elements_needed m (Build plan) = 30 + plan.settings.primary
+elements_needed m (Build plan) = 31 + plan.settings.primary
 elements_needed m (Delete plan) = 32 + 8 * (1 + extents_of_pool (m.subpools.cells plan.pool))
 
 -- As many elements are spare, and a frame for each of these pages; and the pages have tables.

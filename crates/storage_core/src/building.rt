@@ -38,16 +38,16 @@ impl Storage {
         ensures frames { IfOk result (λ change. length change.frames ≡ plan.fresh.len) }
         ensures few { IfOk result (λ change. change.records.count + change.blanks.count ≤ 30) }
         ensures uses { IfOk result (λ _. self.old.parts.elements.spare ≤ self.new.parts.elements.spare
-            + (30 + plan.settings.primary)) }
+            + (31 + plan.settings.primary)) }
         ensures live { IfOk result (λ _. live_count self.new.parts.elements ≤ live_count self.old.parts.elements
-            + (30 + plan.settings.primary)) }
+            + (31 + plan.settings.primary)) }
         ensures made { IfOk result (λ _. MakesElements self.old.parts.elements self.new.parts.elements
-            (30 + plan.settings.primary)) }
+            (31 + plan.settings.primary)) }
         ensures made_frames { IfOk result (λ _. MakesFrames self.old.parts.region self.new.parts.region
             plan.fresh.len) }
         ensures err { OnErr result (Stays self.old.parts self.new.parts) }
         ensures needless { IsSpareFor self.old.parts
-            (30 + plan.settings.primary) plan.fresh → IsOk result }
+            (31 + plan.settings.primary) plan.fresh → IsOk result }
         ensures settings { settings_of self.new ≡ settings_of self.old }
     {
         let pool = NewPool {
