@@ -24,7 +24,7 @@ fn build(rt: &impl Abort, elements: &mut Elements, pools: &mut CellPools, text: 
 {
     let name = named(rt, text);
     holds!(rt; pools.find(elements, &name).is_none());
-    holds!(rt; elements.spare() >= 9);
+    holds!(rt; elements.spare() >= 10);
     holds!(rt; start <= 8192);
     let settings = CellSettings {
         subpool: subpool((start / 4096) as u8),

@@ -45,7 +45,7 @@ fn build(
     pools_are_one();
     let pools = storage.cell_pools(elements);
     holds!(rt; pools.find(elements, &name).is_none());
-    assert!(rt; elements.spare() >= 10 && start <= 8192);
+    assert!(rt; elements.spare() >= 12 && start <= 8192);
     let settings = CellSettings {
         subpool,
         size: 16,
@@ -125,7 +125,7 @@ fn cell_pools_go_over_with_their_subpool_and_come_back(rt: HostRuntime) -> Resul
     create(&rt, &mut elements, &mut storage, BESIDE);
     build(&rt, &mut elements, &mut storage, HERE, "GOES", 4096);
     build(&rt, &mut elements, &mut storage, BESIDE, "STAYS", 8192);
-    same!(rt; elements.spare(), 106);
+    same!(rt; elements.spare(), 102);
     beside(&rt, &mut elements, &mut storage);
     drop(elements);
     Ok(())
@@ -140,7 +140,7 @@ fn a_gift_hands_its_cell_pools_on(rt: HostRuntime) -> Result<(), Fail> {
     build(&rt, &mut elements, &mut storage, HERE, "GIVEN", 4096);
     build(&rt, &mut elements, &mut storage, BESIDE, "KEPT", 8192);
     pass(&rt, &mut elements, &mut storage, HERE, TAKERS.owner);
-    same!(rt; elements.spare(), 106);
+    same!(rt; elements.spare(), 102);
     is_in(&rt, &elements, &storage, "GIVEN", Some(TAKERS));
     is_in(&rt, &elements, &storage, "KEPT", Some(BESIDE));
     pass(&rt, &mut elements, &mut storage, TAKERS, HERE.owner);
