@@ -93,7 +93,7 @@ fn a_cell_pool_comes_and_goes(rt: HostRuntime) -> Result<(), Fail> {
     };
     let none = Run { start: 0, len: 0 };
     let (mut change, _) = Change::reserve_building(&mut storage, &pool, &[], 1, none)?;
-    same!(rt; storage.elements.spare(), 109);
+    same!(rt; storage.elements.spare(), 108);
     let pools = storage.subpools.cell_pools(&storage.elements);
     holds!(rt; pools.find(&storage.elements, &name).is_none());
     change.swap(&mut storage);
