@@ -22,6 +22,7 @@ from test_tools import scripts
 from vsmtools import bench, building, family, loading, maps
 from vsmtools.command import Fault
 from vsmtools.maps import Area
+from vsmtools.progress import Work
 from vsmtools.searching import Reach
 
 TOOL = "vsm-load"
@@ -228,7 +229,7 @@ def test_choices_against_all_orders() -> None:
         before[other].add(one)
         fits = any(all(any(all(order.index(a) < order.index(b) for a, b in option) for option in options)
                        for options in choices + [[[(one, other)]]]) for order in itertools.permutations(events))
-        assert (family.Choices(before, choices).take() is not None) == fits
+        assert (family.Choices(before, [family.Choice(it) for it in choices], Work()).take() is not None) == fits
         found[fits] += 1
     assert min(found) > 50
 

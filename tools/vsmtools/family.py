@@ -17,13 +17,14 @@ from __future__ import annotations
 import heapq
 from dataclasses import dataclass, field, replace
 from itertools import combinations, product
-from typing import Callable, Iterable, Optional
+from typing import Iterable, NamedTuple, NoReturn, Optional
 
 from .command import Fault
 from .crews import Crew
 from .judge import MOST_POOLS, MOST_TASKS, refuse
 from .maps import Map
 from .places import Key, Places, Words
+from .progress import Work
 
 Event = tuple[str, int]
 Order = dict[Event, set[Event]]     # for each event those that come before it
@@ -66,11 +67,10 @@ class Block:
 class Family:
     """The tasks of a map, their subpools, and what has to come before what."""
 
-    def __init__(self, shown: Map, source: str, places: Places, own_work: set[Key],
-                 tell: Callable[[], None] = lambda: None) -> None:
-        """own_work: the subpools whose storage is made by BUILD and DELETE alone. tell is called for each try of a
-        search."""
-        self.map, self.source, self.places, self.own_work, self.tell = shown, source, places, own_work, tell
+    def __init__(self, shown: Map, source: str, places: Places, own_work: set[Key], work: Work) -> None:
+        """own_work: the subpools whose storage is made by BUILD and DELETE alone. work is told each try of a search,
+        and what it's for."""
+        self.map, self.source, self.places, self.own_work, self.work = shown, source, places, own_work, work
         self.parent = {task.number: task.parent for task in shown.tasks}
         self.line = {task.number: task.line for task in shown.tasks}
         self.first = {task.number: task.registers[1] for task in shown.tasks}
@@ -138,7 +138,8 @@ class Family:
         found += [Maker(task, "help") for task in able]
         if not found:
             refuse(self.source, self.subpools[key].line,
-                   "it has areas, and no task whose register 1 isn't 0 sees it")
+                   "it has more than BUILD makes, as areas or cells in use, and each task that sees it has 0 in "
+                   "register 1")
         return found
 
     def is_too_early(self, task: int, key: Key) -> bool:
@@ -261,9 +262,10 @@ class Family:
     def needs(self) -> tuple[Order, list[list[Block]]]:
         """For each event those that come before it, but for the blocks that come in any order; and these."""
         before: Order = {event: set() for event in self.events()}
-        for event in before:
-            if self.actor(event) != 1:
-                before[event].add(("create", self.actor(event)))
+        for event in list(before):
+            put(before, self.tied(event, self.actor(event), self.sets_first(event)))
+        put(before, [(("temp", task), ("create", self.first[task])) for task in self.temps
+                     if self.first[task] in self.parent])
         free: list[list[Block]] = []
         for (task, _), keys in self.sights().items():
             first, middle, last = self.blocks(task, keys)
@@ -276,19 +278,30 @@ class Family:
                 follow(before, one, last)
             if len(middle) > 1:
                 free.append(middle)
-        self.helpers_needs(before)
+        for k, helper in enumerate(self.helpers):
+            for key in helper.serves:
+                put(before, self.helped(k, key))
         if self.made:
             self.pages_needs(before)
-        self.last_events(before)
         self.empty_needs(before)
         return before, free
 
-    def helpers_needs(self, before: Order) -> None:
-        for k, helper in enumerate(self.helpers):
-            before["done", k].add(("help", k))
-            for key in helper.serves:
-                before["make", self.at[key]].add(("help", k))
-                before["done", k].add(("make", self.at[key]))
+    def sets_first(self, event: Event) -> bool:
+        """Whether an event sets register 1 of its actor."""
+        kind, number = event
+        return kind in ("create", "temp", "help", "words") or (
+            kind == "make" and self.makers[self.made[number]].how == "self")
+
+    def tied(self, event: Event, task: int, sets_first: bool) -> Option:
+        """What comes before what where a task does something: its ATTACH before that, and, if that sets its register
+        1, what sets it for the last time behind it."""
+        last = self.last(task) if sets_first else None
+        return [(("create", task), event)] * (task != 1) + ([(event, last)] if last and last != event else [])
+
+    def helped(self, helper: int, key: Key) -> Option:
+        """What comes before what where a helper makes a subpool's storage."""
+        make = ("make", self.at[key])
+        return [(("help", helper), make), (make, ("done", helper))]
 
     def pages_needs(self, before: Order) -> None:
         """An address is had while its page is unassigned, or behind the storage that it lies in."""
@@ -328,22 +341,11 @@ class Family:
         wanted = [[key for key, it in self.subpools.items() if it.extents]] if self.places.is_full() else []
         return wanted + ([list(pooled)] if len(self.map.cell_pools) == MOST_POOLS else [])
 
-    def last_events(self, before: Order) -> None:
-        """Where a task's register 1 is set for the last time, all else that sets it came before."""
-        for event in list(before):
-            kind, number = event
-            is_own = kind in ("create", "temp", "help", "words") or kind == "make" and (
-                self.makers[self.made[number]].how == "self")
-            last = self.last(self.actor(event))
-            if is_own and last and last != event:
-                before[last].add(event)
-            if kind == "temp" and self.first[number] in self.parent:
-                before["create", self.first[number]].add(event)
-
     # An order of all events.
 
     def plan(self) -> list[Event]:
         """An order of all events: by the makers that are the best, or else by others."""
+        self.work.at(self.map.tasks[0].line, "an order of ATTACHes")
         self.judge()
         options = {key: self.choices(key) for key in self.made}
         self.choose({key: makers[0] for key, makers in options.items()})
@@ -365,7 +367,7 @@ class Family:
         if order is None:
             raise Fault("this can't be made: whatever task makes the storage, it waits for itself"
                         + ", or for a further task, and there are %d" % MOST_TASKS * course.is_crowded,
-                        self.source, self.subpools[course.stuck].line if course.stuck else self.map.bytes_line)
+                        self.source, course.stuck.line if course.stuck else self.map.bytes_line)
         self.place = {event: k for k, event in enumerate(order)}
         self.is_placed = True
         self.choose(course.makers)
@@ -377,6 +379,7 @@ class Family:
 
     def crowd(self, order: list[Event]) -> list[Option]:
         """Gives helpers their numbers; where there are none for some, what can be otherwise."""
+        self.work.at(self.map.tasks[0].line, "numbers for tasks that make storage and end")
         crew = Crew(order, self.parent, {task: self.first[task] for task in self.temps})
         numbers, there = crew.first_numbers()
         found = crew.numbers(crew.helpers) if there else numbers
@@ -393,10 +396,18 @@ class Family:
             refuse(self.source, self.line[task], "it would have to see two subpools %d at once" % keys[0][0])
         order = course.find()
         if order is None:
-            refuse(self.source, self.map.tasks[-1].line,
-                   "each order of ATTACHes breaks what a subpool's sharers, its owner, "
-                   "or a task's number in register 1 ask for")
+            self.refuse_order(course)
         self.place = {event: k for k, event in enumerate(order)}
+
+    def refuse_order(self, course: Course) -> NoReturn:
+        """That no order of ATTACHes fits, with the tasks whose ATTACHes wait for each other, or a subpool."""
+        broken = "breaks what a subpool's sharers, its owner, or a task's number in register 1 ask for"
+        tasks = sorted(number for kind, number in circles(course.before) if kind == "create")
+        if len(tasks) > 1:
+            refuse(self.source, self.line[tasks[0]], "each order of the ATTACHes of tasks %s %s" % (
+                ", ".join(map(str, tasks)), broken))
+        line = course.stuck.line if course.stuck else self.line[tasks[0]] if tasks else self.map.tasks[-1].line
+        refuse(self.source, line, "each order of ATTACHes " + broken)
 
     def bare(self) -> Order:
         """For each event but those for storage those that come before it, whatever makes that."""
@@ -424,11 +435,11 @@ class Course:
 
     def __init__(self, family: Family, options: dict[Key, list[Maker]], is_joint: bool = False) -> None:
         self.family, self.is_joint, self.is_crowded = family, is_joint, False
-        self.stuck: Optional[Key] = None     # where there's no order, the subpool that nothing could make most often
+        self.stuck: Optional[Choice] = None     # where there's no order, the one that was a dead end most often
         self.before = family.bare()
         self.makers: dict[Key, Maker] = {}
         self.blocks: dict[tuple[Key, int], int] = {}
-        self.choices: list[list[Option]] = []
+        self.choices: list[Choice] = []
         self.sights = family.sights()
         self.above: dict[tuple[int, int], list[Key]] = {}      # subpools that a task may make and give
         self.works: set[tuple[Key, int]] = set()               # blocks in which storage may be made
@@ -442,7 +453,9 @@ class Course:
         for place in {**self.sights, **self.above}:
             self.see(place)
         self.storage()
-        self.choices = [[self.option(key, it) for it in makers] for key, makers in self.options.items()] + self.choices
+        self.choices = [Choice([self.option(key, it) for it in makers], family.subpools[key].line,
+                               "a task that can make its storage")
+                        for key, makers in self.options.items()] + self.choices
 
     def is_above(self, key: Key, maker: Maker) -> bool:
         return maker.task not in (*self.family.shortest[key], *self.family.subpools[key].sharers)
@@ -466,11 +479,6 @@ class Course:
         return not self.is_above(key, maker) or (
             all(chains[other][0] == maker.task or maker.task in chains[other][:-1] for other in own)
             and all(chains[other][0] == chain[0] for other in behind) and not (behind and len(chain) == 1))
-
-    def put(self, one: Event, other: Event) -> None:
-        if one != other:
-            self.before.setdefault(one, set())
-            self.before.setdefault(other, set()).add(one)
 
     def own(self, kind: str, key: Key, task: int) -> Event:
         """What a block begins or ends with, which is no event of another kind."""
@@ -501,15 +509,14 @@ class Course:
             block = self.family.block(key, task)
             ends = set(self.end(key, task)) - block.events
             begins = self.begin(key, task) if (key, task) in self.works else []
-            for pair in [*product(block.all, ends), *product(begins, block.all | ends)]:
-                self.put(*pair)
+            put(self.before, [*product(block.all, ends), *product(begins, block.all | ends)])
         middle += self.above.get(place, [])
         for one, other in [*product(first, middle + last), *product(middle, last)]:
-            for pair in product(self.end(one, task), self.begin(other, task)):
-                self.put(*pair)
+            put(self.before, product(self.end(one, task), self.begin(other, task)))
         for pair in combinations(middle, 2):
-            self.choices.append([[*product(self.end(one, task), self.begin(other, task))]
-                                 for one, other in (pair, pair[::-1])])
+            self.choices.append(Choice([[*product(self.end(one, task), self.begin(other, task))]
+                                        for one, other in (pair, pair[::-1])], self.family.subpools[pair[0]].line,
+                                       "when task %d sees it, as it had another subpool of its number too" % task))
 
     def storage(self) -> None:
         """What storage comes behind words or before them, and behind subpools that stay empty."""
@@ -519,17 +526,17 @@ class Course:
         if keys:
             family.pages_needs(self.before)
         for wanted in family.scarce() if marks else ():
-            self.choices.append([[(mark, ("make", family.at[key])) for mark in marks] for key in wanted])
+            self.choices.append(Choice([[(mark, ("make", family.at[key])) for mark in marks] for key in wanted],
+                                       family.subpools[wanted[0]].line, "room for subpools that stay empty"))
 
     def option(self, key: Key, maker: Maker) -> Option:
         """What comes before what where a task makes a subpool's storage."""
         family, task, number = self.family, maker.task, self.family.at[key]
-        make, last = ("make", number), family.last(task)
-        event = ("help", maker.team or 0) if maker.how == "help" else make
+        make, team = ("make", number), maker.team or 0
+        event = ("help", team) if maker.how == "help" else make
         found = [(self.own("begin", key, task), event)] + [(event, it) for it in self.end(key, task)]
-        found += [(("create", task), event)] if task != 1 else []
-        found += [(event, last)] if last and maker.how in ("self", "help") else []
-        found += [(event, make), (make, ("done", event[1]))] if maker.how == "help" else []
+        found += family.tied(event, task, maker.how in ("self", "help"))
+        found += family.helped(team, key) if maker.how == "help" else []
         found += [(make, ("mark", number))] if maker.how == "build" and not family.subpools[key].extents else []
         chain = [task] * self.is_above(key, maker) + family.shortest[key]
         if task in chain[:-1]:
@@ -552,13 +559,13 @@ class Course:
         """An order of all events; None where there's none, or where helpers may have to be one task. Where no number is
         left for a helper in the order that comes of the choices, that's one more choice, as `crowd` has it."""
         own = len(self.choices)
-        for event in {event for options in self.choices for option in options for pair in option for event in pair}:
+        for event in {event for choice in self.choices for event in choice.events()}:
             self.before.setdefault(event, set())
         while not circles(self.before):
-            choices = Choices(self.before, self.choices, self.family.tell)
+            choices = Choices(self.before, self.choices, self.family.work)
             taken = choices.take()
             if taken is None:
-                self.stuck = max(zip(choices.ends, self.options), default=(0, None), key=lambda it: it[0])[1]
+                self.stuck = max(zip(choices.ends, self.choices[:len(self.options) or None]), key=lambda it: it[0])[1]
                 return None
             found = {event: set(others) for event, others in self.before.items()}
             for one, other in (pair for option in taken for pair in option):
@@ -569,14 +576,14 @@ class Course:
             if not crowd:
                 return order
             self.is_crowded = True
-            self.choices.append(crowd)
+            self.choices.append(Choice(crowd, self.family.work.line, self.family.work.wanted))
             if not self.is_joint and len(self.choices) - own == FIRST_CROWDS:
                 return None
         return None
 
     def made_by(self, taken: list[Option]) -> Iterable[tuple[Key, Maker]]:
-        for (key, makers), options, option in zip(self.options.items(), self.choices, taken):
-            yield key, next(maker for maker, it in zip(makers, options) if it is option)
+        for (key, makers), choice, option in zip(self.options.items(), self.choices, taken):
+            yield key, next(maker for maker, it in zip(makers, choice.options) if it is option)
 
     def without_unneeded(self, before: Order) -> Order:
         """An order without the events of helpers that aren't needed. There's none between two others: what isn't
@@ -584,6 +591,16 @@ class Course:
         needed = {it.team for it in self.makers.values() if it.how == "help"}
         unneeded = {event for event in before if event[0] in ("help", "done") and event[1] not in needed}
         return {event: others - unneeded for event, others in before.items() if event not in unneeded}
+
+
+class Choice(NamedTuple):
+    """Options one of which is taken; the line of the map that asks for it, and what is looked for there."""
+    options: list[Option]
+    line: int = 0
+    wanted: str = ""
+
+    def events(self) -> Iterable[Event]:
+        return dict.fromkeys(event for option in self.options for pair in option for event in pair)
 
 
 class Choices:
@@ -596,10 +613,10 @@ class Choices:
     one, it begins anew behind some dead ends, each time twice as many: a go comes that meets all there are.
     """
 
-    def __init__(self, before: Order, choices: list[list[Option]], tell: Callable[[], None] = lambda: None) -> None:
-        self.tell = tell
+    def __init__(self, before: Order, choices: list[Choice], work: Work) -> None:
+        self.work = work
         events = {event: k for k, event in enumerate(dict.fromkeys(
-            event for options in choices for option in options for pair in option for event in pair))}
+            event for choice in choices for event in choice.events()))}
         bits, known = ancestors(before, sort(before))
         place = {bits[event].bit_length() - 1: k for event, k in events.items()}
         found = [sum(1 << place[it] for it in ones(known[event]) if it in place) for event in events]
@@ -609,10 +626,9 @@ class Choices:
                 behind[it] |= 1 << k
         self.first = Taken(found, behind, dict.fromkeys(range(len(choices)), 0))
         self.given = choices
-        self.options = [[[(events[one], events[other]) for one, other in option] for option in options]
-                        for options in choices]
-        self.events = [sum(1 << event for event in {event for option in options for pair in option for event in pair})
-                       for options in self.options]
+        self.options = [[[(events[one], events[other]) for one, other in option] for option in choice.options]
+                        for choice in choices]
+        self.events = [sum(1 << events[event] for event in choice.events()) for choice in choices]
         self.ends = [0] * len(choices)       # how often a choice was a dead end
         self.most = FIRST_GO
 
@@ -625,8 +641,8 @@ class Choices:
             self.most *= 2
         if not found:
             return None
-        return [next(given for given, option in zip(*both) if found.has(option))
-                for both in zip(self.given, self.options)]
+        return [next(given for given, option in zip(choice.options, options) if found.has(option))
+                for choice, options in zip(self.given, self.options)]
 
     def go(self) -> tuple[Optional[Taken], bool]:
         """What's taken of all choices, if that's found; else whether all were tried."""
@@ -635,11 +651,12 @@ class Choices:
         stack: list[tuple[Taken, Iterable[list[tuple[int, int]]]]] = []
         ends = 0
         while True:
-            self.tell()
+            self.work.tried()
             if state and self.settle(state):
                 if not state.left:
                     return state, True
                 k = max(state.left, key=lambda k: (self.ends[k], -state.left[k]))
+                self.work.at(self.given[k].line, self.given[k].wanted)
                 stack.append((state, iter(self.options[k])))
             else:
                 ends += 1
@@ -732,11 +749,18 @@ def in_turn(before: Order) -> list[Event]:
     return found + sort({event: before[event] & rest for event in rest})
 
 
+def put(before: Order, pairs: Iterable[tuple[Event, Event]]) -> None:
+    """That the first event of each pair comes before the other one."""
+    for one, other in pairs:
+        if one != other:
+            before.setdefault(one, set())
+            before.setdefault(other, set()).add(one)
+
+
 def follow(before: Order, one: Block, others: Iterable[Block]) -> None:
     """That some blocks come behind one."""
     for other in others:
-        for event in other.all:
-            before[event] |= one.all - {event}
+        put(before, product(one.all, other.all))
 
 
 def closure(before: Order, end: Event, done: set[Event]) -> set[Event]:

@@ -59,6 +59,9 @@ class Judge:
                 self.refuse(task.line, "no task %d attached it" % task.parent)
             self.ancestors(task.number, task.line, parents)
             self.registers(task.registers, task.line, parents, task.number)
+            if task.registers[1] in self.line_of(task.number, parents):
+                self.refuse(task.line + 1, "register 1 has the number of a task that it attached, and task %d was "
+                            "there before that" % task.registers[1])
             before = task.number
         if self.map.tasks[0].number != 1:
             self.refuse(self.map.tasks[0].line, "there is always a task 1")
@@ -72,6 +75,10 @@ class Judge:
             if number == 0:
                 return
         self.refuse(line, "its parents lead round in a circle")
+
+    def line_of(self, number: int, parents: dict[int, int]) -> list[int]:
+        """A task and all that it descends from."""
+        return [number, *(self.line_of(parents[number], parents) if parents.get(number) else [])]
 
     def registers(self, words: Sequence[int], line: int, parents: dict[int, int], task: int) -> None:
         longest = max(self.low.length, self.high.length)

@@ -10,7 +10,7 @@ from __future__ import annotations
 
 import heapq
 from itertools import product
-from typing import Callable, Iterable, NamedTuple, Optional
+from typing import Iterable, NamedTuple, Optional
 
 from .building import Build, Builder, Step, core, page_end, shape
 from .command import Fault
@@ -19,6 +19,7 @@ from .judge import MOST_POOLS, Judge, Refused, refuse
 from .lines import fold
 from .maps import HIGH_START, LOW_START, PAGE, Area, CellPool, Map, Subpool
 from .places import Home, Key, Places, Words, location, unassigned
+from .progress import Work
 from .searching import Reach, Search
 from .walls import Walls
 
@@ -88,14 +89,15 @@ class Script:
 class Loader:
     """Writes the script of one map."""
 
-    def __init__(self, shown: Map, source: str, tell: Callable[[], None] = lambda: None) -> None:
-        """tell is called whenever something more is tried."""
-        self.map, self.source, self.tell, self.script = shown, source, tell, Script()
+    def __init__(self, shown: Map, source: str, work: Optional[Work] = None) -> None:
+        """work is told whenever something more is tried, and what it's for."""
+        self.map, self.source, self.work, self.script = shown, source, work or Work(), Script()
+        self.work.at(shown.tasks[0].line, "lines that don't agree")
         Judge(shown, source).judge()
         self.places = Places(shown)
         self.first = {task.number: task.registers[1] for task in shown.tasks}
         own_work = {(it.number, it.owner) for it in shown.subpools if it.extents and self.is_own_work(it)}
-        self.family = Family(shown, source, self.places, own_work, tell)
+        self.family = Family(shown, source, self.places, own_work, self.work)
         self.created: set[int] = set()
         self.numbers: dict[int, int] = {}        # of helpers that are there
         self.fillers: dict[int, int] = {}        # tasks that only fill a number, with their parents
@@ -140,7 +142,7 @@ class Loader:
         """The script of the first of some ways by which the map can be made; and why others before it fail."""
         faults: list[Fault] = []
         for way in ways:
-            loader = Loader(self.map, self.source, self.tell)
+            loader = Loader(self.map, self.source, self.work)
             loader.family.is_late, loader.family.is_build_last = way.is_late, way.is_last
             loader.reach = way.reach
             try:
@@ -443,6 +445,7 @@ class Loader:
         assert it is not None
         if key in self.made:
             return
+        self.work.at(it.line, "the statements that make it")
         if it.extents and self.family.makers[key].how == "build":
             self.build()
         elif it.extents:
@@ -468,10 +471,11 @@ class Loader:
         its = [self.family.subpools[key] for key in keys]
         wanted = [Build(pool.extents[0], key, pool.location, pool) for key, it in zip(keys, its)
                   for pool in self.pools_of(it)]
+        self.work.at(its[0].line, "an order of BUILDs and DELETEs that makes its cell pools")
         keeper, is_walled = self.close_walls()
         runs = [run for side in (24, 31) for run in (self.unmade if is_walled else self.unassigned)(side)]
         builder = Builder(runs, wanted, MOST_POOLS - self.built, is_walled, bool(keeper))
-        steps = Search(builder, self.reach, self.tell).plan()
+        steps = Search(builder, self.reach, self.work).plan()
         if steps is None:
             raise NoOrder("no script is found: BUILD alone makes this, and in no order that was tried with at most %d "
                           "cell pools at once" % MOST_POOLS, self.source, its[0].line)

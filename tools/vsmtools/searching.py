@@ -19,11 +19,12 @@ from __future__ import annotations
 
 from enum import IntEnum
 from itertools import product
-from typing import Callable, Iterable, Iterator, Optional
+from typing import Iterable, Iterator, Optional
 
 from .building import Build, Builder, Ground, Step, Turn, core, page_end, page_start, shape
 from .maps import PAGE, Area
 from .places import Key, location
+from .progress import Work
 
 FIRST_GO = 20      # so many dead ends are met at first, with few fillers for each pool
 
@@ -46,9 +47,9 @@ def span(key: Key, start: int, end: int) -> Build:
 class Search:
     """Looks for the order of a builder's pools."""
 
-    def __init__(self, builder: Builder, reach: Reach, tell: Callable[[], None] = lambda: None) -> None:
-        """tell is called for each try."""
-        self.builder, self.is_whole, self.is_all, self.tell = builder, reach > Reach.FIRST, reach == Reach.ALL, tell
+    def __init__(self, builder: Builder, reach: Reach, work: Work) -> None:
+        """work is told each try, and the cell pool that comes next."""
+        self.builder, self.is_whole, self.is_all, self.work = builder, reach > Reach.FIRST, reach == Reach.ALL, work
         self.seen: set[frozenset[tuple[int, int, Key, int]]] = set()
 
     def plan(self) -> Optional[list[Step]]:
@@ -78,12 +79,19 @@ class Search:
         self.builder.ground = Ground(self.builder.runs, left)
         at = 0
         while left:
-            self.tell()
+            self.work.tried()
             turn, at = self.builder.last_of(left, at)
             if turn is None:
+                self.tell_next(left)
                 break
             turns, left = turns + [turn], left[:at] + left[at + 1:]
         return turns, left
+
+    def tell_next(self, left: list[Build]) -> None:
+        """That one of these is to come next, behind the others."""
+        pool = next((it.pool for it in left if it.pool), None)
+        if pool:
+            self.work.at(pool.line, "an order of BUILDs and DELETEs that gives it its place")
 
     def is_new(self, left: list[Build]) -> bool:
         """Whether a state wasn't met before, and may be made."""
@@ -99,7 +107,7 @@ class Search:
             yield from self.known_moves(left)
         elif len(left) < self.builder.most:
             for filler in self.fillers(left):
-                self.tell()
+                self.work.tried()
                 yield [Turn(filler, [Step(False, filler)])], left + [filler]
 
     def fillers(self, left: list[Build]) -> Iterator[Build]:
@@ -154,7 +162,7 @@ class Search:
 
     def steps_behind(self, it: Build, others: list[Build], before: list[Build]) -> Optional[list[Step]]:
         """The steps so that a pool comes behind others and some fillers, which stay."""
-        self.tell()
+        self.work.tried()
         builder, room = self.builder, self.builder.most - len(others) - 1 - len(before)
         builder.ground = Ground(builder.runs, others + before)
         return builder.steps_to(it, room) if builder.places(it, room)[0] <= room else None
