@@ -406,22 +406,40 @@ def endless_map() -> str:
     return "".join(line + "\n" for line in maps.map_lines(shown))
 
 
-@pytest.mark.parametrize("seconds, told", [("0.5", "0.5"), ("1", "1")])
-def test_a_search_is_given_up(run: Callable, vsm: str, seconds: str, told: str) -> None:
-    done = run(TOOL, "--vsm", vsm, "--low", 1024, "--seconds", seconds, given=endless_map().encode())
+ORDERS = "an order of BUILDs and DELETEs that (makes its cell pools|gives it its place)"
+UNPROVED = "it isn't proved that no list of statements makes this map"
+
+
+@pytest.mark.parametrize("seconds, longer", [("0.5", "5"), ("2", "20")])
+def test_a_search_is_given_up(run: Callable, vsm: str, seconds: str, longer: str) -> None:
+    text = endless_map()
+    done = run(TOOL, "--vsm", vsm, "--low", 1024, "--seconds", seconds, given=text.encode())
     assert done.returncode == 8 and done.stdout == b""
-    assert one_line(done, TOOL) == "standard input: given up behind %s seconds, before the search was finished: " \
-        "whether a list of statements makes this isn't known" % told
+    found = re.fullmatch("standard input:([0-9]+): given up behind %s seconds, looking for %s: %s; --seconds %s looks "
+                         "longer, --seconds 0 without an end" % (seconds, ORDERS, UNPROVED, longer),
+                         one_line(done, TOOL))
+    assert found and text.split("\n")[int(found[1]) - 1].startswith((" SUBPOOL 0", " CELLPOOL"))
 
 
-@pytest.mark.parametrize("seconds", ["0", "-1", "nan", "soon"])
+def test_choices_tell_what_they_are_at() -> None:
+    """Two of them that go together in no way: the search ends at one of these."""
+    one, other = ("create", 2), ("create", 3)
+    choices = [family.Choice([[(one, other)], [(one, ("create", 4))]], 5, "one"),
+               family.Choice([[(other, one)], [(("create", 4), one)]], 7, "the other")]
+    work = Work()
+    assert family.Choices({("create", k): set() for k in (2, 3, 4)}, choices, work).take() is not None
+    assert (work.line, work.wanted) in ((5, "one"), (7, "the other"))
+
+
+@pytest.mark.parametrize("seconds", ["-1", "nan", "inf", "1e6", "soon"])
 def test_no_such_seconds(run: Callable, vsm: str, seconds: str) -> None:
     done = run(TOOL, "--vsm", vsm, "--seconds=" + seconds, given=CELLS.encode())
     assert done.returncode == 16 and "--seconds" in one_line(done, TOOL)
 
 
-def test_a_search_that_ends_within_its_seconds(run: Callable, vsm: str) -> None:
-    done = run(TOOL, "--vsm", vsm, "--seconds", 60, given=CELLS.encode())
+@pytest.mark.parametrize("seconds", [60, 0])
+def test_a_search_that_ends_within_its_seconds(run: Callable, vsm: str, seconds: int) -> None:
+    done = run(TOOL, "--vsm", vsm, "--seconds", seconds, given=CELLS.encode())
     assert done.returncode == 0 and done.stderr == b"" and done.stdout
 
 
@@ -440,8 +458,8 @@ def test_a_search_is_stopped(vsm: str, tmp_path: Path) -> None:
     text = os.read(lead, 1 << 20)
     os.close(lead)
     assert child.returncode == 8 and made == b""
-    assert text.split(b"\r")[-2].decode().strip() == (
-        "vsm-load: %s: stopped, before the search was finished: whether a list of statements makes this isn't known" % path)
+    assert re.fullmatch("vsm-load: %s:[0-9]+: stopped, looking for [^:]+: %s" % (re.escape(str(path)), UNPROVED),
+                        text.split(b"\r")[-2].decode().strip())
 
 
 # What is no map.
@@ -464,8 +482,9 @@ def test_what_is_no_map(run: Callable, vsm: str, text: bytes, told: str) -> None
 
 def test_one_of_other_options(run: Callable, vsm: str) -> None:
     done = run(TOOL, "--vsm", vsm, "--high", 96, given=CELLS.encode())
-    assert done.returncode == 8 and re.match(r"standard input:\d+: the map is of other options: its region has 16 pages, "
-                                             r"which is --high 64, not --high 96$", one_line(done, TOOL))
+    assert done.returncode == 8
+    assert re.match(r"standard input:\d+: the map is of other options: its region has 16 pages, which is --high 64, "
+                    r"not --high 96$", one_line(done, TOOL))
     assert run(TOOL, "--vsm", vsm, "--low", "x", given=CELLS.encode()).returncode == 16
 
 

@@ -8,7 +8,7 @@ import sys
 from pathlib import Path
 from typing import Callable, NoReturn, Optional
 
-READ_OR_WRITE = 8  # the exit status where something couldn't be read, written or understood
+READ_OR_WRITE = 8  # the exit status where something couldn't be read, written, understood or made
 WORDS = 16         # the exit status where a word is wrong, or vsm isn't there
 MOST_INPUT = 256 << 20
 
