@@ -9,6 +9,7 @@ import pytest
 from vsmtools import building, searching
 from vsmtools.building import Build, Builder, Ground, core
 from vsmtools.maps import Area
+from vsmtools.progress import Work
 from vsmtools.searching import Reach, Search
 
 Pool = tuple[int, int]            # from one doubleword up to another
@@ -113,4 +114,5 @@ def test_all_maps_of_a_small_region(monkeypatch: pytest.MonkeyPatch, words: int,
         is_made = State(pools) in made
         assert not (is_made and core(builds, most)), pools
         for reach in (Reach.KNOWN, Reach.ALL):
-            assert (Search(Builder(runs, builds, most, is_walled), reach).plan() is not None) == is_made, pools
+            search = Search(Builder(runs, builds, most, is_walled), reach, Work())
+            assert (search.plan() is not None) == is_made, pools
