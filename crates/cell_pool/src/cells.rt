@@ -5,26 +5,19 @@ ghost use Rattle.std.specs.Prelude.{Some, IsSome, IfSome, option_map, slice_get,
 ghost use Rattle.vsm_elements.specs.Chain.{IsChain};
 ghost use Rattle.vsm_elements.specs.Ownership.{Leaves};
 ghost use Rattle.list_table.specs.ListTable.{entry_of};
-ghost use Rattle.cell_extents.specs.Items.{cell_of, pool_of};
+ghost use Rattle.cell_extents.specs.Items.{pool_of};
 ghost use Rattle.cell_pool.specs.Pools.{at_id, without_first, with_first, extended, retracted, IsExtended};
 ghost use Rattle.cell_pool.specs.Pools.{uses, meets};
 
 use crate::pools::CellPools;
 use cell_extents::extents::{pop, push};
-use cell_extents::lists::{TEXTS, append_cells, insert, item, remove};
+use cell_extents::lists::{TEXTS, append_cells, cell_of};
 use cell_extents::places::{displace, place};
 use cell_extents::used::{note, strike};
 use cell_extents::{CellId, Extent};
+use list_table::items::{insert, item, remove};
 use list_table::{ListRow, Stock};
 use vsm_elements::Elements;
-
-// The address of the cell that an item says.
-fn cell_of(words: [u32; 7]) -> u32
-    ensures cell { result ≡ cell_of words }
-    ensures range { result < 2 ^ 32 }
-{
-    words[0]
-}
 
 // The size of the cells of the pool in a row, which stands in the form in its list.
 fn cell_size(row: ListRow, elements: &Elements) -> u32

@@ -5,11 +5,12 @@ ghost use Rattle.cell_pool.specs.Pools.{uses, Meets};
 
 use crate::pools::{CellPools, Place};
 use cell_extents::extents::extent_at;
-use cell_extents::lists::{item, label};
+use cell_extents::lists::label;
 use cell_extents::places::meets;
 use cell_extents::texts::{header_of, location_of, name_of, subpool_of};
 use cell_extents::used::is_noted;
 use cell_extents::{CellId, CellSettings, Extent, Header, Name};
+use list_table::items::item;
 use vsm_elements::Elements;
 
 impl CellPools {

@@ -8,8 +8,9 @@ ghost use Rattle.cell_pool.specs.Walks.{items_left, StandsAt, IsExtentPlace, ext
 
 use crate::pools::CellPools;
 use cell_extents::extents::extent_of;
-use cell_extents::lists::{TEXTS, before};
+use cell_extents::lists::{TEXTS, cell_of};
 use cell_extents::{CellId, Extent};
+use list_table::items::before;
 use row_table::{RowPlace, RowTable};
 use vsm_elements::{Chain, Elements, Id};
 
@@ -141,6 +142,6 @@ impl CellPools {
         ensures place { IfSome result (λ r. IsCellPlace elements.now r.1) }
     {
         let (words, items) = place.items.next(elements)?;
-        Some((words[0], CellPlace { items }))
+        Some((cell_of(words), CellPlace { items }))
     }
 }

@@ -4,7 +4,7 @@ use Rattle.vsm_elements.specs.Chain.{links}
 use Rattle.row_table.specs.declared.row.Row.{Row}
 use Rattle.row_table.specs.RowTable.{rows}
 use Rattle.list_table.specs.Stocks.{items_of, rows_of}
-use Rattle.cell_extents.proofs.ItemLemmas.{length-items}
+use Rattle.list_table.proofs.ItemLemmas.{length-items}
 use Rattle.cell_extents.proofs.ShapeLemmas.{count_extents, own_extents}
 use Rattle.cell_extents.specs.Places.{placed_at}
 use Rattle.cell_extents.specs.Items.{extent_of}

@@ -1,7 +1,7 @@
 use Rattle.std.proofs.Common.{◌<◌, List, arith}
 use Rattle.vsm_elements.specs.Chain.{Link, links}
 use Rattle.list_table.specs.Stocks.{items_of}
-use Rattle.cell_extents.proofs.ItemLemmas.{step_before, count_is, item_at}
+use Rattle.list_table.proofs.ItemLemmas.{step_before, count_is, item_at}
 use Rattle.cell_pool.proofs.PlaceLemmas.{items_step}
 use Rattle.cell_pool.proofs.walks.ItemPlace.next.Goals as goal
 

@@ -1,7 +1,7 @@
 use Rattle.std.proofs.Common.{◌≡◌, ◌≤◌, ◌+◌, ◌-◌, take, drop}
 use Rattle.vsm_elements.specs.Chain.{links, owned, IsChain}
 use Rattle.vsm_elements.specs.Ownership.{Leaves}
-use Rattle.cell_extents.proofs.lists.remove.Given as goal
+use Rattle.list_table.proofs.items.remove.Given as goal
 
 abbrev pub invariant-loop-left : goal.invariant-loop-left
 invariant-loop-left l = record {

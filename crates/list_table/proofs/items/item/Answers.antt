@@ -1,6 +1,6 @@
 use Rattle.vsm_elements.specs.Chain.{links}
-use Rattle.cell_extents.proofs.ItemLemmas.{item_at}
-use Rattle.cell_extents.proofs.lists.item.Goals as goal
+use Rattle.list_table.proofs.ItemLemmas.{item_at}
+use Rattle.list_table.proofs.items.item.Goals as goal
 
 pub returns : goal.returns
 returns c = item_at (links c.args.elements.now c.args.list) c.args.k c.next-id.result c.words.result c.words.ensures

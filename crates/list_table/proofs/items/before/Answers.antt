@@ -1,7 +1,7 @@
 use Rattle.std.proofs.Common.{arith}
 use Rattle.vsm_elements.specs.Chain.{links}
-use Rattle.cell_extents.proofs.ItemLemmas.{step_before, count_is}
-use Rattle.cell_extents.proofs.lists.before.Goals as goal
+use Rattle.list_table.proofs.ItemLemmas.{step_before, count_is}
+use Rattle.list_table.proofs.items.before.Goals as goal
 
 pub loop-i-preserved : goal.loop-i-preserved
 loop-i-preserved c = record {

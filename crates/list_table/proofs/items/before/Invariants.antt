@@ -1,6 +1,6 @@
 use Rattle.std.proofs.Common.{◌≡◌, ◌≤◌, take}
 use Rattle.vsm_elements.specs.Chain.{links, last_or}
-use Rattle.cell_extents.proofs.lists.before.Given as goal
+use Rattle.list_table.proofs.items.before.Given as goal
 
 abbrev pub invariant-loop-i : goal.invariant-loop-i
 invariant-loop-i l = record {

@@ -1,8 +1,8 @@
 use Rattle.std.proofs.Common.{◌≡◌, ◌+◌, ◌-◌, ◌≤◌, ℕ, ap, ◌∙◌, arith, drop, length}
 use Rattle.vsm_elements.specs.Chain.{links}
 use Rattle.vsm_elements.proofs.ChainFrame.{Leaves-trans}
-use Rattle.cell_extents.proofs.ItemLemmas.{out_count, out_take, out_drop, out_items}
-use Rattle.cell_extents.proofs.lists.remove.Goals as goal
+use Rattle.list_table.proofs.ItemLemmas.{out_count, out_take, out_drop, out_items}
+use Rattle.list_table.proofs.items.remove.Goals as goal
 
 pub loop-left-preserved : goal.loop-left-preserved
 loop-left-preserved c =
