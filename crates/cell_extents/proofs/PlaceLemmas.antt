@@ -1,9 +1,7 @@
 -- Extents by address: the rows under their addresses, and what they say.
-use Rattle.std.proofs.Common.{◌≡◌, ℕ, suc, ◌+◌, ◌*◌, ◌/◌, ◌%◌, ◌<◌, ◌≤◌, ◌==◌, ◌&&◌, ◌||◌, ◌⊎◌, Bool, true, false, List, [], ◌∷◌, ◌++◌, Option, Some, None, inl, inr, refl, sym, ap, ◌∙◌, subst, arith}
-use Rattle.std.specs.Prelude.{if◌then◌else◌, option_map, nat_lt, IsSome}
-use Rattle.std.specs.List.{list_any}
+use Rattle.std.proofs.Common.{◌≡◌, ℕ, ◌+◌, ◌*◌, ◌/◌, ◌%◌, ◌<◌, ◌≤◌, ◌==◌, Bool, true, false, List, [], ◌∷◌, Option, Some, None, inl, inr, refl, sym, ap, ◌∙◌, subst, arith}
+use Rattle.std.specs.Prelude.{if◌then◌else◌, option_map, IsSome}
 use Rattle.vsm_elements.specs.Store.{Store}
-use Rattle.vsm_elements.proofs.ChainLemmas.{not_both}
 use Rattle.row_table.specs.declared.row.Row.{Row}
 use Rattle.row_table.specs.declared.table.RowTable.{RowTable}
 use Rattle.row_table.specs.Rows.{word, same_key, comes_before, RowsBehind, AreInOrder, AreLow, row_among}
@@ -15,11 +13,11 @@ use Rattle.row_table.proofs.TableLemmas.{rows_ascend}
 use Rattle.row_table.proofs.HalfLemmas.{rows_are_low}
 use Rattle.list_table.specs.Stocks.{rows_of}
 use Rattle.cell_extents.specs.declared.settings.Extent.{Extent}
-use Rattle.cell_extents.specs.Pool.{Pool, overlaps}
+use Rattle.cell_extents.specs.Pool.{Pool}
 use Rattle.cell_extents.specs.Notes.{is_at}
 use Rattle.cell_extents.specs.Places.{place_words, placed_at, beginning_at, place_bytes, ArePlaced, AreSeparate, BeginFrom, AreSpread}
 use Rattle.cell_extents.proofs.NoteLemmas.{same_at}
-use Rattle.cell_extents.proofs.SeparateLemmas.{begins, has_cells, separate_pair, some_bytes}
+use Rattle.cell_extents.proofs.SeparateLemmas.{has_cells, separate_pair, some_bytes}
 
 abbrev words_of : Row → List ℕ
 words_of r = r.words

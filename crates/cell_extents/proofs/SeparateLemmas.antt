@@ -1,8 +1,8 @@
 -- Extents that lie apart: the one that begins at an address, and one more or less.
-use Rattle.std.proofs.Common.{◌≡◌, ℕ, suc, ◌+◌, ◌*◌, ◌/◌, ◌<◌, ◌≤◌, ◌==◌, ◌&&◌, ◌||◌, ◌⊎◌, Bool, true, false, List, [], ◌∷◌, ◌++◌, Option, Some, None, inl, inr, refl, sym, ap, ◌∙◌, subst, arith}
+use Rattle.std.proofs.Common.{◌≡◌, ℕ, ◌+◌, ◌*◌, ◌<◌, ◌≤◌, ◌==◌, ◌&&◌, ◌||◌, ◌⊎◌, Bool, true, false, List, [], ◌∷◌, ◌++◌, Option, Some, None, inl, inr, refl, sym, ap, ◌∙◌, subst, arith}
 use Rattle.std.specs.Prelude.{if◌then◌else◌, nat_lt, nat_le}
 use Rattle.std.specs.List.{list_any}
-use Rattle.std.proofs.lemmas.Bool.{lt-ltb, ltb-false, le-leb, leb-true}
+use Rattle.std.proofs.lemmas.Bool.{ltb-false, le-leb, leb-true}
 use Rattle.std.proofs.Math.Nat.{mul-le-mul_right}
 use Rattle.vsm_elements.proofs.ChainLemmas.{not_both}
 use Rattle.row_table.proofs.RowLemmas.{either, none_some}

@@ -1,7 +1,7 @@
 //! Names and headers as words of elements.
 
 ghost use Rattle.std.specs.Prelude.{◌≡◌, ◌+◌, ◌≤◌, ◌∷◌, ◌++◌, [], IsUtf8, IfSome, length, slice_get, option_map};
-ghost use Rattle.cell_extents.specs.Names.{digit, word_at, packed, unpacked, spelled, same_words, same_label};
+ghost use Rattle.cell_extents.specs.Names.{digit, word_at, packed, unpacked, spelled, same_words};
 ghost use Rattle.list_table.specs.Entries.{word};
 ghost use Rattle.cell_extents.specs.Names.{location_in, header_in, AreBytes};
 
@@ -134,7 +134,8 @@ pub fn form_of(
     }
 }
 
-fn same_words(a: [u32; 7], b: [u32; 7]) -> bool
+/// Whether these words are the same as those.
+pub(crate) fn same_words(a: [u32; 7], b: [u32; 7]) -> bool
     ensures { result ≡ same_words a b }
 {
     a[0] == b[0]
@@ -144,16 +145,4 @@ fn same_words(a: [u32; 7], b: [u32; 7]) -> bool
         && a[4] == b[4]
         && a[5] == b[5]
         && a[6] == b[6]
-}
-
-impl Label {
-    /// Whether both are one name: all their words are the same.
-    #[tactic(auto, unfolding(crate::specs::Names::same_label))]
-    pub fn same(self, other: Label) -> bool
-        ensures { result ≡ same_label self other }
-    {
-        same_words(self.first, other.first)
-            && same_words(self.second, other.second)
-            && same_words(self.third, other.third)
-    }
 }

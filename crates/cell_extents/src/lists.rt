@@ -4,9 +4,10 @@ ghost use Rattle.std.specs.Prelude.{◌≡◌, ◌+◌, ◌*◌, ◌≤◌, ◌<
 ghost use Rattle.vsm_elements.specs.Chain.{links, owned, IsChain};
 ghost use Rattle.vsm_elements.specs.Ownership.{Leaves};
 ghost use Rattle.list_table.specs.Stocks.{items_of};
+ghost use Rattle.cell_extents.specs.Names.{same_label};
 ghost use Rattle.cell_extents.specs.Items.{cell_items, cell_of, label_of};
 
-use crate::label::{Label, LabelForm};
+use crate::label::{Label, LabelForm, same_words};
 use list_table::items::{before, insert, item};
 use vsm_elements::{Chain, Elements};
 
@@ -24,6 +25,19 @@ pub fn label(list: Chain, elements: &Elements) -> Label
         second: item(list, elements, 1),
         third: item(list, elements, 2),
     }
+}
+
+/// Whether a pool's list begins with the words of this name. Most names differ in the first item, and then no other one
+/// is read.
+#[tactic(auto, unfolding(crate::specs::Names::same_label))]
+pub fn has_label(list: Chain, elements: &Elements, name: Label) -> bool
+    requires chain { IsChain elements.now list }
+    requires within { 5 ≤ list.count }
+    ensures { result ≡ same_label name (label_of (items_of (links elements.now list))) }
+{
+    same_words(name.first, item(list, elements, 0))
+        && same_words(name.second, item(list, elements, 1))
+        && same_words(name.third, item(list, elements, 2))
 }
 
 /// Puts a pool's name, its header and their form in front of all items. It takes five elements.

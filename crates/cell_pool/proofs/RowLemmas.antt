@@ -1,5 +1,5 @@
 -- A row that a walk over the pools has in hand.
-use Rattle.std.proofs.Common.{◌≡◌, ◌∙◌, ◌+◌, ◌≤◌, ℕ, Bool, List, ◌++◌, ◌∷◌, take, Some, None, true, ap, sym, subst, arith}
+use Rattle.std.proofs.Common.{◌≡◌, ◌∙◌, ◌≤◌, ℕ, Bool, List, ◌++◌, ◌∷◌, take, Some, None, true, ap, sym, subst, arith}
 use Rattle.std.specs.Prelude.{slice_get, IsUtf8}
 use Rattle.std.specs.Str.{bytes_eq}
 use Rattle.vsm_elements.specs.Store.{Store}

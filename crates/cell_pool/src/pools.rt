@@ -11,7 +11,7 @@ ghost use Rattle.cell_pool.specs.Kept.{pools_of};
 
 use crate::parked::ParkedCells;
 use cell_extents::label::{form_of, label_of_name};
-use cell_extents::lists::{label, put_texts};
+use cell_extents::lists::{has_label, put_texts};
 use cell_extents::texts::says_subpool;
 use cell_extents::{CellId, CellSettings, Header, Name};
 use list_table::{ListRow, ListTable, Stock};
@@ -77,7 +77,7 @@ impl CellPools {
         };
         while place.index < count {
             let row = self.table.row(elements, place.index, place.before);
-            if wanted.same(label(row.stock.items, elements)) {
+            if has_label(row.stock.items, elements, wanted) {
                 return Some(row.id);
             }
             place = Place {

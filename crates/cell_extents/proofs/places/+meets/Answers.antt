@@ -1,4 +1,4 @@
-use Rattle.std.proofs.Common.{◌≡◌, ◌+◌, ◌<◌, ◌≤◌, ◌∷◌, ℕ, true, false, refl, sym, ap, ◌∙◌, length, arith, length-append}
+use Rattle.std.proofs.Common.{◌+◌, ◌∷◌, sym, ap, ◌∙◌, length, arith, length-append}
 use Rattle.std.proofs.lemmas.Bool.{leb-true, leb-false}
 use Rattle.row_table.specs.Rows.{word}
 use Rattle.row_table.specs.RowTable.{rows}
