@@ -4,6 +4,7 @@ mod RecordCounts
 mod RunPlans
 mod Rests
 mod Climbs
+mod Levels
 mod OwnedNames
 mod Walks
 mod Parks

@@ -1,6 +1,6 @@
 //! The tasks of a subtree that ends, and their records.
 
-ghost use Rattle.std.specs.Prelude.{◌≡◌, ◌<◌, ◌≤◌, [], ◌∷◌, filter, length, IsOk, OnOk};
+ghost use Rattle.std.specs.Prelude.{◌≡◌, ℕ, ◌<◌, ◌≤◌, false, [], ◌∷◌, filter, length, IsOk, OnOk};
 ghost use Rattle.vsm_model.specs.Search.{is_in};
 ghost use Rattle.storage_exchange.specs.Storage.{state_of, Stand};
 ghost use Rattle.storage_swap.specs.Builder.{IsBuilding, Builds, Pushes};
@@ -73,6 +73,41 @@ fn is_below_by(storage: &Parts, tree: &Tree, steps: u8, task: u8) -> bool
         }
     }
     above == tree.top
+}
+
+// The most steps, up to 63, by which the task is below the top; 0 where it isn't below it.
+fn most_steps_below(storage: &Parts, tree: &Tree, task: u8) -> u8
+    requires { AreParents tree.now.parents.of (state_of storage.now).tasks.parents }
+    ensures range { result ≤ 63 }
+    ensures rest { (steps : ℕ) → result < steps → steps ≤ 63
+        → is_below_by (state_of storage.now).tasks.parents tree.now.top steps task ≡ false }
+{
+    let mut most = 0;
+    let mut above = task;
+    for done in 0..MOST_STEPS {
+        match parent_in(storage, &tree.parents, above) {
+            Some(parent) => above = parent,
+            None => return most,
+        }
+        if above == tree.top {
+            most = done + 1;
+        }
+    }
+    most
+}
+
+// The most steps by which any task is below the top.
+fn deepest(storage: &Parts, tree: &Tree) -> u8
+    requires { AreParents tree.now.parents.of (state_of storage.now).tasks.parents }
+    ensures range { result ≤ 63 }
+    ensures rest { (steps : ℕ) → result < steps → steps ≤ 63
+        → ended_level (state_of storage.now).tasks.parents tree.now.top steps ≡ [] }
+{
+    let mut most = 0;
+    for task in 1..TASKS_END {
+        most = most.max(most_steps_below(storage, tree, task));
+    }
+    most
 }
 
 /// Whether the task is among those of the subtree.
@@ -187,8 +222,9 @@ pub(crate) fn push_ended(storage: &mut Parts, builder: &mut Builder, tree: &Tree
     ensures needless { length (flat_map (ended_records (state_of storage.old))
         (ended_below (state_of storage.old).tasks.parents tree.now.top)) ≤ storage.old.elements.spare → IsOk result }
 {
-    for done in 0..MOST_STEPS {
-        push_ended_level(storage, builder, tree, MOST_STEPS - done)?;
+    let levels = deepest(storage, tree);
+    for done in 0..levels {
+        push_ended_level(storage, builder, tree, levels - done)?;
     }
     push_ended_level(storage, builder, tree, 0)
 }

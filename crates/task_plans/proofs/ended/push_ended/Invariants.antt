@@ -9,4 +9,4 @@ abbrev pub invariant-loop-done : goal.invariant-loop-done
 invariant-loop-done l =
     let m = state_of l.fn.storage in
     Leads l.fn.storage l.fn.builder (flat_map (ended_records m) (ended_below m.tasks.parents l.tree.top)) l.storage l.builder
-    (flat_map (ended_records m) (ended_from m.tasks.parents l.tree.top (63 - l.done)))
+    (flat_map (ended_records m) (ended_from m.tasks.parents l.tree.top (l.levels - l.done)))
