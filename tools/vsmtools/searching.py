@@ -21,27 +21,22 @@ from enum import IntEnum
 from itertools import product
 from typing import Iterable, Iterator, Optional
 
-from .building import Build, Builder, Ground, Step, Turn, core, page_end, page_start, shape
+from .building import Build, Builder, Ground, Move, Step, Turn, core, page_end, page_start, shape, span
+from .chains import Chain
 from .maps import PAGE, Area
 from .places import Key, location
 from .progress import Work
 
 FIRST_GO = 20      # so many dead ends are met at first, with few fillers for each pool
+FEW = 4            # so many fillers are there at once behind those that lie one behind another
 
 
 class Reach(IntEnum):
     """How far a search goes."""
-    FIRST = 0      # few fillers for each pool, and few dead ends
-    KNOWN = 1      # all fillers that are known to help, and all states that they lead to
-    ALL = 2        # then all states
-
-
-Move = tuple[list[Turn], list[Build]]     # what comes last, and what is left
-
-
-def span(key: Key, start: int, end: int) -> Build:
-    """A filler in a subpool."""
-    return Build(Area(start, end - start), key, location(start))
+    CHAINS = 0     # fillers that lie one behind another, few others, and few dead ends
+    FIRST = 1      # few fillers for each pool, and few dead ends
+    KNOWN = 2      # all fillers that are known to help, and all states that they lead to
+    ALL = 3        # then all states
 
 
 class Search:
@@ -49,7 +44,8 @@ class Search:
 
     def __init__(self, builder: Builder, reach: Reach, work: Work) -> None:
         """work is told each try, and the cell pool that comes next."""
-        self.builder, self.is_whole, self.is_all, self.work = builder, reach > Reach.FIRST, reach == Reach.ALL, work
+        self.builder, self.reach, self.work = builder, reach, work
+        self.is_whole = reach > Reach.FIRST
         self.seen: set[frozenset[tuple[int, int, Key, int]]] = set()
 
     def plan(self) -> Optional[list[Step]]:
@@ -80,7 +76,7 @@ class Search:
         at = 0
         while left:
             self.work.tried()
-            turn, at = self.builder.last_of(left, at)
+            turn, at = self.builder.last_of(left, at, FEW if self.reach == Reach.CHAINS else self.builder.most)
             if turn is None:
                 self.tell_next(left)
                 break
@@ -103,7 +99,9 @@ class Search:
 
     def moves(self, left: list[Build]) -> Iterator[Move]:
         """What the step before a state may have been, and what was there before it."""
-        if not self.is_all:
+        if self.reach == Reach.CHAINS:
+            yield from self.chains(left)
+        elif self.reach < Reach.ALL:
             yield from self.known_moves(left)
         elif len(left) < self.builder.most:
             for filler in self.fillers(left):
@@ -131,6 +129,13 @@ class Search:
                 else:
                     found[key].append(area)
         return found
+
+    def chains(self, left: list[Build]) -> Iterator[Move]:
+        """Fillers in the place of pools of one subpool, one behind another, so that these come from the highest to
+        the lowest."""
+        places = dict.fromkeys((it.key, location(it.area.start)) for it in left)
+        for key, side in () if self.builder.is_walled else places:
+            yield from Chain(self.builder.runs, left, self.builder.most, key, side).moves()
 
     def known_moves(self, left: list[Build]) -> Iterator[Move]:
         """Each pool that can come last if something was there before others, which is in its place then."""
