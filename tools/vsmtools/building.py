@@ -54,18 +54,15 @@ class Step(NamedTuple):
     build: Build
 
 
+def span(key: Key, start: int, end: int) -> Build:
+    """A filler in a subpool."""
+    return Build(Area(start, end - start), key, location(start))
+
+
 class Turn(NamedTuple):
     """A pool, and what is built and deleted so that it comes behind all others."""
     last: Build
     steps: list[Step]
-
-
-Move = tuple[list[Turn], list[Build]]     # what comes last, and what is left
-
-
-def span(key: Key, start: int, end: int) -> Build:
-    """A filler in a subpool."""
-    return Build(Area(start, end - start), key, location(start))
 
 
 class Ground:

@@ -1,84 +1,157 @@
-"""Cell pools of a subpool in whose place fillers are that lie one behind another, without a gap.
+"""Small cell pools from the highest to the lowest, by BUILD and DELETE alone, with about two fillers at once.
 
-For a small cell pool to come, all lower places of its subpool are taken. Where a filler in each gap would be too many,
-the cell pools come from the highest to the lowest, each behind fillers that reach from the place of each lower one up
-to that of the next. The last of these goes then, and the next cell pool comes. So at each time there's about one filler
-more than the map has cell pools.
+For a small cell pool to come, all lower free places of its subpool are filled. A filler in each gap may be too many;
+so cell pools come where there are no gaps before them. Pages before which others are unassigned are made so: a filler
+from the lowest of these up to the cell pool's place, the cell pool behind it, and the filler goes.
 
-This is looked for from the map backwards, as all orders are: the lowest cell pool goes first.
+That fails in the first pages, as a filler there would go into a gap above. So these are filled at first by fillers that
+lie one behind another, each from the place of a cell pool up to that of the next one: a chain. Behind them all others
+come as above, the last cell pool of the first pages comes behind the chain, the chain's last filler goes, the cell pool
+before comes, and so on.
+
+Each step is tried as it's planned; what doesn't go to its place this way is left to a longer search.
 """
 from __future__ import annotations
 
-from typing import Iterator
+from itertools import count
+from typing import Iterator, Optional
 
-from .building import Build, Ground, Move, Step, Turn, page_end, page_start, span
-from .maps import Area
-from .places import Key, location
+from .building import Build, Ground, Step, page_end, page_start, shape, span
+from .maps import PAGE, Area
+from .places import Key
 
 
-class Chain:
-    """The cell pools of a subpool on a side of the line, and the fillers that take their place one by one."""
+class NoChain(Exception):
+    """A BUILD wouldn't go to its place, or there are too many cell pools."""
 
-    def __init__(self, runs: list[Area], left: list[Build], most: int, key: Key, side: int) -> None:
-        """left: all cell pools that are there. most: how many there may be at once."""
-        self.ground, self.most, self.key = Ground(runs, left), most, key
-        self.left = {it.area.start: it for it in left}
-        self.wanted = sorted((it for it in left if it.key == key and location(it.area.start) == side),
-                             key=lambda it: it.area.start)
-        self.turns: list[Turn] = []
 
-    def moves(self) -> Iterator[Move]:
-        """What is left where fillers have the place of all cell pools up to one that ends a run of pages, for each of
-        these."""
-        for it, later in zip(self.wanted, [*self.wanted[1:], None]):
-            if not self.replace(it):
+class Descent:
+    """The steps that make some cell pools, each of which begins in a page in which no other one begins."""
+
+    def __init__(self, runs: list[Area], wanted: list[Build], most: int) -> None:
+        """most: how many there may be at once."""
+        self.runs, self.most = runs, most
+        self.wanted = sorted(wanted, key=lambda it: it.area.start)
+        self.ground, self.there, self.steps = Ground(runs, []), 0, []
+
+    def plan(self) -> Optional[list[Step]]:
+        """The steps; None where none of the ways leads there."""
+        blocks = self.first_blocks()
+        for chained in dict.fromkeys((min(1, len(blocks)), len(blocks))):
+            self.ground, self.there, self.steps = Ground(self.runs, []), 0, []
+            try:
+                self.make(blocks[:chained])
+                return self.steps
+            except NoChain:
+                pass
+        return None
+
+    def first_blocks(self) -> list[list[Build]]:
+        """The cell pools in the first pages, up to the first page that none has, by runs of pages of a subpool."""
+        found: list[list[Build]] = []
+        for it, page in zip(self.wanted, count(self.runs[0].start, PAGE)):
+            if page_start(it.area.start) != page:
                 break
-            if later is None or page_start(later.area.start) > page_end(it.area.end):
-                yield list(self.turns), list(self.left.values())
+            if found and found[-1][0].key == it.key:
+                found[-1].append(it)
+            else:
+                found.append([it])
+        return found
 
-    def replace(self, it: Build) -> bool:
-        """Takes away the lowest cell pool that is left; False where it doesn't come last behind fillers in the gaps
-        before it, and one that holds its page."""
-        gaps = self.ground.gaps(self.key)
-        fillers = [span(self.key, gap.start, gap.end) for gap in gaps if gap.start < it.area.start]
-        behind = next((gap for gap in gaps if gap.start == it.area.end), None)
-        if len(self.left) + len(fillers) > self.most:
-            return False
-        for filler in fillers:
-            self.add(filler)
-        self.remove(it)
-        if not self.ground.is_own(self.key, it.area.start) and behind and len(self.left) < self.most:
-            fillers.append(span(self.key, behind.start, behind.end))
-            self.add(fillers[-1])
-        is_next = self.is_next(it)
-        steps = (self.joined(it) if is_next else []) + [Step(True, it)]
-        self.turns.append(Turn(it, steps + [Step(False, filler) for filler in fillers]))
-        return is_next
+    def make(self, blocks: list[list[Build]]) -> None:
+        chains = [self.chain(block) for block in blocks]
+        for it in reversed(self.wanted[sum(len(block) for block in blocks):]):
+            self.make_high(it)
+        for block, chain in reversed(list(zip(blocks, chains))):
+            self.make_chained(block, chain)
 
-    def joined(self, it: Build) -> list[Step]:
-        """Puts a filler that reaches up to the end of a place, from which a cell pool went, where one is that reaches
-        up to it. The steps back, where that can be; else none."""
-        start, end = it.area.start, it.area.end
-        before = next((other for other in self.left.values() if other.key == self.key and other.area.end == start), None)
-        if before is None:
-            return []
-        self.remove(before)
-        if not self.is_next(before):
-            self.add(before)
-            return []
-        longer = span(self.key, before.area.start, end)
-        self.add(longer)
-        return [Step(False, longer), Step(True, before)]
+    # One step.
 
-    def is_next(self, it: Build) -> bool:
-        """Whether a BUILD goes to a place."""
+    def build(self, it: Build) -> Build:
         place = self.ground.fit(it.key, it.area.length, it.side)
-        return place is not None and place.start == it.area.start
-
-    def add(self, it: Build) -> None:
+        if place is None or place.start != it.area.start or self.there == self.most or not shape(it.area.length):
+            raise NoChain
         self.ground.add(it)
-        self.left[it.area.start] = it
+        self.there += 1
+        self.steps.append(Step(True, it))
+        return it
 
-    def remove(self, it: Build) -> None:
-        self.ground.remove(it)
-        del self.left[it.area.start]
+    def fill(self, key: Key, start: int, end: int) -> list[Build]:
+        """A filler from one address up to another; none where there's nothing between."""
+        return [self.build(span(key, start, end))] if start < end else []
+
+    def delete(self, its: list[Build]) -> None:
+        for it in its:
+            self.ground.remove(it)
+            self.there -= 1
+            self.steps.append(Step(False, it))
+
+    # Cell pools behind unassigned pages.
+
+    def make_high(self, it: Build) -> None:
+        """A cell pool in an unassigned page, behind a filler from the lowest one: right behind it, or behind one more; or
+        before what that leaves of the page, where it has to be longer."""
+        lowest, start = next(self.ground.unassigned()).start, it.area.start
+        end = self.end_of_filler(it, lowest)
+        fillers = self.fill(it.key, lowest, end) + self.fill(it.key, end, start)
+        if end > start:
+            holder = self.fill(it.key, end, page_end(end))
+            self.delete(fillers)
+            fillers = self.fill(it.key, page_start(start), start)
+            self.delete(holder if fillers else [])
+            fillers = fillers or holder
+        self.build(it)
+        self.delete(fillers)
+
+    def end_of_filler(self, it: Build, lowest: int) -> int:
+        """Up to where a filler reaches that begins at the lowest unassigned page and fits no gap: to the place of a cell
+        pool, else past it within its page, else before it there."""
+        start, page = it.area.start, page_start(it.area.start)
+        longest = max((gap.length for gap in self.ground.gaps(it.key)), default=0)
+        for end in [start, *range(page + PAGE - 8, start, -8), *range(start - 8, page, -8)]:
+            if end > page and end - lowest > longest and shape(end - lowest):
+                return end
+        raise NoChain
+
+    # Cell pools behind a chain.
+
+    def bounds(self, block: list[Build]) -> list[int]:
+        """Where the fillers of a chain begin: at the places of cell pools, but behind those that begin with a page, so
+        that the filler before keeps the page."""
+        return [it.area.start if it.area.start % PAGE else it.area.end for it in block]
+
+    def chain(self, block: list[Build]) -> list[list[Build]]:
+        """Fills the pages of some cell pools: up to the first one's place, from each place up to the next, and from the
+        last one up to the page's end."""
+        key, bounds = block[0].key, self.bounds(block)
+        found = [self.fill(key, page_start(block[0].area.start), bounds[0])]
+        for start, end in zip(bounds, bounds[1:]):
+            found.append(self.link(key, start, end))
+        return found + [self.fill(key, bounds[-1], page_end(bounds[-1]))]
+
+    def link(self, key: Key, start: int, end: int) -> list[Build]:
+        """A filler from within a page up to within the next one, which something else holds while it comes."""
+        before = self.fill(key, start, page_end(start))
+        front = self.fill(key, page_start(end), end)
+        holder = self.fill(key, end, page_end(end))
+        self.delete(before)
+        self.delete(front)
+        found = self.fill(key, start, end)
+        self.delete(holder)
+        return found
+
+    def make_chained(self, block: list[Build], chain: list[list[Build]]) -> None:
+        """The cell pools of a block from the last one on, each behind what is left of its chain."""
+        bounds = self.bounds(block)
+        for k in reversed(range(len(block))):
+            it = block[k]
+            if it.area.start % PAGE:
+                self.delete(chain[k + 1])
+                self.build(it)
+            else:
+                # What is behind it holds its page while the filler before it becomes shorter.
+                self.delete(chain[k])
+                chain[k] = self.fill(it.key, bounds[k - 1], it.area.start) if k else []
+                self.build(it)
+                self.delete(chain[k + 1])
+        self.delete(chain[0])

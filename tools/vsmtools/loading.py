@@ -475,9 +475,7 @@ class Loader:
         keeper, is_walled = self.close_walls()
         runs = [run for side in (24, 31) for run in (self.unmade if is_walled else self.unassigned)(side)]
         builder = Builder(runs, wanted, MOST_POOLS - self.built, is_walled, bool(keeper))
-        reaches = [Reach.CHAINS, self.reach] if self.reach == Reach.FIRST else [self.reach]
-        plans = (Search(builder, reach, self.work).plan() for reach in reaches)
-        steps = next((plan for plan in plans if plan is not None), None)
+        steps = Search(builder, self.reach, self.work).plan()
         if steps is None:
             raise NoOrder("no script is found: BUILD alone makes this, and in no order that was tried with at most %d "
                           "cell pools at once" % MOST_POOLS, self.source, its[0].line)

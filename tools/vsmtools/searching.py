@@ -21,22 +21,29 @@ from enum import IntEnum
 from itertools import product
 from typing import Iterable, Iterator, Optional
 
-from .building import Build, Builder, Ground, Move, Step, Turn, core, page_end, page_start, shape, span
-from .chains import Chain
+from .building import Build, Builder, Ground, Step, Turn, core, page_end, page_start, shape, span
+from .chains import Descent
+from .judge import MOST_POOLS
 from .maps import PAGE, Area
 from .places import Key, location
 from .progress import Work
 
 FIRST_GO = 20      # so many dead ends are met at first, with few fillers for each pool
-FEW = 4            # so many fillers are there at once behind those that lie one behind another
 
 
 class Reach(IntEnum):
     """How far a search goes."""
-    CHAINS = 0     # fillers that lie one behind another, few others, and few dead ends
-    FIRST = 1      # few fillers for each pool, and few dead ends
-    KNOWN = 2      # all fillers that are known to help, and all states that they lead to
-    ALL = 3        # then all states
+    FIRST = 0      # few fillers for each pool, and few dead ends
+    KNOWN = 1      # all fillers that are known to help, and all states that they lead to
+    ALL = 2        # then all states
+
+
+Move = tuple[list[Turn], list[Build]]     # what comes last, and what is left
+
+
+def steps_of(turns: list[Turn]) -> list[Step]:
+    """The steps of turns that are found from the last one on."""
+    return [step for turn in reversed(turns) for step in turn.steps]
 
 
 class Search:
@@ -45,11 +52,23 @@ class Search:
     def __init__(self, builder: Builder, reach: Reach, work: Work) -> None:
         """work is told each try, and the cell pool that comes next."""
         self.builder, self.reach, self.work = builder, reach, work
-        self.is_whole = reach > Reach.FIRST
+        self.is_whole, self.is_all = reach > Reach.FIRST, reach == Reach.ALL
         self.seen: set[frozenset[tuple[int, int, Key, int]]] = set()
 
     def plan(self) -> Optional[list[Step]]:
         """What is built and deleted in turn; None where no order is found."""
+        found = self.chained() if self.reach == Reach.FIRST and not self.builder.is_walled else None
+        return found or self.searched()
+
+    def chained(self) -> Optional[list[Step]]:
+        """The steps where those that need more than a filler come from the highest to the lowest, at first behind
+        chains."""
+        turns, left = self.settled([], self.builder.wanted, 0)
+        found = Descent(self.builder.runs, left, self.builder.most).plan() if left else []
+        return None if found is None else found + steps_of(turns)
+
+    def searched(self) -> Optional[list[Step]]:
+        """The steps by a search for what comes last."""
         path: list[list[Turn]] = []
         stack: list[Iterator[Move]] = [iter([([], self.builder.wanted)])]
         ends = 0
@@ -62,7 +81,7 @@ class Search:
                 continue
             turns, left = self.settled(*move)
             if not left:
-                return [step for turn in reversed(sum(path, []) + turns) for step in turn.steps]
+                return steps_of(sum(path, []) + turns)
             if self.is_new(left):
                 path.append(turns)
                 stack.append(self.moves(left))
@@ -70,13 +89,13 @@ class Search:
                 ends += 1
         return None
 
-    def settled(self, turns: list[Turn], left: list[Build]) -> Move:
-        """A state without all that can come last, one after another."""
+    def settled(self, turns: list[Turn], left: list[Build], most: int = MOST_POOLS) -> Move:
+        """A state without all that can come last, one after another. most: how many fillers each may have at once."""
         self.builder.ground = Ground(self.builder.runs, left)
         at = 0
         while left:
             self.work.tried()
-            turn, at = self.builder.last_of(left, at, FEW if self.reach == Reach.CHAINS else self.builder.most)
+            turn, at = self.builder.last_of(left, at, most)
             if turn is None:
                 self.tell_next(left)
                 break
@@ -99,9 +118,7 @@ class Search:
 
     def moves(self, left: list[Build]) -> Iterator[Move]:
         """What the step before a state may have been, and what was there before it."""
-        if self.reach == Reach.CHAINS:
-            yield from self.chains(left)
-        elif self.reach < Reach.ALL:
+        if not self.is_all:
             yield from self.known_moves(left)
         elif len(left) < self.builder.most:
             for filler in self.fillers(left):
@@ -129,13 +146,6 @@ class Search:
                 else:
                     found[key].append(area)
         return found
-
-    def chains(self, left: list[Build]) -> Iterator[Move]:
-        """Fillers in the place of pools of one subpool, one behind another, so that these come from the highest to
-        the lowest."""
-        places = dict.fromkeys((it.key, location(it.area.start)) for it in left)
-        for key, side in () if self.builder.is_walled else places:
-            yield from Chain(self.builder.runs, left, self.builder.most, key, side).moves()
 
     def known_moves(self, left: list[Build]) -> Iterator[Move]:
         """Each pool that can come last if something was there before others, which is in its place then."""
