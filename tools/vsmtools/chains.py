@@ -37,10 +37,10 @@ class Descent:
     def plan(self) -> Optional[list[Step]]:
         """The steps; None where none of the ways leads there."""
         blocks = self.first_blocks()
-        for chained in dict.fromkeys((min(1, len(blocks)), len(blocks))):
+        for chained, filled in ((1, 0), (0, 1), (len(blocks), 0)):
             self.ground, self.there, self.steps = Ground(self.runs, []), 0, []
             try:
-                self.make(blocks[:chained])
+                self.make(blocks[:chained], blocks[chained:chained + filled])
                 return self.steps
             except NoChain:
                 pass
@@ -58,11 +58,18 @@ class Descent:
                 found.append([it])
         return found
 
-    def make(self, blocks: list[list[Build]]) -> None:
-        chains = [self.chain(block) for block in blocks]
-        for it in reversed(self.wanted[sum(len(block) for block in blocks):]):
+    def make(self, early: list[list[Build]], late: list[list[Build]]) -> None:
+        """early: the blocks whose chains come before all cell pools in higher pages. late: those whose chains come behind
+        these, and behind fillers in each gap that a chain's filler would go into."""
+        chains = [self.chain(block) for block in early]
+        for it in reversed(self.wanted[sum(len(block) for block in early + late):]):
             self.make_high(it)
-        for block, chain in reversed(list(zip(blocks, chains))):
+        for block in late:
+            gaps = [gap for gap in self.ground.gaps(block[0].key) if gap.length >= PAGE - 8]
+            fillers = [filler for gap in gaps for filler in self.fill(block[0].key, gap.start, gap.end)]
+            self.make_chained(block, self.chain(block))
+            self.delete(fillers)
+        for block, chain in reversed(list(zip(early, chains))):
             self.make_chained(block, chain)
 
     # One step.
@@ -124,7 +131,9 @@ class Descent:
         """Fills the pages of some cell pools: up to the first one's place, from each place up to the next, and from the
         last one up to the page's end."""
         key, bounds = block[0].key, self.bounds(block)
-        found = [self.fill(key, page_start(block[0].area.start), bounds[0])]
+        holder = self.hold(key, bounds[0])
+        found = [self.fill(key, page_start(bounds[0]), bounds[0])]
+        self.delete(holder)
         for start, end in zip(bounds, bounds[1:]):
             found.append(self.link(key, start, end))
         return found + [self.fill(key, bounds[-1], page_end(bounds[-1]))]
@@ -132,13 +141,22 @@ class Descent:
     def link(self, key: Key, start: int, end: int) -> list[Build]:
         """A filler from within a page up to within the next one, which something else holds while it comes."""
         before = self.fill(key, start, page_end(start))
-        front = self.fill(key, page_start(end), end)
-        holder = self.fill(key, end, page_end(end))
+        holder = self.hold(key, end)
         self.delete(before)
-        self.delete(front)
         found = self.fill(key, start, end)
         self.delete(holder)
         return found
+
+    def hold(self, key: Key, least: int) -> list[Build]:
+        """A filler up to the end of a page, from an address or a higher one, behind one that takes the page and fits no
+        gap."""
+        page = page_start(least)
+        is_free = all(gap.length < least - page for gap in self.ground.gaps(key))
+        end = least if is_free else page + PAGE - 8
+        front = self.fill(key, page, end)
+        holder = self.fill(key, end, page + PAGE)
+        self.delete(front)
+        return holder
 
     def make_chained(self, block: list[Build], chain: list[list[Build]]) -> None:
         """The cell pools of a block from the last one on, each behind what is left of its chain."""
