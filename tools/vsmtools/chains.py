@@ -14,11 +14,25 @@ Each step is tried as it's planned; what doesn't go to its place this way is lef
 from __future__ import annotations
 
 from itertools import count
-from typing import Iterator, Optional
+from typing import Optional
 
 from .building import Build, Ground, Step, page_end, page_start, shape, span
 from .maps import PAGE, Area
-from .places import Key
+from .places import Key, location
+
+
+def descent(runs: list[Area], wanted: list[Build], most: int) -> Optional[list[Step]]:
+    """The steps that make some cell pools, on either side of the line; None where they aren't made so. most: how many
+    there may be at once."""
+    steps: list[Step] = []
+    for side in (31, 24):
+        its = [it for it in wanted if location(it.area.start) == side]
+        found = Descent([run for run in runs if location(run.start) == side], its, most).plan() if its else []
+        if found is None:
+            return None
+        steps += found
+        most -= len(its)
+    return steps
 
 
 class NoChain(Exception):
@@ -26,13 +40,13 @@ class NoChain(Exception):
 
 
 class Descent:
-    """The steps that make some cell pools, each of which begins in a page in which no other one begins."""
+    """Makes cell pools of one side of the line, each of which begins in a page in which no other one begins."""
 
     def __init__(self, runs: list[Area], wanted: list[Build], most: int) -> None:
-        """most: how many there may be at once."""
         self.runs, self.most = runs, most
         self.wanted = sorted(wanted, key=lambda it: it.area.start)
-        self.ground, self.there, self.steps = Ground(runs, []), 0, []
+        self.ground, self.there = Ground(runs, []), 0
+        self.steps: list[Step] = []
 
     def plan(self) -> Optional[list[Step]]:
         """The steps; None where none of the ways leads there."""
@@ -49,7 +63,7 @@ class Descent:
     def first_blocks(self) -> list[list[Build]]:
         """The cell pools in the first pages, up to the first page that none has, by runs of pages of a subpool."""
         found: list[list[Build]] = []
-        for it, page in zip(self.wanted, count(self.runs[0].start, PAGE)):
+        for it, page in zip(self.wanted, count(self.runs[0].start if self.runs else 0, PAGE)):
             if page_start(it.area.start) != page:
                 break
             if found and found[-1][0].key == it.key:
@@ -98,7 +112,8 @@ class Descent:
     def make_high(self, it: Build) -> None:
         """A cell pool in an unassigned page, behind a filler from the lowest one: right behind it, or behind one more; or
         before what that leaves of the page, where it has to be longer."""
-        lowest, start = next(self.ground.unassigned()).start, it.area.start
+        start = it.area.start
+        lowest = next((run.start for run in self.ground.unassigned()), page_start(start))
         end = self.end_of_filler(it, lowest)
         fillers = self.fill(it.key, lowest, end) + self.fill(it.key, end, start)
         if end > start:

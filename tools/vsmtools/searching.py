@@ -22,7 +22,7 @@ from itertools import product
 from typing import Iterable, Iterator, Optional
 
 from .building import Build, Builder, Ground, Step, Turn, core, page_end, page_start, shape, span
-from .chains import Descent
+from .chains import descent
 from .judge import MOST_POOLS
 from .maps import PAGE, Area
 from .places import Key, location
@@ -64,7 +64,7 @@ class Search:
         """The steps where those that need more than a filler come from the highest to the lowest, at first behind
         chains."""
         turns, left = self.settled([], self.builder.wanted, 0)
-        found = Descent(self.builder.runs, left, self.builder.most).plan() if left else []
+        found = descent(self.builder.runs, left, self.builder.most) if left else []
         return None if found is None else found + steps_of(turns)
 
     def searched(self) -> Optional[list[Step]]:
