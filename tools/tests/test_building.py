@@ -133,8 +133,8 @@ def built(region: Region, steps: list[Step]) -> State:
 @pytest.mark.parametrize("words, pages, most", [(3, 4, 4), (4, 3, 4), (3, 4, 5), (3, 5, 4)])
 def test_pools_of_a_doubleword_alone_in_pages(monkeypatch: pytest.MonkeyPatch, words: int, pages: int, most: int
                                               ) -> None:
-    """Each of some pages has one: all are made if there may be two more, and none if there may be no more; what comes
-    from the highest to the lowest does so for all that leave two."""
+    """Each of some pages has one: all are made if there may be two more, and none if there may be no more. They come from
+    the highest to the lowest, as they do if there may be one more, if the first pages have them within, not at an end."""
     for module in (building, chains, searching):
         monkeypatch.setattr(module, "PAGE", 8 * words)
     region = Region(words, pages, most, False)
@@ -145,5 +145,6 @@ def test_pools_of_a_doubleword_alone_in_pages(monkeypatch: pytest.MonkeyPatch, w
             builds = [Build(Area(8 * start, 8), KEY, 24) for start, _ in pools]
             steps, is_made = descent(runs, builds, most), State(pools) in made
             assert steps is None or built(region, steps) == State(pools), pools
-            assert is_made and steps is not None or len(pools) > most - 2, pools
+            is_within = words > 3 and all(at is not None and 0 < at < words - 1 for at in offsets[:len(pools)])
+            assert is_made and steps is not None or len(pools) > most - 2 + is_within, pools
             assert not is_made and core(builds, most) or len(pools) < most, pools

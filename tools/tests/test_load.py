@@ -435,6 +435,8 @@ LONE = {
     "254 at the end": [(at, 0) for at in in_pages([LAST] * 254)],
     "254 at begins and ends": [(at, 0) for at in in_pages([0, LAST] * 127)],
     "254 anywhere": [(at, 0) for at in in_pages(8 * (k * k % 512) for k in range(254))],
+    "255 in the middle": [(at, 0) for at in in_pages([MIDDLE] * 255)],
+    "255 of which none begins a page": [(at, 0) for at in in_pages(8 + 8 * (k * k % 510) for k in range(255))],
     "254 in each second page": [(at, 0) for at in in_pages([MIDDLE] * 254, every=2)],
     "254 at ends of each second page": [(at, 0) for at in in_pages([LAST] * 254, every=2)],
     "200 in pages by two of two subpools": [(at, k // 2 % 2) for k, at in enumerate(in_pages([MIDDLE] * 200))],

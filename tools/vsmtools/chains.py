@@ -51,10 +51,12 @@ class Descent:
     def plan(self) -> Optional[list[Step]]:
         """The steps; None where none of the ways leads there."""
         blocks = self.first_blocks()
-        for chained, filled in ((1, 0), (0, 1), (len(blocks), 0)):
+        first = blocks[:1]
+        for early, late, tight in ((first, [], []), ([], first, []), ([], [block[:1] for block in first], []),
+                                   (blocks, [], []), ([], [], first)):
             self.ground, self.there, self.steps = Ground(self.runs, []), 0, []
             try:
-                self.make(blocks[:chained], blocks[chained:chained + filled])
+                self.make(early, late, tight)
                 return self.steps
             except NoChain:
                 pass
@@ -72,12 +74,15 @@ class Descent:
                 found.append([it])
         return found
 
-    def make(self, early: list[list[Build]], late: list[list[Build]]) -> None:
+    def make(self, early: list[list[Build]], late: list[list[Build]], tight: list[list[Build]]) -> None:
         """early: the blocks whose chains come before all cell pools in higher pages. late: those whose chains come behind
-        these, and behind fillers in each gap that a chain's filler would go into."""
+        these, and behind fillers in each gap that a chain's filler would go into. tight: one that has all, with a
+        filler less."""
         chains = [self.chain(block) for block in early]
-        for it in reversed(self.wanted[sum(len(block) for block in early + late):]):
+        for it in reversed(self.wanted[sum(len(block) for block in early + late + tight):]):
             self.make_high(it)
+        for block in tight:
+            self.make_tight(block)
         for block in late:
             gaps = [gap for gap in self.ground.gaps(block[0].key) if gap.length >= PAGE - 8]
             fillers = [filler for gap in gaps for filler in self.fill(block[0].key, gap.start, gap.end)]
@@ -188,3 +193,43 @@ class Descent:
                 self.build(it)
                 self.delete(chain[k + 1])
         self.delete(chain[0])
+
+    # With just one filler more than there are cell pools.
+
+    def make_tight(self, block: list[Build]) -> None:
+        """The cell pools of a block from the last one on. The fillers of its chain reach up to the last doubleword of
+        each page, which leaves no room for those that hold the next one. A filler becomes shorter once its cell pool
+        is the next to come."""
+        key, pages = block[0].key, [page_start(it.area.start) for it in block]
+        ends = [page + PAGE - 8 for page in pages[:-1]] + [block[-1].area.start]
+        starts = [pages[0], *ends]
+        chain = [self.fill(key, starts[0], ends[0])]
+        chain += [self.tight_link(key, page, end) for page, end in zip(pages[1:], ends[1:])]
+        self.build(block[-1])
+        for k in reversed(range(len(block) - 1)):
+            self.delete(chain[k])
+            chain[k] = self.fill(key, starts[k], block[k].area.start)
+            if chain[k]:
+                self.delete(chain[k + 1])
+            self.build(block[k])
+            if not chain[k]:
+                self.delete(chain[k + 1])
+        self.delete(chain[0])
+
+    def tight_link(self, key: Key, page: int, end: int) -> list[Build]:
+        """A filler from the last doubleword before a page up to an address in it."""
+        start, last = page - 8, page + PAGE - 8
+        if end == page:
+            return self.fill(key, start, end)
+        at = min(max(end, page + 16), last - 8)
+        front, holder = self.fill(key, page, at), self.fill(key, at, page + PAGE)
+        self.delete(front)
+        found = self.fill(key, start, min(end, at))
+        self.delete(holder)
+        if end == last:
+            front, holder = self.fill(key, at, last), self.fill(key, last, page + PAGE)
+            self.delete(front)
+            self.delete(found)
+            found = self.fill(key, start, end)
+            self.delete(holder)
+        return found
