@@ -24,6 +24,8 @@ from .places import Key, location
 def descent(runs: list[Area], wanted: list[Build], most: int) -> Optional[list[Step]]:
     """The steps that make some cell pools, on either side of the line; None where they aren't made so. most: how many
     there may be at once."""
+    if any(it.side != location(it.area.start) for it in wanted):
+        return None        # one that lies below the line as there was no place above
     steps: list[Step] = []
     for side in (31, 24):
         its = [it for it in wanted if location(it.area.start) == side]
