@@ -8,7 +8,7 @@ from typing import Iterator, Optional
 import pytest
 from vsmtools import building, chains, searching
 from vsmtools.building import Build, Builder, Ground, Step, core
-from vsmtools.chains import descent
+from vsmtools.chains import descent, unheld
 from vsmtools.maps import Area
 from vsmtools.progress import Work
 from vsmtools.searching import Reach, Search
@@ -134,11 +134,12 @@ def built(region: Region, steps: list[Step]) -> State:
 def test_pools_of_a_doubleword_alone_in_pages(monkeypatch: pytest.MonkeyPatch, words: int, pages: int, most: int
                                               ) -> None:
     """Each of some pages has one: all are made if there may be two more, and none if there may be no more. They come from
-    the highest to the lowest, as they do if there may be one more, if the first pages have them within, not at an end."""
+    the highest to the lowest, as they do if there may be one more, if the first pages have them within, not at an end.
+    What is refused isn't made."""
     for module in (building, chains, searching):
         monkeypatch.setattr(module, "PAGE", 8 * words)
     region = Region(words, pages, most, False)
-    made, runs = region.made(), [Area(0, 8 * words * pages)]
+    made, runs, count = region.made(), [Area(0, 8 * words * pages)], 0
     for offsets in product([None, *range(words)], repeat=pages):
         pools = [(words * k + at, words * k + at + 1) for k, at in enumerate(offsets) if at is not None]
         if 2 <= len(pools) <= most:
@@ -148,3 +149,6 @@ def test_pools_of_a_doubleword_alone_in_pages(monkeypatch: pytest.MonkeyPatch, w
             is_within = words > 3 and all(at is not None and 0 < at < words - 1 for at in offsets[:len(pools)])
             assert is_made and steps is not None or len(pools) > most - 2 + is_within, pools
             assert not is_made and core(builds, most) or len(pools) < most, pools
+            assert not is_made or not unheld(0, builds, most), pools
+            count += unheld(0, builds, most) is not None
+    assert count

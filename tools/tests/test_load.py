@@ -313,7 +313,7 @@ def test_the_map_alone_and_by_a_file(run: Callable, vsm: str, tmp_path: Path) ->
 
 @pytest.mark.parametrize("kind, first, last", [
     ("building", 0, 2), ("building", 2, 4), ("lists", 0, 8), ("orders", 0, 2), ("small", 0, 100),
-    ("family", 2021, 2022), ("helpers", 0, 40)])
+    ("small", 5046, 5047), ("small", 5157, 5158), ("family", 2021, 2022), ("helpers", 0, 40)])
 def test_maps_of_generated_scripts_come_back(vsm: str, kind: str, first: int, last: int) -> None:
     for seed in range(first, last):
         assert told(vsm, kind, seed) is None, seed
@@ -455,9 +455,18 @@ def test_cell_pools_alone_in_their_pages(vsm: str, kind: str) -> None:
     assert map_behind(vsm, WIDER, "".join(line + "\n" for line in script)) == lines[:-1]
 
 
-def test_256_cell_pools_alone_in_their_pages() -> None:
-    with pytest.raises(Fault, match="no list of statements makes this: whichever of 256 cell pools"):
-        loading.Loader(maps.parse_map(lone_cells((at, 0) for at in in_pages([MIDDLE] * 256))), "map").load()
+@pytest.mark.parametrize("offsets, first, told", [
+    ([MIDDLE] * 256, 0, "whichever of 256 cell pools that just BUILD can have made came last"),
+    ([0] * 255, 1, "it begins with its page, and of the 256 cell pools that there may be at once too few"),
+    ([MIDDLE, MIDDLE, LAST, 0] + [MIDDLE] * 251, 3, "it begins with its page")])
+def test_too_many_cell_pools_alone_in_their_pages(run: Callable, vsm: str, offsets: list[int], first: int, told: str
+                                                  ) -> None:
+    """What is told is of the lowest of them, or of the first that nothing holds the page for."""
+    lines = lone_cells((at, 0) for at in in_pages(offsets))
+    start = time.monotonic()
+    text = one_line(run(TOOL, "--vsm", vsm, *WIDER[:4], given="".join(line + "\n" for line in lines).encode()), TOOL)
+    assert time.monotonic() - start < MOST_SECONDS and "no list of statements makes this: " + told in text
+    assert lines[int(text.split(":")[1]) - 1].startswith(" CELLPOOL C%08X " % in_pages(offsets)[first])
 
 
 def endless_map() -> str:

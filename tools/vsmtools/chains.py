@@ -10,6 +10,20 @@ come as above, the last cell pool of the first pages comes behind the chain, the
 before comes, and so on.
 
 Each step is tried as it's planned; what doesn't go to its place this way is left to a longer search.
+
+Cell pools of 8 bytes, each alone in a page of one subpool, all come this way if there may be two more at once. Nothing
+makes as many as there may be: behind the last BUILD of one that stays there's no filler, so its page was unassigned, and
+there was a gap in any other page. For one fewer, `unheld` tells some that nothing makes: the first pages of the region
+have one each, and that of some page N begins with its page. Look at what led there from its end backwards, up to the
+first time when one in page N or above isn't there, or one of the pages below has nothing. Up to then at most N others
+are there at once, and none of these is in page N and in one below, nor takes a whole page, as that had something before.
+
+- For a cell pool in page N or above to come, the pages below are filled, by N fillers at least, as an end of one is
+  within each page. None is left for the gap behind that of page N, where one above comes. None is left to hold page N,
+  where its own comes, nor for a gap above, without which that would go to a new page.
+- What a page below has first is shorter than a page, so that it would go into a gap above of all but 8 bytes of a page,
+  or more: each has another filler. The other N-2 pages below are held, two by one at best. So there are at most N/2 such
+  gaps.
 """
 from __future__ import annotations
 
@@ -35,6 +49,22 @@ def descent(runs: list[Area], wanted: list[Build], most: int) -> Optional[list[S
         steps += found
         most -= len(its)
     return steps
+
+
+def unheld(first: int, wanted: list[Build], most: int) -> Optional[Build]:
+    """One of some cell pools in a region for which nothing can hold its page; none where that isn't certain. first: where
+    the region begins. wanted: those of one subpool there. most: how many there may be at once."""
+    its = sorted(wanted, key=lambda it: it.area.start)
+    pages = [page_start(it.area.start) for it in its]
+    if len(its) < most - 1 or len(set(pages)) < len(its) or any(it.area.length > 8 for it in its):
+        return None
+    for k in range(1, len(its)):
+        if pages[k] != first + k * PAGE:
+            break
+        if its[k].area.start == pages[k]:
+            gaps = Ground([], its[k:]).gaps(its[k].key)
+            return its[k] if sum(gap.length >= PAGE - 8 for gap in gaps) > (k + 1) // 2 else None
+    return None
 
 
 class NoChain(Exception):
