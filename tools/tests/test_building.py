@@ -133,9 +133,9 @@ def built(region: Region, steps: list[Step]) -> State:
 @pytest.mark.parametrize("words, pages, most", [(3, 4, 4), (4, 3, 4), (3, 4, 5), (3, 5, 4)])
 def test_pools_of_a_doubleword_alone_in_pages(monkeypatch: pytest.MonkeyPatch, words: int, pages: int, most: int
                                               ) -> None:
-    """Each of some pages has one: all are made if there may be two more, and none if there may be no more. They come from
-    the highest to the lowest, as they do if there may be one more, if the first pages have them within, not at an end.
-    What is refused isn't made."""
+    """Each of some pages has one: all are made if there may be two more, and none if there may be no more. They come
+    from the highest to the lowest, as they do if there may be one more, if the first pages have them within, not at an
+    end. What is refused isn't made."""
     for module in (building, chains, searching):
         monkeypatch.setattr(module, "PAGE", 8 * words)
     region = Region(words, pages, most, False)

@@ -413,7 +413,8 @@ def lone_cells(cells: Iterable[tuple[int, int]]) -> list[str]:
     for number, places in sorted(by_number.items()):
         pages = [(at - at % maps.PAGE, at) for at in places]
         free = [part for page, at in pages for part in ((page, at), (at + 8, page + maps.PAGE)) if part[0] < part[1]]
-        subpools.append(maps.Subpool(number, 1, [], joined((page, page + maps.PAGE) for page, _ in pages), joined(free)))
+        extents = joined((page, page + maps.PAGE) for page, _ in pages)
+        subpools.append(maps.Subpool(number, 1, [], extents, joined(free)))
         pools += [maps.CellPool("C%08X" % at, number, 1, 8, 1, 1, 31 if at >= maps.HIGH_START else 24, None,
                                 [Area(at, 8)], [at]) for at in places]
     high = sum(pool.location == 31 for pool in pools)
@@ -470,8 +471,8 @@ def test_too_many_cell_pools_alone_in_their_pages(run: Callable, vsm: str, offse
 
 
 def endless_map() -> str:
-    """A map of task 1 with register 1 0: 250 cell pools of 8 bytes in the middle of a page each, two pages in one subpool
-    and two in another by turns, for which no order is found in any time that a trial has."""
+    """A map of task 1 with register 1 0: 250 cell pools of 8 bytes in the middle of a page each, two pages in one
+    subpool and two in another by turns, for which no order is found in any time that a trial has."""
     lines = lone_cells((at, k // 2 % 2) for k, at in enumerate(in_pages([MIDDLE] * 250)))
     return "".join(line + "\n" for line in lines)
 

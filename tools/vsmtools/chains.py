@@ -11,19 +11,20 @@ before comes, and so on.
 
 Each step is tried as it's planned; what doesn't go to its place this way is left to a longer search.
 
-Cell pools of 8 bytes, each alone in a page of one subpool, all come this way if there may be two more at once. Nothing
-makes as many as there may be: behind the last BUILD of one that stays there's no filler, so its page was unassigned, and
-there was a gap in any other page. For one fewer, `unheld` tells some that nothing makes: the first pages of the region
-have one each, and that of some page N begins with its page. Look at what led there from its end backwards, up to the
-first time when one in page N or above isn't there, or one of the pages below has nothing. Up to then at most N others
-are there at once, and none of these is in page N and in one below, nor takes a whole page, as that had something before.
+Cell pools of 8 bytes, each alone in a page of one subpool, all come this way if there may be two more at once; three
+where a filler's length is that of no cells. Nothing makes as many as there may be: behind the last BUILD of one that
+stays there's no filler, so its page was unassigned, and there was a gap in any other page, where it would have gone.
+Of one fewer, `unheld` tells some that nothing makes: the first pages of the region have one each, and that of page N
+begins with its page. Look at what led there from its end backwards, up to the first time when one in page N or above
+isn't there, or one of the pages below has nothing. Up to then at most N others are there at once, and none of these is
+in page N and in one below, nor takes a whole page below, as something was there before.
 
 - For a cell pool in page N or above to come, the pages below are filled, by N fillers at least, as an end of one is
   within each page. None is left for the gap behind that of page N, where one above comes. None is left to hold page N,
   where its own comes, nor for a gap above, without which that would go to a new page.
 - What a page below has first is shorter than a page, so that it would go into a gap above of all but 8 bytes of a page,
-  or more: each has another filler. The other N-2 pages below are held, two by one at best. So there are at most N/2 such
-  gaps.
+  or more: each has another filler. The other N-2 pages below are held, two by one at best. So there are at most N/2
+  such gaps.
 """
 from __future__ import annotations
 
@@ -52,8 +53,8 @@ def descent(runs: list[Area], wanted: list[Build], most: int) -> Optional[list[S
 
 
 def unheld(first: int, wanted: list[Build], most: int) -> Optional[Build]:
-    """One of some cell pools in a region for which nothing can hold its page; none where that isn't certain. first: where
-    the region begins. wanted: those of one subpool there. most: how many there may be at once."""
+    """One of some cell pools in a region for which nothing can hold its page; none where that isn't certain. first:
+    where the region begins. wanted: those of one subpool there. most: how many there may be at once."""
     its = sorted(wanted, key=lambda it: it.area.start)
     pages = [page_start(it.area.start) for it in its]
     if len(its) < most - 1 or len(set(pages)) < len(its) or any(it.area.length > 8 for it in its):
@@ -107,9 +108,9 @@ class Descent:
         return found
 
     def make(self, early: list[list[Build]], late: list[list[Build]], tight: list[list[Build]]) -> None:
-        """early: the blocks whose chains come before all cell pools in higher pages. late: those whose chains come behind
-        these, and behind fillers in each gap that a chain's filler would go into. tight: one that has all, with a
-        filler less."""
+        """early: the blocks whose chains come before all cell pools in higher pages. late: those whose chains come
+        behind these, and behind fillers in each gap that a chain's filler would go into. tight: one that has all, with
+        a filler less."""
         chains = [self.chain(block) for block in early]
         for it in reversed(self.wanted[sum(len(block) for block in early + late + tight):]):
             self.make_high(it)
@@ -147,8 +148,8 @@ class Descent:
     # Cell pools behind unassigned pages.
 
     def make_high(self, it: Build) -> None:
-        """A cell pool in an unassigned page, behind a filler from the lowest one: right behind it, or behind one more; or
-        before what that leaves of the page, where it has to be longer."""
+        """A cell pool in an unassigned page, behind a filler from the lowest one: right behind it, or behind one more;
+        or before what that leaves of the page, where it has to be longer."""
         start = it.area.start
         lowest = next((run.start for run in self.ground.unassigned()), page_start(start))
         end = self.end_of_filler(it, lowest)
@@ -163,8 +164,8 @@ class Descent:
         self.delete(fillers)
 
     def end_of_filler(self, it: Build, lowest: int) -> int:
-        """Up to where a filler reaches that begins at the lowest unassigned page and fits no gap: to the place of a cell
-        pool, else past it within its page, else before it there."""
+        """Up to where a filler reaches that begins at the lowest unassigned page and fits no gap: to the place of a
+        cell pool, else past it within its page, else before it there."""
         start, page = it.area.start, page_start(it.area.start)
         longest = max((gap.length for gap in self.ground.gaps(it.key)), default=0)
         for end in [start, *range(page + PAGE - 8, start, -8), *range(start - 8, page, -8)]:

@@ -1,5 +1,8 @@
 """The order of cell pools that BUILD and DELETE alone make, looked for from the map backwards.
 
+Where none of the map's pools can come last without a filler, `chains` has steps for many that are alone in their pages.
+Else there's a search.
+
 A state is what is there at one time: at first the map's pools, at last none. What can come last goes, as that is
 never wrong (`building`). Where nothing can, some pool is the last one of these in any list that makes them, and what
 it needs was there before others: what is right before it, what holds its last page, a filler that begins in a gap
