@@ -2,12 +2,13 @@
 from __future__ import annotations
 
 import random
-from itertools import chain, combinations
+from itertools import chain, combinations, product
 from typing import Iterator, Optional
 
 import pytest
-from vsmtools import building, searching
-from vsmtools.building import Build, Builder, Ground, core
+from vsmtools import building, chains, searching
+from vsmtools.building import Build, Builder, Ground, Step, core
+from vsmtools.chains import descent, unheld
 from vsmtools.maps import Area
 from vsmtools.progress import Work
 from vsmtools.searching import Reach, Search
@@ -116,3 +117,38 @@ def test_all_maps_of_a_small_region(monkeypatch: pytest.MonkeyPatch, words: int,
         for reach in (Reach.KNOWN, Reach.ALL):
             search = Search(Builder(runs, builds, most, is_walled), reach, Work())
             assert (search.plan() is not None) == is_made, pools
+
+
+def built(region: Region, steps: list[Step]) -> State:
+    """What some steps make; each BUILD goes to its place, and there are never too many pools."""
+    state = State()
+    for is_built, it in steps:
+        pool = it.area.start // 8, it.area.end // 8
+        assert not is_built or len(state) < region.most
+        assert not is_built or region.place(state, pool[1] - pool[0], set()) == pool[0]
+        state = state | {pool} if is_built else state - {pool}
+    return state
+
+
+@pytest.mark.parametrize("words, pages, most", [(3, 4, 4), (4, 3, 4), (3, 4, 5), (3, 5, 4)])
+def test_pools_of_a_doubleword_alone_in_pages(monkeypatch: pytest.MonkeyPatch, words: int, pages: int, most: int
+                                              ) -> None:
+    """Each of some pages has one: all are made if there may be two more, and none if there may be no more. They come
+    from the highest to the lowest, as they do if there may be one more, if the first pages have them within, not at an
+    end. What is refused isn't made."""
+    for module in (building, chains, searching):
+        monkeypatch.setattr(module, "PAGE", 8 * words)
+    region = Region(words, pages, most, False)
+    made, runs, count = region.made(), [Area(0, 8 * words * pages)], 0
+    for offsets in product([None, *range(words)], repeat=pages):
+        pools = [(words * k + at, words * k + at + 1) for k, at in enumerate(offsets) if at is not None]
+        if 2 <= len(pools) <= most:
+            builds = [Build(Area(8 * start, 8), KEY, 24) for start, _ in pools]
+            steps, is_made = descent(runs, builds, most), State(pools) in made
+            assert steps is None or built(region, steps) == State(pools), pools
+            is_within = words > 3 and all(at is not None and 0 < at < words - 1 for at in offsets[:len(pools)])
+            assert is_made and steps is not None or len(pools) > most - 2 + is_within, pools
+            assert not is_made and core(builds, most) or len(pools) < most, pools
+            assert not is_made or not unheld(0, builds, most), pools
+            count += unheld(0, builds, most) is not None
+    assert count

@@ -11,8 +11,9 @@ import re
 import signal
 import subprocess
 import sys
+import time
 from pathlib import Path
-from typing import Callable
+from typing import Callable, Iterable
 
 import pytest
 from conftest import SECONDS, TOOLS, TOP, one_line
@@ -27,6 +28,7 @@ from vsmtools.searching import Reach
 
 TOOL = "vsm-load"
 SEEDS, EVERY = 20, 500
+MOST_SECONDS = 20      # on a busy machine
 CELLS = (TOP / "examples" / "cell-pools.out").read_text()
 
 
@@ -311,7 +313,7 @@ def test_the_map_alone_and_by_a_file(run: Callable, vsm: str, tmp_path: Path) ->
 
 @pytest.mark.parametrize("kind, first, last", [
     ("building", 0, 2), ("building", 2, 4), ("lists", 0, 8), ("orders", 0, 2), ("small", 0, 100),
-    ("family", 2021, 2022), ("helpers", 0, 40)])
+    ("small", 5046, 5047), ("small", 5157, 5158), ("family", 2021, 2022), ("helpers", 0, 40)])
 def test_maps_of_generated_scripts_come_back(vsm: str, kind: str, first: int, last: int) -> None:
     for seed in range(first, last):
         assert told(vsm, kind, seed) is None, seed
@@ -392,18 +394,87 @@ def test_no_line_on_a_pipe_while_it_searches(vsm: str) -> None:
     assert done.returncode == 0 and done.stderr == b"" and done.stdout
 
 
+def joined(areas: Iterable[tuple[int, int]]) -> list[Area]:
+    """Areas from one address up to another in order, with those that touch as one."""
+    found: list[Area] = []
+    for start, end in sorted(areas):
+        if found and found[-1].end == start:
+            start = found.pop().start
+        found.append(Area(start, end - start))
+    return found
+
+
+def lone_cells(cells: Iterable[tuple[int, int]]) -> list[str]:
+    """A map of task 1 with register 1 0: cell pools of 8 bytes, each alone in its page, at addresses in subpools."""
+    by_number: dict[int, list[int]] = {0: []}
+    for at, number in cells:
+        by_number.setdefault(number, []).append(at)
+    subpools, pools = [], []
+    for number, places in sorted(by_number.items()):
+        pages = [(at - at % maps.PAGE, at) for at in places]
+        free = [part for page, at in pages for part in ((page, at), (at + 8, page + maps.PAGE)) if part[0] < part[1]]
+        extents = joined((page, page + maps.PAGE) for page, _ in pages)
+        subpools.append(maps.Subpool(number, 1, [], extents, joined(free)))
+        pools += [maps.CellPool("C%08X" % at, number, 1, 8, 1, 1, 31 if at >= maps.HIGH_START else 24, None,
+                                [Area(at, 8)], [at]) for at in places]
+    high = sum(pool.location == 31 for pool in pools)
+    shown = maps.Map([maps.Task(1, 0, True, [0] * 16)], subpools, sorted(pools, key=lambda it: it.name),
+                     len(pools) - high, 512, high, 256, 8 * len(pools), (maps.PAGE - 8) * len(pools))
+    return maps.map_lines(shown)
+
+
+def in_pages(offsets: Iterable[int], start: int = maps.LOW_START, every: int = 1) -> list[int]:
+    """Addresses in pages side by side, or in each second one and so on."""
+    return [start + every * maps.PAGE * k + offset for k, offset in enumerate(offsets)]
+
+
+MIDDLE, LAST = 2048, maps.PAGE - 8
+LONE = {
+    "130 in the middle": [(at, 0) for at in in_pages([MIDDLE] * 130)],
+    "254 in the middle": [(at, 0) for at in in_pages([MIDDLE] * 254)],
+    "254 at the begin": [(at, 0) for at in in_pages([0] * 254)],
+    "254 at the end": [(at, 0) for at in in_pages([LAST] * 254)],
+    "254 at begins and ends": [(at, 0) for at in in_pages([0, LAST] * 127)],
+    "254 anywhere": [(at, 0) for at in in_pages(8 * (k * k % 512) for k in range(254))],
+    "255 in the middle": [(at, 0) for at in in_pages([MIDDLE] * 255)],
+    "255 of which none begins a page": [(at, 0) for at in in_pages(8 + 8 * (k * k % 510) for k in range(255))],
+    "254 in each second page": [(at, 0) for at in in_pages([MIDDLE] * 254, every=2)],
+    "254 at ends of each second page": [(at, 0) for at in in_pages([LAST] * 254, every=2)],
+    "200 in pages by two of two subpools": [(at, k // 2 % 2) for k, at in enumerate(in_pages([MIDDLE] * 200))],
+    "254 in pages by turns of three subpools": [(at, k % 3) for k, at in enumerate(in_pages([MIDDLE] * 254))],
+    "127 on each side": [(at, 0) for start in (maps.LOW_START, maps.HIGH_START)
+                         for at in in_pages([MIDDLE] * 127, start)],
+}
+
+
+@pytest.mark.parametrize("kind", LONE)
+def test_cell_pools_alone_in_their_pages(vsm: str, kind: str) -> None:
+    lines = lone_cells(LONE[kind])
+    start = time.monotonic()
+    script = loading.Loader(maps.parse_map(lines), kind).load()
+    assert time.monotonic() - start < MOST_SECONDS
+    assert map_behind(vsm, WIDER, "".join(line + "\n" for line in script)) == lines[:-1]
+
+
+@pytest.mark.parametrize("offsets, first, told", [
+    ([MIDDLE] * 256, 0, "whichever of 256 cell pools that just BUILD can have made came last"),
+    ([0] * 255, 1, "it begins with its page, and of the 256 cell pools that there may be at once too few"),
+    ([MIDDLE, MIDDLE, LAST, 0] + [MIDDLE] * 251, 3, "it begins with its page")])
+def test_too_many_cell_pools_alone_in_their_pages(run: Callable, vsm: str, offsets: list[int], first: int, told: str
+                                                  ) -> None:
+    """What is told is of the lowest of them, or of the first that nothing holds the page for."""
+    lines = lone_cells((at, 0) for at in in_pages(offsets))
+    start = time.monotonic()
+    text = one_line(run(TOOL, "--vsm", vsm, *WIDER[:4], given="".join(line + "\n" for line in lines).encode()), TOOL)
+    assert time.monotonic() - start < MOST_SECONDS and "no list of statements makes this: " + told in text
+    assert lines[int(text.split(":")[1]) - 1].startswith(" CELLPOOL C%08X " % in_pages(offsets)[first])
+
+
 def endless_map() -> str:
-    """A map of task 1 with register 1 0: 200 cell pools of 8 bytes in the middle of a page each, for which no order is
-    found in any time that a trial has."""
-    pages = Area(maps.LOW_START, 200 * maps.PAGE)
-    middles = range(maps.LOW_START + 2048, pages.end, maps.PAGE)
-    ends = [(maps.LOW_START, middles[0])] + [(one + 8, other) for one, other in zip(middles, middles[1:])] + [
-        (middles[-1] + 8, pages.end)]
-    pools = [maps.CellPool("C%d" % at, 0, 1, 8, 1, 1, 24, None, [Area(at, 8)], [at]) for at in middles]
-    shown = maps.Map([maps.Task(1, 0, True, [0] * 16)],
-                     [maps.Subpool(0, 1, [], [pages], [Area(start, end - start) for start, end in ends])],
-                     sorted(pools, key=lambda it: it.name), 200, 256, 0, 16, 1600, pages.length - 1600)
-    return "".join(line + "\n" for line in maps.map_lines(shown))
+    """A map of task 1 with register 1 0: 250 cell pools of 8 bytes in the middle of a page each, two pages in one
+    subpool and two in another by turns, for which no order is found in any time that a trial has."""
+    lines = lone_cells((at, k // 2 % 2) for k, at in enumerate(in_pages([MIDDLE] * 250)))
+    return "".join(line + "\n" for line in lines)
 
 
 ORDERS = "an order of BUILDs and DELETEs that (makes its cell pools|gives it its place)"
@@ -413,12 +484,12 @@ UNPROVED = "it isn't proved that no list of statements makes this map"
 @pytest.mark.parametrize("seconds, longer", [("0.5", "5"), ("2", "20")])
 def test_a_search_is_given_up(run: Callable, vsm: str, seconds: str, longer: str) -> None:
     text = endless_map()
-    done = run(TOOL, "--vsm", vsm, "--low", 1024, "--seconds", seconds, given=text.encode())
+    done = run(TOOL, "--vsm", vsm, *WIDER[:4], "--seconds", seconds, given=text.encode())
     assert done.returncode == 8 and done.stdout == b""
     found = re.fullmatch("standard input:([0-9]+): given up behind %s seconds, looking for %s: %s; --seconds %s looks "
                          "longer, --seconds 0 without an end" % (seconds, ORDERS, UNPROVED, longer),
                          one_line(done, TOOL))
-    assert found and text.split("\n")[int(found[1]) - 1].startswith((" SUBPOOL 0", " CELLPOOL"))
+    assert found and text.split("\n")[int(found[1]) - 1].startswith((" SUBPOOL", " CELLPOOL"))
 
 
 def test_choices_tell_what_they_are_at() -> None:
@@ -448,7 +519,7 @@ def test_a_search_is_stopped(vsm: str, tmp_path: Path) -> None:
     path = tmp_path / "map"
     path.write_text(endless_map())
     lead, end = pty.openpty()
-    child = subprocess.Popen(searching_words("--low", "1024", str(path), vsm=vsm), stdout=subprocess.PIPE, stderr=end)
+    child = subprocess.Popen(searching_words(*WIDER[:4], str(path), vsm=vsm), stdout=subprocess.PIPE, stderr=end)
     os.close(end)
     text = b""
     while b"tried .." not in text:

@@ -54,6 +54,11 @@ class Step(NamedTuple):
     build: Build
 
 
+def span(key: Key, start: int, end: int) -> Build:
+    """A filler in a subpool."""
+    return Build(Area(start, end - start), key, location(start))
+
+
 class Turn(NamedTuple):
     """A pool, and what is built and deleted so that it comes behind all others."""
     last: Build
@@ -178,9 +183,10 @@ class Builder:
         self.tries = 0                   # so many may be built for it
         self.holding: list[Build] = []   # those that hold its last page
 
-    def last_of(self, left: list[Build], first: int) -> tuple[Optional[Turn], int]:
-        """A pool that can come last, from the first place on; it's taken from the ground."""
-        room = self.most - len(left)
+    def last_of(self, left: list[Build], first: int, most: int) -> tuple[Optional[Turn], int]:
+        """A pool that can come last, from the first place on; it's taken from the ground. most: how many fillers it
+        may have at once."""
+        room = min(self.most - len(left), most)
         for k in range(len(left)):
             at = (first + k) % len(left)
             it = left[at]

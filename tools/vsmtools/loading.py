@@ -10,9 +10,10 @@ from __future__ import annotations
 
 import heapq
 from itertools import product
-from typing import Iterable, NamedTuple, Optional
+from typing import Iterable, NamedTuple, NoReturn, Optional
 
 from .building import Build, Builder, Step, core, page_end, shape
+from .chains import unheld
 from .command import Fault
 from .family import Event, Family
 from .judge import MOST_POOLS, Judge, Refused, refuse
@@ -119,6 +120,7 @@ class Loader:
         has_homes, can_obtain = any(it.homes for it in self.family.words), any(self.first.values())
         ways = [Way(*way) for way in product(*((False, True)[:1 + can] for can in (
             has_homes, can_obtain, can_obtain)))]
+        self.judge_first_pages()
         script, faults = self.first_script(ways)
         if script is None:
             self.judge_pools()
@@ -190,18 +192,34 @@ class Loader:
             ends[31] = HIGH_START + self.map.high_pages * PAGE
         return ends
 
-    def judge_pools(self) -> None:
-        """That cell pools can be made whose subpool no task ever sees that could obtain there: one whose register
-        1 is 0 attached none and got no area, and none could give it the subpool."""
+    def just_built(self) -> dict[Key, list[Build]]:
+        """The cell pools of subpools that no task ever sees that could obtain there: one whose register 1 is 0 attached
+        none and got no area, and none could give it the subpool."""
         forced = [it for it in self.map.subpools if not self.first[it.owner] and (
             it.number == 0 or it.owner == 1 or any(self.family.parent[it.owner] in other.sharers
                                                    for other in self.map.subpools if other.number == it.number))]
-        found = core([Build(pool.extents[0], (it.number, it.owner), pool.location, pool)
-                      for it in forced for pool in self.pools_of(it)], MOST_POOLS)
+        return {(it.number, it.owner): [Build(pool.extents[0], (it.number, it.owner), pool.location, pool)
+                                        for pool in self.pools_of(it)] for it in forced}
+
+    def judge_first_pages(self) -> None:
+        """That cell pools of 8 bytes can be made, each of which is alone in its page."""
+        for builds in self.just_built().values():
+            for side, first in ((24, LOW_START), (31, HIGH_START)):
+                its = [it for it in builds if location(it.area.start) == side]
+                found = unheld(first, its, MOST_POOLS)
+                if found:
+                    self.refuse_pool(found, "it begins with its page, and of the %d cell pools that there may be at "
+                                     "once too few are left to fill all lower pages and to hold its own" % MOST_POOLS)
+
+    def refuse_pool(self, it: Build, why: str) -> NoReturn:
+        refuse(self.source, next(pool.line for pool in self.map.cell_pools if pool is it.pool), why)
+
+    def judge_pools(self) -> None:
+        """That of the cell pools that just BUILD can have made one can come last."""
+        found = core([it for builds in self.just_built().values() for it in builds], MOST_POOLS)
         if found:
             least = min(found, key=lambda it: it.area.start)
-            line = next(pool.line for pool in self.map.cell_pools if pool is least.pool)
-            refuse(self.source, line, "whichever of %d cell pools that just BUILD can have made came last, more lower "
+            self.refuse_pool(least, "whichever of %d cell pools that just BUILD can have made came last, more lower "
                    "places would be free for it than other cell pools can fill" % len(found))
 
     def pools_of(self, it: Subpool) -> list[CellPool]:

@@ -1,5 +1,8 @@
 """The order of cell pools that BUILD and DELETE alone make, looked for from the map backwards.
 
+Where none of the map's pools can come last without a filler, `chains` has steps for many that are alone in their pages.
+Else there's a search.
+
 A state is what is there at one time: at first the map's pools, at last none. What can come last goes, as that is
 never wrong (`building`). Where nothing can, some pool is the last one of these in any list that makes them, and what
 it needs was there before others: what is right before it, what holds its last page, a filler that begins in a gap
@@ -21,7 +24,9 @@ from enum import IntEnum
 from itertools import product
 from typing import Iterable, Iterator, Optional
 
-from .building import Build, Builder, Ground, Step, Turn, core, page_end, page_start, shape
+from .building import Build, Builder, Ground, Step, Turn, core, page_end, page_start, shape, span
+from .chains import descent
+from .judge import MOST_POOLS
 from .maps import PAGE, Area
 from .places import Key, location
 from .progress import Work
@@ -39,9 +44,9 @@ class Reach(IntEnum):
 Move = tuple[list[Turn], list[Build]]     # what comes last, and what is left
 
 
-def span(key: Key, start: int, end: int) -> Build:
-    """A filler in a subpool."""
-    return Build(Area(start, end - start), key, location(start))
+def steps_of(turns: list[Turn]) -> list[Step]:
+    """The steps of turns that are found from the last one on."""
+    return [step for turn in reversed(turns) for step in turn.steps]
 
 
 class Search:
@@ -49,11 +54,24 @@ class Search:
 
     def __init__(self, builder: Builder, reach: Reach, work: Work) -> None:
         """work is told each try, and the cell pool that comes next."""
-        self.builder, self.is_whole, self.is_all, self.work = builder, reach > Reach.FIRST, reach == Reach.ALL, work
+        self.builder, self.reach, self.work = builder, reach, work
+        self.is_whole, self.is_all = reach > Reach.FIRST, reach == Reach.ALL
         self.seen: set[frozenset[tuple[int, int, Key, int]]] = set()
 
     def plan(self) -> Optional[list[Step]]:
         """What is built and deleted in turn; None where no order is found."""
+        found = self.chained() if self.reach == Reach.FIRST and not self.builder.is_walled else None
+        return found or self.searched()
+
+    def chained(self) -> Optional[list[Step]]:
+        """The steps where those that need more than a filler come from the highest to the lowest, at first behind
+        chains."""
+        turns, left = self.settled([], self.builder.wanted, 0)
+        found = descent(self.builder.runs, left, self.builder.most) if left else []
+        return None if found is None else found + steps_of(turns)
+
+    def searched(self) -> Optional[list[Step]]:
+        """The steps by a search for what comes last."""
         path: list[list[Turn]] = []
         stack: list[Iterator[Move]] = [iter([([], self.builder.wanted)])]
         ends = 0
@@ -66,7 +84,7 @@ class Search:
                 continue
             turns, left = self.settled(*move)
             if not left:
-                return [step for turn in reversed(sum(path, []) + turns) for step in turn.steps]
+                return steps_of(sum(path, []) + turns)
             if self.is_new(left):
                 path.append(turns)
                 stack.append(self.moves(left))
@@ -74,13 +92,13 @@ class Search:
                 ends += 1
         return None
 
-    def settled(self, turns: list[Turn], left: list[Build]) -> Move:
-        """A state without all that can come last, one after another."""
+    def settled(self, turns: list[Turn], left: list[Build], most: int = MOST_POOLS) -> Move:
+        """A state without all that can come last, one after another. most: how many fillers each may have at once."""
         self.builder.ground = Ground(self.builder.runs, left)
         at = 0
         while left:
             self.work.tried()
-            turn, at = self.builder.last_of(left, at)
+            turn, at = self.builder.last_of(left, at, most)
             if turn is None:
                 self.tell_next(left)
                 break
