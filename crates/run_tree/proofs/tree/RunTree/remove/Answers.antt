@@ -1,3 +1,4 @@
+use Rattle.std.proofs.Common.{sym}
 use Rattle.run_tree.proofs.CutOutLemmas.{cut_live, rest_tree, rest_runs, rest_leaves}
 use Rattle.run_tree.proofs.tree.RunTree.remove.Goals as goal
 
@@ -12,3 +13,6 @@ returns-clause-runs c = rest_runs c.args.elements.now c.cut-id.new.elements c.ar
 
 pub returns-clause-owned : goal.returns-clause-owned
 returns-clause-owned c = rest_leaves c.args.elements.now c.cut-id.new.elements c.args.self.now c.cut-id.result.0 c.args.k c.cut-id.result.1 c.requires.tree c.cut-id.ensures c.give.new.self c.give.ensures.updates c.give.ensures.spares
+
+pub returns-clause-spares : goal.returns-clause-spares
+returns-clause-spares c = rw (sym c.cut-id.ensures.spare) (assumption)

@@ -1,0 +1,7 @@
+use Rattle.descriptor_queue.proofs.pages.Pages.least_run.Goals as goal
+
+pub returns-clause-none : goal.returns-clause-none
+returns-clause-none c = c.least_fit.ensures.none
+
+pub returns-clause-least : goal.returns-clause-least
+returns-clause-least c = c.least_fit.ensures.least
