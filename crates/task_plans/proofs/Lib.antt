@@ -11,6 +11,7 @@ mod Parks
 mod Reservations
 mod TwoSteps
 mod ShareRecords
+mod GiftRecords
 mod EmptyingRecords
 mod FourSteps
 mod RestRecords
