@@ -18,5 +18,5 @@ returns-in-Cell c =
     let r = c.in-Cell.r in
     let free : ((if r.free then 1 else 0) == 1) ≡ r.free = search rules in
     ap record_of c.cell_words-in-Cell.ensures
-        ∙ (λ i. Cell (record { pool = r.pool; cell = (c.one_cell.ensures i).start; free = free i }))
-        ∙ sym c.in-Cell.is
+    ∙ (λ i. Cell (record { pool = r.pool; cell = (c.one_cell.ensures i).start; free = free i }))
+    ∙ sym c.in-Cell.is
