@@ -3,7 +3,7 @@ ghost use Rattle.std.specs.Prelude.{Some, None, IsSome, IfSome, option_map, slic
 ghost use Rattle.std.specs.Str.{bytes_eq};
 ghost use Rattle.vsm_elements.specs.Store.{Store};
 ghost use Rattle.vsm_elements.specs.Ownership.{Leaves, Apart};
-ghost use Rattle.list_table.specs.ListTable.{entries, earlier, later, entry_of, owned_but, IsPlace, IsOpen};
+ghost use Rattle.list_table.specs.ListTable.{entries, ahead, beyond, entry_of, owned_besides, IsPlace, IsOpen};
 ghost use Rattle.list_table.specs.Stocks.{holdings};
 ghost use Rattle.cell_pool.specs.Pools.{only, all_but, either_of, is_of, lies_in, id_in};
 ghost use Rattle.cell_extents.specs.Items.{pool_of, IsSound};
@@ -265,24 +265,23 @@ impl CellPools {
         self.seek(elements, id)
     }
 
-    // The row of this id, in hand.
+    // The row of this id, in hand, without a walk.
     pub(crate) fn row(&self, elements: &Elements, id: CellId) -> ListRow
         requires pools { IsCellPools elements.now self.now }
         requires there { IsSome (by_id elements.now self.now id) }
         ensures named { result.id ≡ id }
         ensures open { IsOpen elements.now self.now.table result }
         ensures parts { entries elements.now self.now.table
-            ≡ earlier elements.now self.now.table result.index
-            ++ entry_of elements.now result ∷ later elements.now self.now.table result.index }
+            ≡ ahead elements.now self.now.table result.id
+            ++ entry_of elements.now result ∷ beyond elements.now self.now.table result.id }
         ensures pool { by_id elements.now self.now id ≡ Some (pool_of (entry_of elements.now result)) }
         ensures room { 5 ≤ result.stock.items.count }
         ensures sound { IsSound (entry_of elements.now result) }
         ensures owned { (t : Store) (has : List ℕ) → Leaves elements.now t
-            (owned_but elements.now self.now.table result.index ++ holdings elements.now result.stock) has
+            (owned_besides elements.now self.now.table result.id ++ holdings elements.now result.stock) has
             → Leaves elements.now t (owned elements.now self.now) has }
     {
-        let place = self.seek(elements, id);
-        self.table.row(elements, place.index, place.before)
+        self.table.row_of(elements, id)
     }
 
     // The place of the row of this id, or that behind the last.

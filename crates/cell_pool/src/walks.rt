@@ -67,7 +67,7 @@ impl ItemPlace {
             return None;
         }
         let id = self.list.next(elements, self.index, self.before);
-        let words = self.list.words(elements, self.index, id);
+        let words = self.list.words(elements, id);
         let behind = ItemPlace {
             list: self.list,
             index: self.index + 1,

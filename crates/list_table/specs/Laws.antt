@@ -12,7 +12,7 @@ use Rattle.list_table.specs.declared.row.ListRow.{ListRow}
 use Rattle.list_table.specs.declared.stock.Stock.{Stock}
 use Rattle.list_table.specs.declared.table.ListTable.{ListTable}
 use Rattle.list_table.specs.Stocks.{holdings, IsStock}
-use Rattle.list_table.specs.ListTable.{entries, earlier, later, owned, owned_but, IsOpen}
+use Rattle.list_table.specs.ListTable.{entries, ahead, beyond, owned, owned_besides, IsOpen}
 use Rattle.list_table.specs.ListTable
 
 -- a stock became another by calls on its own parts
@@ -39,10 +39,10 @@ TablesStay = (s t : Store) (had has : List ℕ) (q : ListTable) → Leaves s t h
 abbrev pub OpenStays : Type 0
 OpenStays = (s t : Store) (q : ListTable) (r : ListRow) (stock : Stock) (words : List ℕ) → IsOpen s q r
     → Leaves s t (holdings s r.stock) (holdings t stock) → IsStock t stock
-    → IsOpen t q (record { index = r.index; id = r.id; words = words; stock = stock })
-    × (earlier t q r.index ≡ earlier s q r.index) × (later t q r.index ≡ later s q r.index)
-    × (owned_but t q r.index ≡ owned_but s q r.index)
-    × Leaves s t (owned_but s q r.index ++ holdings s r.stock) (owned_but t q r.index ++ holdings t stock)
+    → IsOpen t q (record { id = r.id; words = words; stock = stock })
+    × (ahead t q r.id ≡ ahead s q r.id) × (beyond t q r.id ≡ beyond s q r.id)
+    × (owned_besides t q r.id ≡ owned_besides s q r.id)
+    × Leaves s t (owned_besides s q r.id ++ holdings s r.stock) (owned_besides t q r.id ++ holdings t stock)
 
 -- a call on the items of a stock leaves its tables as they were, and the stock stands with the items that are left
 abbrev pub ItemsChange : Type 0

@@ -28,7 +28,7 @@ pub fn item(list: Chain, elements: &Elements, k: u32) -> [u32; 7]
 {
     let behind = before(list, elements, k);
     let id = list.next(elements, k, behind);
-    list.words(elements, k, id)
+    list.words(elements, id)
 }
 
 /// Puts an item at place `k`, in front of what stood there. It takes one element.

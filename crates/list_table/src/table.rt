@@ -1,5 +1,5 @@
-ghost use Rattle.std.specs.Prelude.{◌≡◌, ℕ, ◌+◌, ◌<◌, ◌++◌, ◌∷◌, [], length, Some, slice_get, List, IfSome, drop};
-ghost use Rattle.vsm_elements.specs.Store.{Store};
+ghost use Rattle.std.specs.Prelude.{◌≡◌, ℕ, ◌+◌, ◌<◌, ◌++◌, ◌∷◌, [], length, Some, slice_get, List, IfSome, drop, map, true};
+ghost use Rattle.vsm_elements.specs.Store.{Store, among};
 ghost use Rattle.vsm_elements.specs.Ownership.{Leaves, Apart};
 ghost use Rattle.list_table.specs.Kept.{head_in};
 ghost use Rattle.list_table.specs.Stocks.{holdings, IsStock};
@@ -67,8 +67,8 @@ crate::specs::ListTable::owned, crate::specs::ListTable::IsTable,
 // what a head is
 crate::specs::ListTable::table_of))]
 impl ListTable {
-    ghost use Rattle.list_table.specs.ListTable.{entries, earlier, later, owned, owned_but, entry_of};
-    ghost use Rattle.list_table.specs.ListTable.{IsTable, IsPlace, IsOpen, table_of};
+    ghost use Rattle.list_table.specs.ListTable.{entries, earlier, later, ahead, beyond, owned, owned_besides};
+    ghost use Rattle.list_table.specs.ListTable.{entry_of, index_of, IsTable, IsPlace, IsOpen, table_of};
 
     /// The table without rows. It has no element.
     pub fn new() -> ListTable
@@ -99,20 +99,36 @@ impl ListTable {
         requires table { IsTable elements.now self.now }
         requires place { IsPlace elements.now self.now index before }
         requires there { index < length (entries elements.now self.now) }
-        ensures index { result.index ≡ index }
+        ensures index { index_of elements.now self.now result.id ≡ index }
         ensures entry { slice_get (entries elements.now self.now) index ≡ Some (entry_of elements.now result) }
         ensures next { IsPlace elements.now self.now (index + 1) result.id }
         ensures open { IsOpen elements.now self.now result }
         ensures parts { entries elements.now self.now
-            ≡ earlier elements.now self.now index ++ entry_of elements.now result ∷ later elements.now self.now index }
+            ≡ ahead elements.now self.now result.id
+            ++ entry_of elements.now result ∷ beyond elements.now self.now result.id }
         ensures owned { (t : Store) (has : List ℕ) → Leaves elements.now t
-            (owned_but elements.now self.now index ++ holdings elements.now result.stock) has
+            (owned_besides elements.now self.now result.id ++ holdings elements.now result.stock) has
             → Leaves elements.now t (owned elements.now self.now) has }
     {
         let id = self.chain.next(elements, index, before);
-        let words = self.chain.words(elements, index, id);
+        self.row_of(elements, id)
+    }
+
+    /// The row of this id, without a walk.
+    pub fn row_of(&self, elements: &Elements, id: Id) -> ListRow
+        requires table { IsTable elements.now self.now }
+        requires there { among id (map (λ e. e.id) (entries elements.now self.now)) ≡ true }
+        ensures named { result.id ≡ id }
+        ensures open { IsOpen elements.now self.now result }
+        ensures parts { entries elements.now self.now
+            ≡ ahead elements.now self.now result.id
+            ++ entry_of elements.now result ∷ beyond elements.now self.now result.id }
+        ensures owned { (t : Store) (has : List ℕ) → Leaves elements.now t
+            (owned_besides elements.now self.now result.id ++ holdings elements.now result.stock) has
+            → Leaves elements.now t (owned elements.now self.now) has }
+    {
+        let words = self.chain.words(elements, id);
         ListRow {
-            index,
             id,
             words: own_words(words),
             stock: stock_head(words),
@@ -124,15 +140,15 @@ impl ListTable {
         requires { IsOpen elements.old self.now row }
         ensures table { IsTable elements.new self.now }
         ensures entries { entries elements.new self.now
-            ≡ earlier elements.old self.now row.index
-            ++ entry_of elements.old row ∷ later elements.old self.now row.index }
+            ≡ ahead elements.old self.now row.id
+            ++ entry_of elements.old row ∷ beyond elements.old self.now row.id }
         ensures owned { Leaves elements.old elements.new
-            (owned_but elements.old self.now row.index ++ holdings elements.old row.stock)
+            (owned_besides elements.old self.now row.id ++ holdings elements.old row.stock)
             (owned elements.new self.now) }
         ensures spares { elements.new.spare ≡ elements.old.spare }
     {
         let words = row_words(row.words, row.stock);
-        self.chain.set_words(elements, row.index, row.id, words);
+        self.chain.set_words(elements, row.id, words);
     }
 
     /// A row with these words and an empty stock, before all others.
@@ -189,7 +205,7 @@ impl ListTable {
             ≡ elements.old.spare + (length e.items + length e.used + length e.extents + length e.places) + 1) }
     {
         let id = self.chain.next(elements, 0, 0);
-        let words = self.chain.words(elements, 0, id);
+        let words = self.chain.words(elements, id);
         discard_stock(words, elements);
         self.chain.remove(elements, 0, 0);
     }

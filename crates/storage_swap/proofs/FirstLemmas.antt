@@ -1,8 +1,8 @@
 -- The first record of a chain changes sides, and goes to another chain.
-use Rattle.std.proofs.Common.{◌≡◌, ℕ, zero, suc, ◌+◌, ◌-◌, ◌<◌, ◌≤◌, if◌then◌else◌, inl, inr, List, [], ◌∷◌, ◌++◌, map, drop, Option, Some, None, IsSome, refl, sym, ap, ◌∙◌, arith, subst}
+use Rattle.std.proofs.Common.{◌≡◌, ℕ, zero, suc, ◌+◌, ◌-◌, ◌<◌, ◌≤◌, if◌then◌else◌, inl, inr, List, [], ◌∷◌, ◌++◌, map, drop, length, Option, Some, None, IsSome, refl, sym, ap, ◌∙◌, arith, subst}
 use Rattle.std.specs.Prelude.{slice_get, unwrap_or, ◌/◌}
 use Rattle.vsm_elements.specs.Store.{Store, at}
-use Rattle.vsm_elements.specs.Chain.{Link, links, follow, owned, ids, IsChain}
+use Rattle.vsm_elements.specs.Chain.{Link, links, follow, owned, ids, IsChain, IsLink}
 use Rattle.vsm_elements.specs.Ownership.{Leaves, Apart}
 use Rattle.vsm_elements.specs.declared.chain.Chain.{Chain}
 use Rattle.vsm_elements.specs.Owners.{times, Moves}
@@ -129,6 +129,15 @@ module _ (p m : Parts) (given given' : List PageFrame) (q q' : SubpoolStorage) (
 pub some-first : (s : Store) (first count : ℕ) (n : Link) → slice_get (follow s first count) 0 ≡ Some n → 0 < count
 some-first s first zero n e = cc
 some-first s first (suc k) n e = omega arith
+
+-- where there are records, the first of them is at the head
+pub first-is : (p : Parts) (given : List PageFrame) (q : SubpoolStorage) (c d : Chain) → BesideBoth p q c d
+    → (r : Record) × (rs : List Record) × (kept : ℕ) × (kept ≤ p.elements.spare) × (records_of p.elements c ≡ r ∷ rs) × Fits (walk_of p given q kept) r
+    → IsLink p.elements c 0 c.first
+first-is p given q c d beside (r, rs, kept, le, l, fits) = (omega (arith, beside.chain.count, some (links p.elements c) l), beside.chain.first) where
+  some : (ns : List Link) → map record_at ns ≡ r ∷ rs → 0 < length ns
+  some [] e = cc
+  some (n ∷ ns) e = omega arith
 
 -- what the exchange of the first record asks
 pub first-asks : (p : Parts) (given : List PageFrame) (q : SubpoolStorage) (c : Chain) (n : Link) → slice_get (links p.elements c) 0 ≡ Some n

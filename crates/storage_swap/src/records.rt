@@ -29,7 +29,7 @@ fn swap_first(
         → SwapsFirst storage.old storage.new given.old given.new parked.old parked.new records.old records.new
         done.old done.new r rs }
 {
-    let first = records.words(&storage.elements, 0, records.first);
+    let first = records.words(&storage.elements, records.first);
     let turned = storage.exchange_words(given, parked, first);
     records.turn_front(&mut storage.elements, turned, done);
 }

@@ -2,7 +2,7 @@ use Rattle.std.proofs.Common.{rules, ◌≡◌, ◌+◌, ◌≤◌, take, drop, 
 use Rattle.vsm_elements.specs.Ownership.{Leaves}
 use Rattle.vsm_elements.proofs.ChainFrame.{Leaves-trans}
 use Rattle.list_table.specs.Entries.{Entry}
-use Rattle.list_table.specs.ListTable.{entries, entry_of, owned_but}
+use Rattle.list_table.specs.ListTable.{entries, entry_of, index_of}
 use Rattle.list_table.specs.ListTable
 use Rattle.list_table.specs.Stocks.{holdings}
 use Rattle.cell_pool.specs.CellPools.{owned, IsCellPools}
@@ -35,15 +35,14 @@ loop-place-preserved-then-says_subpool c =
     let was : List Entry = entries c.args.elements.now c.args.self.now.table in
     let now : List Entry = entries c.loop-place.elements c.args.self.now.table in
     let next : List Entry = entries c.write.new.elements c.args.self.now.table in
-    let P : ℕ → Type 0 = λ i. Leaves c.loop-place.elements c.write.new.elements (owned_but c.loop-place.elements c.args.self.now.table i ++ holdings c.loop-place.elements c.row-row.result.stock) (ListTable.owned c.write.new.elements c.args.self.now.table) in
     let one : given c.from.result e ≡ f e = ap (λ (z : ℕ). given z e) c.from.ensures ∙ sym (is_given c.args.subpool c.args.to e (sym c.says_subpool.ensures ∙ c.if-says_subpool.true)) in
-    let is : next ≡ take c.loop-place.place.index now ++ f e ∷ drop (c.loop-place.place.index + 1) now = written_is c.loop-place.elements c.write.new.elements c.args.self.now.table c.loop-place.place.index c.row-row.result.index (given c.from.result e) (f e) c.row-row.ensures.index c.write.ensures.entries one in
+    let is : next ≡ take c.loop-place.place.index now ++ f e ∷ drop (c.loop-place.place.index + 1) now = written_is c.loop-place.elements c.write.new.elements c.args.self.now.table c.loop-place.place.index (index_of c.loop-place.elements c.args.self.now.table c.row-row.result.id) (given c.from.result e) (f e) c.row-row.ensures.index c.write.ensures.entries one in
     record {
       table = c.write.ensures.table;
       place = same_place c.loop-place.elements c.write.new.elements c.args.self.now.table (c.loop-place.place.index + 1) c.row-row.result.id (next_ids f was now c.loop-place.place.index c.loop-place.invariant.rest e c.row-row.ensures.entry next is (hand_id c.args.subpool c.args.to e)) c.row-row.ensures.next;
       long = next_long f was now c.loop-place.place.index c.loop-place.invariant.rest e c.row-row.ensures.entry next is ∙ c.loop-place.invariant.long;
       rest = next_rest f was now c.loop-place.place.index c.loop-place.invariant.rest e c.row-row.ensures.entry next is;
-      owned = Leaves-trans _ _ _ _ _ _ c.loop-place.invariant.owned (c.row-row.ensures.owned c.write.new.elements (ListTable.owned c.write.new.elements c.args.self.now.table) (subst P c.row-row.ensures.index c.write.ensures.owned));
+      owned = Leaves-trans _ _ _ _ _ _ c.loop-place.invariant.owned (c.row-row.ensures.owned c.write.new.elements (ListTable.owned c.write.new.elements c.args.self.now.table) c.write.ensures.owned);
       spares = c.write.ensures.spares ∙ c.loop-place.invariant.spares;
     }
 

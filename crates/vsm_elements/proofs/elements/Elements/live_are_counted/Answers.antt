@@ -1,4 +1,4 @@
-use Rattle.std.proofs.Common.{arith, ap, sym, subst, length, ◌*◌}
+use Rattle.std.proofs.Common.{arith, ap, sym, subst, length}
 use Rattle.vsm_elements.specs.Store.{Store, AreLive}
 use Rattle.vsm_elements.specs.contracts.elements.Elements.{the_view}
 use Rattle.vsm_elements.proofs.LiveLemmas.{live_and_spare}
