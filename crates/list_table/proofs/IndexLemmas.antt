@@ -55,12 +55,12 @@ there_is : (id : ℕ) (ns : List Link) → among id (ids ns) ≡ true → (place
 there_is id [] h = absurd (not_both false h refl)
 there_is id (n ∷ ns) h = elim (eqb_tells id n.id) [
   | inl p ↦
-    let P : ℕ → Type 0 = λ k. (k < suc (length ns)) × (id ≡ head_or (drop k (n ∷ ns)) 0) in
-    subst P (sym (if_true (id == n.id) 0 (suc (place_of id ns)) p.0)) (omega arith, p.1)
+      let P : ℕ → Type 0 = λ k. (k < suc (length ns)) × (id ≡ head_or (drop k (n ∷ ns)) 0) in
+      subst P (sym (if_true (id == n.id) 0 (suc (place_of id ns)) p.0)) (omega arith, p.1)
   | inr p ↦
-    let P : ℕ → Type 0 = λ k. (k < suc (length ns)) × (id ≡ head_or (drop k (n ∷ ns)) 0) in
-    let r : (place_of id ns < length ns) × (id ≡ head_or (drop (place_of id ns) ns) 0) = there_is id ns (sym (ap (λ (b : Bool). b || among id (ids ns)) p.0) ∙ h) in
-    subst P (sym (if_false (id == n.id) 0 (suc (place_of id ns)) p.0)) (omega (arith, r.0), r.1)
+      let P : ℕ → Type 0 = λ k. (k < suc (length ns)) × (id ≡ head_or (drop k (n ∷ ns)) 0) in
+      let r : (place_of id ns < length ns) × (id ≡ head_or (drop (place_of id ns) ns) 0) = there_is id ns (sym (ap (λ (b : Bool). b || among id (ids ns)) p.0) ∙ h) in
+      subst P (sym (if_false (id == n.id) 0 (suc (place_of id ns)) p.0)) (omega (arith, r.0), r.1)
 ]
 
 -- so an entry's id is that of the link at its place
