@@ -6,7 +6,7 @@ from itertools import chain, combinations, product
 from typing import Iterator, Optional
 
 import pytest
-from vsmtools import building, chains, searching
+from vsmtools import building, chains, holding, searching
 from vsmtools.building import Build, Builder, Ground, Step, core
 from vsmtools.chains import descent, unheld
 from vsmtools.maps import Area
@@ -133,10 +133,9 @@ def built(region: Region, steps: list[Step]) -> State:
 @pytest.mark.parametrize("words, pages, most", [(3, 4, 4), (4, 3, 4), (3, 4, 5), (3, 5, 4)])
 def test_pools_of_a_doubleword_alone_in_pages(monkeypatch: pytest.MonkeyPatch, words: int, pages: int, most: int
                                               ) -> None:
-    """Each of some pages has one: all are made if there may be two more, and none if there may be no more. They come
-    from the highest to the lowest, as they do if there may be one more, if the first pages have them within, not at an
-    end. What is refused isn't made."""
-    for module in (building, chains, searching):
+    """Each of some pages has one: all are made if there may be two more; none if there may be no more; and if there may
+    be one more, just those that aren't refused. They come from the highest to the lowest."""
+    for module in (building, chains, holding, searching):
         monkeypatch.setattr(module, "PAGE", 8 * words)
     region = Region(words, pages, most, False)
     made, runs, count = region.made(), [Area(0, 8 * words * pages)], 0
@@ -146,9 +145,8 @@ def test_pools_of_a_doubleword_alone_in_pages(monkeypatch: pytest.MonkeyPatch, w
             builds = [Build(Area(8 * start, 8), KEY, 24) for start, _ in pools]
             steps, is_made = descent(runs, builds, most), State(pools) in made
             assert steps is None or built(region, steps) == State(pools), pools
-            is_within = words > 3 and all(at is not None and 0 < at < words - 1 for at in offsets[:len(pools)])
-            assert is_made and steps is not None or len(pools) > most - 2 + is_within, pools
-            assert not is_made and core(builds, most) or len(pools) < most, pools
+            assert (steps is not None) == is_made, pools
+            assert is_made or len(pools) == most and core(builds, most) or unheld(0, builds, most), pools
             assert not is_made or not unheld(0, builds, most), pools
             count += unheld(0, builds, most) is not None
     assert count

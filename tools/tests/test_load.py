@@ -13,7 +13,7 @@ import subprocess
 import sys
 import time
 from pathlib import Path
-from typing import Callable, Iterable
+from typing import Callable, Iterable, Optional
 
 import pytest
 from conftest import SECONDS, TOOLS, TOP, one_line
@@ -423,12 +423,14 @@ def lone_cells(cells: Iterable[tuple[int, int]]) -> list[str]:
     return maps.map_lines(shown)
 
 
-def in_pages(offsets: Iterable[int], start: int = maps.LOW_START, every: int = 1) -> list[int]:
-    """Addresses in pages side by side, or in each second one and so on."""
-    return [start + every * maps.PAGE * k + offset for k, offset in enumerate(offsets)]
+def in_pages(offsets: Iterable[Optional[int]], start: int = maps.LOW_START, every: int = 1) -> list[int]:
+    """Addresses in pages side by side, or in each second one and so on; none in a page without an offset."""
+    return [start + every * maps.PAGE * k + offset for k, offset in enumerate(offsets) if offset is not None]
 
 
 MIDDLE, LAST = 2048, maps.PAGE - 8
+DOWN = list(range(LAST - 8, 0, -8))      # so that no free area between two pages is as long as one
+UNHELD = "of the 256 cell pools that there may be at once too few are left to hold all pages below it"
 LONE = {
     "130 in the middle": [(at, 0) for at in in_pages([MIDDLE] * 130)],
     "254 in the middle": [(at, 0) for at in in_pages([MIDDLE] * 254)],
@@ -438,6 +440,11 @@ LONE = {
     "254 anywhere": [(at, 0) for at in in_pages(8 * (k * k % 512) for k in range(254))],
     "255 in the middle": [(at, 0) for at in in_pages([MIDDLE] * 255)],
     "255 of which none begins a page": [(at, 0) for at in in_pages(8 + 8 * (k * k % 510) for k in range(255))],
+    "255 of which some begin pages": [(at, 0) for at in in_pages(
+        [MIDDLE] * 9 + [0] + DOWN[:3] + [MIDDLE] * 5 + [0] + DOWN[:236])],
+    "255 the last of which is at an end": [(at, 0) for at in in_pages([MIDDLE] * 254 + [LAST])],
+    "255 with an unassigned page": [(at, 0) for at in in_pages(
+        [k * k % 512 * 8 for k in range(1, 10)] + [None] + DOWN[:200] + [0] + DOWN[10:55])],
     "254 in each second page": [(at, 0) for at in in_pages([MIDDLE] * 254, every=2)],
     "254 at ends of each second page": [(at, 0) for at in in_pages([LAST] * 254, every=2)],
     "200 in pages by two of two subpools": [(at, k // 2 % 2) for k, at in enumerate(in_pages([MIDDLE] * 200))],
@@ -458,8 +465,8 @@ def test_cell_pools_alone_in_their_pages(vsm: str, kind: str) -> None:
 
 @pytest.mark.parametrize("offsets, first, told", [
     ([MIDDLE] * 256, 0, "whichever of 256 cell pools that just BUILD can have made came last"),
-    ([0] * 255, 1, "it begins with its page, and of the 256 cell pools that there may be at once too few"),
-    ([MIDDLE, MIDDLE, LAST, 0] + [MIDDLE] * 251, 3, "it begins with its page")])
+    ([0] * 255, 1, UNHELD), ([MIDDLE, MIDDLE, LAST, 0] + [MIDDLE] * 251, 3, UNHELD),
+    (DOWN[:1] + [LAST, 0] + DOWN[:252], 2, UNHELD), ([MIDDLE] * 9 + [None] + [0] * 246, 9, UNHELD)])
 def test_too_many_cell_pools_alone_in_their_pages(run: Callable, vsm: str, offsets: list[int], first: int, told: str
                                                   ) -> None:
     """What is told is of the lowest of them, or of the first that nothing holds the page for."""

@@ -11,27 +11,36 @@ before comes, and so on.
 
 Each step is tried as it's planned; what doesn't go to its place this way is left to a longer search.
 
-Cell pools of 8 bytes, each alone in a page of one subpool, all come this way if there may be two more at once; three
-where a filler's length is that of no cells. Nothing makes as many as there may be: behind the last BUILD of one that
-stays there's no filler, so its page was unassigned, and there was a gap in any other page, where it would have gone.
-Of one fewer, `unheld` tells some that nothing makes: the first pages of the region have one each, and that of page N
-begins with its page. Look at what led there from its end backwards, up to the first time when one in page N or above
-isn't there, or one of the pages below has nothing. Up to then at most N others are there at once, and none of these is
-in page N and in one below, nor takes a whole page below, as something was there before.
+Cell pools of 8 bytes, each alone in a page of one subpool, all come this way if there may be two more at once. Nothing
+makes as many as there may be: behind the last BUILD of one that stays there's no filler, so its page was unassigned, and
+there was a gap in any other page, where it would have gone.
 
-- For a cell pool in page N or above to come, the pages below are filled, by N fillers at least, as an end of one is
-  within each page. None is left for the gap behind that of page N, where one above comes. None is left to hold page N,
-  where its own comes, nor for a gap above, without which that would go to a new page.
-- What a page below has first is shorter than a page, so that it would go into a gap above of all but 8 bytes of a page,
-  or more: each has another filler. The other N-2 pages below are held, two by one at best. So there are at most N/2
-  such gaps.
+Of one fewer, `unheld` tells those that nothing makes; all others come this way (`holding`). Say that the first N-1 pages
+of the region have one each, and page N, where one begins with the page, or which has none though there are some above.
+Look at what led there from its end backwards, up to the first time when one in page N or above isn't there, or one of
+the pages below has nothing. Up to then at most N others are there at once. None of these takes a whole page below, as
+nothing would be left there once it goes, nor begins in one and takes all of page N, as something else held that when
+it came.
+
+- If that was the BUILD of a cell pool in page N or above, the pages below are filled, by N fillers at least, as an end
+  of one is within each page. None is left for the gap behind the cell pool of page N, where one above comes, nor for what
+  is left of page N, if that has none. None is left to hold page N, where its own comes, nor for a gap above, without
+  which that would go to a new page: but if there's none above, it comes so.
+- If a page below got something, that was shorter than a page, so that it would go into a gap above of all but 8 bytes of
+  a page, or more (a long one): each has another filler. The other N-2 pages below are held, two by one at best. So there
+  are at most N/2 long gaps.
+- If N is 3 and there's a long gap, just one filler more was there then, in the other page below. Say that the cell pool
+  of page 2 is in the last doubleword. It isn't that filler, as there would be another long gap; so it comes later,
+  behind two fillers, one of which takes parts of both pages. This one came when a third one began in the last
+  doubleword; the first of all such ones came when all before was filled, by two, one of which would take all of page 1.
 """
 from __future__ import annotations
 
 from itertools import count
 from typing import Optional
 
-from .building import Build, Ground, Step, page_end, page_start, shape, span
+from .building import Build, Ground, Step, page_end, page_start, shape
+from .holding import Held, NoChain
 from .maps import PAGE, Area
 from .places import Key, location
 
@@ -53,33 +62,31 @@ def descent(runs: list[Area], wanted: list[Build], most: int) -> Optional[list[S
 
 
 def unheld(first: int, wanted: list[Build], most: int) -> Optional[Build]:
-    """One of some cell pools in a region for which nothing can hold its page; none where that isn't certain. first:
-    where the region begins. wanted: those of one subpool there. most: how many there may be at once."""
+    """The lowest of some cell pools in a region that can't come as nothing holds the pages below; none where that isn't
+    certain. first: where the region begins. wanted: those of one subpool there. most: how many there may be at once."""
     its = sorted(wanted, key=lambda it: it.area.start)
     pages = [page_start(it.area.start) for it in its]
-    if len(its) < most - 1 or len(set(pages)) < len(its) or any(it.area.length > 8 for it in its):
+    is_lone = len(set(pages)) == len(its) and all(it.area.length == 8 for it in its)
+    if len(its) < most - 1 or not is_lone or pages[:1] != [first]:
         return None
     for k in range(1, len(its)):
-        if pages[k] != first + k * PAGE:
+        is_behind_hole = pages[k] != first + k * PAGE
+        if is_behind_hole or its[k].area.start == pages[k]:
+            gaps = sum(gap.length >= PAGE - 8 for gap in Ground([], its[k:]).gaps(its[k].key))
+            is_last = k == 2 and gaps == 1 and its[1].area.end % PAGE == 0 and (is_behind_hole or len(its) > 3)
+            if gaps > (k + 1) // 2 or is_last:
+                return its[k]
+        if is_behind_hole:
             break
-        if its[k].area.start == pages[k]:
-            gaps = Ground([], its[k:]).gaps(its[k].key)
-            return its[k] if sum(gap.length >= PAGE - 8 for gap in gaps) > (k + 1) // 2 else None
     return None
 
 
-class NoChain(Exception):
-    """A BUILD wouldn't go to its place, or there are too many cell pools."""
-
-
-class Descent:
+class Descent(Held):
     """Makes cell pools of one side of the line, each of which begins in a page in which no other one begins."""
 
     def __init__(self, runs: list[Area], wanted: list[Build], most: int) -> None:
-        self.runs, self.most = runs, most
+        super().__init__(runs, most)
         self.wanted = sorted(wanted, key=lambda it: it.area.start)
-        self.ground, self.there = Ground(runs, []), 0
-        self.steps: list[Step] = []
 
     def plan(self) -> Optional[list[Step]]:
         """The steps; None where none of the ways leads there."""
@@ -87,7 +94,7 @@ class Descent:
         first = blocks[:1]
         for early, late, tight in ((first, [], []), ([], first, []), ([], [block[:1] for block in first], []),
                                    (blocks, [], []), ([], [], first)):
-            self.ground, self.there, self.steps = Ground(self.runs, []), 0, []
+            self.begin()
             try:
                 self.make(early, late, tight)
                 return self.steps
@@ -123,27 +130,6 @@ class Descent:
             self.delete(fillers)
         for block, chain in reversed(list(zip(early, chains))):
             self.make_chained(block, chain)
-
-    # One step.
-
-    def build(self, it: Build) -> Build:
-        place = self.ground.fit(it.key, it.area.length, it.side)
-        if place is None or place.start != it.area.start or self.there == self.most or not shape(it.area.length):
-            raise NoChain
-        self.ground.add(it)
-        self.there += 1
-        self.steps.append(Step(True, it))
-        return it
-
-    def fill(self, key: Key, start: int, end: int) -> list[Build]:
-        """A filler from one address up to another; none where there's nothing between."""
-        return [self.build(span(key, start, end))] if start < end else []
-
-    def delete(self, its: list[Build]) -> None:
-        for it in its:
-            self.ground.remove(it)
-            self.there -= 1
-            self.steps.append(Step(False, it))
 
     # Cell pools behind unassigned pages.
 
@@ -226,43 +212,3 @@ class Descent:
                 self.build(it)
                 self.delete(chain[k + 1])
         self.delete(chain[0])
-
-    # With just one filler more than there are cell pools.
-
-    def make_tight(self, block: list[Build]) -> None:
-        """The cell pools of a block from the last one on. The fillers of its chain reach up to the last doubleword of
-        each page, which leaves no room for those that hold the next one. A filler becomes shorter once its cell pool
-        is the next to come."""
-        key, pages = block[0].key, [page_start(it.area.start) for it in block]
-        ends = [page + PAGE - 8 for page in pages[:-1]] + [block[-1].area.start]
-        starts = [pages[0], *ends]
-        chain = [self.fill(key, starts[0], ends[0])]
-        chain += [self.tight_link(key, page, end) for page, end in zip(pages[1:], ends[1:])]
-        self.build(block[-1])
-        for k in reversed(range(len(block) - 1)):
-            self.delete(chain[k])
-            chain[k] = self.fill(key, starts[k], block[k].area.start)
-            if chain[k]:
-                self.delete(chain[k + 1])
-            self.build(block[k])
-            if not chain[k]:
-                self.delete(chain[k + 1])
-        self.delete(chain[0])
-
-    def tight_link(self, key: Key, page: int, end: int) -> list[Build]:
-        """A filler from the last doubleword before a page up to an address in it."""
-        start, last = page - 8, page + PAGE - 8
-        if end == page:
-            return self.fill(key, start, end)
-        at = min(max(end, page + 16), last - 8)
-        front, holder = self.fill(key, page, at), self.fill(key, at, page + PAGE)
-        self.delete(front)
-        found = self.fill(key, start, min(end, at))
-        self.delete(holder)
-        if end == last:
-            front, holder = self.fill(key, at, last), self.fill(key, last, page + PAGE)
-            self.delete(front)
-            self.delete(found)
-            found = self.fill(key, start, end)
-            self.delete(holder)
-        return found

@@ -208,8 +208,8 @@ class Loader:
                 its = [it for it in builds if location(it.area.start) == side]
                 found = unheld(first, its, MOST_POOLS)
                 if found:
-                    self.refuse_pool(found, "it begins with its page, and of the %d cell pools that there may be at "
-                                     "once too few are left to fill all lower pages and to hold its own" % MOST_POOLS)
+                    self.refuse_pool(found, "of the %d cell pools that there may be at once too few are left to hold all "
+                                     "pages below it and to fill free areas from it on" % MOST_POOLS)
 
     def refuse_pool(self, it: Build, why: str) -> NoReturn:
         refuse(self.source, next(pool.line for pool in self.map.cell_pools if pool is it.pool), why)
