@@ -36,6 +36,7 @@ it came.
 """
 from __future__ import annotations
 
+from functools import partial
 from itertools import count
 from typing import Optional
 
@@ -91,12 +92,14 @@ class Descent(Held):
     def plan(self) -> Optional[list[Step]]:
         """The steps; None where none of the ways leads there."""
         blocks = self.first_blocks()
-        first = blocks[:1]
-        for early, late, tight in ((first, [], []), ([], first, []), ([], [block[:1] for block in first], []),
-                                   (blocks, [], []), ([], [], first)):
+        first, most_held = blocks[:1], self.most_held([it for block in blocks for it in block])
+        ways = [partial(self.make, early, late, tight) for early, late, tight in (
+            (first, [], []), ([], first, []), ([], [block[:1] for block in first], []), (blocks, [], []),
+            ([], [], first))] + [partial(self.make_behind_all, most_held)] * (most_held > 1)
+        for way in ways:
             self.begin()
             try:
-                self.make(early, late, tight)
+                way()
                 return self.steps
             except NoChain:
                 pass
@@ -130,6 +133,12 @@ class Descent(Held):
             self.delete(fillers)
         for block, chain in reversed(list(zip(early, chains))):
             self.make_chained(block, chain)
+
+    def make_behind_all(self, number: int) -> None:
+        """All of several subpools. number: so many of the first ones come behind fillers that hold all their pages."""
+        for it in reversed(self.wanted[number:]):
+            self.make_high(it)
+        self.make_all(self.wanted[:number])
 
     # Cell pools behind unassigned pages.
 

@@ -18,7 +18,7 @@ pages: two doublewords, which is less than any of these fillers has.
 """
 from __future__ import annotations
 
-from typing import Iterable
+from typing import Iterable, NamedTuple
 
 from .building import Build, Ground, Step, page_start, shape, span
 from .maps import PAGE, Area
@@ -61,34 +61,53 @@ class Fillers:
             self.steps.append(Step(False, it))
 
 
+class Run(NamedTuple):
+    """Cell pools in pages side by side, one in each, from an address on."""
+    key: Key
+    start: int
+    its: list[Build]
+
+
+def runs_of(its: list[Build]) -> list[Run]:
+    """The runs of pages of a subpool among pages side by side."""
+    found: list[Run] = []
+    for it in its:
+        if found and found[-1].key == it.key:
+            found[-1].its.append(it)
+        else:
+            found.append(Run(it.key, page_start(it.area.start), [it]))
+    return found
+
+
 class Held(Fillers):
-    """Makes the cell pools of a block: each begins in a page of its own, the first in the region's first page."""
+    """Makes the cell pools of pages side by side from the region's first one on, one in each."""
 
     def make_tight(self, block: list[Build]) -> None:
-        """The cell pools from the last one on. The first of all goes to an unassigned page behind links if it begins
-        with it."""
+        """Those of one subpool, from the last one on. The first of all goes to an unassigned page behind links if it
+        begins with it."""
         links: list[list[Build]] = []
         for k, it in reversed(list(enumerate(block))):
             is_at_begin = k > 0 and it.area.start % PAGE == 0
             if is_at_begin and self.there > len(links):
-                self.delete(filler for link in links for filler in link)
+                self.delete_all(links)
                 links = []
                 self.make_at_begin(it)
             else:
                 links = links or self.held_links(block[:k + (not is_at_begin)])
                 self.make_linked(it, links, k)
-        self.delete(filler for link in links for filler in link)
+        self.delete_all(links)
 
-    # Links.
+    def delete_all(self, links: Iterable[list[Build]]) -> None:
+        self.delete(filler for link in links for filler in link)
 
     def make_linked(self, it: Build, links: list[list[Build]], k: int) -> None:
         """A cell pool behind the filler of its page, which becomes shorter first where the next one is there. That one
         holds its page while a cell pool comes that begins with it."""
         if len(links) > k + 1:
+            start = links[k][0].area.start
             self.delete(links[k])
-            page = page_start(it.area.start)
-            links[k] = self.fill(it.key, page - 8 if k else page, it.area.start)
-            if links[k]:
+            links[k] = self.fill(it.key, start, it.area.start)
+            if it.area.start % PAGE:
                 self.delete(links.pop())
         self.build(it)
         if len(links) > k + 1:
@@ -118,10 +137,15 @@ class Held(Fillers):
         self.delete(front)
         return holder
 
-    def held_pair(self, key: Key, page: int) -> list[Build]:
-        """A filler in a page and in the next one, all but the first doubleword and the last one."""
-        last, holder = self.held_page(key, page + PAGE), self.held_page(key, page)
-        return self.moved(key, page + 8, page + 2 * PAGE - 8, holder, last)
+    def held_pages(self, key: Key, start: int, end: int) -> list[list[Build]]:
+        """Fillers that hold pages two by one, but for the first doubleword and the last one of these."""
+        found: list[list[Build]] = []
+        for page in range(end - 2 * PAGE, start - 1, -2 * PAGE):
+            last, holder = self.held_page(key, page + PAGE), self.held_page(key, page)
+            found.append(self.moved(key, page + 8, page + 2 * PAGE - 8, holder, last))
+        if (end - start) // PAGE % 2:
+            found.append(self.moved(key, start + 8, start + PAGE - 8, self.held_page(key, start), []))
+        return found[::-1]
 
     def moved(self, key: Key, start: int, end: int, holder: list[Build], last: list[Build]) -> list[Build]:
         """A filler from within a page on in place of what holds that, and of what holds the page where it ends."""
@@ -131,51 +155,89 @@ class Held(Fillers):
         self.delete(low + last)
         return found
 
+    def first_link(self, key: Key) -> list[Build]:
+        """The first page, all but its last doubleword, while all free areas that are as long are filled."""
+        fillers = [filler for gap in list(self.ground.gaps(key)) if gap.length >= PAGE - 8
+                   for filler in self.fill(key, gap.start, gap.end)]
+        found = self.fill(key, self.runs[0].start, self.runs[0].start + PAGE - 8)
+        self.delete(fillers)
+        return found
+
+    # Links.
+
     def held_links(self, block: list[Build]) -> list[list[Build]]:
         """The links of all pages up to the last doubleword, and one that holds the last page, where others are there
         above: at first fillers that hold these pages."""
-        key, first, count = block[0].key, self.runs[0].start, len(block)
-        pairs = [self.held_pair(key, first + k * PAGE) for k in range(count - 2, 0, -2)][::-1]
-        second = self.held_second(block) if count % 2 == 0 else []
-        fillers = [filler for gap in list(self.ground.gaps(key)) if gap.length >= PAGE - 8
-                   for filler in self.fill(key, gap.start, gap.end)]
-        links = [self.fill(key, first, first + PAGE - 8)]
-        self.delete(fillers)
-        at = first + PAGE
-        if count < 3:
-            return links + [self.fill(key, at - 8, second[0].area.start), second] if second else (
-                links + [self.fill(key, at - 8, at)])
-        holder = self.fill(key, at - 8, at + 8)
-        if second:
-            at, low = at + PAGE, holder
-            holder = self.fill(key, at - 8, at + 8)
-            self.delete(low + second)
-            links.append(self.fill(key, at - PAGE - 8, at - 8))
-        for pair in pairs:
-            holder = self.link_pair(key, pair, holder, links)
-        return links + [holder]
+        key, second = block[0].key, self.runs[0].start + PAGE
+        if len(block) == 2:
+            start, holder = block[1].area.start, self.held_page(key, second)
+            if start < second + PAGE - 8:
+                holder = self.moved(key, start, second + PAGE, holder, [])
+            return [self.first_link(key), self.fill(key, second - 8, start), holder]
+        held = self.held_pages(key, second, second + (len(block) - 1) * PAGE)
+        links = [self.first_link(key)]
+        self.link_pages(key, second, held, links)
+        return links
 
-    def held_second(self, block: list[Build]) -> list[Build]:
-        """A filler in the second page: in its middle, or behind the cell pool's place if it has the last one."""
-        key, page = block[0].key, page_start(block[1].area.start)
-        holder = self.held_page(key, page)
-        if len(block) > 2:
-            return self.moved(key, page + 8, page + PAGE - 8, holder, [])
-        start = block[1].area.start
-        return holder if start == page + PAGE - 8 else self.moved(key, start, page + PAGE, holder, [])
-
-    def link_pair(self, key: Key, pair: list[Build], holder: list[Build], links: list[list[Build]]) -> list[Build]:
-        """Two links in place of what holds two pages, and what holds the page behind, if that's the subpool's."""
-        page, end = pair[0].area.start - 8, pair[0].area.end
-        behind = self.fill(key, end, min(end + 16, self.gap_end(key, end)))
-        self.delete(pair)
-        low = self.fill(key, page + 8, page + PAGE - 8)
-        self.delete(holder)
-        upper = self.fill(key, page + PAGE - 8, end)
-        self.delete(low)
-        links += [self.fill(key, page - 8, page + PAGE - 8), upper]
-        return behind
+    def link_pages(self, key: Key, start: int, held: list[list[Build]], links: list[list[Build]]) -> None:
+        """Links in place of what holds some pages, behind others in the page before, if any are there."""
+        before = 8 if links else 0
+        holder = self.fill(key, start - before, min(start + 8, self.gap_end(key, start - before)))
+        for one in held:
+            end, last = one[0].area.end, page_start(start) + PAGE - 8
+            behind = self.fill(key, end, min(end + 16, self.gap_end(key, end)))
+            self.delete(one)
+            low = self.fill(key, start + 8, last) if end > last else []
+            self.delete(holder)
+            upper = self.fill(key, last, end)
+            self.delete(low)
+            links += [it for it in (self.fill(key, start - before, last), upper) if it]
+            holder, start, before = behind, end + 8, 8
+        links.append(holder)
 
     def gap_end(self, key: Key, start: int) -> int:
         """Where the free area ends that begins at an address."""
         return next(gap.end for gap in self.ground.gaps(key) if gap.start == start)
+
+    # Pages of several subpools.
+
+    def make_all(self, its: list[Build]) -> None:
+        """Those of several subpools, run by run from the last one on. All pages are held two by one or better; just in
+        those of a run's subpool there are all links."""
+        runs = runs_of(its)
+        first, held, links = runs[0], {}, {}
+        for run in reversed(runs):
+            held[run.start] = self.held_pages(run.key, run.start + (run is first) * PAGE,
+                                              run.start + len(run.its) * PAGE)
+        links[first.start] = [self.first_link(first.key)]
+        for at in reversed(range(len(runs))):
+            own = [run for run in runs[:at + 1] if run.key == runs[at].key]
+            for run in own:
+                if run.start in held:
+                    self.link_pages(run.key, run.start + (run is first) * PAGE, held.pop(run.start),
+                              links.setdefault(run.start, []))
+                else:
+                    self.link_again(run, links[run.start])
+            for k, it in reversed(list(enumerate(runs[at].its))):
+                self.make_linked(it, links[runs[at].start], k)
+            self.delete_all(links[runs[at].start])
+            for run in own[:-1]:
+                self.delete_all(links[run.start][::2])
+
+    def link_again(self, run: Run, links: list[list[Build]]) -> None:
+        """All links of a run, each second of which is there."""
+        for k in range(0, len(links), 2):
+            links[k] = [self.build(links[k][0])]
+
+    def most_held(self, its: list[Build]) -> int:
+        """Of how many of the first cell pools the pages may be held at once, so that there are links for each subpool;
+        0 if of none."""
+        for number in range(len(its), 1, -1):
+            runs = runs_of(its[:number])
+            held = sum((len(run.its) + 1) // 2 for run in runs)
+            more: dict[Key, int] = {}
+            for run in runs:
+                more[run.key] = more.get(run.key, 0) + len(run.its) + 1 - (len(run.its) + 1) // 2
+            if len(self.wanted) - number + held + max(more.values()) < self.most:
+                return number
+        return 0
