@@ -6,12 +6,13 @@ from itertools import chain, combinations, product
 from typing import Iterator, Optional
 
 import pytest
-from vsmtools import building, chains, holding, searching
+from vsmtools import building, chains, holding, searching, stuck
 from vsmtools.building import Build, Builder, Ground, Step, core
 from vsmtools.chains import descent, unheld
 from vsmtools.maps import Area
 from vsmtools.progress import Work
 from vsmtools.searching import Reach, Search
+from vsmtools.stuck import Stuck
 
 Pool = tuple[int, int]            # from one doubleword up to another
 State = frozenset[Pool]
@@ -135,7 +136,7 @@ def test_pools_of_a_doubleword_alone_in_pages(monkeypatch: pytest.MonkeyPatch, w
                                               ) -> None:
     """Each of some pages has one: all are made if there may be two more; none if there may be no more; and if there may
     be one more, just those that aren't refused. They come from the highest to the lowest."""
-    for module in (building, chains, holding, searching):
+    for module in (building, chains, holding, searching, stuck):
         monkeypatch.setattr(module, "PAGE", 8 * words)
     region = Region(words, pages, most, False)
     made, runs, count = region.made(), [Area(0, 8 * words * pages)], 0
@@ -147,6 +148,54 @@ def test_pools_of_a_doubleword_alone_in_pages(monkeypatch: pytest.MonkeyPatch, w
             assert steps is None or built(region, steps) == State(pools), pools
             assert (steps is not None) == is_made, pools
             assert is_made or len(pools) == most and core(builds, most) or unheld(0, builds, most), pools
-            assert not is_made or not unheld(0, builds, most), pools
+            assert not is_made or not (unheld(0, builds, most) or Stuck(0, builds, most).lowest()), pools
             count += unheld(0, builds, most) is not None
     assert count
+
+
+class Shared(Region):
+    """A region of two subpools: a pool is from one doubleword up to another, with its subpool behind."""
+
+    def nexts(self, state: State) -> Iterator[State]:
+        yield from (state - {pool} for pool in state)
+        for key, length in product((0, 1), range(1, self.words * self.pages + 1) if len(state) < self.most else ()):
+            own = frozenset(pool[:2] for pool in state if pool[2] == key)
+            start = self.place(own, length, self.own(frozenset(pool[:2] for pool in state if pool[2] != key)))
+            if start is not None:
+                yield state | {(start, start + length, key)}
+
+
+@pytest.mark.parametrize("words, pages, most", [(3, 3, 3), (3, 3, 4)])
+def test_pools_of_a_doubleword_of_two_subpools(monkeypatch: pytest.MonkeyPatch, words: int, pages: int, most: int
+                                               ) -> None:
+    """What is refused isn't made, and what comes from the highest to the lowest is."""
+    for module in (building, chains, holding, searching, stuck):
+        monkeypatch.setattr(module, "PAGE", 8 * words)
+    made, runs = Shared(words, pages, most, False).made(), [Area(0, 8 * words * pages)]
+    for offsets in product([None, *product(range(words), (0, 1))], repeat=pages):
+        pools = [(words * k + at[0], words * k + at[0] + 1, at[1]) for k, at in enumerate(offsets) if at is not None]
+        if 2 <= len(pools) <= most:
+            builds = [Build(Area(8 * start, 8), (key, 1), 24) for start, _, key in pools]
+            is_made, is_stuck = State(pools) in made, Stuck(0, builds, most).lowest() is not None
+            assert not (is_made and is_stuck) and (is_made or descent(runs, builds, most) is None), pools
+
+
+@pytest.mark.parametrize("every, number", [(1, 200), (2, 250), (2, 255), (3, 255)])
+def test_pools_of_subpools_in_pages_side_by_side(every: int, number: int) -> None:
+    """By turns of two subpools; each BUILD goes to its place."""
+    runs = [Area(0, 256 * building.PAGE)]
+    builds = [Build(Area(building.PAGE * k + 2048, 8), (k // every % 2, 1), 24) for k in range(number)]
+    steps, ground, most = descent(runs, builds, 256), Ground(runs, []), 0
+    for is_built, it in steps or []:
+        place = ground.fit(it.key, it.area.length, it.side) if is_built else None
+        assert not is_built or place and place.start == it.area.start
+        (ground.add if is_built else ground.remove)(it)
+        most = max(most, len(ground.spans))
+    assert most <= 256 and ground.spans == Ground(runs, builds).spans and ground.taken == Ground(runs, builds).taken
+
+
+def test_pools_of_subpools_that_nothing_makes() -> None:
+    """Each second page is another subpool's, and its cell pool begins with it."""
+    builds = [Build(Area(building.PAGE * k, 8), (k % 2, 1), 24) for k in range(255)]
+    assert Stuck(0, builds[:230], 256).lowest() and Stuck(0, builds, 256).lowest()
+    assert not Stuck(0, builds[:190], 256).lowest() and descent([Area(0, 256 * building.PAGE)], builds[:190], 256)

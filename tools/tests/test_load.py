@@ -441,13 +441,16 @@ LONE = {
     "255 in the middle": [(at, 0) for at in in_pages([MIDDLE] * 255)],
     "255 of which none begins a page": [(at, 0) for at in in_pages(8 + 8 * (k * k % 510) for k in range(255))],
     "255 of which some begin pages": [(at, 0) for at in in_pages(
-        [MIDDLE] * 9 + [0] + DOWN[:3] + [MIDDLE] * 5 + [0] + DOWN[:236])],
+        [MIDDLE] * 9 + [0] + DOWN[:3] + [MIDDLE] * 3 + [0] + DOWN[:238])],
     "255 the last of which is at an end": [(at, 0) for at in in_pages([MIDDLE] * 254 + [LAST])],
     "255 with an unassigned page": [(at, 0) for at in in_pages(
         [k * k % 512 * 8 for k in range(1, 10)] + [None] + DOWN[:200] + [0] + DOWN[10:55])],
     "254 in each second page": [(at, 0) for at in in_pages([MIDDLE] * 254, every=2)],
     "254 at ends of each second page": [(at, 0) for at in in_pages([LAST] * 254, every=2)],
     "200 in pages by two of two subpools": [(at, k // 2 % 2) for k, at in enumerate(in_pages([MIDDLE] * 200))],
+    "250 in pages by two of two subpools": [(at, k // 2 % 2) for k, at in enumerate(in_pages([MIDDLE] * 250))],
+    "255 anywhere in pages by threes of two subpools": [(at, k // 3 % 2) for k, at in enumerate(in_pages(DOWN[:255]))],
+    "204 at begins of pages by turns of two subpools": [(at, k % 2) for k, at in enumerate(in_pages([0] * 204))],
     "254 in pages by turns of three subpools": [(at, k % 3) for k, at in enumerate(in_pages([MIDDLE] * 254))],
     "127 on each side": [(at, 0) for start in (maps.LOW_START, maps.HIGH_START)
                          for at in in_pages([MIDDLE] * 127, start)],
@@ -477,10 +480,18 @@ def test_too_many_cell_pools_alone_in_their_pages(run: Callable, vsm: str, offse
     assert lines[int(text.split(":")[1]) - 1].startswith(" CELLPOOL C%08X " % in_pages(offsets)[first])
 
 
+def test_too_many_cell_pools_of_two_subpools(run: Callable, vsm: str) -> None:
+    """By turns, each at its page's begin: what is told is of the lowest one that can't be missing."""
+    lines = lone_cells((at, k % 2) for k, at in enumerate(in_pages([0] * 230)))
+    text = one_line(run(TOOL, "--vsm", vsm, *WIDER[:4], given="".join(line + "\n" for line in lines).encode()), TOOL)
+    assert "no list of statements makes this: " + UNHELD in text
+    assert lines[int(text.split(":")[1]) - 1].startswith(" CELLPOOL C")
+
+
 def endless_map() -> str:
-    """A map of task 1 with register 1 0: 250 cell pools of 8 bytes in the middle of a page each, two pages in one
-    subpool and two in another by turns, for which no order is found in any time that a trial has."""
-    lines = lone_cells((at, k // 2 % 2) for k, at in enumerate(in_pages([MIDDLE] * 250)))
+    """A map of task 1 with register 1 0: 250 cell pools of 8 bytes, each anywhere in its page, by turns of two
+    subpools, for which no order is found in any time that a trial has."""
+    lines = lone_cells((at, k % 2) for k, at in enumerate(in_pages(8 * (7 * k * k % 512) for k in range(250))))
     return "".join(line + "\n" for line in lines)
 
 

@@ -12,23 +12,23 @@ before comes, and so on.
 Each step is tried as it's planned; what doesn't go to its place this way is left to a longer search.
 
 Cell pools of 8 bytes, each alone in a page of one subpool, all come this way if there may be two more at once. Nothing
-makes as many as there may be: behind the last BUILD of one that stays there's no filler, so its page was unassigned, and
-there was a gap in any other page, where it would have gone.
+makes as many as there may be: behind the last BUILD of one that stays there's no filler, so its page was unassigned,
+and there was a gap in any other page, where it would have gone.
 
-Of one fewer, `unheld` tells those that nothing makes; all others come this way (`holding`). Say that the first N-1 pages
-of the region have one each, and page N, where one begins with the page, or which has none though there are some above.
+Of one fewer, `unheld` tells those that nothing makes; in small regions all others come this way (`holding`). Say that
+the first N-1 pages of the region have one each. In page N one begins with the page; or it has none, but some above.
 Look at what led there from its end backwards, up to the first time when one in page N or above isn't there, or one of
 the pages below has nothing. Up to then at most N others are there at once. None of these takes a whole page below, as
 nothing would be left there once it goes, nor begins in one and takes all of page N, as something else held that when
 it came.
 
 - If that was the BUILD of a cell pool in page N or above, the pages below are filled, by N fillers at least, as an end
-  of one is within each page. None is left for the gap behind the cell pool of page N, where one above comes, nor for what
-  is left of page N, if that has none. None is left to hold page N, where its own comes, nor for a gap above, without
-  which that would go to a new page: but if there's none above, it comes so.
-- If a page below got something, that was shorter than a page, so that it would go into a gap above of all but 8 bytes of
-  a page, or more (a long one): each has another filler. The other N-2 pages below are held, two by one at best. So there
-  are at most N/2 long gaps.
+  of one is within each page. None is left for the gap behind the cell pool of page N, where one above comes, nor for
+  what is left of page N, if that has none. None is left to hold page N, where its own comes, nor for a gap above,
+  without which that would go to a new page: but if there's none above, it comes so.
+- If a page below got something, that was shorter than a page, so that it would go into a gap above of all but 8 bytes
+  of a page, or more (a long one): each has another filler. The other N-2 pages below are held, two by one at best. So
+  there are at most N/2 long gaps.
 - If N is 3 and there's a long gap, just one filler more was there then, in the other page below. Say that the cell pool
   of page 2 is in the last doubleword. It isn't that filler, as there would be another long gap; so it comes later,
   behind two fillers, one of which takes parts of both pages. This one came when a third one began in the last
@@ -62,9 +62,10 @@ def descent(runs: list[Area], wanted: list[Build], most: int) -> Optional[list[S
     return steps
 
 
-def unheld(first: int, wanted: list[Build], most: int) -> Optional[Build]:
+def unheld(first: int, wanted: list[Build], most: int, is_alone: bool = True) -> Optional[Build]:
     """The lowest of some cell pools in a region that can't come as nothing holds the pages below; none where that isn't
-    certain. first: where the region begins. wanted: those of one subpool there. most: how many there may be at once."""
+    certain. first: where the region begins. wanted: those of one subpool there. most: how many there may be at once.
+    is_alone: whether no areas take pages meanwhile."""
     its = sorted(wanted, key=lambda it: it.area.start)
     pages = [page_start(it.area.start) for it in its]
     is_lone = len(set(pages)) == len(its) and all(it.area.length == 8 for it in its)
@@ -72,7 +73,7 @@ def unheld(first: int, wanted: list[Build], most: int) -> Optional[Build]:
         return None
     for k in range(1, len(its)):
         is_behind_hole = pages[k] != first + k * PAGE
-        if is_behind_hole or its[k].area.start == pages[k]:
+        if is_behind_hole and is_alone or its[k].area.start == pages[k] and not is_behind_hole:
             gaps = sum(gap.length >= PAGE - 8 for gap in Ground([], its[k:]).gaps(its[k].key))
             is_last = k == 2 and gaps == 1 and its[1].area.end % PAGE == 0 and (is_behind_hole or len(its) > 3)
             if gaps > (k + 1) // 2 or is_last:

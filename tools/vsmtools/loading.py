@@ -22,6 +22,7 @@ from .maps import HIGH_START, LOW_START, PAGE, Area, CellPool, Map, Subpool
 from .places import Home, Key, Places, Words, location, unassigned
 from .progress import Work
 from .searching import Reach, Search
+from .stuck import Stuck
 from .walls import Walls
 
 NO_LENGTH = 0xFFFFFFF8   # that has a place nowhere
@@ -203,13 +204,16 @@ class Loader:
 
     def judge_first_pages(self) -> None:
         """That cell pools of 8 bytes can be made, each of which is alone in its page."""
-        for builds in self.just_built().values():
-            for side, first in ((24, LOW_START), (31, HIGH_START)):
-                its = [it for it in builds if location(it.area.start) == side]
-                found = unheld(first, its, MOST_POOLS)
-                if found:
-                    self.refuse_pool(found, "of the %d cell pools that there may be at once too few are left to hold all "
-                                     "pages below it and to fill free areas from it on" % MOST_POOLS)
+        built, is_alone = self.just_built().values(), not any(self.first.values())
+        for side, first in ((24, LOW_START), (31, HIGH_START)):
+            groups = [[it for it in builds if location(it.area.start) == side] for builds in built]
+            found = [unheld(first, its, MOST_POOLS, is_alone) for its in groups]
+            if is_alone and sum(map(bool, groups)) > 1:
+                found.append(Stuck(first, sum(groups, []), MOST_POOLS).lowest())
+            for it in found:
+                if it:
+                    self.refuse_pool(it, "of the %d cell pools that there may be at once too few are left to hold all "
+                                     "pages below it and to fill free areas" % MOST_POOLS)
 
     def refuse_pool(self, it: Build, why: str) -> NoReturn:
         refuse(self.source, next(pool.line for pool in self.map.cell_pools if pool is it.pool), why)
