@@ -197,7 +197,10 @@ class Held(Fillers):
 
     def gap_end(self, key: Key, start: int) -> int:
         """Where the free area ends that begins at an address."""
-        return next(gap.end for gap in self.ground.gaps(key) if gap.start == start)
+        for gap in self.ground.gaps(key):
+            if gap.start == start:
+                return gap.end
+        raise NoChain
 
     # Pages of several subpools.
 

@@ -14,8 +14,8 @@ end:
 
 At that time a page got something that's shorter than a page, so that each free area of its subpool that's as long as
 all but 8 bytes of a page, or longer, had something too: at least those between cell pools that are never missing. One
-that's never missing else is what came there, and its subpool had no free area. If that's too many for each page, nothing
-makes them.
+that's never missing else is what came there, and its subpool had no free area. If that's too many for each page,
+nothing makes them.
 """
 from __future__ import annotations
 
