@@ -2,14 +2,18 @@
 from __future__ import annotations
 
 import random
-from itertools import chain, combinations, product
+from dataclasses import replace
+from functools import lru_cache
+from itertools import accumulate, chain, combinations, product
 from typing import Iterator, Optional
 
 import pytest
-from vsmtools import building, chains, holding, searching, stuck
+from vsmtools import building, chains, holding, narrows, places, searching, stuck
 from vsmtools.building import Build, Builder, Ground, Step, core
-from vsmtools.chains import descent, unheld
+from vsmtools.chains import descent
 from vsmtools.maps import Area
+from vsmtools.narrows import unheld, unheld_beside
+from vsmtools.places import location
 from vsmtools.progress import Work
 from vsmtools.searching import Reach, Search
 from vsmtools.stuck import Stuck
@@ -136,7 +140,7 @@ def test_pools_of_a_doubleword_alone_in_pages(monkeypatch: pytest.MonkeyPatch, w
                                               ) -> None:
     """Each of some pages has one: all are made if there may be two more; none if there may be no more; and if there may
     be one more, just those that aren't refused. They come from the highest to the lowest."""
-    for module in (building, chains, holding, searching, stuck):
+    for module in (building, chains, holding, narrows, searching, stuck):
         monkeypatch.setattr(module, "PAGE", 8 * words)
     region = Region(words, pages, most, False)
     made, runs, count = region.made(), [Area(0, 8 * words * pages)], 0
@@ -151,6 +155,56 @@ def test_pools_of_a_doubleword_alone_in_pages(monkeypatch: pytest.MonkeyPatch, w
             assert not is_made or not (unheld(0, builds, most) or Stuck(0, builds, most).lowest()), pools
             count += unheld(0, builds, most) is not None
     assert count
+
+
+def made_beside(low: Region, high: Region, most: int) -> set[tuple[State, State]]:
+    """All that's made in two regions, with so many cell pools at once in both."""
+    low_nexts, high_nexts = (lru_cache(maxsize=None)(lambda state, it=it: list(it.nexts(state))) for it in (low, high))
+    begin = State(), State()
+    found, left = {begin}, [begin]
+    while left:
+        one, other = left.pop()
+        for after in chain(((it, other) for it in low_nexts(one)), ((one, it) for it in high_nexts(other))):
+            if after not in found and len(after[0]) + len(after[1]) <= most:
+                found.add(after)
+                left.append(after)
+    return found
+
+
+def most_at_once(steps: list[Step]) -> int:
+    return max(accumulate(1 if it.is_built else -1 for it in steps), default=0)
+
+
+def moved(step: Step, start: int) -> Step:
+    """The same in a region that begins at 0."""
+    area = step.build.area
+    return Step(step.is_built, replace(step.build, area=Area(area.start - start, area.length)))
+
+
+@pytest.mark.parametrize("pages, most", [((2, 2), 4), ((2, 2), 5), ((3, 2), 5)])
+def test_pools_of_a_doubleword_on_both_sides(monkeypatch: pytest.MonkeyPatch, pages: tuple[int, int], most: int
+                                             ) -> None:
+    """If there may be one more than they are, just those are made that aren't refused; all if there may be two more."""
+    words, high = 3, 2400
+    for module in (building, chains, holding, narrows, searching, stuck):
+        monkeypatch.setattr(module, "PAGE", 8 * words)
+    monkeypatch.setattr(places, "HIGH_START", high)
+    regions = [Region(words, number, most, False) for number in pages]
+    made = made_beside(*regions, most)
+    runs = [Area(start, 8 * words * number) for start, number in zip((0, high), pages)]
+    for offsets in product([None, *range(words)], repeat=sum(pages)):
+        sides = [[words * k + at for k, at in enumerate(them) if at is not None]
+                 for them in (offsets[:pages[0]], offsets[pages[0]:])]
+        if all(sides) and sum(map(len, sides)) < most:
+            builds = [[Build(Area(8 * at + start, 8), KEY, side) for at in them]
+                      for them, start, side in zip(sides, (0, high), (24, 31))]
+            state = State((at, at + 1) for at in sides[0]), State((at, at + 1) for at in sides[1])
+            steps, is_made = descent(runs, sum(builds, []), most), state in made
+            parts = [[moved(it, start) for it in steps or [] if location(it.build.area.start) == side]
+                     for side, start in ((24, 0), (31, high))]
+            assert steps is None or most_at_once(steps) <= most and state == tuple(map(built, regions, parts)), offsets
+            assert (steps is not None) == is_made, offsets
+            assert is_made != bool(unheld_beside(list(zip((0, high), builds)), most)), offsets
 
 
 class Shared(Region):
@@ -169,7 +223,7 @@ class Shared(Region):
 def test_pools_of_a_doubleword_of_two_subpools(monkeypatch: pytest.MonkeyPatch, words: int, pages: int, most: int
                                                ) -> None:
     """What is refused isn't made, and what comes from the highest to the lowest is."""
-    for module in (building, chains, holding, searching, stuck):
+    for module in (building, chains, holding, narrows, searching, stuck):
         monkeypatch.setattr(module, "PAGE", 8 * words)
     made, runs = Shared(words, pages, most, False).made(), [Area(0, 8 * words * pages)]
     for offsets in product([None, *product(range(words), (0, 1))], repeat=pages):

@@ -454,6 +454,11 @@ LONE = {
     "254 in pages by turns of three subpools": [(at, k % 3) for k, at in enumerate(in_pages([MIDDLE] * 254))],
     "127 on each side": [(at, 0) for start in (maps.LOW_START, maps.HIGH_START)
                          for at in in_pages([MIDDLE] * 127, start)],
+    "255 on both sides, of which most begin pages": [
+        (at, 0) for start, most in ((maps.LOW_START, 97), (maps.HIGH_START, 150))
+        for at in in_pages([MIDDLE] * 4 + [0] * most, start)],
+    "255 on both sides anywhere": [(at, 0) for start, most in ((maps.LOW_START, 201), (maps.HIGH_START, 54))
+                                   for at in in_pages([8, *DOWN[:3], 0, *DOWN[9:most + 4]], start)],
 }
 
 
@@ -478,6 +483,15 @@ def test_too_many_cell_pools_alone_in_their_pages(run: Callable, vsm: str, offse
     text = one_line(run(TOOL, "--vsm", vsm, *WIDER[:4], given="".join(line + "\n" for line in lines).encode()), TOOL)
     assert time.monotonic() - start < MOST_SECONDS and "no list of statements makes this: " + told in text
     assert lines[int(text.split(":")[1]) - 1].startswith(" CELLPOOL C%08X " % in_pages(offsets)[first])
+
+
+def test_too_many_cell_pools_on_both_sides(run: Callable, vsm: str) -> None:
+    """Each at its page's begin: what is told is of the lowest one that nothing holds the page for."""
+    lines = lone_cells((at, 0) for start, most in ((maps.LOW_START, 100), (maps.HIGH_START, 155))
+                       for at in in_pages([0] * most, start))
+    text = one_line(run(TOOL, "--vsm", vsm, *WIDER[:4], given="".join(line + "\n" for line in lines).encode()), TOOL)
+    assert "no list of statements makes this: " + UNHELD in text
+    assert lines[int(text.split(":")[1]) - 1].startswith(" CELLPOOL C%08X " % in_pages([0, 0])[1])
 
 
 def test_too_many_cell_pools_of_two_subpools(run: Callable, vsm: str) -> None:

@@ -15,34 +15,18 @@ Cell pools of 8 bytes, each alone in a page of one subpool, all come this way if
 makes as many as there may be: behind the last BUILD of one that stays there's no filler, so its page was unassigned,
 and there was a gap in any other page, where it would have gone.
 
-Of one fewer, `unheld` tells those that nothing makes; in small regions all others come this way (`holding`). Say that
-the first N-1 pages of the region have one each. In page N one begins with the page; or it has none, but some above.
-Look at what led there from its end backwards, up to the first time when one in page N or above isn't there, or one of
-the pages below has nothing. Up to then at most N others are there at once. None of these takes a whole page below, as
-nothing would be left there once it goes, nor begins in one and takes all of page N, as something else held that when
-it came.
-
-- If that was the BUILD of a cell pool in page N or above, the pages below are filled, by N fillers at least, as an end
-  of one is within each page. None is left for the gap behind the cell pool of page N, where one above comes, nor for
-  what is left of page N, if that has none. None is left to hold page N, where its own comes, nor for a gap above,
-  without which that would go to a new page: but if there's none above, it comes so.
-- If a page below got something, that was shorter than a page, so that it would go into a gap above of all but 8 bytes
-  of a page, or more (a long one): each has another filler. The other N-2 pages below are held, two by one at best. So
-  there are at most N/2 long gaps.
-- If N is 3 and there's a long gap, just one filler more was there then, in the other page below. Say that the cell pool
-  of page 2 is in the last doubleword. It isn't that filler, as there would be another long gap; so it comes later,
-  behind two fillers, one of which takes parts of both pages. This one came when a third one began in the last
-  doubleword; the first of all such ones came when all before was filled, by two, one of which would take all of page 1.
+Of one fewer `narrows` tells those that nothing makes; in small regions all others come this way (`holding`).
 """
 from __future__ import annotations
 
 from functools import partial
-from itertools import count
-from typing import Optional
+from itertools import count, product
+from typing import Iterator, Optional
 
-from .building import Build, Ground, Step, page_end, page_start, shape
+from .building import Build, Step, page_end, page_start, shape
 from .holding import Held, NoChain
 from .maps import PAGE, Area
+from .merging import merged
 from .places import Key, location
 
 
@@ -51,36 +35,22 @@ def descent(runs: list[Area], wanted: list[Build], most: int) -> Optional[list[S
     there may be at once."""
     if any(it.side != location(it.area.start) for it in wanted):
         return None        # one that lies below the line as there was no place above
-    steps: list[Step] = []
-    for side in (31, 24):
-        its = [it for it in wanted if location(it.area.start) == side]
-        found = Descent([run for run in runs if location(run.start) == side], its, most).plan() if its else []
-        if found is None:
-            return None
-        steps += found
-        most -= len(its)
-    return steps
+    sides = [Descent([run for run in runs if location(run.start) == side], its, most) for side in (31, 24)
+             if (its := [it for it in wanted if location(it.area.start) == side])]
+    ways = [side.plans(len(sides) > 1) for side in sides]
+    firsts = [next(way, None) for way in ways]
+    if len(sides) < 2:
+        return firsts[0] if sides else []
+    found = on_both(firsts[0], firsts[1], most)
+    if found is None and None not in firsts:
+        found = next((steps for both in product(*([first, *way] for first, way in zip(firsts, ways)))
+                      if (steps := on_both(*both, most)) is not None), None)
+    return found
 
 
-def unheld(first: int, wanted: list[Build], most: int, is_alone: bool = True) -> Optional[Build]:
-    """The lowest of some cell pools in a region that can't come as nothing holds the pages below; none where that isn't
-    certain. first: where the region begins. wanted: those of one subpool there. most: how many there may be at once.
-    is_alone: whether no areas take pages meanwhile."""
-    its = sorted(wanted, key=lambda it: it.area.start)
-    pages = [page_start(it.area.start) for it in its]
-    is_lone = len(set(pages)) == len(its) and all(it.area.length == 8 for it in its)
-    if len(its) < most - 1 or not is_lone or pages[:1] != [first]:
-        return None
-    for k in range(1, len(its)):
-        is_behind_hole = pages[k] != first + k * PAGE
-        if is_behind_hole and is_alone or its[k].area.start == pages[k] and not is_behind_hole:
-            gaps = sum(gap.length >= PAGE - 8 for gap in Ground([], its[k:]).gaps(its[k].key))
-            is_last = k == 2 and gaps == 1 and its[1].area.end % PAGE == 0 and (is_behind_hole or len(its) > 3)
-            if gaps > (k + 1) // 2 or is_last:
-                return its[k]
-        if is_behind_hole:
-            break
-    return None
+def on_both(high: Optional[list[Step]], low: Optional[list[Step]], most: int) -> Optional[list[Step]]:
+    """The steps on both sides of the line, if there are some for each."""
+    return None if high is None or low is None else merged(high, low, most)
 
 
 class Descent(Held):
@@ -90,21 +60,21 @@ class Descent(Held):
         super().__init__(runs, most)
         self.wanted = sorted(wanted, key=lambda it: it.area.start)
 
-    def plan(self) -> Optional[list[Step]]:
-        """The steps; None where none of the ways leads there."""
+    def plans(self, is_resting: bool) -> Iterator[list[Step]]:
+        """The steps of each of the ways that leads there. is_resting: whether others come meanwhile, so that ways help
+        that rest where few are there."""
         blocks = self.first_blocks()
         first, most_held = blocks[:1], self.most_held([it for block in blocks for it in block])
         ways = [partial(self.make, early, late, tight) for early, late, tight in (
             (first, [], []), ([], first, []), ([], [block[:1] for block in first], []), (blocks, [], []),
             ([], [], first))] + [partial(self.make_behind_all, most_held)] * (most_held > 1)
-        for way in ways:
+        for way in ways + [partial(self.make, early, [], [], True) for early in (first, blocks) if is_resting]:
             self.begin()
             try:
                 way()
-                return self.steps
             except NoChain:
-                pass
-        return None
+                continue
+            yield self.steps
 
     def first_blocks(self) -> list[list[Build]]:
         """The cell pools in the first pages, up to the first page that none has, by runs of pages of a subpool."""
@@ -118,10 +88,11 @@ class Descent(Held):
                 found.append([it])
         return found
 
-    def make(self, early: list[list[Build]], late: list[list[Build]], tight: list[list[Build]]) -> None:
+    def make(self, early: list[list[Build]], late: list[list[Build]], tight: list[list[Build]],
+             is_resting: bool = False) -> None:
         """early: the blocks whose chains come before all cell pools in higher pages. late: those whose chains come
         behind these, and behind fillers in each gap that a chain's filler would go into. tight: one that has all, with
-        a filler less."""
+        a filler less. is_resting: whether those of the early chains rest once."""
         chains = [self.chain(block) for block in early]
         for it in reversed(self.wanted[sum(len(block) for block in early + late + tight):]):
             self.make_high(it)
@@ -133,7 +104,7 @@ class Descent(Held):
             self.make_chained(block, self.chain(block))
             self.delete(fillers)
         for block, chain in reversed(list(zip(early, chains))):
-            self.make_chained(block, chain)
+            self.make_chained(block, chain, is_resting)
 
     def make_behind_all(self, number: int) -> None:
         """All of several subpools. number: so many of the first ones come behind fillers that hold all their pages."""
@@ -207,11 +178,17 @@ class Descent(Held):
         self.delete(front)
         return holder
 
-    def make_chained(self, block: list[Build], chain: list[list[Build]]) -> None:
-        """The cell pools of a block from the last one on, each behind what is left of its chain."""
+    def make_chained(self, block: list[Build], chain: list[list[Build]], is_resting: bool = False) -> None:
+        """The cell pools of a block from the last one on, each behind what is left of its chain. is_resting: whether
+        each second filler goes and comes again, before those that may come with one more filler than they are."""
         bounds = self.bounds(block)
+        easy = next((k for k, it in enumerate(block) if k and it.area.start % PAGE == 0), len(block))
         for k in reversed(range(len(block))):
             it = block[k]
+            if is_resting and k + 1 == easy:
+                left = chain[:easy + 1]
+                self.delete_all(left[::2])
+                self.link_again(left)
             if it.area.start % PAGE:
                 self.delete(chain[k + 1])
                 self.build(it)

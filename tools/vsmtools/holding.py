@@ -220,17 +220,17 @@ class Held(Fillers):
                     self.link_pages(run.key, run.start + (run is first) * PAGE, held.pop(run.start),
                               links.setdefault(run.start, []))
                 else:
-                    self.link_again(run, links[run.start])
+                    self.link_again(links[run.start])
             for k, it in reversed(list(enumerate(runs[at].its))):
                 self.make_linked(it, links[runs[at].start], k)
             self.delete_all(links[runs[at].start])
             for run in own[:-1]:
                 self.delete_all(links[run.start][::2])
 
-    def link_again(self, run: Run, links: list[list[Build]]) -> None:
-        """All links of a run, each second of which is there."""
+    def link_again(self, links: list[list[Build]]) -> None:
+        """All links of a run of pages, each second of which is there."""
         for k in range(0, len(links), 2):
-            links[k] = [self.build(links[k][0])]
+            links[k] = [self.build(it) for it in links[k]]
 
     def most_held(self, its: list[Build]) -> int:
         """Of how many of the first cell pools the pages may be held at once, so that there are links for each subpool;

@@ -13,12 +13,12 @@ from itertools import product
 from typing import Iterable, NamedTuple, NoReturn, Optional
 
 from .building import Build, Builder, Step, core, page_end, shape
-from .chains import unheld
 from .command import Fault
 from .family import Event, Family
 from .judge import MOST_POOLS, Judge, Refused, refuse
 from .lines import fold
 from .maps import HIGH_START, LOW_START, PAGE, Area, CellPool, Map, Subpool
+from .narrows import unheld, unheld_beside
 from .places import Home, Key, Places, Words, location, unassigned
 from .progress import Work
 from .searching import Reach, Search
@@ -205,15 +205,21 @@ class Loader:
     def judge_first_pages(self) -> None:
         """That cell pools of 8 bytes can be made, each of which is alone in its page."""
         built, is_alone = self.just_built().values(), not any(self.first.values())
+        sides: list[tuple[int, list[Build]]] = []
         for side, first in ((24, LOW_START), (31, HIGH_START)):
-            groups = [[it for it in builds if location(it.area.start) == side] for builds in built]
-            found = [unheld(first, its, MOST_POOLS, is_alone) for its in groups]
-            if is_alone and sum(map(bool, groups)) > 1:
-                found.append(Stuck(first, sum(groups, []), MOST_POOLS).lowest())
-            for it in found:
-                if it:
-                    self.refuse_pool(it, "of the %d cell pools that there may be at once too few are left to hold all "
-                                     "pages below it and to fill free areas" % MOST_POOLS)
+            groups = [its for builds in built if (its := [it for it in builds if location(it.area.start) == side])]
+            for its in groups:
+                self.refuse_unheld(unheld(first, its, MOST_POOLS, is_alone))
+            if is_alone and len(groups) > 1:
+                self.refuse_unheld(Stuck(first, sum(groups, []), MOST_POOLS).lowest())
+            sides += [(first, its) for its in groups if len(groups) == 1]
+        if len(sides) == 2:
+            self.refuse_unheld(unheld_beside(sides, MOST_POOLS, is_alone))
+
+    def refuse_unheld(self, it: Optional[Build]) -> None:
+        if it:
+            self.refuse_pool(it, "of the %d cell pools that there may be at once too few are left to hold all pages "
+                             "below it and to fill free areas" % MOST_POOLS)
 
     def refuse_pool(self, it: Build, why: str) -> NoReturn:
         refuse(self.source, next(pool.line for pool in self.map.cell_pools if pool is it.pool), why)
