@@ -6,7 +6,7 @@ use Rattle.vsm_model.specs.declared.causes.Cause.{Cause}
 use Rattle.vsm_model.specs.declared.causes.Cause.TheVariants.{UnsupportedSubpool, SubpoolNotAllowed, BadLength, TooManyNames, NoStorage}
 use Rattle.vsm_model.specs.declared.services.Obtain.{Obtain}
 use Rattle.vsm_model.specs.Causes.{Causes, first_cause}
-use Rattle.vsm_model.specs.Obtaining.{longest, obtain_causes, place_for}
+use Rattle.vsm_model.specs.Obtaining.{longest, obtain_causes}
 use Rattle.vsm_model.specs.Areas.{Place, Inside, Fresh, Nowhere, is_nowhere}
 use Rattle.text_output.specs.Writing.{Puts}
 use Rattle.text_output.specs.declared.writing.Gathered.{Gathered}
@@ -14,11 +14,10 @@ use Rattle.text_output.proofs.Gathering.{puts_both}
 use Rattle.storage_core.specs.Meaning.{settings_of, state_of}
 use Rattle.storage_core.specs.declared.storage.Storage.{Storage}
 use Rattle.place_reasons.specs.Pieces.{PutsWithin}
-use Rattle.place_reasons.specs.Places.{asks_for_place, sides_place}
-use Rattle.place_reasons.specs.Told.{place_text, PutsEnding, PutsSome}
-use Rattle.place_reasons.specs.declared.places.Sides.{Sides}
+use Rattle.place_reasons.specs.Places.{asks_for_place}
+use Rattle.place_reasons.specs.Told.{place_text, PutsEnding, PutsSome, TellsPlace}
 use Rattle.place_reasons.proofs.NoPlace.{no_place_is_want_of_storage}
-use Rattle.cause_reasons.specs.Told.{PutsOneOf, TellsArea}
+use Rattle.cause_reasons.specs.Told.{PutsOneOf}
 use Rattle.cause_reasons.specs.Words.{Words, no_place_words, obtain_words}
 use Rattle.cause_reasons.proofs.LastCause.{only_last}
 
@@ -76,22 +75,18 @@ module _ (s : Storage) (o : Obtain) (full : Bool) where
   abbrev rows : Causes
   rows = obtain_causes (settings_of s) full (state_of s) o
 
-  is_told : (old new : Option (List ℕ)) (a b : Gathered) → longest (settings_of s) (state_of s) o ≡ None
-      → (r : Sides) × (sides_place r ≡ place_for (settings_of s) (state_of s) o r.count)
-      × ((is_nowhere (sides_place r) ≡ true) ↔ (longest (settings_of s) (state_of s) o ≡ None)) × PutsEnding old new a b (place_text (sides_place r))
-      → PutsOneOf no_place_words old new a b
-  is_told old new a b none (r, place, nowhere, ending) = no_place_told (sides_place r) old new a b (behind_iff nowhere none) ending
-
   want_is : (old new : Option (List ℕ)) (a b : Gathered) → first_cause rows ≡ Some NoStorage
       → (asks_for_place o ≡ true) × ((longest (settings_of s) (state_of s) o ≡ None) ↔ (first_cause rows ≡ Some NoStorage))
-      → TellsArea s o old new a b → PutsOneOf no_place_words old new a b
-  want_is old new a b first (asks, none) area = is_told old new a b (behind_iff none first) (area asks)
+      → TellsPlace s o old new a b → PutsOneOf no_place_words old new a b
+  want_is old new a b first (asks, none) told =
+      let (its, count, place, fixed, nowhere, ending) = told asks in
+      no_place_told its old new a b (behind_iff nowhere (behind_iff none first)) ending
 
   pub want_told : (c : Cause) (old new : Option (List ℕ)) (a b : Gathered)
       → (c ≡ UnsupportedSubpool → ⊥) × (c ≡ SubpoolNotAllowed → ⊥) × (c ≡ BadLength → ⊥) × (c ≡ TooManyNames → ⊥)
-      → first_cause rows ≡ Some c → TellsArea s o old new a b → PutsOneOf (obtain_words c) old new a b
-  want_told c old new a b (d, e, f, g) first area =
+      → first_cause rows ≡ Some c → TellsPlace s o old new a b → PutsOneOf (obtain_words c) old new a b
+  want_told c old new a b (d, e, f, g) first told =
       let want = only_last rows NoStorage c (d, (e, (f, (g, refl)))) first in
       let wanted = subst (λ x. first_cause rows ≡ Some x) want first in
       of_cause obtain_words c NoStorage old new a b want
-      (want_is old new a b wanted (no_place_is_want_of_storage (settings_of s) full (state_of s) o (inr wanted)) area)
+      (want_is old new a b wanted (no_place_is_want_of_storage (settings_of s) full (state_of s) o (inr wanted)) told)

@@ -1,27 +1,14 @@
--- What is told of the place of an area, and of a cause.
-use Rattle.std.specs.Prelude.{◌≡◌, ◌↔◌, ℕ, true, nat_lt, List, length, Option, Some, None, slice_get}
+-- What is told of the first cause of a service.
+use Rattle.std.specs.Prelude.{◌≡◌, ℕ, true, nat_lt, Bool, List, length, Option, Some, slice_get}
 use Rattle.vsm_model.specs.declared.causes.Cause.{Cause}
-use Rattle.vsm_model.specs.declared.services.Obtain.{Obtain}
-use Rattle.vsm_model.specs.Areas.{is_nowhere}
 use Rattle.vsm_model.specs.Causes.{Causes, first_cause}
-use Rattle.vsm_model.specs.Obtaining.{longest, place_for}
+use Rattle.vsm_model.specs.Services.{Service}
+use Rattle.vsm_model.specs.Step.{causes}
 use Rattle.storage_core.specs.Meaning.{settings_of, state_of}
 use Rattle.storage_core.specs.declared.storage.Storage.{Storage}
 use Rattle.text_output.specs.declared.writing.Gathered.{Gathered}
-use Rattle.place_reasons.specs.Places.{asks_for_place, sides_place}
 use Rattle.place_reasons.specs.Pieces.{PutsWithin}
-use Rattle.place_reasons.specs.Told.{place_text, PutsEnding}
-use Rattle.place_reasons.specs.declared.places.Sides.{Sides}
-use Rattle.cause_reasons.specs.Words.{Words}
-
--- Where a request comes to look for a place, what is put ends in the place that the plain machine gives to so many
--- doublewords; or in that there is none, just where the request has no longest length with one.
-abbrev pub TellsArea : Storage → Obtain → Option (List ℕ) → Option (List ℕ) → Gathered → Gathered → Type 0
-TellsArea s o old new before after =
-    asks_for_place o ≡ true
-    → (r : Sides) × (sides_place r ≡ place_for (settings_of s) (state_of s) o r.count)
-    × ((is_nowhere (sides_place r) ≡ true) ↔ (longest (settings_of s) (state_of s) o ≡ None))
-    × PutsEnding old new before after (place_text (sides_place r))
+use Rattle.cause_reasons.specs.Words.{Words, cause_words}
 
 -- Some text follows all text before it, in which one of these stands.
 abbrev pub PutsOneOf : Words → Option (List ℕ) → Option (List ℕ) → Gathered → Gathered → Type 0
@@ -32,3 +19,10 @@ PutsOneOf words old new before after =
 abbrev pub TellsCause : Causes → Words → Cause → Option (List ℕ) → Option (List ℕ) → Gathered → Gathered → Type 0
 TellsCause rows words cause old new before after =
     first_cause rows ≡ Some cause → nat_lt 0 (length words) ≡ true → PutsOneOf words old new before after
+
+-- Of a service on a storage what is put tells this cause, where it's the first, be the room for names full or not.
+abbrev pub TellsService : Storage → Service → Cause → Option (List ℕ) → Option (List ℕ) → Gathered → Gathered → Type 0
+TellsService s service cause old new before after =
+    (full : Bool)
+    → TellsCause (causes (settings_of s) full (state_of s) service) (cause_words service cause) cause old new before
+    after

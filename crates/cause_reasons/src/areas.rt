@@ -1,45 +1,34 @@
 //! Where the area of a request goes, or the extent of a cell pool, told.
-ghost use Rattle.place_reasons.specs.Told.{PutsSome};
-ghost use Rattle.cause_reasons.specs.Told.{PutsOneOf, TellsArea};
+ghost use Rattle.place_reasons.specs.Told.{PutsSome, TellsPlace};
+ghost use Rattle.cause_reasons.specs.Told.{PutsOneOf};
 ghost use Rattle.cause_reasons.specs.Words.{no_cell_words};
 
 use crate::cells::find_pool;
-use crate::releases::{put_seen, seen_or_own};
-use place_reasons::{Piece, put_line, put_sides, sides_for};
+use crate::releases::put_seen;
+use place_reasons::{Piece, extent_asked, put_line, put_place};
 use std::io::Write;
-use storage_core::{Boundary, Build, Lengths, Location, Obtain, Residence, Storage};
+use storage_core::{Build, Location, Obtain, Residence, Storage};
 use storage_map::cell_pool_settings;
 use text_output::Gathered;
 
-/// Puts what the sides of the line have for a request: lines that end in its place, or in that there is none.
-pub fn put_area<W: Write>(gathered: &mut Gathered, writer: &mut W, storage: &Storage, o: Obtain)
+/// Puts which subpool the current task sees, and what the sides of the line have for a request of it: lines that end in
+/// its place, or in that there is none.
+pub(crate) fn put_area<W: Write>(
+    gathered: &mut Gathered,
+    writer: &mut W,
+    storage: &Storage,
+    o: Obtain,
+)
     ensures some { PutsSome (W.contents writer.old) (W.contents writer.new) gathered.old gathered.new }
-    ensures area { TellsArea storage.now o (W.contents writer.old) (W.contents writer.new) gathered.old gathered.new }
+    ensures place { TellsPlace storage.now o (W.contents writer.old) (W.contents writer.new)
+        gathered.old gathered.new }
 {
     put_seen(gathered, writer, storage, o.number);
-    match sides_for(storage, o) {
-        Some(sides) => {
-            let subpool = seen_or_own(storage, o.number);
-            put_sides(gathered, writer, storage, subpool, &sides);
-        }
-        None => (),
-    }
-}
-
-/// The request for an extent of so many cells.
-fn extent_asked(cells: u32, size: u32, number: u32, location: Location) -> Obtain {
-    Obtain {
-        lengths: Lengths::Fixed(cells.saturating_mul(size)),
-        number,
-        boundary: Boundary::Doubleword,
-        location,
-        register: None,
-        conditional: false,
-    }
+    put_place(gathered, writer, storage, o);
 }
 
 /// Puts where the first extent of a new cell pool goes.
-pub fn put_first_extent<W: Write>(
+pub(crate) fn put_first_extent<W: Write>(
     gathered: &mut Gathered,
     writer: &mut W,
     storage: &Storage,
@@ -72,7 +61,7 @@ fn put_further_extent<W: Write>(
 }
 
 /// Puts that a cell pool has no free cell, and what a further extent of it has for a place.
-pub fn put_no_cell<W: Write>(
+pub(crate) fn put_no_cell<W: Write>(
     gathered: &mut Gathered,
     writer: &mut W,
     storage: &Storage,

@@ -4,8 +4,8 @@ ghost use Rattle.storage_map.specs.Cells.{cell_pool};
 ghost use Rattle.cause_reasons.specs.Told.{PutsOneOf};
 ghost use Rattle.cause_reasons.specs.Words.{extent_words, no_pool_words, not_in_use_words};
 
-use crate::releases::{area_of, put_seen};
-use place_reasons::{Piece, put_line};
+use crate::releases::put_seen;
+use place_reasons::{Piece, area_of, first_of_both, put_line};
 use std::io::Write;
 use storage_core::{Release, Run, Storage, Subpool};
 use storage_map::{
@@ -16,7 +16,7 @@ use text_output::Gathered;
 use vsm_model::geometry::MOST_CELL_POOLS;
 
 /// The cell pool of a name.
-pub fn find_pool(storage: &Storage, name: &str) -> Option<CellId>
+pub(crate) fn find_pool(storage: &Storage, name: &str) -> Option<CellId>
     ensures { IfSome result (λ id. IsSome (cell_pool storage.now id)) }
 {
     let mut id = next_cell_pool(storage, None)?;
@@ -31,7 +31,7 @@ pub fn find_pool(storage: &Storage, name: &str) -> Option<CellId>
 }
 
 /// How many cell pools there are.
-pub fn count_pools(storage: &Storage) -> u32 {
+pub(crate) fn count_pools(storage: &Storage) -> u32 {
     let mut next = next_cell_pool(storage, None);
     for count in 0..MOST_CELL_POOLS {
         let Some(id) = next else {
@@ -52,12 +52,6 @@ fn extent_area(settings: CellSettings, extent: Extent) -> Run {
     }
 }
 
-/// Whether two areas have a doubleword in common.
-fn meet(one: Run, other: Run) -> bool {
-    one.start < other.start.saturating_add(other.len)
-        && other.start < one.start.saturating_add(one.len)
-}
-
 /// The first extent of the cell pool that meets an area.
 fn extent_in(storage: &Storage, id: CellId, area: Run) -> Option<Run>
     requires { IsSome (cell_pool storage.now id) }
@@ -67,7 +61,7 @@ fn extent_in(storage: &Storage, id: CellId, area: Run) -> Option<Run>
     for _ in 0..u32::MAX {
         let (extent, behind) = next_cell_extent(storage, place)?;
         let extent = extent_area(settings, extent);
-        if meet(extent, area) {
+        if first_of_both(extent, area).is_some() {
             return Some(extent);
         }
         place = behind;
@@ -109,7 +103,12 @@ fn put_extent<W: Write>(gathered: &mut Gathered, writer: &mut W, name: &str, ext
 }
 
 /// Puts the first cell pool with an extent that meets the area of a release; the area itself where none does.
-pub fn put_overlap<W: Write>(gathered: &mut Gathered, writer: &mut W, storage: &Storage, r: Release)
+pub(crate) fn put_overlap<W: Write>(
+    gathered: &mut Gathered,
+    writer: &mut W,
+    storage: &Storage,
+    r: Release,
+)
     ensures { PutsOneOf extent_words (W.contents writer.old) (W.contents writer.new) gathered.old gathered.new }
 {
     let area = area_of(r);
@@ -152,7 +151,12 @@ fn put_where<W: Write>(gathered: &mut Gathered, writer: &mut W, name: &str, subp
 }
 
 /// Puts that there is no cell pool of the name, or in which subpool it lies and which one the current task sees.
-pub fn put_no_pool<W: Write>(gathered: &mut Gathered, writer: &mut W, storage: &Storage, name: &str)
+pub(crate) fn put_no_pool<W: Write>(
+    gathered: &mut Gathered,
+    writer: &mut W,
+    storage: &Storage,
+    name: &str,
+)
     ensures { PutsOneOf no_pool_words (W.contents writer.old) (W.contents writer.new) gathered.old gathered.new }
 {
     match find_pool(storage, name) {
@@ -216,7 +220,7 @@ fn put_not_a_cell<W: Write>(gathered: &mut Gathered, writer: &mut W, cell: u32)
 }
 
 /// Puts why an address isn't that of a cell in use.
-pub fn put_not_in_use<W: Write>(
+pub(crate) fn put_not_in_use<W: Write>(
     gathered: &mut Gathered,
     writer: &mut W,
     storage: &Storage,

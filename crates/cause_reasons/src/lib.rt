@@ -1,15 +1,14 @@
-//! What causes of refusals come from, with the numbers that decide, as lines of text: the place of an area, pages,
-//! subpools, cell pools and tasks.
+//! Why a service is answered as it is, told with the numbers that decide: its first cause by the definitions, or what
+//! it comes to.
 #![tactic(auto)]
 
 mod areas;
+mod causes;
 mod cells;
 mod pages;
+mod refusals;
 mod releases;
 mod tasks;
 
-pub use areas::{put_area, put_first_extent, put_no_cell};
-pub use cells::{count_pools, find_pool, put_no_pool, put_not_in_use, put_overlap};
-pub use pages::{put_bytes, put_not_there, put_pages};
-pub use releases::{put_free, put_not_in_subpool, put_owned, put_seen, put_unseen};
-pub use tasks::{put_attach, put_detach, put_end, put_no_task, put_parent, put_task_count};
+pub use causes::put_cause;
+pub use pages::put_bytes;

@@ -89,7 +89,7 @@ fn put_past_end<W: Write>(gathered: &mut Gathered, writer: &mut W)
 }
 
 /// Puts why bytes aren't there: the page of the first of them isn't assigned, or where it is, that of the last.
-pub fn put_not_there<W: Write>(
+pub(crate) fn put_not_there<W: Write>(
     gathered: &mut Gathered,
     writer: &mut W,
     storage: &Storage,
@@ -141,7 +141,7 @@ fn put_last<W: Write>(
 }
 
 /// Puts whose the pages of the first and of the last byte are.
-pub fn put_pages<W: Write>(
+pub(crate) fn put_pages<W: Write>(
     gathered: &mut Gathered,
     writer: &mut W,
     storage: &Storage,

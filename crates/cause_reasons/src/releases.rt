@@ -3,68 +3,14 @@ ghost use Rattle.place_reasons.specs.Told.{PutsSome};
 ghost use Rattle.cause_reasons.specs.Told.{PutsOneOf};
 ghost use Rattle.cause_reasons.specs.Words.{foreign_words, free_words, seen_words, unseen_words};
 
-use place_reasons::{Piece, first_free, first_page_beside, first_page_of_another, put_line};
-use std::io::Write;
-use storage_core::{Release, Run, Settings, Storage, Subpool};
-use text_output::Gathered;
-use vsm_model::geometry::{
-    HIGH_PAGE, LAST_SUBPOOL, LOW_PAGE, PAGE_BYTES, PAGE_DOUBLEWORDS, PAGE_K,
+use place_reasons::{
+    Piece, area_of, first_free, first_page_beside, first_page_of_another, pages_of, put_line,
+    region_end, seen, seen_or_own,
 };
-
-/// The subpool that the current task sees at a number below 128.
-pub(crate) fn seen(storage: &Storage, number: u32) -> Option<Subpool> {
-    if number > LAST_SUBPOOL {
-        return None;
-    }
-    let number = number as u8;
-    let owner = storage.owner_seen(storage.current(), number)?;
-    Some(Subpool { number, owner })
-}
-
-/// The subpool that the current task sees at a number below 128, or the one of its own that it is to have.
-pub(crate) fn seen_or_own(storage: &Storage, number: u32) -> Subpool {
-    match seen(storage, number) {
-        Some(subpool) => subpool,
-        None => Subpool {
-            number: number.min(LAST_SUBPOOL) as u8,
-            owner: storage.current(),
-        },
-    }
-}
-
-/// The doublewords of a release.
-pub(crate) fn area_of(r: Release) -> Run {
-    Run {
-        start: r.address / 8,
-        len: r.length.div_ceil(8),
-    }
-}
-
-/// The pages that an area in doublewords touches.
-fn pages_of(area: Run) -> Run {
-    let start = area.start / PAGE_DOUBLEWORDS;
-    let end = area
-        .start
-        .saturating_add(area.len)
-        .div_ceil(PAGE_DOUBLEWORDS);
-    Run {
-        start,
-        len: end.saturating_sub(start),
-    }
-}
-
-/// The page behind the last of the region that a page lies in; `None` where it lies in none.
-fn region_end(settings: Settings, page: u32) -> Option<u32> {
-    let low = LOW_PAGE + settings.low_k / PAGE_K;
-    if LOW_PAGE <= page && page < low {
-        return Some(low);
-    }
-    let high = HIGH_PAGE.saturating_add(settings.high_k / PAGE_K);
-    if HIGH_PAGE <= page && page < high {
-        return Some(high);
-    }
-    None
-}
+use std::io::Write;
+use storage_core::{Release, Storage, Subpool};
+use text_output::Gathered;
+use vsm_model::geometry::{PAGE_BYTES, PAGE_DOUBLEWORDS};
 
 /// Puts that a byte lies in a page of another subpool.
 fn put_in_another<W: Write>(gathered: &mut Gathered, writer: &mut W, address: u32, other: Subpool)
@@ -122,7 +68,7 @@ fn put_foreign<W: Write>(
 }
 
 /// Puts why a release isn't of the subpool that is named.
-pub fn put_not_in_subpool<W: Write>(
+pub(crate) fn put_not_in_subpool<W: Write>(
     gathered: &mut Gathered,
     writer: &mut W,
     storage: &Storage,
@@ -137,7 +83,12 @@ pub fn put_not_in_subpool<W: Write>(
 }
 
 /// Puts that the current task sees no subpool at the number.
-pub fn put_unseen<W: Write>(gathered: &mut Gathered, writer: &mut W, storage: &Storage, number: u32)
+pub(crate) fn put_unseen<W: Write>(
+    gathered: &mut Gathered,
+    writer: &mut W,
+    storage: &Storage,
+    number: u32,
+)
     ensures { PutsOneOf unseen_words (W.contents writer.old) (W.contents writer.new) gathered.old gathered.new }
 {
     put_line(
@@ -153,7 +104,12 @@ pub fn put_unseen<W: Write>(gathered: &mut Gathered, writer: &mut W, storage: &S
 }
 
 /// Puts whose the subpool is that the current task sees at a number, or is to have there.
-pub fn put_owned<W: Write>(gathered: &mut Gathered, writer: &mut W, storage: &Storage, number: u32)
+pub(crate) fn put_owned<W: Write>(
+    gathered: &mut Gathered,
+    writer: &mut W,
+    storage: &Storage,
+    number: u32,
+)
     ensures { PutsOneOf seen_words (W.contents writer.old) (W.contents writer.new) gathered.old gathered.new }
 {
     let owner = seen_or_own(storage, number).owner;
@@ -172,7 +128,12 @@ pub fn put_owned<W: Write>(gathered: &mut Gathered, writer: &mut W, storage: &St
 }
 
 /// Puts which subpool the current task sees at a number.
-pub fn put_seen<W: Write>(gathered: &mut Gathered, writer: &mut W, storage: &Storage, number: u32)
+pub(crate) fn put_seen<W: Write>(
+    gathered: &mut Gathered,
+    writer: &mut W,
+    storage: &Storage,
+    number: u32,
+)
     ensures { PutsSome (W.contents writer.old) (W.contents writer.new) gathered.old gathered.new }
 {
     match seen(storage, number) {
@@ -215,7 +176,12 @@ fn put_nobodys<W: Write>(gathered: &mut Gathered, writer: &mut W, doubleword: u3
 }
 
 /// Puts which doubleword of the area isn't taken: the first that is free in the subpool, or whose page isn't assigned.
-pub fn put_free<W: Write>(gathered: &mut Gathered, writer: &mut W, storage: &Storage, r: Release)
+pub(crate) fn put_free<W: Write>(
+    gathered: &mut Gathered,
+    writer: &mut W,
+    storage: &Storage,
+    r: Release,
+)
     ensures { PutsOneOf free_words (W.contents writer.old) (W.contents writer.new) gathered.old gathered.new }
 {
     let subpool = seen_or_own(storage, r.number);

@@ -31,7 +31,7 @@ fn parent_of(storage: &Storage, task: u32) -> Option<u8> {
 }
 
 /// Puts that there is no such task.
-pub fn put_no_task<W: Write>(gathered: &mut Gathered, writer: &mut W, task: u32)
+pub(crate) fn put_no_task<W: Write>(gathered: &mut Gathered, writer: &mut W, task: u32)
     ensures { PutsOneOf no_task_words (W.contents writer.old) (W.contents writer.new) gathered.old gathered.new }
 {
     put_line(
@@ -73,7 +73,12 @@ fn put_its_parent<W: Write>(
 }
 
 /// Puts which task is the parent of a task.
-pub fn put_parent<W: Write>(gathered: &mut Gathered, writer: &mut W, storage: &Storage, task: u32)
+pub(crate) fn put_parent<W: Write>(
+    gathered: &mut Gathered,
+    writer: &mut W,
+    storage: &Storage,
+    task: u32,
+)
     ensures { PutsOneOf not_parent_words (W.contents writer.old) (W.contents writer.new) gathered.old gathered.new }
 {
     match parent_of(storage, task) {
@@ -83,7 +88,7 @@ pub fn put_parent<W: Write>(gathered: &mut Gathered, writer: &mut W, storage: &S
 }
 
 /// Puts why a task can't be ended by another.
-pub fn put_detach<W: Write>(
+pub(crate) fn put_detach<W: Write>(
     gathered: &mut Gathered,
     writer: &mut W,
     storage: &Storage,
@@ -128,7 +133,12 @@ fn put_subtask<W: Write>(gathered: &mut Gathered, writer: &mut W, current: u8, s
 }
 
 /// Puts why the current task can't end.
-pub fn put_end<W: Write>(gathered: &mut Gathered, writer: &mut W, storage: &Storage, cause: Cause)
+pub(crate) fn put_end<W: Write>(
+    gathered: &mut Gathered,
+    writer: &mut W,
+    storage: &Storage,
+    cause: Cause,
+)
     ensures { TellsCause (end_task_causes (state_of storage.now)) (end_task_words cause) cause
         (W.contents writer.old) (W.contents writer.new) gathered.old gathered.new }
 {
@@ -143,7 +153,7 @@ pub fn put_end<W: Write>(gathered: &mut Gathered, writer: &mut W, storage: &Stor
 }
 
 /// Puts how many tasks are there.
-pub fn put_task_count<W: Write>(gathered: &mut Gathered, writer: &mut W, storage: &Storage)
+pub(crate) fn put_task_count<W: Write>(gathered: &mut Gathered, writer: &mut W, storage: &Storage)
     ensures { PutsOneOf task_count_words (W.contents writer.old) (W.contents writer.new) gathered.old gathered.new }
 {
     put_line(
@@ -175,7 +185,7 @@ fn put_lists<W: Write>(gathered: &mut Gathered, writer: &mut W, storage: &Storag
 }
 
 /// Puts why there can't be a new task.
-pub fn put_attach<W: Write>(
+pub(crate) fn put_attach<W: Write>(
     gathered: &mut Gathered,
     writer: &mut W,
     storage: &Storage,

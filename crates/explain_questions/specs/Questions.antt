@@ -3,7 +3,7 @@ use Rattle.std.specs.Prelude.{◌≡◌, ◌≤◌, ◌&&◌, ℕ, List, codes, 
 use Rattle.std.specs.Prelude.{Option, Some, None, option_map}
 use Rattle.clap.specs.Words.{Row, Text, first_of}
 use Rattle.operand_texts.specs.Values.{number_of}
-use Rattle.bench_options.specs.Options.{settings_asked}
+use Rattle.vsm_bench.specs.Settings.{settings_asked}
 use Rattle.explain_questions.specs.declared.questions.About.{About}
 use Rattle.explain_questions.specs.declared.questions.About.TheVariants as about
 use Rattle.explain_questions.specs.declared.questions.Question.{Question}

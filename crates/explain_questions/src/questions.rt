@@ -4,11 +4,11 @@ ghost use Rattle.clap.specs.Words.{found_of, first_of, rows_of, subcommand_rows_
 ghost use Rattle.explain_questions.specs.Questions.{Asks, IsAskable, IsLine, IsOfFile, IsThere, number_within};
 
 use crate::refusals::WordRefusal;
-use bench_options::settings_asked;
 use clap::ArgMatches;
 use operand_texts::Name;
 use operand_texts::numbers::number_of;
 use operand_texts::words::{is_name, upper_name};
+use vsm_bench::settings_asked;
 use vsm_model::geometry::LAST_SUBPOOL;
 use vsm_model::{Settings, Subpool};
 

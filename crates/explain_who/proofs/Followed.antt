@@ -10,9 +10,9 @@ use Rattle.vsm_model.specs.declared.replies.Reply.{Reply}
 use Rattle.vsm_model.specs.Names.{NamedState, first_named_state}
 use Rattle.vsm_model.specs.Standing.{Outcome, Accepted, Refused, Bench, Stood, Standing, Apply, Back, Forward, Moved, TooFar, undo, redo, stand, alone, nothing_stands, outcome_answer}
 use Rattle.bench_core.specs.Machine.{Why, statement_step, shown_at}
-use Rattle.line_history.specs.declared.trail.TrailEntry.{TrailEntry}
-use Rattle.line_history.specs.Trails.{Marks, Follows, marks_of, seen_along, stepped}
-use Rattle.line_history.proofs.Moves.{undone_follows, redone_follows, applied_follows, standing_marks}
+use Rattle.explain_who.specs.declared.trail.TrailEntry.{TrailEntry}
+use Rattle.explain_who.specs.Trails.{Marks, Follows, marks_of, seen_along, stepped}
+use Rattle.explain_who.proofs.Moves.{undone_follows, redone_follows, applied_follows, standing_marks}
 use Rattle.script_steps.specs.Output.{Marked, alone_now, responded}
 use Rattle.script_steps.specs.Responses.{response_to, reading_response}
 use Rattle.script_steps.specs.Taken.{Led, Took, Brings, Ended, EndBrings}

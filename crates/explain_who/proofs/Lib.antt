@@ -1,3 +1,4 @@
+pub mod Moves
 pub mod Lines
 pub mod Followed
 pub mod Tasks

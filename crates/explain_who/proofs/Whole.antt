@@ -6,7 +6,7 @@ use Rattle.vsm_model.specs.Names.{NamedState, first_named_state}
 use Rattle.vsm_model.specs.Standing.{Bench as PlainBench}
 use Rattle.bench_core.specs.Stands.{IsNew, bench_of, settings_in}
 use Rattle.bench_core.specs.declared.bench.Bench.{Bench}
-use Rattle.line_history.specs.declared.trail.Trail.{Trail}
+use Rattle.explain_who.specs.declared.trail.Trail.{Trail}
 use Rattle.script_steps.specs.Output.{Marked}
 use Rattle.script_steps.specs.Script.{NoFeed}
 use Rattle.script_steps.specs.Taken.{Took, Ended}

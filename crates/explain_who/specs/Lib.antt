@@ -1,5 +1,6 @@
 pub mod Holdings
 pub mod Readings
+pub mod Trails
 pub mod Who
 pub mod Code
 pub mod Notes

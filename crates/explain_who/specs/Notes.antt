@@ -1,6 +1,6 @@
 -- What is noted of an answer.
 use Rattle.std.specs.Prelude.{ℕ, ◌<◌, ◌≤◌, List, length, drop, Option, Some, None, Result, Ok, Err}
-use Rattle.line_history.specs.Trails.{Marks, with_mark, stepped}
+use Rattle.explain_who.specs.Trails.{Marks, with_mark, stepped}
 use Rattle.script_steps.specs.Script.{NoFeed}
 use Rattle.script_steps.specs.declared.responses.Response.{Response}
 use Rattle.script_steps.specs.declared.responses.Response.TheVariants as response

@@ -1,8 +1,8 @@
 -- A script that was followed to its end.
 use Rattle.std.specs.Prelude.{◌≡◌, ℕ, List, ◌++◌, take, Option, Some, None, Result, Ok, Err, OnOk}
-use Rattle.line_history.specs.Trails as marks
-use Rattle.line_history.specs.Trails.{marks_of}
-use Rattle.line_history.specs.declared.trail.Trail.{Trail}
+use Rattle.explain_who.specs.Trails as marks
+use Rattle.explain_who.specs.Trails.{marks_of}
+use Rattle.explain_who.specs.declared.trail.Trail.{Trail}
 use Rattle.vsm_model.specs.declared.limits.Settings.{Settings}
 use Rattle.vsm_model.specs.Names.{first_named_state}
 use Rattle.vsm_model.specs.Standing.{nothing_stands}

@@ -1,6 +1,6 @@
 -- At which statements a reading differs.
 use Rattle.std.specs.Prelude.{ℕ, Bool, true, false, List, [], ◌∷◌, ◌++◌}
-use Rattle.line_history.specs.declared.trail.TrailEntry.{TrailEntry}
+use Rattle.explain_who.specs.declared.trail.TrailEntry.{TrailEntry}
 use Rattle.explain_who.specs.Readings.{same}
 use Rattle.explain_who.specs.declared.readings.Seen.{Seen}
 

@@ -1,7 +1,7 @@
 //! The lines at whose statements a reading differs.
 ghost use Rattle.std.specs.Prelude.{◌≡◌, ◌++◌, ℕ, List, Option, OnOk, IfOk, map, take};
 ghost use Rattle.vsm_model.specs.declared.limits.Settings.{Settings};
-ghost use Rattle.line_history.specs.Trails.{marks_of};
+ghost use Rattle.explain_who.specs.Trails.{marks_of};
 ghost use Rattle.explain_who.specs.Readings.{same};
 ghost use Rattle.explain_who.specs.Who.{unless, differences_of};
 ghost use Rattle.explain_who.specs.Code.{difference_in};
@@ -10,7 +10,7 @@ ghost use Rattle.explain_who.specs.declared.readings.Asked.{Asked};
 
 use crate::readings::{Seen, same};
 use crate::tracing::Traced;
-use line_history::TrailEntry;
+use crate::trail::TrailEntry;
 use std::alloc::{AllocError, Global};
 
 /// A line at whose statement the reading differs, with what is read before it and behind it.

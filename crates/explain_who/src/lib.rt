@@ -9,6 +9,7 @@ mod output;
 mod readings;
 mod texts;
 mod tracing;
+mod trail;
 
 pub use faults::WhoFault;
 pub use found::{NamedChange, changes};

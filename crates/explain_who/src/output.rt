@@ -5,7 +5,7 @@ use crate::found::{NamedChange, changes};
 use crate::readings::{Asked, Seen};
 use crate::texts::{put_count, put_line, put_seen};
 use crate::tracing::{Traced, follow};
-use line_history::TrailEntry;
+use crate::trail::TrailEntry;
 use script_steps::Watch;
 use std::alloc::Global;
 use std::io::Write;

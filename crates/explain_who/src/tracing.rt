@@ -1,6 +1,6 @@
 //! A script is followed on a bench: which of its statements stand, and what is read behind each.
 ghost use Rattle.std.specs.Prelude.{◌≡◌, ◌≤◌, drop, length, IfOk, OnOk};
-ghost use Rattle.line_history.specs.Trails.{marks_of};
+ghost use Rattle.explain_who.specs.Trails.{marks_of};
 ghost use Rattle.script_steps.specs.Script.{NoFeed};
 ghost use Rattle.explain_who.specs.Readings.{read_of};
 ghost use Rattle.explain_who.specs.Notes.{with_told};
@@ -8,7 +8,7 @@ ghost use Rattle.explain_who.specs.Traced.{IsEndFollowed, IsLineFollowed, IsTrac
 
 use crate::faults::WhoFault;
 use crate::readings::{Asked, Seen, read};
-use line_history::Trail;
+use crate::trail::Trail;
 use script_steps::{Bench, Response, Session, Watch};
 use std::alloc::{AllocError, Global};
 use vsm_model::Settings;

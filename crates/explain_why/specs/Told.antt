@@ -1,5 +1,5 @@
 -- What is told of the first cause of a statement.
-use Rattle.std.specs.Prelude.{◌≡◌, ℕ, Bool, false, List, Option, Some}
+use Rattle.std.specs.Prelude.{◌≡◌, ℕ, false, List, Option, Some}
 use Rattle.vsm_model.specs.declared.causes.Cause.{Cause}
 use Rattle.vsm_model.specs.declared.limits.Settings.{Settings}
 use Rattle.vsm_model.specs.Names.{NamedState, is_one_too_many}
@@ -9,19 +9,10 @@ use Rattle.macro_statements.specs.Requests.{Act, Asked, act, asked_in, IsValidAc
 use Rattle.vsm_machine.specs.Causes.{is_conditional_get}
 use Rattle.vsm_machine.specs.Machine.{name_asked, service_asked}
 use Rattle.text_output.specs.declared.writing.Gathered.{Gathered}
-use Rattle.storage_core.specs.Meaning.{settings_of, state_of}
-use Rattle.storage_core.specs.declared.storage.Storage.{Storage}
 use Rattle.cause_reasons.specs.Told.{TellsCause}
 use Rattle.cause_reasons.specs.Words.{cause_words}
 use Rattle.explain_why.specs.declared.ahead.Asked as ahead
 use Rattle.explain_why.specs.declared.ahead.Asked.TheVariants as variant
-
--- Of a service on a storage what is put tells this cause, where it's the first, be the room for names full or not.
-abbrev pub TellsService : Storage → Service → Cause → Option (List ℕ) → Option (List ℕ) → Gathered → Gathered → Type 0
-TellsService s service cause old new before after =
-    (full : Bool)
-    → TellsCause (causes (settings_of s) full (state_of s) service) (cause_words service cause) cause old new before
-    after
 
 -- Of a statement in a state what is put tells the first cause by the definitions: why it's refused there or, but for a
 -- conditional GET, answered 4.

@@ -1,22 +1,14 @@
 //! Why a statement is answered as it is: its first cause, or the place of its area, with the numbers that decide.
-ghost use Rattle.std.specs.Prelude.{IfSome};
-ghost use Rattle.vsm_model.specs.Meaning.{service_in};
 ghost use Rattle.macro_statements.specs.Requests.{act_in, asked_in, IsValidAct};
 ghost use Rattle.bench_core.specs.Stands.{bench_of, settings_in};
-ghost use Rattle.explain_why.specs.Told.{TellsFirstCause, TellsRequest, TellsService};
+ghost use Rattle.explain_why.specs.Told.{TellsFirstCause, TellsRequest};
 
 use crate::headings::{put_heading, put_number};
-use crate::refusals::put_refusal;
 use bench_core::Bench;
-use cause_reasons::{
-    find_pool, put_area, put_bytes, put_first_extent, put_no_cell, put_no_pool, put_pages,
-    put_parent, put_seen, put_task_count,
-};
+use cause_reasons::{put_bytes, put_cause};
 use macro_reader::{Request, Statement, Value};
 use place_reasons::{Piece, put_line};
 use std::io::Write;
-use storage_core::{Cause, Service, Storage};
-use storage_map::{first_free_cell, next_free_cell};
 use text_output::Gathered;
 
 /// Puts what a request asks for, and why it's answered as it is.
@@ -112,82 +104,5 @@ fn put_statement<W: Write>(
     match bench.cause_of(statement) {
         Ok(cause) => put_cause(gathered, writer, bench.storage(), &service, cause),
         Err(_) => (),
-    }
-}
-
-/// Puts the first cause of a service, or why it has none.
-fn put_cause<W: Write>(
-    gathered: &mut Gathered,
-    writer: &mut W,
-    storage: &Storage,
-    service: &Service<'_>,
-    cause: Option<Cause>,
-)
-    ensures { IfSome cause (λ its. TellsService storage.now (service_in service.now) its
-        (W.contents writer.old) (W.contents writer.new) gathered.old gathered.new) }
-{
-    match cause {
-        Some(cause) => put_refusal(gathered, writer, storage, service, cause),
-        None => put_no_cause(gathered, writer, storage, service),
-    }
-}
-
-/// Puts why a service has no cause, or why a conditional CPOOL GET is answered 4.
-fn put_no_cause<W: Write>(
-    gathered: &mut Gathered,
-    writer: &mut W,
-    storage: &Storage,
-    service: &Service<'_>,
-) {
-    match service {
-        Service::Obtain(o) => put_area(gathered, writer, storage, *o),
-        Service::Release(r) => put_released(gathered, writer, storage, r.number),
-        Service::Whole { number } => put_seen(gathered, writer, storage, *number),
-        Service::Attach(_) => put_task_count(gathered, writer, storage),
-        Service::Detach { task } | Service::Run { task } => {
-            put_parent(gathered, writer, storage, *task)
-        }
-        Service::EndTask => put_parent(gathered, writer, storage, u32::from(storage.current())),
-        Service::Store { address, bytes } => {
-            let count = bytes.len().min(256) as u32;
-            put_pages(gathered, writer, storage, *address, count)
-        }
-        Service::Build { numbers, .. } => put_first_extent(gathered, writer, storage, *numbers),
-        Service::Get { name, operands } => {
-            put_cell(gathered, writer, storage, name, operands.conditional)
-        }
-        Service::Free { .. } => put_line(gathered, writer, &[Piece::Text("the cell is in use")]),
-        Service::Delete { name } => put_no_pool(gathered, writer, storage, name),
-    }
-}
-
-/// Puts that an area can be released.
-fn put_released<W: Write>(gathered: &mut Gathered, writer: &mut W, storage: &Storage, number: u32) {
-    put_seen(gathered, writer, storage, number);
-    put_line(
-        gathered,
-        writer,
-        &[Piece::Text("each doubleword of the area is taken, and no cell pool's")],
-    );
-}
-
-/// Puts which cell is handed out, or that none is free.
-fn put_cell<W: Write>(
-    gathered: &mut Gathered,
-    writer: &mut W,
-    storage: &Storage,
-    name: &str,
-    conditional: bool,
-) {
-    let Some(id) = find_pool(storage, name) else {
-        return put_no_pool(gathered, writer, storage, name);
-    };
-    match next_free_cell(storage, first_free_cell(storage, id)) {
-        Some((cell, _)) => put_line(
-            gathered,
-            writer,
-            &[Piece::Text("its first free cell is "), Piece::Address(cell)],
-        ),
-        None => put_no_cell(gathered, writer, storage, name, conditional),
     }
 }

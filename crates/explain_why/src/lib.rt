@@ -1,4 +1,5 @@
-//! Why a statement of a script is answered as it is: what the rules look at, in order, with the numbers that decide.
+//! Why a statement of a script is answered as it is: what the rules look at, in order, with the numbers that decide;
+//! and what an answer means, by its text.
 #![tactic(auto)]
 
 mod ahead;
@@ -6,9 +7,12 @@ mod causes;
 mod faults;
 mod headings;
 mod lines;
-mod refusals;
+mod meanings;
+mod messages;
+mod words;
 
 pub use bench_core::NewFault;
 pub use faults::WhyFault;
 pub use lines::why;
+pub use meanings::{MeaningFault, code};
 pub use script_steps::Watch;

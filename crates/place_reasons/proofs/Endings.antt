@@ -7,8 +7,10 @@ use Rattle.text_output.specs.declared.writing.Gathered.{Gathered}
 use Rattle.text_output.proofs.Gathering.{puts_both, puts_none}
 use Rattle.storage_plans.specs.Reasons.{side_place, reasons_place}
 use Rattle.storage_plans.specs.declared.reasons.SideReason.{SideReason}
+use Rattle.storage_core.specs.declared.storage.Storage.{Storage}
+use Rattle.vsm_model.specs.declared.services.Obtain.{Obtain}
 use Rattle.vsm_model.specs.Areas.{Place, Inside, Fresh, Nowhere, is_nowhere, or_fresh, or_place}
-use Rattle.place_reasons.specs.Told.{found_text, option_place, place_text, PutsEnding, PutsSome}
+use Rattle.place_reasons.specs.Told.{found_text, option_place, place_text, PutsEnding, PutsSome, TellsPlace}
 
 -- some text and then another
 pub some_both : (old now new : Option (List ℕ)) (a b c : Gathered) → PutsSome old now a b → PutsSome now new b c → PutsSome old new a c
@@ -78,3 +80,9 @@ told_none (Fresh page) other e f = absurd (true≢false e)
 told_none Nowhere (Inside d) e f = absurd (true≢false f)
 told_none Nowhere (Fresh page) e f = absurd (true≢false f)
 told_none Nowhere Nowhere e f = refl
+
+-- the place of a request, behind some text
+pub place_behind : (s : Storage) (o : Obtain) (old now new : Option (List ℕ)) (a b c : Gathered) → PutsSome old now a b → TellsPlace s o now new b c → TellsPlace s o old new a c
+place_behind s o old now new a b c some told asks =
+    let (its, count, place, fixed, none, ending) = told asks in
+    (its, count, place, fixed, none, ending_both old now new a b c (place_text its) some ending)

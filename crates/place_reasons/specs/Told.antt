@@ -1,11 +1,19 @@
 -- What is told of the place of an area: lines of text that end in the place, or in that there is none.
-use Rattle.std.specs.Prelude.{◌≡◌, ℕ, ◌*◌, ◌-◌, ◌^◌, min, Bool, not, List, [], ◌++◌, Option, Some, None, codes}
+use Rattle.std.specs.Prelude.{◌≡◌, ◌↔◌, ℕ, ◌*◌, ◌-◌, ◌^◌, min, Bool, true, not, List, [], ◌++◌, Option, Some, None}
+use Rattle.std.specs.Prelude.{codes}
+use Rattle.vsm_model.specs.declared.services.Obtain.{Obtain}
 use Rattle.vsm_model.specs.Areas.{Place, Inside, Fresh, Nowhere, is_nowhere}
+use Rattle.vsm_model.specs.Obtaining.{longest, place_for}
+use Rattle.vsm_model.specs.Regions.{doublewords}
+use Rattle.vsm_model.specs.Services.{maximum, minimum}
 use Rattle.vsm_model.specs.Texts.{hexadecimal}
 use Rattle.storage_plans.specs.Reasons.{side_place}
 use Rattle.storage_plans.specs.declared.reasons.SideReason.{SideReason}
+use Rattle.storage_core.specs.Meaning.{settings_of, state_of}
+use Rattle.storage_core.specs.declared.storage.Storage.{Storage}
 use Rattle.text_output.specs.Writing.{Puts}
 use Rattle.text_output.specs.declared.writing.Gathered.{Gathered}
+use Rattle.place_reasons.specs.Places.{asks_for_place}
 
 -- an address in eight digits, up to the last of a fullword
 abbrev pub address_text : ℕ → List ℕ
@@ -40,3 +48,14 @@ PutsSome old new before after = (text : List ℕ) × Puts old new before after t
 pub record TellsSide (old new : Option (List ℕ)) (before after : Gathered) (its : Place) (answer : Bool) : Type 0 where
   pub place : PutsEnding old new before after (found_text its)
   pub found : answer ≡ not (is_nowhere its)
+
+-- Where a request comes to look for a place, what is put ends in the place that the plain machine gives to so many
+-- doublewords, as many as it asks for where that is one length; or in that there is none, just where the request has no
+-- longest length with one.
+abbrev pub TellsPlace : Storage → Obtain → Option (List ℕ) → Option (List ℕ) → Gathered → Gathered → Type 0
+TellsPlace s o old new before after =
+    asks_for_place o ≡ true
+    → (its : Place) × (count : ℕ) × (its ≡ place_for (settings_of s) (state_of s) o count)
+    × (minimum o.lengths ≡ maximum o.lengths → count ≡ doublewords (minimum o.lengths))
+    × ((is_nowhere its ≡ true) ↔ (longest (settings_of s) (state_of s) o ≡ None))
+    × PutsEnding old new before after (place_text its)

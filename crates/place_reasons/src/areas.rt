@@ -1,8 +1,10 @@
 //! Free storage and pages of a subpool, walked over.
 ghost use Rattle.std.specs.Prelude.{◌≡◌, ◌<◌, ◌≤◌};
 
-use storage_core::{ExtentPlace, FreeAreaPlace, Residence, Run, Storage, Subpool};
-use vsm_model::geometry::LINE_DOUBLEWORD;
+use storage_core::{
+    ExtentPlace, FreeAreaPlace, Release, Residence, Run, Settings, Storage, Subpool,
+};
+use vsm_model::geometry::{HIGH_PAGE, LINE_DOUBLEWORD, LOW_PAGE, PAGE_DOUBLEWORDS, PAGE_K};
 
 /// How many free areas there are, of how many doublewords, and the most that one has.
 #[derive(Clone, Copy)]
@@ -50,8 +52,42 @@ pub(crate) fn free_areas(storage: &Storage, subpool: Subpool, side: Residence) -
     sum
 }
 
+/// The doublewords of a release.
+pub fn area_of(r: Release) -> Run {
+    Run {
+        start: r.address / 8,
+        len: r.length.div_ceil(8),
+    }
+}
+
+/// The pages that an area in doublewords touches.
+pub fn pages_of(area: Run) -> Run {
+    let start = area.start / PAGE_DOUBLEWORDS;
+    let end = area
+        .start
+        .saturating_add(area.len)
+        .div_ceil(PAGE_DOUBLEWORDS);
+    Run {
+        start,
+        len: end.saturating_sub(start),
+    }
+}
+
+/// The page behind the last of the region that a page lies in; `None` where it lies in none.
+pub fn region_end(settings: Settings, page: u32) -> Option<u32> {
+    let low = LOW_PAGE + settings.low_k / PAGE_K;
+    if LOW_PAGE <= page && page < low {
+        return Some(low);
+    }
+    let high = HIGH_PAGE.saturating_add(settings.high_k / PAGE_K);
+    if HIGH_PAGE <= page && page < high {
+        return Some(high);
+    }
+    None
+}
+
 /// The first number of both runs.
-fn first_of_both(run: Run, other: Run) -> Option<u32> {
+pub fn first_of_both(run: Run, other: Run) -> Option<u32> {
     let first = run.start.max(other.start);
     let end = run
         .start

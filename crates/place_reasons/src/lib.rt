@@ -7,8 +7,13 @@ pub mod laws;
 mod pieces;
 mod places;
 mod sides;
+mod sights;
 
-pub use areas::{first_free, first_page_beside, first_page_of_another};
+pub use areas::{
+    area_of, first_free, first_of_both, first_page_beside, first_page_of_another, pages_of,
+    region_end,
+};
 pub use pieces::{Piece, put_line, put_pieces};
-pub use places::{Sides, sides_for};
-pub use sides::put_sides;
+pub use places::extent_asked;
+pub use sides::put_place;
+pub use sights::{seen, seen_or_own};

@@ -7,16 +7,28 @@ ghost use Rattle.vsm_model.specs.Services.{maximum, minimum};
 ghost use Rattle.storage_core.specs.Meaning.{settings_of, state_of};
 ghost use Rattle.place_reasons.specs.Places.{asks_for_place, sides_place};
 
-use storage_core::{Lengths, Obtain, SideReason, Storage};
+use storage_core::{Boundary, Lengths, Location, Obtain, SideReason, Storage};
 use vsm_model::geometry::{LAST_SUBPOOL, PAGE_DOUBLEWORDS};
 
 /// What each side of the line that is looked at has for an area: above the line first, where it may be there.
 #[derive(Clone, Copy)]
-pub struct Sides {
+pub(crate) struct Sides {
     /// The doublewords that a place is looked for.
-    pub count: u32,
-    pub first: SideReason,
-    pub second: Option<SideReason>,
+    pub(crate) count: u32,
+    pub(crate) first: SideReason,
+    pub(crate) second: Option<SideReason>,
+}
+
+/// The request that is made for an extent of so many cells of a size in bytes, in a subpool of this number.
+pub fn extent_asked(cells: u32, size: u32, number: u32, location: Location) -> Obtain {
+    Obtain {
+        lengths: Lengths::Fixed(cells.saturating_mul(size)),
+        number,
+        boundary: Boundary::Doubleword,
+        location,
+        register: None,
+        conditional: false,
+    }
 }
 
 /// The least length in bytes that will do.
@@ -114,7 +126,7 @@ fn asks_for_place(o: Obtain) -> bool
 ///
 /// Looked at is a place for the length that is asked for; of two bounds for the greatest that has one, else for the
 /// least.
-pub fn sides_for(storage: &Storage, o: Obtain) -> Option<Sides>
+pub(crate) fn sides_for(storage: &Storage, o: Obtain) -> Option<Sides>
     ensures asked { is_some result ≡ asks_for_place o }
     ensures place { IfSome result (λ r. sides_place r
         ≡ place_for (settings_of storage.now) (state_of storage.now) o r.count) }

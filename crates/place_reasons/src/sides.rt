@@ -4,13 +4,15 @@ ghost use Rattle.vsm_model.specs.Areas.{Inside, Fresh};
 ghost use Rattle.storage_plans.specs.Reasons.{side_place};
 ghost use Rattle.text_output.specs.Writing.{Puts};
 ghost use Rattle.place_reasons.specs.Places.{sides_place};
-ghost use Rattle.place_reasons.specs.Told.{found_text, option_place, place_text, PutsEnding, PutsSome, TellsSide};
+ghost use Rattle.place_reasons.specs.Told.{found_text, option_place, place_text, PutsEnding, PutsSome};
+ghost use Rattle.place_reasons.specs.Told.{TellsPlace, TellsSide};
 
 use crate::areas::{FreeAreas, free_areas};
 use crate::pieces::{Piece, put_pieces};
-use crate::places::Sides;
+use crate::places::{Sides, sides_for};
+use crate::sights::seen_or_own;
 use std::io::Write;
-use storage_core::{Residence, SideReason, Storage, Subpool};
+use storage_core::{Obtain, Residence, SideReason, Storage, Subpool};
 use text_output::{Gathered, put_hexadecimal};
 use vsm_model::geometry::{PAGE_BYTES, PAGE_DOUBLEWORDS};
 
@@ -179,7 +181,7 @@ fn put_second<W: Write>(
 }
 
 /// Puts what the sides have for an area of a subpool: lines that end in its place, or in that there is none.
-pub fn put_sides<W: Write>(
+fn put_sides<W: Write>(
     gathered: &mut Gathered,
     writer: &mut W,
     storage: &Storage,
@@ -197,4 +199,21 @@ pub fn put_sides<W: Write>(
         return;
     }
     gathered.put(writer, b"  no place\n");
+}
+
+/// Puts what the sides of the line have for an area that is asked for, or for the extent of a cell pool: lines that end
+/// in its place, or in that there is none. Nothing where the request doesn't come to look for a place, since its number
+/// can't be asked for, or a length is bad. Of two bounds it's the place of the greatest length that has one.
+pub fn put_place<W: Write>(gathered: &mut Gathered, writer: &mut W, storage: &Storage, o: Obtain)
+    ensures some { PutsSome (W.contents writer.old) (W.contents writer.new) gathered.old gathered.new }
+    ensures place { TellsPlace storage.now o (W.contents writer.old) (W.contents writer.new)
+        gathered.old gathered.new }
+{
+    match sides_for(storage, o) {
+        Some(sides) => {
+            let subpool = seen_or_own(storage, o.number);
+            put_sides(gathered, writer, storage, subpool, &sides);
+        }
+        None => (),
+    }
 }

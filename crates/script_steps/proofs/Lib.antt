@@ -4,3 +4,4 @@ pub mod Standings
 pub mod Takes
 pub mod Tellings
 pub mod LineEnds
+pub mod Outcomes

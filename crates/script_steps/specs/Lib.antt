@@ -4,3 +4,4 @@ pub mod Answers
 pub mod Script
 pub mod Taken
 pub mod Steps
+pub mod Run

@@ -5,7 +5,7 @@ use Rattle.clap.specs.Words.{App, Text, FailsBy, HasMatchesOf, fault_of, matches
 use Rattle.clap.proofs.OnLiterals.{clap_on_literals}
 use Rattle.clap.specs.declared.parser.ArgMatches.{ArgMatches}
 use Rattle.clap.specs.declared.Error.{Error}
-use Rattle.bench_options.specs.Options.{Residences}
+use Rattle.vsm_bench.specs.Settings.{Residences}
 use Rattle.vsm_bench.specs.Options.{Reads, command_line}
 
 -- ---- the command line

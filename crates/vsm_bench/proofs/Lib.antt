@@ -1,3 +1,4 @@
+pub mod SettingsAsked
 pub mod Asked
 pub mod Obeys
 pub mod Reached

@@ -9,10 +9,10 @@ use Rattle.clap.specs.declared.error.ErrorKind.{ErrorKind}
 use Rattle.clap.specs.declared.error.ErrorKind.TheVariants as kind
 use Rattle.vsm_model.specs.declared.limits.Settings.{Settings}
 use Rattle.vsm_bench.specs.Command.{Answers, Commanded, Does, DoesBy, Obeys, Refuses}
-use Rattle.bench_options.specs.Options.{Residences, AreResidences, settings_asked}
+use Rattle.vsm_bench.specs.Settings.{Residences, AreResidences, settings_asked}
 use Rattle.vsm_bench.specs.Options.{command_line, file_asked}
-use Rattle.script_run.specs.declared.faults.RunFault.TheVariants as fault
-use Rattle.script_run.specs.NewFault.TheVariants as new_fault
+use Rattle.script_steps.specs.declared.faults.RunFault.TheVariants as fault
+use Rattle.bench_core.specs.NewFault.TheVariants as new_fault
 use Rattle.vsm_bench.proofs.Asked.{nothing_said, nothing_wrong}
 
 -- as many words as texts

@@ -26,7 +26,7 @@ use Rattle.service_laws.specs.Reached.{IsRegister, IsStatement}
 use Rattle.service_laws.proofs.Reached.{statement_leaves_well_formed}
 use Rattle.macro_reader.specs.Written.{Target, in_name, in_register, spelled, word, IsTarget}
 use Rattle.macro_reader.specs.Requests.{Act, obtain, release, whole, build, get, free, delete, attach, detach, run, end_task, poke}
-use Rattle.script_run.specs.Machine.{Why, register_in, name_in, with_three, with_bytes, with_lengths, area_asked, area_back, with_passed, service_asked, name_asked, family_asked, or_abend, served, statement_step, looked_up, lengths_asked, left_or_looked_up, with_cells, passed_asked}
+use Rattle.bench_core.specs.Machine.{Why, register_in, name_in, with_three, with_bytes, with_lengths, area_asked, area_back, with_passed, service_asked, name_asked, family_asked, or_abend, served, statement_step, looked_up, lengths_asked, left_or_looked_up, with_cells, passed_asked}
 use Rattle.vsm_bench.specs.Reached.{IsGiven, IsGivenCall, HasWellFormed, AcceptedLeavesWellFormed, ReachedIsWellFormed, BenchIsWellFormed}
 
 same_register : (r n : ℕ) → ◌≡◌ {A = Option ℕ} (Some r) (Some n) → r ≡ n

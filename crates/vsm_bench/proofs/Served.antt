@@ -13,7 +13,7 @@ use Rattle.vsm_model.specs.Standing.{Outcome, Accepted, Refused}
 use Rattle.vsm_model.specs.Step.{step, causes}
 use Rattle.vsm_model.proofs.Chosen.{refused_for_the_first}
 use Rattle.macro_reader.specs.Requests.{Act}
-use Rattle.script_run.specs.Machine.{Why, unknown_name, abended, or_abend, served, service_asked, name_asked, family_asked}
+use Rattle.bench_core.specs.Machine.{Why, unknown_name, abended, or_abend, served, service_asked, name_asked, family_asked}
 use Rattle.vsm_bench.specs.Served.{AcceptedIsItsService, RefusedHasItsCause}
 
 abbrev Told : Type 0

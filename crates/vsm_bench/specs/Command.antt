@@ -7,15 +7,15 @@ use Rattle.clap.specs.declared.error.ErrorKind.{ErrorKind}
 use Rattle.clap.specs.declared.error.ErrorKind.TheVariants as kind
 use Rattle.vsm_model.specs.declared.limits.Settings.{Settings}
 use Rattle.text_output.specs.Writing.{AppendsFront}
-use Rattle.script_run.specs.NewFault.TheVariants as new_fault
-use Rattle.script_run.specs.Run.{Ran}
-use Rattle.bench_options.specs.Options.{Residences, AreResidences, default_settings, settings_asked}
+use Rattle.bench_core.specs.NewFault.TheVariants as new_fault
+use Rattle.script_steps.specs.Run.{Ran}
+use Rattle.vsm_bench.specs.Settings.{Residences, AreResidences, default_settings, settings_asked}
 use Rattle.vsm_bench.specs.Help.{help_end}
 use Rattle.vsm_bench.specs.Messages.{Says, fault_text}
 use Rattle.vsm_bench.specs.Options.{command_line, file_asked}
-use Rattle.script_run.specs.declared.faults.RunFault.{RunFault}
-use Rattle.script_run.specs.declared.faults.RunFault.TheVariants as fault
-use Rattle.script_run.specs.RunTotals.{RunTotals}
+use Rattle.script_steps.specs.declared.faults.RunFault.{RunFault}
+use Rattle.script_steps.specs.declared.faults.RunFault.TheVariants as fault
+use Rattle.script_steps.specs.declared.totals.RunTotals.{RunTotals}
 
 abbrev pub fault_status : RunFault → ℕ
 fault_status fault.Read = 8

@@ -4,7 +4,7 @@ use Rattle.vsm_model.specs.declared.limits.Settings.{Settings}
 use Rattle.vsm_model.specs.Regions.{settings_valid}
 use Rattle.vsm_model.specs.Names.{first_named_state}
 use Rattle.vsm_model.specs.Standing.{StandsAlone, StaysWithin, GoesForwardAgain, PlainKeeps, KeepsPlain}
-use Rattle.script_run.specs.Machine.{statement_step}
+use Rattle.bench_core.specs.Machine.{statement_step}
 
 -- The present state and the replies that stand are those of the standing statements run alone on the plain machine, and
 -- what is kept and undone are as many states as statements.

@@ -1,5 +1,6 @@
 pub mod Headline
 pub mod Reached
+pub mod Settings
 pub mod Options
 pub mod Help
 pub mod Messages

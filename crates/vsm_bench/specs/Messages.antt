@@ -2,9 +2,9 @@
 use Rattle.std.specs.Prelude.{◌≡◌, ℕ, Bool, true, false, List, Option, codes}
 use Rattle.std.specs.Io.KnownBytes.{Appends}
 use Rattle.text_output.specs.Writing.{AppendsFront}
-use Rattle.script_run.specs.NewFault.TheVariants as new_fault
-use Rattle.script_run.specs.declared.faults.RunFault.{RunFault}
-use Rattle.script_run.specs.declared.faults.RunFault.TheVariants as fault
+use Rattle.bench_core.specs.NewFault.TheVariants as new_fault
+use Rattle.script_steps.specs.declared.faults.RunFault.{RunFault}
+use Rattle.script_steps.specs.declared.faults.RunFault.TheVariants as fault
 
 -- one line
 abbrev pub fault_text : RunFault → List ℕ

@@ -4,7 +4,7 @@ use Rattle.clap.specs.Words.{App, Row, Text, new_app, new_rule, with_rule, first
 use Rattle.clap.specs.Words.{fault_of, HasKind}
 use Rattle.clap.specs.declared.parser.ArgMatches.{ArgMatches}
 use Rattle.clap.specs.declared.Error.{Error}
-use Rattle.bench_options.specs.Options.{Residences, with_settings}
+use Rattle.vsm_bench.specs.Settings.{Residences, with_settings}
 
 -- the four options of a bench, and an operand
 abbrev pub command_line : Residences → App

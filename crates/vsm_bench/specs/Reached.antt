@@ -7,7 +7,7 @@ use Rattle.vsm_model.specs.Names.{NamedState, first_named_state}
 use Rattle.vsm_model.specs.Standing.{Accepted, Call, Apply, Heard, Bench, new_bench, alone, Leads}
 use Rattle.vsm_model.specs.WellFormed.{IsWellFormedNamed}
 use Rattle.macro_reader.specs.Requests.{Act, act, IsValidAct, AskedHasBytes}
-use Rattle.script_run.specs.Machine.{Why, statement_step}
+use Rattle.bench_core.specs.Machine.{Why, statement_step}
 
 -- A statement as a bench is given it: it can be written, and what it stores are bytes, as with each statement of the
 -- code (`laws::stores_bytes`).

@@ -10,8 +10,8 @@ use Rattle.vsm_model.specs.Services.{Service}
 use Rattle.vsm_model.specs.Standing.{Accepted, Refused}
 use Rattle.vsm_model.specs.Step.{step, causes}
 use Rattle.macro_reader.specs.Requests.{Act}
-use Rattle.script_run.specs.Machine.{Why, unknown_name, abended, service_asked, name_asked, family_asked}
-use Rattle.script_run.specs.Machine.{statement_step}
+use Rattle.bench_core.specs.Machine.{Why, unknown_name, abended, service_asked, name_asked, family_asked}
+use Rattle.bench_core.specs.Machine.{statement_step}
 
 -- An accepted statement does to the storage what its service does, and gives the address of its area or cell to the
 -- name that it names.

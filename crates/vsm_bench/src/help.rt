@@ -5,7 +5,7 @@ ghost use Rattle.vsm_bench.specs.Command.{Helped};
 ghost use Rattle.vsm_bench.specs.Help.{help_end};
 
 use clap::Error;
-use script_run::{NewFault, RunFault};
+use script_steps::{NewFault, RunFault};
 use std::alloc::Global;
 use std::io;
 use std::io::Write;

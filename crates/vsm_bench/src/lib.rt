@@ -6,13 +6,16 @@ mod help;
 pub mod laws;
 mod messages;
 mod options;
+mod script_files;
+mod settings;
 
-pub use bench_options::{DEFAULT_SETTINGS, ScriptFiles};
 pub use commands::command;
 pub use macro_reader::{
     Content, Family, Form, Header, Length, Name, NewCellPool, Place, Statement, Subpools, Value,
 };
 pub use messages::Messages;
-pub use script_run::{Bench, NewFault, Refusal, RunFault, RunTotals, run};
+pub use script_files::ScriptFiles;
+pub use script_steps::{Bench, NewFault, Refusal, RunFault, RunTotals, run};
+pub use settings::{DEFAULT_SETTINGS, settings_asked, with_settings};
 pub use step_history::{TooFar, TooFarAhead};
 pub use vsm_model::{Boundary, Code, Location, Reply, Residence, Settings};

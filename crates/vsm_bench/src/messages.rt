@@ -3,7 +3,7 @@ ghost use Rattle.std.specs.Prelude.{◌≡◌, Bool, List, ℕ, is_ok};
 ghost use Rattle.text_output.specs.Writing.{Writes};
 ghost use Rattle.vsm_bench.specs.Messages.{WritesWhere, fault_text};
 
-use script_run::{NewFault, RunFault};
+use script_steps::{NewFault, RunFault};
 use std::io;
 use std::io::Write;
 use text_output::Gathered;

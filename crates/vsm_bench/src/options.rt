@@ -2,10 +2,10 @@
 ghost use Rattle.std.specs.Prelude.{◌≡◌, IfOk, map, option_map};
 ghost use Rattle.std.specs.String.{string_bytes};
 ghost use Rattle.clap.specs.Words.{app_of, found_of, rows_of};
-ghost use Rattle.bench_options.specs.Options.{Residences, AreResidences};
+ghost use Rattle.vsm_bench.specs.Settings.{Residences, AreResidences};
 ghost use Rattle.vsm_bench.specs.Options.{command_line, file_asked, Reads};
 
-use bench_options::with_settings;
+use crate::settings::with_settings;
 use clap::{Arg, ArgMatches, Command, Error};
 use std::alloc::{AllocError, Global};
 

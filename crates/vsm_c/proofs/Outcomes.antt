@@ -5,9 +5,9 @@ use Rattle.std.proofs.lemmas.Bool.Decides.{eqb_tells}
 use Rattle.std.specs.Io.KnownBytes.{Consumes, IsAtEnd}
 use Rattle.vsm_model.specs.declared.limits.Settings.{Settings}
 use Rattle.vsm_model.specs.Standing.{nothing_stands}
-use Rattle.script_run.specs.Run.{Ran}
-use Rattle.script_run.specs.declared.faults.RunFault.{RunFault}
-use Rattle.script_run.specs.declared.faults.RunFault.TheVariants as fault
+use Rattle.script_steps.specs.Run.{Ran}
+use Rattle.script_steps.specs.declared.faults.RunFault.{RunFault}
+use Rattle.script_steps.specs.declared.faults.RunFault.TheVariants as fault
 use Rattle.script_steps.specs.Output.{Marked, AllMet, output}
 use Rattle.script_steps.specs.Taken.{Ended, Unended, PassesBound}
 use Rattle.script_steps.specs.declared.totals.RunTotals.{RunTotals}

@@ -5,7 +5,7 @@ ghost use Rattle.vsm_c.specs.Told.{IsChecked, code_for, LinesTold, ScriptTold};
 use crate::codes::CallCode;
 use crate::open_script::OpenScript;
 use crate::texts::lacks_memory;
-use script_run::{RunFault, run};
+use script_steps::{RunFault, run};
 use std::alloc::Global;
 use vsm_model::Settings;
 

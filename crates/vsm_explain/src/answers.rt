@@ -5,12 +5,11 @@ ghost use Rattle.explain_list.specs.declared.faults.ListFault.{ListFault};
 ghost use Rattle.vsm_explain.specs.Status.{IsOutcome};
 
 use crate::faults::Fault;
-use answer_meanings::{MeaningFault, code};
 use explain_list::{ListFault, Shown, list};
 use explain_questions::{About, Asking, Question, WordRefusal};
 use explain_report::{ReportFault, over_time, report};
 use explain_who::{Asked, WhoFault, log, who};
-use explain_why::{WhyFault, why};
+use explain_why::{MeaningFault, WhyFault, code, why};
 use script_steps::{NewFault, Watch};
 use std::alloc::Global;
 use std::io::Write;

@@ -4,15 +4,16 @@ ghost use Rattle.vsm_explain.specs.Status.{IsStatus, IsWordless, status};
 
 use crate::answers::{answer, explain_code};
 use crate::faults::{Fault, report};
+use crate::options::read_words;
 use crate::progress::{Progress, Stopwatch};
 use crate::scripts::{Unread, read_whole};
-use bench_options::ScriptFiles;
 use clap::Error;
 use clap::error::ErrorKind;
-use explain_questions::{Asking, Question, asking_of, read_words};
+use explain_questions::{Asking, Question, asking_of};
 use memchr::memchr;
 use std::alloc::Global;
 use std::io::{Read, Write};
+use vsm_bench::ScriptFiles;
 
 /// Which of the standard streams are terminals.
 #[derive(Clone, Copy, Debug)]

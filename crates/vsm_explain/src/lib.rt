@@ -4,6 +4,9 @@
 mod answers;
 mod commands;
 mod faults;
+mod forms;
+mod help;
+mod options;
 mod progress;
 mod scripts;
 

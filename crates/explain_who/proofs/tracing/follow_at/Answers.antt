@@ -1,6 +1,6 @@
 use Rattle.std.proofs.Common.{Ok, ap, length, subst, take, rules, ◌∙◌}
 use Rattle.bench_core.specs.Stands.{bench_of}
-use Rattle.line_history.specs.Trails.{marks_of}
+use Rattle.explain_who.specs.Trails.{marks_of}
 use Rattle.script_steps.specs.Steps.{BringsStep}
 use Rattle.explain_who.specs.Notes.{with_told}
 use Rattle.explain_who.specs.Readings.{read_of}

@@ -1,6 +1,6 @@
 use Rattle.std.proofs.Common.{ap, length, ◌∙◌, ◌++◌}
 use Rattle.bench_core.specs.Stands.{bench_of}
-use Rattle.line_history.specs.Trails.{marks_of}
+use Rattle.explain_who.specs.Trails.{marks_of}
 use Rattle.explain_who.proofs.Followed.{end_followed}
 use Rattle.explain_who.proofs.tracing.follow_end.Goals as goal
 

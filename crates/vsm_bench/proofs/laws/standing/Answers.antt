@@ -1,7 +1,7 @@
 use Rattle.vsm_model.specs.Names.{first_named_state}
 use Rattle.vsm_model.proofs.Alone.{stands_alone, stays_within}
 use Rattle.vsm_model.proofs.Steps.{goes_forward_again, plain_keeps, keeps_plain}
-use Rattle.script_run.specs.Machine.{statement_step}
+use Rattle.bench_core.specs.Machine.{statement_step}
 use Rattle.vsm_bench.proofs.laws.standing.Goals as goal
 
 pub returns-clause-alone : goal.returns-clause-alone

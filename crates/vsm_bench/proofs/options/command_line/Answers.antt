@@ -2,7 +2,7 @@ use Rattle.std.proofs.Common.{◌≡◌, ◌∙◌, ap, ap₂, codes, rules}
 use Rattle.std.proofs.lemmas.Result.{IfOk-weaker}
 use Rattle.clap.specs.Words.{app_of, new_app, new_rule, rule_of, with_rule}
 use Rattle.clap.specs.Simple.{app_of_fields}
-use Rattle.bench_options.specs.Options.{with_settings}
+use Rattle.vsm_bench.specs.Settings.{with_settings}
 use Rattle.vsm_bench.proofs.options.command_line.Goals as goal
 
 pub returns : goal.returns

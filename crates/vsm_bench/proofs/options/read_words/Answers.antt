@@ -1,6 +1,6 @@
 use Rattle.std.proofs.Common.{codes, refl, rules, map, [], ◌∷◌}
 use Rattle.std.specs.String.{string_bytes}
-use Rattle.bench_options.specs.Options.{Residences}
+use Rattle.vsm_bench.specs.Settings.{Residences}
 use Rattle.vsm_bench.proofs.Asked.{reads_as}
 use Rattle.vsm_bench.proofs.options.read_words.Goals as goal
 

@@ -1,0 +1,95 @@
+//! Why a service is answered as it is: its first cause, or what it comes to where it has none, told.
+ghost use Rattle.std.specs.Prelude.{IfSome};
+ghost use Rattle.vsm_model.specs.Meaning.{service_in};
+ghost use Rattle.cause_reasons.specs.Told.{TellsService};
+
+use crate::areas::{put_area, put_first_extent, put_no_cell};
+use crate::cells::{find_pool, put_no_pool};
+use crate::pages::put_pages;
+use crate::refusals::put_refusal;
+use crate::releases::put_seen;
+use crate::tasks::{put_parent, put_task_count};
+use place_reasons::{Piece, put_line};
+use std::io::Write;
+use storage_core::{Cause, Service, Storage};
+use storage_map::{first_free_cell, next_free_cell};
+use text_output::Gathered;
+
+/// Puts why a service on a storage is answered as it is, in lines of text with the numbers that decide: of a cause,
+/// which is to be its first, what that comes from; without one, what it comes to: the place of its area, whose pages or
+/// cell pool these are, which cell is handed out. Of a conditional CPOOL GET, which has no cause, that no cell is free.
+pub fn put_cause<W: Write>(
+    gathered: &mut Gathered,
+    writer: &mut W,
+    storage: &Storage,
+    service: &Service<'_>,
+    cause: Option<Cause>,
+)
+    ensures { IfSome cause (λ its. TellsService storage.now (service_in service.now) its
+        (W.contents writer.old) (W.contents writer.new) gathered.old gathered.new) }
+{
+    match cause {
+        Some(cause) => put_refusal(gathered, writer, storage, service, cause),
+        None => put_no_cause(gathered, writer, storage, service),
+    }
+}
+
+/// Puts why a service has no cause, or why a conditional CPOOL GET is answered 4.
+fn put_no_cause<W: Write>(
+    gathered: &mut Gathered,
+    writer: &mut W,
+    storage: &Storage,
+    service: &Service<'_>,
+) {
+    match service {
+        Service::Obtain(o) => put_area(gathered, writer, storage, *o),
+        Service::Release(r) => put_released(gathered, writer, storage, r.number),
+        Service::Whole { number } => put_seen(gathered, writer, storage, *number),
+        Service::Attach(_) => put_task_count(gathered, writer, storage),
+        Service::Detach { task } | Service::Run { task } => {
+            put_parent(gathered, writer, storage, *task)
+        }
+        Service::EndTask => put_parent(gathered, writer, storage, u32::from(storage.current())),
+        Service::Store { address, bytes } => {
+            let count = bytes.len().min(256) as u32;
+            put_pages(gathered, writer, storage, *address, count)
+        }
+        Service::Build { numbers, .. } => put_first_extent(gathered, writer, storage, *numbers),
+        Service::Get { name, operands } => {
+            put_cell(gathered, writer, storage, name, operands.conditional)
+        }
+        Service::Free { .. } => put_line(gathered, writer, &[Piece::Text("the cell is in use")]),
+        Service::Delete { name } => put_no_pool(gathered, writer, storage, name),
+    }
+}
+
+/// Puts that an area can be released.
+fn put_released<W: Write>(gathered: &mut Gathered, writer: &mut W, storage: &Storage, number: u32) {
+    put_seen(gathered, writer, storage, number);
+    put_line(
+        gathered,
+        writer,
+        &[Piece::Text("each doubleword of the area is taken, and no cell pool's")],
+    );
+}
+
+/// Puts which cell is handed out, or that none is free.
+fn put_cell<W: Write>(
+    gathered: &mut Gathered,
+    writer: &mut W,
+    storage: &Storage,
+    name: &str,
+    conditional: bool,
+) {
+    let Some(id) = find_pool(storage, name) else {
+        return put_no_pool(gathered, writer, storage, name);
+    };
+    match next_free_cell(storage, first_free_cell(storage, id)) {
+        Some((cell, _)) => put_line(
+            gathered,
+            writer,
+            &[Piece::Text("its first free cell is "), Piece::Address(cell)],
+        ),
+        None => put_no_cell(gathered, writer, storage, name, conditional),
+    }
+}

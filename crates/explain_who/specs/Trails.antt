@@ -1,0 +1,48 @@
+-- The lines of statements that stand or are undone, with what was read behind each.
+use Rattle.std.specs.Prelude.{◌≡◌, ℕ, suc, ◌+◌, ◌-◌, ◌≤◌, min, List, [], ◌∷◌, ◌++◌, length, map, reverse, take}
+use Rattle.vsm_model.specs.Standing.{Outcome, Standing, alone}
+use Rattle.explain_who.specs.declared.trail.TrailEntry.{TrailEntry}
+use Rattle.explain_who.specs.declared.trail.Trail.{Trail}
+
+-- The statements that stand, the oldest first, so many of these; the others are undone, the next one first.
+pub record Marks (V : Type 0) : Type 0 where
+  pub entries : List (TrailEntry V)
+  pub standing : ℕ
+
+abbrev pub marks_of : {V : Type 0} → Trail V → Marks V
+marks_of t = record { entries = t.entries.items; standing = t.standing }
+
+abbrev pub nothing_marked : {V : Type 0} → Marks V
+nothing_marked = record { entries = []; standing = 0 }
+
+-- one more stands, and none is undone any more
+abbrev pub with_mark : {V : Type 0} → Marks V → ℕ → V → Marks V
+with_mark t line seen =
+    record {
+      entries = take t.standing t.entries ++ record { line = line; seen = seen } ∷ [];
+      standing = suc t.standing;
+    }
+
+-- as many fewer or more stand as the two numbers are apart
+abbrev pub stepped : {V : Type 0} → Marks V → ℕ → ℕ → Marks V
+stepped t before after =
+    record { entries = t.entries; standing = min (length t.entries) (t.standing + after - before) }
+
+module _ {X R : Type 0} where
+  -- the statements that stand, the oldest first, and behind them those that are undone
+  abbrev pub in_turn : Standing X R → List X
+  in_turn l = map (λ x. x.statement) (reverse l.stood ++ l.undone)
+
+module _ {S X R C V : Type 0} (first : S) (step : S → X → Outcome S R C) (read : S → V) where
+  -- What is read behind each of these statements, where those stand before them, the newest first.
+  abbrev pub seen_along : List X → List (ℕ × X) → List (TrailEntry V)
+  seen_along older [] = []
+  seen_along older (x ∷ xs) =
+      record { line = x.0; seen = read (alone first step (x.1 ∷ older)) } ∷ seen_along (x.1 ∷ older) xs
+
+  -- The marks are those of the statements that stand and are undone: what was read behind a statement is what is read
+  -- behind it and those before it run alone.
+  pub record Follows (l : Standing (ℕ × X) R) (t : Marks V) : Type 0 where
+    pub entries : t.entries ≡ seen_along [] (in_turn l)
+    pub standing : t.standing ≡ length l.stood
+    pub kept : l.kept ≤ length l.stood

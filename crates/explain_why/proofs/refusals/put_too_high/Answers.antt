@@ -1,5 +1,0 @@
-use Rattle.std.proofs.Common.{refl}
-use Rattle.explain_why.proofs.refusals.put_too_high.Goals as goal
-
-pub returns : goal.returns
-returns g c = (0, _, refl, c.put_line.ensures.each 2 _ refl)

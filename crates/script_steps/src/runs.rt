@@ -1,0 +1,147 @@
+//! A run over a reader and a writer.
+ghost use Rattle.std.specs.Prelude.{◌++◌, [], ◌∷◌, ◌<◌, ◌≤◌, ℕ, List, Option, length, IfOk, OnOk};
+ghost use Rattle.std.specs.Io.KnownBytes.{IsAtEnd};
+ghost use Rattle.vsm_model.specs.declared.limits.Settings.{Settings};
+ghost use Rattle.text_output.specs.Writing.{IsEmpty};
+ghost use Rattle.script_steps.specs.Run.{Runs, GoesOn, Takes, TakesLine, TakesRead, Finishes, Ran};
+
+use crate::faults::RunFault;
+use crate::session::{LINES, Session, TooLong};
+use crate::steps::before_feed;
+use crate::texts::put_told;
+use crate::totals::RunTotals;
+use bench_core::Bench;
+use std::alloc::Global;
+use std::io::{Read, Write};
+use text_output::Gathered;
+use vsm_model::Settings;
+
+/// Takes a line feed, and puts the response to the line that it ends.
+fn take_feed<W: Write>(
+    session: &mut Session,
+    gathered: &mut Gathered,
+    writer: &mut W,
+) -> Result<(), TooLong>
+    ensures { GoesOn (W.contents writer.old) gathered.old session.old (λ settings first given.
+        Takes settings first (W.contents writer.new) gathered.new (given ++ 10 ∷ []) session.new result) }
+{
+    if session.lines() >= LINES {
+        return Err(TooLong);
+    }
+    let told = session.end_line();
+    put_told(gathered, writer, session.bench(), &told);
+    Ok(())
+}
+
+/// Takes the bytes up to the first line feed, and that; or all bytes where there is none. Gives how many these are.
+fn take_line<W: Write>(
+    session: &mut Session,
+    gathered: &mut Gathered,
+    writer: &mut W,
+    rest: &[u8],
+) -> Result<usize, TooLong>
+    requires { 0 < length rest.now }
+    ensures takes { GoesOn (W.contents writer.old) gathered.old session.old (λ settings first given.
+        TakesLine settings first (W.contents writer.new) gathered.new given rest.now session.new result) }
+    ensures some { IfOk result (λ n. 0 < n) }
+    ensures within { IfOk result (λ n. n ≤ length rest.now) }
+{
+    let size = before_feed(rest);
+    session.take_bytes(&rest[..size])?;
+    if size == rest.len() {
+        return Ok(size);
+    }
+    take_feed(session, gathered, writer)?;
+    Ok(size + 1)
+}
+
+/// Takes the bytes of one read.
+fn take_piece<W: Write>(
+    session: &mut Session,
+    gathered: &mut Gathered,
+    writer: &mut W,
+    piece: &[u8],
+) -> Result<(), TooLong>
+    ensures { GoesOn (W.contents writer.old) gathered.old session.old (λ settings first given.
+        Takes settings first (W.contents writer.new) gathered.new (given ++ piece.now) session.new result) }
+{
+    let mut rest = piece;
+    while !rest.is_empty() {
+        let n = take_line(session, gathered, writer, rest)?;
+        rest = &rest[n..];
+    }
+    Ok(())
+}
+
+/// Takes the bytes of one read, and hands out what they bring, also up to a byte that passes a bound.
+fn take_read<W: Write>(
+    session: &mut Session,
+    gathered: &mut Gathered,
+    writer: &mut W,
+    piece: &[u8],
+) -> Result<(), RunFault>
+    ensures takes { GoesOn (W.contents writer.old) gathered.old session.old (λ settings first given.
+        TakesRead settings first (W.contents writer.new) gathered.new (given ++ piece.now) session.new result) }
+    ensures empty { OnOk result (IsEmpty gathered.new) }
+{
+    let taken = take_piece(session, gathered, writer, piece);
+    gathered.hand_out(writer)?;
+    taken?;
+    Ok(())
+}
+
+/// Takes the end of the script.
+fn finish<W: Write>(
+    session: Session,
+    gathered: &mut Gathered,
+    writer: &mut W,
+) -> Result<RunTotals, RunFault>
+    ensures { (settings : Settings) (left first : Option (List ℕ)) (given : List ℕ) → IsAtEnd left
+        → Runs settings first (W.contents writer.old) gathered.old given session
+        → Finishes settings left first (W.contents writer.new) given result }
+{
+    let ending = session.end();
+    put_told(gathered, writer, &ending.bench, &ending.last);
+    put_told(gathered, writer, &ending.bench, &ending.open_statement);
+    gathered.hand_out(writer)?;
+    Ok(ending.totals)
+}
+
+/// Reads a script to its end, carries its statements out on a new bench under these settings, and writes a line for
+/// each statement that is complete or faulty, with the lines of the map behind that of a MAP.
+///
+/// A line ends at a line feed, which isn't part of it, nor is a carriage return before it; bytes after the last line
+/// feed are a line where there are any. Output is gathered, and handed out when there is no room for more and before
+/// each read. After `Read` the output is that of the complete lines, after `TooLong` that of the lines before the byte
+/// that passes a bound, and after `Write` a front of one of these, or of all output where the reader has met its end;
+/// after `New` nothing was read or written.
+#[tactic(auto, using(crate::proofs::Outcomes::read_fault))]
+pub fn run<R: Read, W: Write>(
+    alloc: Global,
+    reader: &mut R,
+    writer: &mut W,
+    settings: Settings,
+) -> Result<RunTotals, RunFault>
+    ensures { Ran settings (R.remaining reader.old) (R.remaining reader.new) (W.contents writer.old)
+        (W.contents writer.new) result }
+{
+    let bench = match Bench::new(alloc, settings) {
+        Ok(bench) => bench,
+        Err(fault) => return Err(RunFault::New(fault)),
+    };
+    let mut session = Session::new(bench);
+    let mut gathered = Gathered::new();
+    let mut buffer = [0u8; 8192];
+    'reads: for _ in 0..u64::MAX {
+        let Ok(n) = reader.read(&mut buffer) else {
+            return Err(RunFault::Read);
+        };
+        if n == 0 {
+            return finish(session, &mut gathered, writer);
+        }
+        if let Err(fault) = take_read(&mut session, &mut gathered, writer, &buffer[..n]) {
+            return Err(fault);
+        }
+    }
+    Err(RunFault::Read)
+}
