@@ -30,27 +30,38 @@ from .merging import merged
 from .places import Key, location
 
 
+Side = tuple[list[Area], list[Build]]      # its runs of unassigned pages, and its cell pools
+
+
 def descent(runs: list[Area], wanted: list[Build], most: int) -> Optional[list[Step]]:
     """The steps that make some cell pools, on either side of the line; None where they aren't made so. most: how many
     there may be at once."""
     if any(it.side != location(it.area.start) for it in wanted):
         return None        # one that lies below the line as there was no place above
-    sides = [Descent([run for run in runs if location(run.start) == side], its, most) for side in (31, 24)
+    sides = [([run for run in runs if location(run.start) == side], its) for side in (31, 24)
              if (its := [it for it in wanted if location(it.area.start) == side])]
-    ways = [side.plans(len(sides) > 1) for side in sides]
-    firsts = [next(way, None) for way in ways]
-    if len(sides) < 2:
-        return firsts[0] if sides else []
-    found = on_both(firsts[0], firsts[1], most)
-    if found is None and None not in firsts:
-        found = next((steps for both in product(*([first, *way] for first, way in zip(firsts, ways)))
-                      if (steps := on_both(*both, most)) is not None), None)
+    found = in_turn(sides, most)
+    if found is None and len(sides) > 1:
+        found = in_turn(sides[::-1], most) or side_by_side(sides, most)
     return found
 
 
-def on_both(high: Optional[list[Step]], low: Optional[list[Step]], most: int) -> Optional[list[Step]]:
-    """The steps on both sides of the line, if there are some for each."""
-    return None if high is None or low is None else merged(high, low, most)
+def in_turn(sides: list[Side], most: int) -> Optional[list[Step]]:
+    """The steps of one side behind all of the other's."""
+    steps: list[Step] = []
+    for runs, its in sides:
+        found = next(Descent(runs, its, most).plans(False), None)
+        if found is None:
+            return None
+        steps += found
+        most -= len(its)
+    return steps
+
+
+def side_by_side(sides: list[Side], most: int) -> Optional[list[Step]]:
+    """The steps of both sides, each of which may rest while the other goes on."""
+    ways = [list(Descent(runs, its, most).plans(True)) for runs, its in sides]
+    return next((steps for high, low in product(*ways) if (steps := merged(high, low, most)) is not None), None)
 
 
 class Descent(Held):
