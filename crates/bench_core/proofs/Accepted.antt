@@ -20,8 +20,8 @@ use Rattle.storage_swap.specs.ReservedFit.{reserve-others, reserve-apart, reserv
 use Rattle.vsm_machine.specs.Meaning.{state_in_place, settings_of}
 use Rattle.vsm_machine.specs.Planned.{IsIdFor, change_for, reply_of}
 use Rattle.vsm_machine.specs.Stays.{Stays}
-use Rattle.name_table.specs.Steps.{NameStep}
-use Rattle.name_table.specs.Table.{rows_of, knows}
+use Rattle.vsm_machine.specs.NameChanges.{NameStep}
+use Rattle.vsm_machine.specs.NameTable.{rows_of, knows}
 use Rattle.vsm_machine.specs.declared.machine.Machine.{Machine}
 use Rattle.vsm_machine.specs.declared.machine.MachineChange.{MachineChange}
 use Rattle.vsm_machine.specs.declared.plans.Planned.{Planned}

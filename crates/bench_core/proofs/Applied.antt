@@ -1,8 +1,8 @@
 -- A change that is applied and kept.
 use Rattle.std.proofs.Common.{◌≡◌, ℕ, suc, ◌-◌, true, true≢false, Option, Some, None, List, [], ◌∷◌, ◌++◌, length, map, take, drop, sym, ◌∙◌, ap, subst, refl, arith, append_assoc}
 use Rattle.std.proofs.lemmas.List.{append-nil, length_push}
-use Rattle.name_table.specs.Steps.{NameStep, define, undefine, reword}
-use Rattle.name_table.specs.Table.{knows}
+use Rattle.vsm_machine.specs.NameChanges.{NameStep, define, undefine, reword}
+use Rattle.vsm_machine.specs.NameTable.{knows}
 use Rattle.vsm_machine.specs.Meaning.{settings_of}
 use Rattle.storage_swap.specs.Swap as swap
 use Rattle.step_history.specs.Chain.{FitsBefore, ChainFits, chain_states}

@@ -6,8 +6,8 @@ use Rattle.vsm_model.specs.declared.limits.Settings.{Settings}
 use Rattle.std.specs.List.{AllByRecursion}
 use Rattle.vsm_model.specs.Standing.{Keeps, Back, Forward}
 use Rattle.vsm_machine.specs.Meaning.{settings_of}
-use Rattle.name_table.specs.Steps.{NameStep, define, undefine, reword}
-use Rattle.name_table.specs.Table.{rows_of}
+use Rattle.vsm_machine.specs.NameChanges.{NameStep, define, undefine, reword}
+use Rattle.vsm_machine.specs.NameTable.{rows_of}
 use Rattle.step_history.specs.Log.{Log}
 use Rattle.step_history.specs.Trail.{trail_of, trail_back, past_count, later_count}
 use Rattle.step_history.specs.Walk.{Moment, moment, Times, StepsBack, StepsForward, DiscardsAll}

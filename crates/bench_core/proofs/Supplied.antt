@@ -3,9 +3,9 @@ use Rattle.std.proofs.Common.{◌≡◌, ℕ, Option, Some, None, IsSome, IfSome
 use Rattle.vsm_model.specs.Names.{word_of}
 use Rattle.vsm_model.proofs.Rows.{name_stands}
 use Rattle.macro_statements.specs.Requests.{Act}
-use Rattle.name_table.specs.declared.tables.NameTable.{NameTable}
-use Rattle.name_table.specs.Steps.{NameStep, define, undefine, reword}
-use Rattle.name_table.specs.Table.{rows_of, HasRoom}
+use Rattle.vsm_machine.specs.declared.names.NameTable.{NameTable}
+use Rattle.vsm_machine.specs.NameChanges.{NameStep, define, undefine, reword}
+use Rattle.vsm_machine.specs.NameTable.{rows_of, HasRoom}
 use Rattle.storage_changes.specs.Fresh.{FreshIsNew}
 use Rattle.vsm_machine.proofs.FreshLemmas.{plan_assigns, zero_is_free}
 use Rattle.vsm_machine.specs.Meaning.{state_in_place, settings_of}

@@ -13,14 +13,14 @@ ghost use Rattle.vsm_machine.specs.declared.refusals.Refusal.TheVariants.{NoMemo
 ghost use Rattle.bench_core.specs.Sparing.{MakesForStatement, TakesNoMemory};
 
 use macro_statements::{Family, Statement};
-use name_table::NameTable;
 use operand_texts::Value;
 use std::alloc::Global;
 use step_history::{History, Reversible, TooFar, TooFarAhead};
 use storage_changes::laws::fresh_pages_are_newly_assigned;
 use storage_swap::laws::first_is_first;
 use vsm_machine::{
-    Machine, NewFault, Planned, Refusal, Reply, Settings, Storage, look_up, plan_of, reserve,
+    Machine, NameTable, NewFault, Planned, Refusal, Reply, Settings, Storage, look_up, plan_of,
+    reserve,
 };
 
 /// A bench over one private region.

@@ -1,16 +1,16 @@
 //! The map of a bench.
 ghost use Rattle.std.specs.Prelude.{◌++◌, codes, length};
-ghost use Rattle.name_table.specs.Table.{rows_of};
+ghost use Rattle.vsm_machine.specs.NameTable.{rows_of};
 ghost use Rattle.vsm_model.specs.Map.{hex_field, line, map_text, name_lines};
 ghost use Rattle.bench_core.specs.Stands.{bench_of, settings_in};
 ghost use Rattle.text_output.specs.Writing.{Puts, Writes};
 
 use crate::bench::Bench;
-use name_table::{Name, NameTable};
 use std::io;
 use std::io::Write;
 use storage_map as maps;
 use text_output::{Gathered, put_hexadecimal};
+use vsm_machine::{Name, NameTable};
 
 /// Puts the line of a name: what it's called, and the word that it stands for in hexadecimal digits.
 #[tactic(auto, using(text_output::proofs::Gathering::puts_both))]

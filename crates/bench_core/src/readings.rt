@@ -1,7 +1,7 @@
 //! What a bench shows of its present state: its storage, the words of its names, the words of values, and what a
 //! statement would ask for there, with the first cause for which it would be refused.
 ghost use Rattle.std.specs.Prelude.{◌≡◌, option_map, slice_get};
-ghost use Rattle.name_table.specs.Table.{row_of};
+ghost use Rattle.vsm_machine.specs.NameTable.{row_of};
 ghost use Rattle.vsm_machine.specs.Machine.{looked_up, service_asked};
 ghost use Rattle.vsm_machine.specs.Meaning.{settings_of, state_of};
 ghost use Rattle.vsm_model.specs.Meaning.{service_in};
@@ -12,9 +12,8 @@ ghost use Rattle.bench_core.specs.Stands.{bench_of, settings_in};
 
 use crate::bench::Bench;
 use macro_statements::Statement;
-use name_table::Name;
 use operand_texts::Value;
-use vsm_machine::{Settings, Storage, UnknownName, cause_of, look_up, service_of};
+use vsm_machine::{Name, Settings, Storage, UnknownName, cause_of, look_up, service_of};
 use vsm_model::{Cause, Service};
 
 impl Bench {

@@ -7,14 +7,6 @@ use Rattle.list_table.specs.Entries.{Entry, word}
 use Rattle.cell_extents.specs.Names.{spelled}
 use Rattle.cell_extents.specs.Items.{item, settings_in, subpool_in, pool_of, label_of}
 
-pub if_true : {A : Type 0} → (b : Bool) (x y : A) → b ≡ true → (if b then x else y) ≡ x
-if_true true x y h = refl
-if_true false x y h = absurd (not_both false h refl)
-
-pub if_false : {A : Type 0} → (b : Bool) (x y : A) → b ≡ false → (if b then x else y) ≡ y
-if_false true x y h = absurd (not_both true refl h)
-if_false false x y h = refl
-
 pub pool_id : (e : Entry) → (pool_of e).id ≡ e.id
 unfolding pool_of
 pool_id e = refl

@@ -2,7 +2,7 @@
 use Rattle.std.proofs.Common.{◌≡◌, ℕ, ◌+◌, ◌*◌, ◌<◌, ◌≤◌, ◌==◌, ◌&&◌, ◌||◌, Bool, true, false, List, [], ◌∷◌, ◌++◌, Option, Some, None, inl, inr, refl, sym, ap, ◌∙◌, subst, arith}
 use Rattle.std.specs.Prelude.{if◌then◌else◌, option_map, nat_lt}
 use Rattle.std.specs.List.{list_any}
-use Rattle.std.proofs.lemmas.Bool.{le-ltb, ltb-false}
+use Rattle.std.proofs.lemmas.Bool.{le-ltb, ltb-false, cond-false, cond-true}
 use Rattle.vsm_elements.specs.Store.{Store}
 use Rattle.vsm_elements.proofs.ChainLemmas.{not_both}
 use Rattle.row_table.specs.declared.row.Row.{Row}
@@ -17,7 +17,7 @@ use Rattle.cell_extents.specs.declared.settings.Extent.{Extent}
 use Rattle.cell_extents.specs.Pool.{Pool, overlaps, meets, rounded, extended}
 use Rattle.cell_extents.specs.Notes.{is_at}
 use Rattle.cell_extents.specs.Places.{place_words, placed_at, beginning_at, overlaps_place, place_bytes, ArePlaced, AreSeparate, BeginFrom, AreSpread}
-use Rattle.cell_extents.proofs.EntryLemmas.{eqb_same, eqb_refl, if_true, if_false}
+use Rattle.cell_extents.proofs.EntryLemmas.{eqb_same, eqb_refl}
 use Rattle.cell_extents.proofs.CellLemmas.{or_left, or_right}
 use Rattle.cell_extents.proofs.SeparateLemmas.{some_is, one_not, begins_elsewhere, begins_elsewhere_than, beginning_more, beside_one, has_cells, last_has, separate_less}
 use Rattle.cell_extents.proofs.PlaceLemmas.{Say, first_says, rest_say, all_say}
@@ -120,15 +120,15 @@ module _ (start len : ℕ) (all xs : List Row) (r : Row) (ys : List Row) (are : 
 any_placed : (f : List ℕ → Bool) (rows : Items) (a : ℕ) (ws : List ℕ) → placed_at a rows ≡ Some ws → f ws ≡ true → list_any f rows ≡ true
 any_placed f [] a ws e g = absurd (none_some None ws refl e)
 any_placed f (w ∷ rest) a ws e g = elim (either (is_at a w)) [
-  | inl p ↦ or_left (f w) (list_any f rest) (ap f (some_is w ws (sym (if_true (is_at a w) (Some w) (placed_at a rest) p) ∙ e)) ∙ g)
-  | inr p ↦ or_right (f w) (list_any f rest) (any_placed f rest a ws (sym (if_false (is_at a w) (Some w) (placed_at a rest) p) ∙ e) g)
+  | inl p ↦ or_left (f w) (list_any f rest) (ap f (some_is w ws (sym (cond-true (is_at a w) (Some w) (placed_at a rest) p) ∙ e)) ∙ g)
+  | inr p ↦ or_right (f w) (list_any f rest) (any_placed f rest a ws (sym (cond-false (is_at a w) (Some w) (placed_at a rest) p) ∙ e) g)
 ]
 
 any_beginning : (f : Extent → Bool) (xs : List Extent) (a : ℕ) (x : Extent) → beginning_at a xs ≡ Some x → f x ≡ true → list_any f xs ≡ true
 any_beginning f [] a x e g = absurd (none_some None x refl e)
 any_beginning f (y ∷ ys) a x e g = elim (either (a == y.start)) [
-  | inl p ↦ or_left (f y) (list_any f ys) (ap f (some_is y x (sym (if_true (a == y.start) (Some y) (beginning_at a ys) p) ∙ e)) ∙ g)
-  | inr p ↦ or_right (f y) (list_any f ys) (any_beginning f ys a x (sym (if_false (a == y.start) (Some y) (beginning_at a ys) p) ∙ e) g)
+  | inl p ↦ or_left (f y) (list_any f ys) (ap f (some_is y x (sym (cond-true (a == y.start) (Some y) (beginning_at a ys) p) ∙ e)) ∙ g)
+  | inr p ↦ or_right (f y) (list_any f ys) (any_beginning f ys a x (sym (cond-false (a == y.start) (Some y) (beginning_at a ys) p) ∙ e) g)
 ]
 
 one_of : (a b : Bool) → (a || b) ≡ true → a ≡ false → b ≡ true
@@ -148,9 +148,9 @@ said_any size start len xs (r ∷ rs) o lows say e = elim (either (overlaps_plac
 begun_any : (size : ℕ) → 0 < size → (f : Extent → Bool) (xs : List Extent) → AreSeparate size xs → list_any f xs ≡ true → (x : Extent) × (beginning_at x.start xs ≡ Some x) × (f x ≡ true)
 begun_any size s f [] h e = absurd (not_both false e refl)
 begun_any size s f (y ∷ ys) h e = elim (either (f y)) [
-  | inl p ↦ (y, if_true (y.start == y.start) (Some y) (beginning_at y.start ys) (eqb_refl y.start), p)
+  | inl p ↦ (y, cond-true (y.start == y.start) (Some y) (beginning_at y.start ys) (eqb_refl y.start), p)
   | inr p ↦ (let x = begun_any size s f ys h.2 (one_of (f y) (list_any f ys) e p) in
-      (x.0, if_false ((x.0).start == y.start) (Some y) (beginning_at (x.0).start ys) (begins_elsewhere_than size s (x.0).start (x.0).count (has_cells size ys h.2 (x.0).start x.0 x.1) y h.0 (beside_one size y ys h.1 (x.0).start x.0 x.1)) ∙ x.1, x.2))
+      (x.0, cond-false ((x.0).start == y.start) (Some y) (beginning_at (x.0).start ys) (begins_elsewhere_than size s (x.0).start (x.0).count (has_cells size ys h.2 (x.0).start x.0 x.1) y h.0 (beside_one size y ys h.1 (x.0).start x.0 x.1)) ∙ x.1, x.2))
 ]
 
 same_bool : (a b : Bool) → (a ≡ true → b ≡ true) → (b ≡ true → a ≡ true) → a ≡ b

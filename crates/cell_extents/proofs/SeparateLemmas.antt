@@ -2,7 +2,7 @@
 use Rattle.std.proofs.Common.{◌≡◌, ℕ, ◌+◌, ◌*◌, ◌<◌, ◌≤◌, ◌==◌, ◌&&◌, ◌||◌, ◌⊎◌, Bool, true, false, List, [], ◌∷◌, ◌++◌, Option, Some, None, inl, inr, refl, sym, ap, ◌∙◌, subst, arith}
 use Rattle.std.specs.Prelude.{if◌then◌else◌, nat_lt, nat_le}
 use Rattle.std.specs.List.{list_any}
-use Rattle.std.proofs.lemmas.Bool.{ltb-false, le-leb, leb-true}
+use Rattle.std.proofs.lemmas.Bool.{ltb-false, le-leb, leb-true, cond-false, cond-true}
 use Rattle.std.proofs.Math.Nat.{mul-le-mul_right}
 use Rattle.vsm_elements.proofs.ChainLemmas.{not_both}
 use Rattle.row_table.proofs.RowLemmas.{either, none_some}
@@ -10,7 +10,7 @@ use Rattle.cell_extents.specs.declared.settings.Extent.{Extent}
 use Rattle.cell_extents.specs.Pool.{overlaps, rounded}
 use Rattle.cell_extents.specs.Places.{beginning_at, lie_apart, LiesBeside, AreSeparate}
 use Rattle.cell_extents.proofs.CellLemmas.{or_left, or_right}
-use Rattle.cell_extents.proofs.EntryLemmas.{eqb_same, eqb_refl, if_true, if_false}
+use Rattle.cell_extents.proofs.EntryLemmas.{eqb_same, eqb_refl}
 
 -- some cells have some bytes
 pub some_bytes : (count size : ℕ) → 0 < count → 0 < size → 0 < count * size
@@ -44,24 +44,24 @@ apart_says size x y e = elim (one_or (nat_le (x.start + x.count * size) y.start)
 pub begins : (a : ℕ) (xs : List Extent) (x : Extent) → beginning_at a xs ≡ Some x → x.start ≡ a
 begins a [] x e = absurd (none_some None x refl e)
 begins a (y ∷ ys) x e = elim (either (a == y.start)) [
-  | inl p ↦ ap (λ (z : Extent). z.start) (some_is x y (sym e ∙ if_true (a == y.start) (Some y) (beginning_at a ys) p)) ∙ sym (eqb_same a y.start p)
-  | inr p ↦ begins a ys x (sym (if_false (a == y.start) (Some y) (beginning_at a ys) p) ∙ e)
+  | inl p ↦ ap (λ (z : Extent). z.start) (some_is x y (sym e ∙ cond-true (a == y.start) (Some y) (beginning_at a ys) p)) ∙ sym (eqb_same a y.start p)
+  | inr p ↦ begins a ys x (sym (cond-false (a == y.start) (Some y) (beginning_at a ys) p) ∙ e)
 ]
 
 module _ (size : ℕ) where
   pub beside_one : (x : Extent) (ys : List Extent) → LiesBeside size x ys → (b : ℕ) (y : Extent) → beginning_at b ys ≡ Some y → LieApart size x y
   beside_one x [] h b y e = absurd (none_some None y refl e)
   beside_one x (z ∷ ys) h b y e = elim (either (b == z.start)) [
-    | inl p ↦ (let P : Extent → Type 0 = λ w. LieApart size x w in subst P (some_is z y (sym (if_true (b == z.start) (Some z) (beginning_at b ys) p) ∙ e)) (apart_says size x z h.0))
-    | inr p ↦ beside_one x ys h.1 b y (sym (if_false (b == z.start) (Some z) (beginning_at b ys) p) ∙ e)
+    | inl p ↦ (let P : Extent → Type 0 = λ w. LieApart size x w in subst P (some_is z y (sym (cond-true (b == z.start) (Some z) (beginning_at b ys) p) ∙ e)) (apart_says size x z h.0))
+    | inr p ↦ beside_one x ys h.1 b y (sym (cond-false (b == z.start) (Some z) (beginning_at b ys) p) ∙ e)
   ]
 
   -- each has a cell
   pub has_cells : (xs : List Extent) → AreSeparate size xs → (a : ℕ) (x : Extent) → beginning_at a xs ≡ Some x → 0 < x.count
   has_cells [] h a x e = absurd (none_some None x refl e)
   has_cells (y ∷ ys) h a x e = elim (either (a == y.start)) [
-    | inl p ↦ (let P : Extent → Type 0 = λ w. 0 < w.count in subst P (some_is y x (sym (if_true (a == y.start) (Some y) (beginning_at a ys) p) ∙ e)) h.0)
-    | inr p ↦ has_cells ys h.2 a x (sym (if_false (a == y.start) (Some y) (beginning_at a ys) p) ∙ e)
+    | inl p ↦ (let P : Extent → Type 0 = λ w. 0 < w.count in subst P (some_is y x (sym (cond-true (a == y.start) (Some y) (beginning_at a ys) p) ∙ e)) h.0)
+    | inr p ↦ has_cells ys h.2 a x (sym (cond-false (a == y.start) (Some y) (beginning_at a ys) p) ∙ e)
   ]
 
   pub last_has : (xs : List Extent) (x : Extent) → AreSeparate size (xs ++ x ∷ []) → 0 < x.count
@@ -88,12 +88,12 @@ module _ (size : ℕ) where
         | inl p ↦ elim (either (b == z.start)) [
           | inl q ↦ absurd (omega (arith, l, eqb_same a z.start p, eqb_same b z.start q))
           | inr q ↦ (let P : Extent → Type 0 = λ w. LieApart size w y in
-              later x y less (subst P (some_is z x (sym (if_true (a == z.start) (Some z) (beginning_at a zs) p) ∙ e)) (beside_one z zs h.1 b y (sym (if_false (b == z.start) (Some z) (beginning_at b zs) q) ∙ f))))
+              later x y less (subst P (some_is z x (sym (cond-true (a == z.start) (Some z) (beginning_at a zs) p) ∙ e)) (beside_one z zs h.1 b y (sym (cond-false (b == z.start) (Some z) (beginning_at b zs) q) ∙ f))))
         ]
         | inr p ↦ elim (either (b == z.start)) [
           | inl q ↦ (let P : Extent → Type 0 = λ w. LieApart size w x in
-              earlier x y less (subst P (some_is z y (sym (if_true (b == z.start) (Some z) (beginning_at b zs) q) ∙ f)) (beside_one z zs h.1 a x (sym (if_false (a == z.start) (Some z) (beginning_at a zs) p) ∙ e))))
-          | inr q ↦ separate_pair s zs h.2 a b x y (sym (if_false (a == z.start) (Some z) (beginning_at a zs) p) ∙ e) (sym (if_false (b == z.start) (Some z) (beginning_at b zs) q) ∙ f) l
+              earlier x y less (subst P (some_is z y (sym (cond-true (b == z.start) (Some z) (beginning_at b zs) q) ∙ f)) (beside_one z zs h.1 a x (sym (cond-false (a == z.start) (Some z) (beginning_at a zs) p) ∙ e))))
+          | inr q ↦ separate_pair s zs h.2 a b x y (sym (cond-false (a == z.start) (Some z) (beginning_at a zs) p) ∙ e) (sym (cond-false (b == z.start) (Some z) (beginning_at b zs) q) ∙ f) l
         ]
       ]
 
@@ -101,19 +101,19 @@ module _ (size : ℕ) where
   pub beginning_more : (xs : List Extent) (x : Extent) → beginning_at x.start xs ≡ None → (a : ℕ) → beginning_at a (xs ++ x ∷ []) ≡ (if a == x.start then Some x else beginning_at a xs)
   beginning_more [] x none a = refl
   beginning_more (y ∷ ys) x none a = elim (either (a == y.start)) [
-    | inl p ↦ if_true (a == y.start) (Some y) (beginning_at a (ys ++ x ∷ [])) p
-        ∙ sym (if_false (a == x.start) (Some x) (beginning_at a (y ∷ ys)) (not_this p) ∙ if_true (a == y.start) (Some y) (beginning_at a ys) p)
-    | inr p ↦ if_false (a == y.start) (Some y) (beginning_at a (ys ++ x ∷ [])) p ∙ beginning_more ys x rest a
-        ∙ ap (λ (o : Option Extent). if a == x.start then Some x else o) (sym (if_false (a == y.start) (Some y) (beginning_at a ys) p))
+    | inl p ↦ cond-true (a == y.start) (Some y) (beginning_at a (ys ++ x ∷ [])) p
+        ∙ sym (cond-false (a == x.start) (Some x) (beginning_at a (y ∷ ys)) (not_this p) ∙ cond-true (a == y.start) (Some y) (beginning_at a ys) p)
+    | inr p ↦ cond-false (a == y.start) (Some y) (beginning_at a (ys ++ x ∷ [])) p ∙ beginning_more ys x rest a
+        ∙ ap (λ (o : Option Extent). if a == x.start then Some x else o) (sym (cond-false (a == y.start) (Some y) (beginning_at a ys) p))
   ] where
     own : (x.start == y.start) ≡ false
     own = elim (either (x.start == y.start)) [
-      | inl p ↦ absurd (none_some (beginning_at x.start (y ∷ ys)) y none (if_true (x.start == y.start) (Some y) (beginning_at x.start ys) p))
+      | inl p ↦ absurd (none_some (beginning_at x.start (y ∷ ys)) y none (cond-true (x.start == y.start) (Some y) (beginning_at x.start ys) p))
       | inr p ↦ p
     ]
 
     rest : beginning_at x.start ys ≡ None
-    rest = sym (if_false (x.start == y.start) (Some y) (beginning_at x.start ys) own) ∙ none
+    rest = sym (cond-false (x.start == y.start) (Some y) (beginning_at x.start ys) own) ∙ none
 
     not_this : (a == y.start) ≡ true → (a == x.start) ≡ false
     not_this p = elim (either (a == x.start)) [
@@ -164,7 +164,7 @@ module _ (size : ℕ) where
     begins_elsewhere [] h e = refl
     begins_elsewhere (y ∷ ys) h e =
         let k = neither (overlaps size start (count * size) y) (list_any (overlaps size start (count * size)) ys) e in
-        if_false (start == y.start) (Some y) (beginning_at start ys) (begins_elsewhere_than y h.0 (apart y k.0)) ∙ begins_elsewhere ys h.2 k.1
+        cond-false (start == y.start) (Some y) (beginning_at start ys) (begins_elsewhere_than y h.0 (apart y k.0)) ∙ begins_elsewhere ys h.2 k.1
 
     -- what the last one, as it goes, leaves
     beside_front : (y : Extent) (ys : List Extent) → LiesBeside size y (ys ++ x ∷ []) → LiesBeside size y ys × LieApart size y x
@@ -176,10 +176,10 @@ module _ (size : ℕ) where
     separate_less (y ∷ ys) h =
         let b = beside_front y ys h.1 in
         let r = separate_less ys h.2 in
-        ((h.0, b.0, r.0), if_false (start == y.start) (Some y) (beginning_at start ys) (begins_elsewhere_than y h.0 b.1) ∙ r.1)
+        ((h.0, b.0, r.0), cond-false (start == y.start) (Some y) (beginning_at start ys) (begins_elsewhere_than y h.0 b.1) ∙ r.1)
 
 -- the last one begins at its address
 pub begins_last : (size : ℕ) → 0 < size → (xs : List Extent) (x : Extent) → AreSeparate size (xs ++ x ∷ []) → beginning_at x.start (xs ++ x ∷ []) ≡ Some x
 begins_last size s xs x h =
     beginning_more size xs x (separate_less size s x.start x.count (last_has size xs x h) xs h).1 x.start
-    ∙ if_true (x.start == x.start) (Some x) (beginning_at x.start xs) (eqb_refl x.start)
+    ∙ cond-true (x.start == x.start) (Some x) (beginning_at x.start xs) (eqb_refl x.start)

@@ -1,11 +1,11 @@
 -- The bytes of words, and the words of bytes.
 use Rattle.std.proofs.Common.{◌≡◌, ℕ, zero, suc, ◌/◌, ◌%◌, ◌≤◌, ◌<◌, ◌==◌, true, false, List, [], ◌∷◌, ◌++◌, length, get_or, Option, Some, None, refl, sym, ap, ◌∙◌, subst, arith, append_assoc}
+use Rattle.std.proofs.lemmas.Bool.{cond-false, cond-true}
 use Rattle.std.specs.Prelude.{IfSome}
 use Rattle.list_table.specs.Entries.{Entry, word}
 use Rattle.cell_extents.specs.declared.label.Label.{Label}
 use Rattle.cell_extents.specs.Names.{byte_of, bytes_in, unpacked, spelled, header_in, AreBytes}
 use Rattle.cell_extents.specs.Items.{item, pool_of}
-use Rattle.cell_extents.proofs.EntryLemmas.{if_true, if_false}
 
 pub unpacked_append : (a b : List ℕ) → unpacked (a ++ b) ≡ unpacked a ++ unpacked b
 unpacked_append [] b = refl
@@ -60,10 +60,10 @@ unfolding pool_of
 pool_header e = refl
 
 pub no_header : (front form : List ℕ) → (word form 1 == 0) ≡ true → header_in front form ≡ None
-no_header front form h = if_true (word form 1 == 0) None (Some (unpacked (front ++ word form 2 ∷ []))) h
+no_header front form h = cond-true (word form 1 == 0) None (Some (unpacked (front ++ word form 2 ∷ []))) h
 
 pub some_header : (front form : List ℕ) → (word form 1 == 0) ≡ false → header_in front form ≡ Some (unpacked (front ++ word form 2 ∷ []))
-some_header front form h = if_false (word form 1 == 0) None (Some (unpacked (front ++ word form 2 ∷ []))) h
+some_header front form h = cond-false (word form 1 == 0) None (Some (unpacked (front ++ word form 2 ∷ []))) h
 
 pub last_word : (front : List ℕ) (w : ℕ) → unpacked (front ++ w ∷ []) ≡ unpacked front ++ bytes_in w
 last_word front w = unpacked_append front (w ∷ []) ∙ ap (λ (z : List ℕ). unpacked front ++ z) (nil_end (bytes_in w)) where

@@ -23,7 +23,7 @@ use Rattle.storage_swap.specs.Builder.{records_in, parked_in, IsBuilding, Builds
 use Rattle.storage_swap.specs.Growth.{all_elements, MakesElements}
 use Rattle.storage_swap.proofs.KeptLemmas.{over}
 use Rattle.storage_swap.proofs.BuilderLemmas.{Leads, leads-all, leads-room, makes-follow}
-use Rattle.change_laws.specs.CellActions.{extents_given_back}
+use Rattle.storage_changes.specs.CellActions.{extents_given_back}
 use Rattle.cell_plans.specs.Areas.{areas_of}
 use Rattle.cell_plans.specs.CellPlans.{pool_given_back, extents_of_pool, CanBeDeleted}
 use Rattle.cell_plans.specs.Emptied.{area_of, area_given_back, freed}

@@ -38,10 +38,10 @@ use Rattle.subpool_storage.specs.Subpools.{is_there, built_pool}
 use Rattle.storage_changes.specs.State.{StorageState}
 use Rattle.storage_changes.specs.Changes.{Change, change_of, change_building}
 use Rattle.storage_changes.specs.Meaning.{model_of, IsSound}
-use Rattle.change_laws.specs.StorageActions.{own_records, register_records}
-use Rattle.change_laws.specs.Leads.{CanOwn, Leads, with_new}
-use Rattle.change_laws.specs.CellActions.{area_records, area_blanks, area_pages}
-use Rattle.change_laws.specs.CellLaws.{BuildingLeads}
+use Rattle.storage_changes.specs.StorageActions.{own_records, register_records}
+use Rattle.storage_changes.specs.Leads.{CanOwn, Leads, with_new}
+use Rattle.storage_changes.specs.CellActions.{area_records, area_blanks, area_pages}
+use Rattle.storage_changes.specs.CellLaws.{BuildingLeads}
 use Rattle.storage_plans.specs.declared.places.AreaPlace.{AreaPlace}
 use Rattle.storage_plans.specs.declared.places.AreaPlace.TheVariants as areas
 use Rattle.storage_plans.specs.ObtainPlans.{place_address, place_blanks, place_pages, place_records}

@@ -13,7 +13,7 @@ use Rattle.storage_changes.specs.declared.record.Record.{Record}
 use Rattle.storage_changes.specs.State.{StorageState}
 use Rattle.storage_changes.specs.Changes.{Change, change_from, change_of}
 use Rattle.storage_changes.specs.Meaning.{model_of}
-use Rattle.change_laws.specs.Leads.{Leads}
+use Rattle.storage_changes.specs.Leads.{Leads}
 use Rattle.storage_plans.specs.declared.plan.StoragePlan.{StoragePlan}
 use Rattle.storage_plans.specs.Plans.{Assigns, CarriesOut, IsAccepted, change_in}
 use Rattle.cell_plans.specs.CellPlans.{HasRecords}

@@ -8,8 +8,8 @@ use Rattle.cell_pool.specs.Pools.{Pool}
 use Rattle.subpool_storage.specs.Subpools.{Subpools, with_free}
 use Rattle.storage_changes.specs.declared.record.Record.{Record}
 use Rattle.storage_changes.specs.State.{StorageState}
-use Rattle.change_laws.specs.StorageActions.{run_of, area_records, returned_records, give_back_records, emptied_pages, register_records}
-use Rattle.change_laws.specs.CellActions.{extents_given_back, deleting_records}
+use Rattle.storage_changes.specs.StorageActions.{run_of, area_records, returned_records, give_back_records, emptied_pages, register_records}
+use Rattle.storage_changes.specs.CellActions.{extents_given_back, deleting_records}
 use Rattle.cell_plans.specs.CellPlans.{deleting_change, extents_of_pool}
 
 -- an area is one record, or none

@@ -35,7 +35,7 @@ use Rattle.storage_changes.specs.Meaning.{model_of, IsSound}
 use Rattle.storage_changes.specs.State.{StorageState}
 use Rattle.storage_plans.specs.Plans.{IsAccepted}
 use Rattle.storage_plans.proofs.Carried.{no_registers, register_and}
-use Rattle.change_laws.specs.CellLaws.{DeletingLeads}
+use Rattle.storage_changes.specs.CellLaws.{DeletingLeads}
 use Rattle.cell_plans.specs.CellPlans.{cells_weight, pool_and_extents, deleting_change, delete_change, pool_given_back, extents_of_pool, CanBeDeleted, IsDeletePlanned}
 use Rattle.cell_plans.specs.Seen.{IsSeen}
 use Rattle.cell_plans.proofs.GivenAreas.{EndsLow}

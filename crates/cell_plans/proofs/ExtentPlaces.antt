@@ -17,13 +17,13 @@ use Rattle.service_laws.proofs.Places.{Goes, IsOf, place_goes, place_in_words, r
 use Rattle.storage_changes.specs.Meaning.{model_of, IsSound}
 use Rattle.storage_changes.specs.State.{StorageState}
 use Rattle.storage_changes.proofs.MeaningLemmas.{free_storage_is_free, unassigned_pages_are_nobodys}
-use Rattle.change_laws.proofs.Rows.{none_fresh}
+use Rattle.storage_changes.proofs.Rows.{none_fresh}
 use Rattle.storage_plans.specs.ObtainPlans.{place_address, place_blanks, place_pages, place_records}
 use Rattle.storage_plans.specs.Places.{place_of}
 use Rattle.storage_plans.specs.declared.places.AreaPlace.{AreaPlace}
 use Rattle.storage_plans.specs.declared.places.AreaPlace.TheVariants as areas
 use Rattle.storage_plans.proofs.AskedLengths.{is_somewhere}
-use Rattle.change_laws.specs.CellActions.{HasRoom, area_blanks, area_pages, area_records}
+use Rattle.storage_changes.specs.CellActions.{HasRoom, area_blanks, area_pages, area_records}
 
 -- a place that is one has the same records,
 pub same_records : (p : Subpool) (count : ℕ) (x : AreaPlace) → place_records p count x ≡ area_records p count (place_of (Some x))

@@ -15,9 +15,9 @@ use Rattle.cell_pool.specs.Pools.{Pool}
 use Rattle.subpool_storage.specs.Subpools.{Subpools, with_free}
 use Rattle.storage_changes.specs.declared.record.Record.{Record}
 use Rattle.storage_changes.proofs.Cases.{same-self}
-use Rattle.change_laws.specs.StorageActions.{emptied_pages, give_back_records, run_of}
-use Rattle.change_laws.proofs.Cases.{same_answers}
-use Rattle.change_laws.specs.CellActions.{extents_given_back}
+use Rattle.storage_changes.specs.StorageActions.{emptied_pages, give_back_records, run_of}
+use Rattle.storage_changes.proofs.ActionCases.{same_answers}
+use Rattle.storage_changes.specs.CellActions.{extents_given_back}
 use Rattle.cell_plans.specs.Areas.{areas_of}
 use Rattle.cell_plans.specs.Emptied.{area_of, freed}
 use Rattle.cell_plans.proofs.FreeEnds.{inside_from, in_inside, or_here, or_there}

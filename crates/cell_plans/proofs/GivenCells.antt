@@ -20,14 +20,14 @@ use Rattle.cell_pool.specs.Pools.{Pool, uses}
 use Rattle.storage_changes.specs.NamedPools.{AreNamed}
 use Rattle.storage_changes.specs.Meaning.{model_of, IsSound}
 use Rattle.storage_changes.specs.State.{StorageState}
-use Rattle.change_laws.specs.StorageActions.{register_records, run_of}
-use Rattle.change_laws.proofs.Rows.{none_fresh}
+use Rattle.storage_changes.specs.StorageActions.{register_records, run_of}
+use Rattle.storage_changes.proofs.Rows.{none_fresh}
 use Rattle.storage_plans.specs.declared.plan.StoragePlan.{StoragePlan}
 use Rattle.storage_plans.proofs.AskedLengths.{skip, stop}
 use Rattle.storage_plans.proofs.Assigning.{none_assigned}
 use Rattle.storage_plans.proofs.Carried.{no_registers, register_and}
-use Rattle.change_laws.specs.CellActions.{given_back_records, with_given_back}
-use Rattle.change_laws.specs.CellLaws.{GivingBackCellsLeads}
+use Rattle.storage_changes.specs.CellActions.{given_back_records, with_given_back}
+use Rattle.storage_changes.specs.CellLaws.{GivingBackCellsLeads}
 use Rattle.cell_plans.specs.CellPlans.{IsCellPlanned}
 use Rattle.cell_plans.specs.Seen.{IsSeen}
 use Rattle.cell_plans.proofs.CellsCarried.{accepts, assigns, has_records}

@@ -34,9 +34,9 @@ use Rattle.storage_changes.specs.Walk.{Walk}
 use Rattle.storage_changes.specs.Meaning.{model_of, IsSound}
 use Rattle.storage_changes.specs.State.{StorageState}
 use Rattle.storage_changes.specs.declared.record.Record.{Record}
-use Rattle.change_laws.specs.StorageActions.{register_records, run_of}
-use Rattle.change_laws.specs.Leads.{AreRegisters}
-use Rattle.change_laws.proofs.Rows.{none_fresh}
+use Rattle.storage_changes.specs.StorageActions.{register_records, run_of}
+use Rattle.storage_changes.specs.Leads.{AreRegisters}
+use Rattle.storage_changes.proofs.Rows.{none_fresh}
 use Rattle.storage_plans.specs.ObtainPlans.{place_address, place_blanks, place_pages, place_records}
 use Rattle.storage_plans.specs.Places.{place_of}
 use Rattle.storage_plans.specs.declared.places.AreaPlace.{AreaPlace}
@@ -44,9 +44,9 @@ use Rattle.storage_plans.specs.declared.plan.StoragePlan.{StoragePlan}
 use Rattle.storage_plans.proofs.AskedLengths.{is_somewhere, skip, stop}
 use Rattle.storage_plans.proofs.Assigning.{none_assigned, place_assigns, registers_keep}
 use Rattle.storage_plans.proofs.Carried.{four_carried_out, no_registers, register_and}
-use Rattle.change_laws.specs.CellActions.{area_blanks, area_pages, area_records, doublewords_for, extent_blanks, extent_records, handed_out_records, with_extended, with_handed_out}
-use Rattle.change_laws.specs.CellLaws.{ExtendingLeads, HandingOutLeads}
-use Rattle.change_laws.proofs.CellExtents.{first_free}
+use Rattle.storage_changes.specs.CellActions.{area_blanks, area_pages, area_records, doublewords_for, extent_blanks, extent_records, handed_out_records, with_extended, with_handed_out}
+use Rattle.storage_changes.specs.CellLaws.{ExtendingLeads, HandingOutLeads}
+use Rattle.storage_changes.proofs.CellExtents.{first_free}
 use Rattle.cell_plans.specs.CellPlans.{cells_weight, further_cells, IsCellPlanned}
 use Rattle.cell_plans.specs.Handing.{cell_records, cell_registers, further_records}
 use Rattle.cell_plans.specs.Seen.{IsSeen}

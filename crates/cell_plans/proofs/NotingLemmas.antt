@@ -7,7 +7,7 @@ use Rattle.run_set.specs.Runs.{Run, inside, IsEndFrom}
 use Rattle.run_set.specs.Counts.{joins, one_if, set_before}
 use Rattle.free_queue.specs.declared.queue.FreeQueue.{FreeQueue}
 use Rattle.free_queue.specs.FreeQueue.{is_free}
-use Rattle.change_laws.specs.StorageActions.{run_of}
+use Rattle.storage_changes.specs.StorageActions.{run_of}
 use Rattle.cell_plans.proofs.FreeEnds.{inside_from, in_inside, or_here}
 use Rattle.cell_plans.proofs.GivenAreas.{inside_joined}
 

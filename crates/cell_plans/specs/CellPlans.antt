@@ -21,10 +21,10 @@ use Rattle.storage_changes.specs.declared.record.Record.{Record}
 use Rattle.storage_changes.specs.State.{StorageState}
 use Rattle.storage_changes.specs.Changes.{Change, change_of, change_building, no_pages}
 use Rattle.storage_changes.specs.Meaning.{model_of}
-use Rattle.change_laws.specs.StorageActions.{register_records}
+use Rattle.storage_changes.specs.StorageActions.{register_records}
 use Rattle.storage_plans.specs.declared.plan.StoragePlan.{StoragePlan}
 use Rattle.storage_plans.specs.Plans.{Assigns, IsAccepted, change_in}
-use Rattle.change_laws.specs.CellActions.{deleting_records, deleting_blanks, extents_given_back}
+use Rattle.storage_changes.specs.CellActions.{deleting_records, deleting_blanks, extents_given_back}
 use Rattle.cell_plans.specs.declared.build.BuildPlan.{BuildPlan}
 use Rattle.cell_plans.specs.declared.delete.DeletePlan.{DeletePlan}
 

@@ -7,7 +7,7 @@ use Rattle.vsm_model.specs.Regions.{doublewords}
 use Rattle.cell_extents.specs.declared.settings.Extent.{Extent}
 use Rattle.subpool_storage.specs.Subpools.{Subpools, with_free}
 use Rattle.storage_changes.specs.declared.record.Record.{Record}
-use Rattle.change_laws.specs.StorageActions.{run_of, emptied_pages, give_back_records}
+use Rattle.storage_changes.specs.StorageActions.{run_of, emptied_pages, give_back_records}
 
 -- the doublewords of an extent whose cells have this size in bytes
 abbrev pub area_of : ℕ → Extent → Run

@@ -4,8 +4,8 @@ use Rattle.vsm_model.specs.declared.replies.Reply.TheVariants.{Cell}
 use Rattle.vsm_model.specs.Regions.{doublewords}
 use Rattle.vsm_model.specs.Registers.{named_register}
 use Rattle.cell_extents.specs.declared.settings.CellSettings.{CellSettings}
-use Rattle.change_laws.specs.CellActions.{extent_blanks, extent_records, handed_out_records}
-use Rattle.change_laws.specs.StorageActions.{register_records}
+use Rattle.storage_changes.specs.CellActions.{extent_blanks, extent_records, handed_out_records}
+use Rattle.storage_changes.specs.StorageActions.{register_records}
 use Rattle.storage_changes.specs.State.{StorageState}
 use Rattle.storage_changes.specs.declared.record.Record.{Record}
 use Rattle.storage_plans.specs.ObtainPlans.{place_address, place_blanks, place_pages, place_records}

@@ -3,7 +3,7 @@ ghost use Rattle.std.specs.Prelude.{◌≡◌, ◌+◌, ◌/◌, ◌^◌, ◌<�
 ghost use Rattle.run_set.specs.Runs.{contains};
 ghost use Rattle.vsm_model.specs.Regions.{pages_for};
 ghost use Rattle.vsm_model.specs.Search.{all_pass};
-ghost use Rattle.change_laws.specs.StorageActions.{emptied_pages};
+ghost use Rattle.storage_changes.specs.StorageActions.{emptied_pages};
 ghost use Rattle.storage_exchange.specs.Storage.{state_of, Stand};
 ghost use Rattle.cell_plans.specs.Areas.{first_areas};
 ghost use Rattle.cell_plans.specs.Emptied.{freed, IsFreeUpTo};

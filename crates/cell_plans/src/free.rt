@@ -3,17 +3,17 @@ ghost use Rattle.std.specs.Prelude.{◌≡◌, ◌≤◌, [], ◌∷◌, ◌++�
 ghost use Rattle.vsm_model.specs.declared.limits.Settings.{Settings};
 ghost use Rattle.vsm_model.specs.declared.replies.Reply.TheVariants.{Returned};
 ghost use Rattle.vsm_model.specs.Services.{free};
-ghost use Rattle.change_laws.specs.StorageActions.{register_records, run_of};
+ghost use Rattle.storage_changes.specs.StorageActions.{register_records, run_of};
 ghost use Rattle.storage_exchange.specs.Storage.{state_of, Stand};
 ghost use Rattle.storage_plans.specs.Places.{StandsSound};
-ghost use Rattle.change_laws.specs.CellActions.{given_back_records};
+ghost use Rattle.storage_changes.specs.CellActions.{given_back_records};
 ghost use Rattle.cell_plans.specs.CellPlans.{IsCellPlanned};
 
 use crate::seen::find_seen;
 use arrayvec::ArrayVec;
 use cell_pool::CellId;
-use change_laws::cells::giving_back_cells_leads;
 use service_laws::cells::cell_pools_stay_well_formed;
+use storage_changes::cells::giving_back_cells_leads;
 use storage_changes::{CellRecord, Record};
 use storage_exchange::Parts;
 use storage_plans::plan::{NO_PAGES, push_register};

@@ -1,7 +1,7 @@
 //! The records by which the extents of a cell pool are given back.
 ghost use Rattle.std.specs.Prelude.{◌≡◌, ℕ, false, ◌+◌, ◌-◌, ◌*◌, ◌^◌, ◌<◌, ◌≤◌, ◌++◌, [], length, IsOk, IfOk, OnOk};
 ghost use Rattle.arrayvec.specs.ArrayVec.{array_vec_len};
-ghost use Rattle.change_laws.specs.StorageActions.{area_records, give_back_records, returned_records};
+ghost use Rattle.storage_changes.specs.StorageActions.{area_records, give_back_records, returned_records};
 ghost use Rattle.free_queue.specs.FreeQueue.{is_free, owned, IsFreeQueue};
 ghost use Rattle.storage_exchange.specs.Storage.{state_of};
 ghost use Rattle.storage_swap.specs.Builder.{IsBuilding, Builds, Pushes};

@@ -4,7 +4,7 @@ ghost use Rattle.vsm_elements.specs.Ownership.{Leaves};
 ghost use Rattle.vsm_elements.specs.Owners.{times, Moves};
 ghost use Rattle.run_set.specs.Runs.{inside};
 ghost use Rattle.free_queue.specs.FreeQueue.{is_free, owned, IsFreeQueue};
-ghost use Rattle.change_laws.specs.StorageActions.{run_of};
+ghost use Rattle.storage_changes.specs.StorageActions.{run_of};
 ghost use Rattle.cell_plans.specs.Noted.{noted_count, NotesOne};
 
 use free_queue::{Cover, FreeQueue};

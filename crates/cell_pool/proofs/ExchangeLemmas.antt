@@ -1,5 +1,6 @@
 -- Pools that go from each of two tables to the other.
 use Rattle.std.proofs.Common.{◌≡◌, ℕ, ◌==◌, ◌||◌, Bool, true, false, List, ◌++◌, Option, Some, None, IsSome, refl, sym, ap, ◌∙◌, subst, arith, inl, inr, length-append}
+use Rattle.std.proofs.lemmas.Bool.{cond-false, cond-true}
 use Rattle.std.specs.Prelude.{if◌then◌else◌, is_some, IfSome}
 use Rattle.vsm_elements.specs.Store.{Store, at, among}
 use Rattle.vsm_elements.specs.Chain.{links, ids}
@@ -12,7 +13,7 @@ use Rattle.list_table.specs.Kept.{listed}
 use Rattle.list_table.specs.ListTable.{entries}
 use Rattle.list_table.specs.ListTable
 use Rattle.list_table.proofs.ListParts.{in_left, in_cases, Apart-sym, Apart-left, Apart-both}
-use Rattle.cell_extents.proofs.EntryLemmas.{if_true, if_false, eqb_refl, eqb_same}
+use Rattle.cell_extents.proofs.EntryLemmas.{eqb_refl, eqb_same}
 use Rattle.cell_pool.specs.declared.pools.CellPools.{CellPools}
 use Rattle.cell_pool.specs.Pools.{Pool, is_of, lies_in, only, all_but, either_of, holds_of, GoTogether}
 use Rattle.cell_pool.specs.Kept.{pools_of}
@@ -41,10 +42,10 @@ module _ (goes : Pool → Bool) where
   pub none_twice : (x y : Option Pool) → Alike x y → IsSome (only goes y) → all_but goes x ≡ None
   none_twice None y h k = refl
   none_twice (Some p) None h k = absurd (none_some None refl k)
-  none_twice (Some p) (Some r) h k = if_true (goes p) None (Some p) (h p r refl refl ∙ some_goes (goes r) refl) where
+  none_twice (Some p) (Some r) h k = cond-true (goes p) None (Some p) (h p r refl refl ∙ some_goes (goes r) refl) where
     some_goes : (b : Bool) → goes r ≡ b → goes r ≡ true
     some_goes true e = e
-    some_goes false e = absurd (none_some (only goes (Some r)) (if_false (goes r) (Some r) None e) k)
+    some_goes false e = absurd (none_some (only goes (Some r)) (cond-false (goes r) (Some r) None e) k)
 
   pub is_exchanged : (x y : Option Pool) → Alike x y → either_of (only goes y) (all_but goes x) ≡ (if holds_of goes (either_of x y) then y else x)
   is_exchanged None None h = refl
@@ -61,11 +62,11 @@ module _ (goes : Pool → Bool) where
 
   only_all : (o : Option Pool) → ((p : Pool) → o ≡ Some p → goes p ≡ true) → (only goes o ≡ o) × (all_but goes o ≡ None)
   only_all None h = (refl, refl)
-  only_all (Some p) h = (if_true (goes p) (Some p) None (h p refl), if_true (goes p) None (Some p) (h p refl))
+  only_all (Some p) h = (cond-true (goes p) (Some p) None (h p refl), cond-true (goes p) None (Some p) (h p refl))
 
   only_none : (o : Option Pool) → ((p : Pool) → o ≡ Some p → goes p ≡ false) → (only goes o ≡ None) × (all_but goes o ≡ o)
   only_none None h = (refl, refl)
-  only_none (Some p) h = (if_false (goes p) (Some p) None (h p refl), if_false (goes p) None (Some p) (h p refl))
+  only_none (Some p) h = (cond-false (goes p) (Some p) None (h p refl), cond-false (goes p) None (Some p) (h p refl))
 
 or_none : (o : Option Pool) → either_of o None ≡ o
 or_none None = refl

@@ -1,5 +1,6 @@
 -- Pools that are handed on to another owner.
 use Rattle.std.proofs.Common.{◌≡◌, ℕ, ◌+◌, ◌%◌, ◌<◌, ◌≤◌, ◌==◌, take, drop, Bool, true, false, List, [], ◌∷◌, ◌++◌, length, Some, refl, sym, ap, ◌∙◌, subst, arith, append_assoc, length-append, length-drop}
+use Rattle.std.proofs.lemmas.Bool.{cond-false, cond-true}
 use Rattle.std.specs.Prelude.{map, option_map, slice_get, if◌then◌else◌}
 use Rattle.std.specs.Str.{bytes_eq}
 use Rattle.std.proofs.lemmas.List.{map-append, take-map, take_all, drop_all, length-take-le, take-append-drop}
@@ -14,7 +15,6 @@ use Rattle.list_table.specs.Kept.{entry_in}
 use Rattle.list_table.specs.ListTable.{entries, earlier, later, IsTable, IsPlace}
 use Rattle.list_table.specs.declared.table.ListTable.{ListTable}
 use Rattle.cell_extents.specs.Items.{pool_of, subpool_in, IsSound}
-use Rattle.cell_extents.proofs.EntryLemmas.{if_true, if_false}
 use Rattle.cell_pool.specs.declared.pools.CellPools.{CellPools}
 use Rattle.cell_pool.specs.Pools.{Pool, Single, pool_in, id_in, is_named, is_of, lies_in, handed_on}
 use Rattle.cell_pool.specs.Kept.{pools_of, AllSound, IsKept}
@@ -150,10 +150,10 @@ written_is s t q k i x y at is same =
     ∙ ap (λ (z : List Entry). z ++ y ∷ later s q k) (earlier_is s q k) ∙ ap (λ (z : List Entry). take k (entries s q) ++ y ∷ z) (later_is s q k)
 
 pub is_given : (subpool : Subpool) (to : ℕ) (e : Entry) → same_subpool (subpool_in e.words) subpool ≡ true → hand subpool to e ≡ given to e
-is_given subpool to e h = if_true (same_subpool (subpool_in e.words) subpool) (given to e) e h
+is_given subpool to e h = cond-true (same_subpool (subpool_in e.words) subpool) (given to e) e h
 
 pub not_given : (subpool : Subpool) (to : ℕ) (e : Entry) → same_subpool (subpool_in e.words) subpool ≡ false → hand subpool to e ≡ e
-not_given subpool to e h = if_false (same_subpool (subpool_in e.words) subpool) (given to e) e h
+not_given subpool to e h = cond-false (same_subpool (subpool_in e.words) subpool) (given to e) e h
 
 -- a walk over the rows that changes one after the other
 module _ (f : Entry → Entry) (was now : List Entry) (k : ℕ) (rest : map f was ≡ take k now ++ map f (drop k now)) where

@@ -1,5 +1,6 @@
 -- The byte order of names.
 use Rattle.std.proofs.Common.{◌≡◌, ℕ, ◌+◌, Bool, true, false, ◌&&◌, List, [], ◌∷◌, take, Option, Some, None, IsSome, refl, ap, ◌∙◌}
+use Rattle.std.proofs.lemmas.Bool.{cond-false}
 use Rattle.std.specs.Prelude.{slice_get}
 use Rattle.std.specs.Ordering.{nat_cmp, is_lt, ordering_reverse}
 use Rattle.std.specs.declared.cmp.Ordering.{Ordering}
@@ -13,7 +14,6 @@ use Rattle.cell_pool.specs.Kept.{pools_of}
 use Rattle.cell_pool.specs.Order.{is_before, is_behind, is_between}
 use Rattle.list_table.specs.Entries.{Entry}
 use Rattle.cell_pool.proofs.PoolLemmas.{none_at, none_more, none_found, found_passes}
-use Rattle.cell_extents.proofs.EntryLemmas.{if_false}
 
 abbrev cmp : List ℕ → List ℕ → Ordering
 cmp = slice_cmp nat_cmp
@@ -59,7 +59,7 @@ pub fewer : (test more : Pool → Bool) → ((p : Pool) → more p ≡ true → 
 fewer test more less [] h = refl
 fewer test more less (p ∷ ps) h =
     let parts = none_at test p ps h in
-    if_false (more p) (Some p) (first_with more ps) (missed (more p) refl parts.0) ∙ fewer test more less ps parts.1 where
+    cond-false (more p) (Some p) (first_with more ps) (missed (more p) refl parts.0) ∙ fewer test more less ps parts.1 where
       missed : (b : Bool) → more p ≡ b → test p ≡ false → more p ≡ false
       missed true e f = absurd (not_both (test p) (less p e) f)
       missed false e f = e

@@ -8,7 +8,7 @@ use Rattle.vsm_model.specs.declared.Subpool.{Subpool}
 use Rattle.subpool_storage.specs.Subpools.{Subpools}
 use Rattle.subpool_storage.specs.Extents.{free_areas}
 use Rattle.subpool_storage.specs.Order.{subpools_in_order}
-use Rattle.change_laws.specs.MapTotals.{sum_of, subpool_free, all_free, TotalsAreFew}
+use Rattle.storage_changes.specs.MapTotals.{sum_of, subpool_free, all_free, TotalsAreFew}
 use Rattle.storage_core.specs.declared.storage.Storage.{Storage}
 use Rattle.storage_core.specs.Meaning.{state_in_place, settings_of}
 use Rattle.explain_report.specs.declared.tallies.Tally.{Tally}

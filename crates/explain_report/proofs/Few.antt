@@ -8,8 +8,8 @@ use Rattle.vsm_model.specs.declared.Subpool.{Subpool}
 use Rattle.subpool_storage.specs.Subpools.{Subpools}
 use Rattle.subpool_storage.specs.Extents.{run_in, extents, free_areas}
 use Rattle.storage_changes.specs.State.{StorageState}
-use Rattle.change_laws.specs.MapLists.{unassigned_runs}
-use Rattle.change_laws.proofs.MapSums.{sum_map, total, runs_total, passing_few}
+use Rattle.storage_changes.specs.MapLists.{unassigned_runs}
+use Rattle.storage_changes.proofs.MapSums.{sum_map, total, runs_total, passing_few}
 use Rattle.explain_report.specs.Tallies.{numbers_in}
 
 -- at most so many numbers in these runs, and so many runs

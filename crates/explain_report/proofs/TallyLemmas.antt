@@ -3,7 +3,7 @@ use Rattle.std.proofs.Common.{◌≡◌, ℕ, zero, suc, ◌+◌, ◌<◌, ◌�
 use Rattle.std.specs.Prelude.{max, slice_get}
 use Rattle.std.proofs.lemmas.Bool.{ltb-true, ltb-false}
 use Rattle.run_set.specs.Runs.{Run}
-use Rattle.change_laws.specs.MapTotals.{sum_of, pages_on_side}
+use Rattle.storage_changes.specs.MapTotals.{sum_of, pages_on_side}
 use Rattle.explain_report.specs.declared.tallies.Tally.{Tally}
 use Rattle.explain_report.specs.Tallies.{no_runs, with_run, with_runs, tally_of, low_runs, high_runs, numbers_in, IsTallyOf, TalliesAreOfRuns}
 

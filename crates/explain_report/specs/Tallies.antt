@@ -2,7 +2,7 @@
 -- Assembler Services Guide, "Virtual storage management".
 use Rattle.std.specs.Prelude.{◌≡◌, ℕ, ◌+◌, ◌<◌, ◌≤◌, max, nat_lt, if◌then◌else◌, List, [], ◌∷◌, length, slice_get, Some}
 use Rattle.run_set.specs.Runs.{Run}
-use Rattle.change_laws.specs.MapTotals.{sum_of}
+use Rattle.storage_changes.specs.MapTotals.{sum_of}
 use Rattle.explain_report.specs.declared.tallies.Tally.{Tally}
 
 abbrev pub no_runs : Tally

@@ -3,7 +3,7 @@ ghost use Rattle.std.specs.Prelude.{◌≡◌, is_some, true, false};
 ghost use Rattle.vsm_model.specs.declared.limits.Residence.TheVariants.{Below, Above};
 ghost use Rattle.vsm_model.specs.Areas.{least_fit};
 ghost use Rattle.subpool_storage.specs.Extents.{free_areas};
-ghost use Rattle.change_laws.specs.MapTotals.{subpool_pages};
+ghost use Rattle.storage_changes.specs.MapTotals.{subpool_pages};
 ghost use Rattle.storage_plans.specs.Places.{IsUpTo, region_on};
 ghost use Rattle.storage_core.specs.Meaning.{state_in_place, state_of, settings_of};
 ghost use Rattle.storage_core.specs.Walks.{IsBehindSubpool, subpool_before};

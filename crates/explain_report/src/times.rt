@@ -2,7 +2,7 @@
 ghost use Rattle.std.specs.Prelude.{◌≡◌, flat_map};
 ghost use Rattle.subpool_storage.specs.Extents.{free_areas};
 ghost use Rattle.subpool_storage.specs.Order.{subpools_in_order};
-ghost use Rattle.change_laws.specs.MapLists.{unassigned_runs};
+ghost use Rattle.storage_changes.specs.MapLists.{unassigned_runs};
 ghost use Rattle.storage_core.specs.Meaning.{state_in_place, state_of, settings_of};
 ghost use Rattle.storage_map.specs.Totals.{totals_of};
 ghost use Rattle.explain_report.specs.Tallies.{tally_of, low_runs, high_runs};

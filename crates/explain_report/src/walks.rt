@@ -2,13 +2,13 @@
 ghost use Rattle.std.specs.Prelude.{◌≡◌, ◌+◌, ◌^◌, ◌<◌, length, flat_map};
 ghost use Rattle.subpool_storage.specs.Extents.{extents, free_areas};
 ghost use Rattle.subpool_storage.specs.Order.{subpools_in_order};
-ghost use Rattle.change_laws.specs.MapLists.{unassigned_runs};
+ghost use Rattle.storage_changes.specs.MapLists.{unassigned_runs};
 ghost use Rattle.storage_core.specs.Meaning.{state_in_place};
 ghost use Rattle.storage_core.specs.Walks.{IsBehindSubpool, subpool_before};
 ghost use Rattle.explain_report.specs.Tallies.{tally_of, with_runs, low_runs, high_runs, numbers_in};
 
 use crate::tallies::{SideTallies, Tally};
-use change_laws::maps::totals_are_sums;
+use storage_changes::maps::totals_are_sums;
 use storage_core::{PoolPlace, Storage};
 use vsm_model::geometry::{LINE_DOUBLEWORD, LINE_PAGE};
 

@@ -7,8 +7,8 @@ use Rattle.std.proofs.lemmas.Option.{get_or_from_slice_get, slice_get_within}
 use Rattle.std.proofs.Math.Seq.{drop-cons}
 use mathlib.Core.Logic.{∥∥₁_elim}
 use Rattle.run_set.specs.Runs.{Run}
-use Rattle.change_laws.specs.MapLists.{pair_of, ExtentsAreShown, FreeAreasAreShown}
-use Rattle.change_laws.proofs.MapSums.{total, runs_total, passing_few}
+use Rattle.storage_changes.specs.MapLists.{pair_of, ExtentsAreShown, FreeAreasAreShown}
+use Rattle.storage_changes.proofs.MapSums.{total, runs_total, passing_few}
 use Rattle.storage_changes.specs.State.{StorageState}
 use Rattle.storage_changes.specs.Meaning.{model_of, IsSound}
 use Rattle.subpool_storage.specs.Subpools.{Subpools}

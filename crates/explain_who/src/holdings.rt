@@ -1,11 +1,11 @@
 //! What a subpool has: its pages and its free storage, in short.
 ghost use Rattle.std.specs.Prelude.{◌≡◌, ◌+◌, ◌^◌, ◌<◌, map};
-ghost use Rattle.change_laws.specs.MapLists.{pair_of};
+ghost use Rattle.storage_changes.specs.MapLists.{pair_of};
 ghost use Rattle.subpool_storage.specs.Extents.{extents, free_areas};
 ghost use Rattle.storage_core.specs.Meaning.{settings_of, state_in_place, state_of};
 ghost use Rattle.explain_who.specs.Holdings.{holding_of, in_short, same_holding, with_run};
 
-use change_laws::maps::runs_are_shown;
+use storage_changes::maps::runs_are_shown;
 use storage_core::{Storage, Subpool};
 
 /// Runs of pages or of doublewords in short: how many numbers are in them, and how many runs there are.

@@ -1,5 +1,6 @@
 -- The index of a row, by its id.
 use Rattle.std.proofs.Common.{◌≡◌, ℕ, zero, suc, ◌+◌, ◌<◌, ◌||◌, ◌==◌, Bool, true, false, inl, inr, List, [], ◌∷◌, length, drop, Some, None, refl, sym, ap, ◌∙◌, subst, arith}
+use Rattle.std.proofs.lemmas.Bool.{cond-false, cond-true}
 use Rattle.std.specs.Prelude.{map, slice_get, if◌then◌else◌}
 use Rattle.std.proofs.lemmas.Bool.Decides.{eqb_tells}
 use Rattle.vsm_elements.specs.Store.{Store, among, Distinct}
@@ -10,14 +11,6 @@ use Rattle.list_table.specs.Entries.{Entry}
 use Rattle.list_table.specs.Kept.{entry_in, place_of}
 use Rattle.list_table.proofs.ListParts.{or_right}
 use Rattle.list_table.proofs.TableLemmas.{drop_link, entry_ids}
-
-if_true : (b : Bool) (x y : ℕ) → b ≡ true → (if b then x else y) ≡ x
-if_true true x y h = refl
-if_true false x y h = absurd (not_both false h refl)
-
-if_false : (b : Bool) (x y : ℕ) → b ≡ false → (if b then x else y) ≡ y
-if_false true x y h = absurd (not_both true refl h)
-if_false false x y h = refl
 
 same : (a : ℕ) → (a == a) ≡ true
 same a = elim (eqb_tells a a) [
@@ -40,10 +33,10 @@ pub place_at : (ns : List Link) (k : ℕ) (n : Link) → Distinct (ids ns) → s
 place_at [] k n d h = absurd (none_some h) where
   none_some : None ≡ Some n → ⊥
   none_some e = cc
-place_at (m ∷ ns) zero n d h = if_true (n.id == m.id) 0 (suc (place_of n.id ns)) (ap (λ (z : Link). n.id == z.id) (some_is h) ∙ same n.id) where
+place_at (m ∷ ns) zero n d h = cond-true (n.id == m.id) 0 (suc (place_of n.id ns)) (ap (λ (z : Link). n.id == z.id) (some_is h) ∙ same n.id) where
   some_is : Some m ≡ Some n → m ≡ n
   some_is e = cc
-place_at (m ∷ ns) (suc k) n d h = if_false (n.id == m.id) 0 (suc (place_of n.id ns)) other ∙ ap suc (place_at ns k n d.1 h) where
+place_at (m ∷ ns) (suc k) n d h = cond-false (n.id == m.id) 0 (suc (place_of n.id ns)) other ∙ ap suc (place_at ns k n d.1 h) where
   other : (n.id == m.id) ≡ false
   other = elim (eqb_tells n.id m.id) [
     | inl p ↦ absurd (not_both (among m.id (ids ns)) (ap (λ (i : ℕ). among i (ids ns)) (sym p.1) ∙ among_at ns k n h) d.0)
@@ -56,11 +49,11 @@ there_is id [] h = absurd (not_both false h refl)
 there_is id (n ∷ ns) h = elim (eqb_tells id n.id) [
   | inl p ↦
       let P : ℕ → Type 0 = λ k. (k < suc (length ns)) × (id ≡ head_or (drop k (n ∷ ns)) 0) in
-      subst P (sym (if_true (id == n.id) 0 (suc (place_of id ns)) p.0)) (omega arith, p.1)
+      subst P (sym (cond-true (id == n.id) 0 (suc (place_of id ns)) p.0)) (omega arith, p.1)
   | inr p ↦
       let P : ℕ → Type 0 = λ k. (k < suc (length ns)) × (id ≡ head_or (drop k (n ∷ ns)) 0) in
       let r : (place_of id ns < length ns) × (id ≡ head_or (drop (place_of id ns) ns) 0) = there_is id ns (sym (ap (λ (b : Bool). b || among id (ids ns)) p.0) ∙ h) in
-      subst P (sym (if_false (id == n.id) 0 (suc (place_of id ns)) p.0)) (omega (arith, r.0), r.1)
+      subst P (sym (cond-false (id == n.id) 0 (suc (place_of id ns)) p.0)) (omega (arith, r.0), r.1)
 ]
 
 -- so an entry's id is that of the link at its place

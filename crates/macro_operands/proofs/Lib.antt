@@ -3,3 +3,5 @@ pub mod WrittenOperands
 pub mod PairTexts
 pub mod HeaderTexts
 pub mod ReadValues
+pub mod ValidForms
+pub mod ValidNames

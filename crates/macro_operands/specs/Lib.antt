@@ -10,3 +10,5 @@ pub mod Headers
 pub mod Said
 pub mod Operands
 pub mod Slots
+pub mod Requests
+pub mod Validity

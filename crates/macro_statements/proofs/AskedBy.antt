@@ -9,8 +9,8 @@ use Rattle.operand_texts.specs.Written.{Written, Target}
 use Rattle.macro_operands.specs.declared.faults.FaultKind.{FaultKind}
 use Rattle.macro_operands.specs.declared.faults.FaultKind.TheVariants as fault
 use Rattle.macro_operands.specs.declared.rows.Behind.{Behind}
-use Rattle.macro_requests.specs.Requests.{listed, build, get, peek, Asked, act}
-use Rattle.macro_requests.specs.declared.requests.Form.{Form}
+use Rattle.macro_operands.specs.Requests.{listed, build, get, peek, Asked, act}
+use Rattle.macro_operands.specs.declared.requests.Form.{Form}
 use Rattle.macro_statements.specs.Attach.{subpools_by}
 use Rattle.macro_statements.specs.Cpool.{build_with, get_with}
 use Rattle.macro_statements.specs.Forms.{subpool_by, location_by, condition_by, release_with}

@@ -22,9 +22,9 @@ use Rattle.macro_operands.proofs.PairTexts.{pair_text_of}
 use Rattle.macro_operands.proofs.ReadValues.{value_kept, no_pair, some_kept, place_kept, some_place_kept, besides_kept}
 use Rattle.macro_operands.proofs.WrittenOperands.{keyed, Item, item, operand_text, Fits, AllFit, no_fault_from, lookup, stand, AllFew, long_first, read_back}
 use Rattle.macro_operands.proofs.WrittenOperands as operands
-use Rattle.macro_requests.specs.Requests.{WrittenLength, fixed, between, IsLength}
+use Rattle.macro_operands.specs.Requests.{WrittenLength, fixed, between, IsLength}
 use Rattle.macro_statements.specs.Forms.{storage_row, StorageForm, asked_by, form_with, as_length, either_length}
-use Rattle.macro_requests.specs.declared.requests.Form.{Form}
+use Rattle.macro_operands.specs.declared.requests.Form.{Form}
 use Rattle.vsm_model.specs.declared.services.Boundary.{Boundary}
 use Rattle.vsm_model.specs.declared.services.Boundary.TheVariants.{Doubleword, Page}
 use Rattle.vsm_model.specs.declared.services.Location.{Location}

@@ -1,7 +1,7 @@
 mod FormRows
 mod ReadRequests
 mod AskedBy
-pub use Rattle.macro_requests.proofs.ValidNames
+pub use Rattle.macro_operands.proofs.ValidNames
 mod FormTexts
 mod ReadForms
 pub mod SpelledOperands

@@ -14,7 +14,7 @@ use Rattle.macro_operands.specs.declared.rows.Kind.TheVariants as kind
 use Rattle.macro_operands.proofs.HeaderTexts.{header_text_of}
 use Rattle.macro_operands.proofs.WrittenOperands.{Keyed, placed, Item, item, AllFit, no_fault_from, lookup, stand, long, read_back}
 use Rattle.macro_operands.proofs.WrittenOperands as operands
-use Rattle.macro_requests.specs.Requests.{IsName, IsHeader, build, get, free, delete, Asked, act}
+use Rattle.macro_operands.specs.Requests.{IsName, IsHeader, build, get, free, delete, Asked, act}
 use Rattle.macro_statements.specs.Forms.{location_by}
 use Rattle.macro_statements.specs.Cpool.{pool_row, pool_form_row, pool_by, pool_form_with}
 use Rattle.macro_statements.specs.Statements.{asked_of}

@@ -12,7 +12,7 @@ use Rattle.macro_operands.specs.Said.{name, header}
 use Rattle.macro_operands.specs.Slots.{Slots, readings, as_name, as_header}
 use Rattle.macro_operands.specs.declared.rows.Kind.TheVariants as kind
 use Rattle.macro_operands.proofs.ReadValues.{name_in}
-use Rattle.macro_requests.specs.Requests.{IsName, IsHeader, build, get, free, delete, Asked, act, IsValidAsked}
+use Rattle.macro_operands.specs.Requests.{IsName, IsHeader, build, get, free, delete, Asked, act, IsValidAsked}
 use Rattle.macro_statements.specs.Forms.{subpool_by, location_by, condition_by}
 use Rattle.macro_statements.specs.Cpool.{pool_form_of, pool_form_row, build_with, get_with, free_with, delete_with, pool_by, with_pool_form, cpool_of}
 use Rattle.macro_statements.specs.declared.cpool.PoolForm.{PoolForm}

@@ -12,7 +12,7 @@ use Rattle.macro_statements.specs.Steps.{steps_row, count_in, count_with}
 use Rattle.macro_statements.specs.Attach.{attach_row, attach_of, attach_with}
 use Rattle.macro_statements.specs.Detach.{detach_row, detach_of, detach_with}
 use Rattle.macro_statements.specs.Run.{run_row, run_of, run_with}
-use Rattle.macro_requests.specs.Requests.{Asked}
+use Rattle.macro_operands.specs.Requests.{Asked}
 use Rattle.macro_operands.specs.Said.{condition, content, size, count, said_of, condition_of}
 use Rattle.macro_operands.specs.Slots.{as_value, as_condition, as_content, as_size, as_count, readings}
 use Rattle.macro_statements.specs.Slots.{poke_by, peek_by, count_by, attach_by, detach_by, run_by}

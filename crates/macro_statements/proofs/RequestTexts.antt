@@ -14,7 +14,7 @@ use Rattle.macro_operands.specs.declared.faults.FaultKind.{FaultKind}
 use Rattle.macro_operands.specs.declared.faults.FaultKind.TheVariants as fault
 use Rattle.macro_operands.specs.declared.rows.Behind.TheVariants as behind
 use Rattle.macro_operands.specs.declared.rows.Kind.TheVariants as kind
-use Rattle.macro_requests.specs.Requests.{obtain, release, whole, build, get, free, delete, WrittenSubpools, IsSubpools, attach, detach, run, end_task, poke, Asked, act, peek, map_asked, back, forward, IsValidAsked, AskedHasBytes, HasRoom, asked_in}
+use Rattle.macro_operands.specs.Requests.{obtain, release, whole, build, get, free, delete, WrittenSubpools, IsSubpools, attach, detach, run, end_task, poke, Asked, act, peek, map_asked, back, forward, IsValidAsked, AskedHasBytes, HasRoom, asked_in}
 use Rattle.macro_statements.specs.Rooms.{left}
 use Rattle.macro_statements.specs.Forms.{obtaining, releasing}
 use Rattle.macro_statements.specs.Storage.{storage_macro}
@@ -29,7 +29,7 @@ use Rattle.macro_statements.specs.Detach.{detach_row, detach_with}
 use Rattle.macro_statements.specs.Run.{run_row, run_with}
 use Rattle.macro_statements.specs.Steps.{steps_row, count_with, step_with, count_in}
 use Rattle.macro_statements.specs.Statements.{asked_of, behind_of, SpellsRequest}
-use Rattle.macro_requests.specs.declared.requests.Request.{Request}
+use Rattle.macro_operands.specs.declared.requests.Request.{Request}
 use Rattle.macro_statements.specs.declared.statements.Operation.{Operation}
 use Rattle.macro_statements.specs.declared.statements.Operation.TheVariants as operation
 use Rattle.vsm_model.specs.declared.causes.Family.TheVariants as family

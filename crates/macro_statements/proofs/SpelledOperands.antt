@@ -8,7 +8,7 @@ use Rattle.macro_operands.specs.Operands.{entry_for, is_excluded, first_fault, t
 use Rattle.macro_operands.specs.Said.{said_of, value_said}
 use Rattle.macro_operands.specs.declared.rows.Behind.TheVariants as behind
 use Rattle.macro_operands.specs.declared.rows.Kind.TheVariants as kind
-use Rattle.macro_requests.specs.Requests.{Asked, HasRoom}
+use Rattle.macro_operands.specs.Requests.{Asked, HasRoom}
 use Rattle.macro_statements.specs.Statements.{asked_of, behind_of}
 use Rattle.macro_statements.specs.declared.statements.Operation.{Operation}
 use Rattle.macro_statements.specs.declared.statements.Operation.TheVariants as operation

@@ -8,7 +8,7 @@ use Rattle.macro_operands.specs.Said.{Said, boundary, location, condition}
 use Rattle.macro_operands.specs.Slots.{Slots, as_value, as_place, as_boundary, as_location, as_condition}
 use Rattle.macro_operands.specs.declared.rows.Behind.TheVariants as behind
 use Rattle.macro_operands.specs.declared.rows.Kind.TheVariants as kind
-use Rattle.macro_requests.specs.Requests.{WrittenLength, fixed, between, IsLength, is_fixed, obtain, release, whole, Asked, act, IsRegisterObtain, IsNamedObtain, IsObtainForm, IsReleaseForm, IsWholeForm}
+use Rattle.macro_operands.specs.Requests.{WrittenLength, fixed, between, IsLength, is_fixed, obtain, release, whole, Asked, act, IsRegisterObtain, IsNamedObtain, IsObtainForm, IsReleaseForm, IsWholeForm}
 use Rattle.macro_statements.specs.Forms.{StorageForm, obtaining, releasing, lacks_place, obtain_by, has_whole, release_by, asked_by, form_with, boundary_by, location_by, form_by, as_length}
 use Rattle.macro_statements.specs.Storage.{obtain_row, release_row}
 use Rattle.macro_statements.specs.Getmain as getmain
@@ -16,7 +16,7 @@ use Rattle.macro_statements.specs.Getmain.{getmain_macro}
 use Rattle.macro_statements.specs.Freemain as freemain
 use Rattle.macro_statements.specs.Freemain.{freemain_macro}
 use Rattle.macro_statements.specs.Statements.{asked_of, behind_of}
-use Rattle.macro_requests.specs.declared.requests.Form.{Form}
+use Rattle.macro_operands.specs.declared.requests.Form.{Form}
 use Rattle.macro_statements.specs.declared.statements.Operation.{Operation}
 use Rattle.macro_statements.specs.declared.statements.Operation.TheVariants as operation
 use Rattle.vsm_model.specs.declared.causes.Family.{Family}

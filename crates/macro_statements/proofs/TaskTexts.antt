@@ -13,7 +13,7 @@ use Rattle.macro_operands.specs.declared.rows.Behind.TheVariants as behind
 use Rattle.macro_operands.specs.declared.rows.Kind.TheVariants as kind
 use Rattle.macro_operands.proofs.WrittenOperands.{Item, item, operand_text, Fits, lookup, stand, long}
 use Rattle.macro_operands.proofs.WrittenOperands as operands
-use Rattle.macro_requests.specs.Requests.{WrittenSubpools, nothing, one, listed, IsSubpools, attach, detach, run, Asked, act}
+use Rattle.macro_operands.specs.Requests.{WrittenSubpools, nothing, one, listed, IsSubpools, attach, detach, run, Asked, act}
 use Rattle.macro_statements.specs.Attach.{attach_row, subpools_by, shares_zero_by, attach_of}
 use Rattle.macro_statements.specs.Detach.{detach_row, detach_of}
 use Rattle.macro_statements.specs.Run.{run_row, run_of}

@@ -5,7 +5,7 @@ use Rattle.operand_texts.specs.Written.{Written}
 use Rattle.macro_operands.specs.Rows.{keyword, entry, excluding, Row}
 use Rattle.macro_operands.specs.Operands.{first_fault, unless_fault, text_at, value_at}
 use Rattle.macro_operands.specs.Said.{condition_of}
-use Rattle.macro_requests.specs.Requests.{WrittenSubpools, nothing, one, listed, attach, Asked, act}
+use Rattle.macro_operands.specs.Requests.{WrittenSubpools, nothing, one, listed, attach, Asked, act}
 use Rattle.macro_operands.specs.declared.faults.FaultKind.{FaultKind}
 use Rattle.macro_operands.specs.declared.rows.Kind.TheVariants as kind
 

@@ -10,7 +10,7 @@ use Rattle.macro_operands.specs.declared.faults.FaultKind.{FaultKind}
 use Rattle.macro_operands.specs.declared.faults.FaultKind.TheVariants as fault
 use Rattle.macro_operands.specs.declared.rows.Kind.{Kind}
 use Rattle.macro_operands.specs.declared.rows.Kind.TheVariants as kind
-use Rattle.macro_requests.specs.Requests.{build, get, free, delete, Asked, act}
+use Rattle.macro_operands.specs.Requests.{build, get, free, delete, Asked, act}
 use Rattle.macro_statements.specs.Forms.{left_out_keywords, subpool_by, location_by, condition_by, no_form_fault}
 use Rattle.macro_statements.specs.declared.cpool.PoolForm.{PoolForm}
 use Rattle.macro_statements.specs.declared.cpool.PoolForm.TheVariants as form

@@ -14,8 +14,8 @@ use Rattle.macro_operands.specs.declared.faults.FaultKind.{FaultKind}
 use Rattle.macro_operands.specs.declared.faults.FaultKind.TheVariants as fault
 use Rattle.macro_operands.specs.declared.rows.Kind.{Kind}
 use Rattle.macro_operands.specs.declared.rows.Kind.TheVariants as kind
-use Rattle.macro_requests.specs.Requests.{WrittenLength, fixed, between, obtain, release, whole, Asked, act}
-use Rattle.macro_requests.specs.declared.requests.Form.{Form}
+use Rattle.macro_operands.specs.Requests.{WrittenLength, fixed, between, obtain, release, whole, Asked, act}
+use Rattle.macro_operands.specs.declared.requests.Form.{Form}
 use Rattle.vsm_model.specs.declared.causes.Family.{Family}
 use Rattle.vsm_model.specs.declared.causes.Family.TheVariants as family
 use Rattle.vsm_model.specs.declared.services.Boundary.{Boundary}

@@ -6,7 +6,7 @@ pub use Rattle.macro_operands.specs.Rows
 pub use Rattle.macro_operands.specs.Keywords
 pub use Rattle.macro_operands.specs.Said
 pub use Rattle.macro_operands.specs.Operands
-pub use Rattle.macro_requests.specs.Requests
+pub use Rattle.macro_operands.specs.Requests
 pub mod Forms
 pub mod Storage
 pub mod Getmain
@@ -20,5 +20,5 @@ pub mod Detach
 pub mod Run
 pub mod Statements
 pub mod Slots
-pub use Rattle.macro_requests.specs.Validity
+pub use Rattle.macro_operands.specs.Validity
 pub mod Rooms

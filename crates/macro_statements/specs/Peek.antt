@@ -4,7 +4,7 @@ use Rattle.operand_texts.specs.Values.{size_of}
 use Rattle.operand_texts.specs.Written.{Written}
 use Rattle.macro_operands.specs.Rows.{position, entry, Row}
 use Rattle.macro_operands.specs.Operands.{first_fault, unless_fault, text_at, value_at}
-use Rattle.macro_requests.specs.Requests.{Asked, peek}
+use Rattle.macro_operands.specs.Requests.{Asked, peek}
 use Rattle.macro_operands.specs.declared.faults.FaultKind.{FaultKind}
 use Rattle.macro_operands.specs.declared.faults.FaultKind.TheVariants as fault
 use Rattle.macro_operands.specs.declared.rows.Kind.TheVariants as kind

@@ -4,7 +4,7 @@ use Rattle.operand_texts.specs.Values.{content_of}
 use Rattle.operand_texts.specs.Written.{Written, Stored}
 use Rattle.macro_operands.specs.Rows.{position, entry, Row}
 use Rattle.macro_operands.specs.Operands.{first_fault, unless_fault, text_at, value_at}
-use Rattle.macro_requests.specs.Requests.{poke, Asked, act}
+use Rattle.macro_operands.specs.Requests.{poke, Asked, act}
 use Rattle.macro_operands.specs.declared.faults.FaultKind.{FaultKind}
 use Rattle.macro_operands.specs.declared.faults.FaultKind.TheVariants as fault
 use Rattle.macro_operands.specs.declared.rows.Kind.TheVariants as kind

@@ -1,8 +1,8 @@
 -- A room that the code is lent for a request.
 use Rattle.std.specs.Prelude.{Result, Ok, Err}
 use Rattle.macro_operands.specs.declared.faults.FaultKind.{FaultKind}
-use Rattle.macro_requests.specs.Requests.{Asked, asked_in}
-use Rattle.macro_requests.specs.declared.requests.Request.{Request}
+use Rattle.macro_operands.specs.Requests.{Asked, asked_in}
+use Rattle.macro_operands.specs.declared.requests.Request.{Request}
 
 -- What the code answers that puts a request into a room, or tells a fault.
 abbrev pub left : Result (Unit {0}) FaultKind → Request → Result Asked FaultKind

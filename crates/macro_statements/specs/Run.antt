@@ -3,7 +3,7 @@ use Rattle.std.specs.Prelude.{List, ℕ, [], ◌∷◌, Option, Some, None, Resu
 use Rattle.operand_texts.specs.Written.{Written}
 use Rattle.macro_operands.specs.Rows.{position, entry, Row}
 use Rattle.macro_operands.specs.Operands.{first_fault, unless_fault, value_at}
-use Rattle.macro_requests.specs.Requests.{run, Asked, act}
+use Rattle.macro_operands.specs.Requests.{run, Asked, act}
 use Rattle.macro_operands.specs.declared.faults.FaultKind.{FaultKind}
 use Rattle.macro_operands.specs.declared.faults.FaultKind.TheVariants as fault
 use Rattle.macro_operands.specs.declared.rows.Kind.TheVariants as kind

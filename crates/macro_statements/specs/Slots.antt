@@ -10,7 +10,7 @@ use Rattle.macro_statements.specs.Steps.{count_with}
 use Rattle.macro_statements.specs.Attach.{attach_with}
 use Rattle.macro_statements.specs.Detach.{detach_with}
 use Rattle.macro_statements.specs.Run.{run_with}
-use Rattle.macro_requests.specs.Requests.{Asked}
+use Rattle.macro_operands.specs.Requests.{Asked}
 use Rattle.macro_statements.specs.declared.forms.StorageForm.{StorageForm}
 use Rattle.macro_statements.specs.declared.forms.StorageMacro.{StorageMacro}
 

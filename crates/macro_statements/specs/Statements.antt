@@ -3,7 +3,7 @@ use Rattle.std.specs.Prelude.{◌≡◌, ℕ, Bool, not, ◌&&◌, if◌then◌e
 use Rattle.std.specs.Prelude.{[], Result, Ok, Err, codes}
 use Rattle.operand_texts.specs.Words.{is_word, is_name, word, word_len, after_word, after_blanks}
 use Rattle.operand_texts.specs.Field.{outside, operands, is_balanced}
-use Rattle.macro_requests.specs.Requests.{Asked, act, end_task, map_asked, back, forward}
+use Rattle.macro_operands.specs.Requests.{Asked, act, end_task, map_asked, back, forward}
 use Rattle.macro_statements.specs.Forms.{macro_of}
 use Rattle.macro_statements.specs.Storage.{storage_macro}
 use Rattle.macro_statements.specs.Getmain.{getmain_macro}

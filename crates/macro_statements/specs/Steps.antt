@@ -3,7 +3,7 @@ use Rattle.std.specs.Prelude.{ℕ, List, [], ◌∷◌, Option, Some, None, Resu
 use Rattle.operand_texts.specs.Values.{number_of}
 use Rattle.macro_operands.specs.Rows.{position, entry, Row}
 use Rattle.macro_operands.specs.Operands.{first_fault, unless_fault, text_at}
-use Rattle.macro_requests.specs.Requests.{Asked}
+use Rattle.macro_operands.specs.Requests.{Asked}
 use Rattle.macro_operands.specs.declared.faults.FaultKind.{FaultKind}
 use Rattle.macro_operands.specs.declared.faults.FaultKind.TheVariants as fault
 use Rattle.macro_operands.specs.declared.rows.Kind.TheVariants as kind

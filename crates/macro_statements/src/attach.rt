@@ -2,7 +2,7 @@
 
 ghost use Rattle.std.specs.Prelude.{◌≡◌, ◌<◌, length};
 ghost use Rattle.operand_texts.specs.Field.{operands};
-ghost use Rattle.macro_requests.specs.Requests.{asked_in, subpools_in};
+ghost use Rattle.macro_operands.specs.Requests.{asked_in, subpools_in};
 ghost use Rattle.macro_statements.specs.Rooms.{left};
 ghost use Rattle.macro_operands.specs.Slots.{slots_in, slot, as_value};
 ghost use Rattle.macro_statements.specs.Slots.{attach_by};
@@ -11,8 +11,7 @@ ghost use Rattle.macro_statements.specs.Attach.{subpools_by, attach_of};
 use macro_operands::operands::{read, some_field};
 use macro_operands::rows::OperandRow;
 use macro_operands::said::{NOTHING, Said, condition_at, value_at};
-use macro_operands::{FaultKind, keyword};
-use macro_requests::{Request, Statement, Subpools};
+use macro_operands::{FaultKind, Request, Statement, Subpools, keyword};
 
 /// ATTACH.
 pub const ATTACH: OperandRow = OperandRow {

@@ -14,8 +14,7 @@ use macro_operands::rows::OperandRow;
 use macro_operands::said::{
     NOTHING, Said, condition_at, header_at, location_at, name_at, place_at, value_at,
 };
-use macro_operands::{FaultKind, keyword, position};
-use macro_requests::{NewCellPool, Request, Statement};
+use macro_operands::{FaultKind, NewCellPool, Request, Statement, keyword, position};
 use operand_texts::nesting::split;
 use operand_texts::words::is_word;
 use vsm_model::Location;

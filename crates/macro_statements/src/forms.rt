@@ -7,7 +7,7 @@ ghost use Rattle.operand_texts.specs.Field.{operands, operands_behind};
 ghost use Rattle.operand_texts.specs.Words.{is_word};
 ghost use Rattle.operand_texts.specs.Written.{written_in};
 ghost use Rattle.macro_operands.specs.Slots.{slots_in, slot, row_in, as_value, as_place, as_condition};
-ghost use Rattle.macro_requests.specs.Requests.{length_in};
+ghost use Rattle.macro_operands.specs.Requests.{length_in};
 ghost use Rattle.macro_statements.specs.Forms.{as_length, subpool_by, usual_location, form_by};
 ghost use Rattle.macro_statements.specs.Forms.{lacks_place, has_whole, release_with, is_storage_row};
 ghost use Rattle.macro_statements.specs.Forms.{obtain_by, release_by, form_with, form_for, no_form_fault};
@@ -15,13 +15,12 @@ ghost use Rattle.macro_statements.specs.Forms.{macro_of};
 ghost use Rattle.macro_statements.specs.Slots.{form_in, macro_in};
 ghost use Rattle.macro_statements.specs.Rooms.{left};
 
-use macro_operands::FaultKind;
 use macro_operands::operands::{operand_at, read, unknown_fault};
 use macro_operands::rows::OperandRow;
 use macro_operands::said::{
     NOTHING, Said, boundary_at, condition_at, location_at, pair_at, place_at, value_at,
 };
-use macro_requests::{Form, Length, Request, Statement};
+use macro_operands::{FaultKind, Form, Length, Request, Statement};
 use operand_texts::nesting::split;
 use operand_texts::values::Value;
 use operand_texts::words::is_word;

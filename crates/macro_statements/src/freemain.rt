@@ -10,8 +10,7 @@ use crate::forms::{
     LEFT_OUT_KEYWORDS, StorageForm, StorageMacro, releasing, request_of, storage_row,
 };
 use macro_operands::rows::OperandRow;
-use macro_operands::{FaultKind, keyword};
-use macro_requests::{Form, Request};
+use macro_operands::{FaultKind, Form, Request, keyword};
 use vsm_model::Family;
 
 /// The operands of a form: LV and A of these kinds, and SP.

@@ -1,7 +1,7 @@
 //! Laws of statements.
 
 ghost use Rattle.std.specs.Prelude.{◌↔◌, ℕ, List};
-ghost use Rattle.macro_requests.specs.Requests.{Asked, IsValidAsked, AskedHasBytes};
+ghost use Rattle.macro_operands.specs.Requests.{Asked, IsValidAsked, AskedHasBytes};
 ghost use Rattle.macro_statements.specs.Statements.{SpellsRequest};
 ghost use Rattle.macro_statements.specs.declared.statements.Operation.{Operation};
 

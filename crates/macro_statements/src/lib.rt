@@ -16,8 +16,8 @@ mod steps;
 mod storage;
 
 pub use laws::valid_requests_are_spelled;
-pub use macro_operands::FaultKind;
-pub use macro_requests::{
-    Boundary, Family, Form, Header, Length, Location, NewCellPool, Request, Statement, Subpools,
+pub use macro_operands::{
+    Boundary, Family, FaultKind, Form, Header, Length, Location, NewCellPool, Request, Statement,
+    Subpools,
 };
 pub use statements::{Head, head_of, statement_into, statement_with};

@@ -10,8 +10,7 @@ ghost use Rattle.macro_statements.specs.Peek.{peek_of};
 use macro_operands::operands::{read, some_field};
 use macro_operands::rows::OperandRow;
 use macro_operands::said::{NOTHING, Said, size_at, value_at};
-use macro_operands::{FaultKind, position};
-use macro_requests::Request;
+use macro_operands::{FaultKind, Request, position};
 
 /// PEEK.
 pub const PEEK: OperandRow = OperandRow {

@@ -10,8 +10,7 @@ ghost use Rattle.macro_statements.specs.Poke.{poke_of};
 use macro_operands::operands::{read, some_field};
 use macro_operands::rows::OperandRow;
 use macro_operands::said::{NOTHING, Said, content_at, value_at};
-use macro_operands::{FaultKind, position};
-use macro_requests::{Request, Statement};
+use macro_operands::{FaultKind, Request, Statement, position};
 
 /// POKE.
 pub const POKE: OperandRow = OperandRow {

@@ -10,8 +10,7 @@ ghost use Rattle.macro_statements.specs.Run.{run_of};
 use macro_operands::operands::{read, some_field};
 use macro_operands::rows::OperandRow;
 use macro_operands::said::{NOTHING, Said, value_at};
-use macro_operands::{FaultKind, position};
-use macro_requests::{Request, Statement};
+use macro_operands::{FaultKind, Request, Statement, position};
 
 /// RUN.
 pub const RUN: OperandRow = OperandRow {

@@ -2,7 +2,7 @@
 
 ghost use Rattle.std.specs.Prelude.{◌≡◌, ◌≤◌, ℕ, List, length, IfOk, OnOk};
 ghost use Rattle.operand_texts.specs.Field.{operands};
-ghost use Rattle.macro_requests.specs.Requests.{seen, asked_in, IsValidAsked};
+ghost use Rattle.macro_operands.specs.Requests.{seen, asked_in, IsValidAsked};
 ghost use Rattle.macro_statements.specs.Statements.{operation_of, asked_of, from_operation, from_operands};
 ghost use Rattle.macro_statements.specs.Statements.{behind_of, operands_in};
 ghost use Rattle.macro_statements.specs.Statements.{IsHead, is_misplaced, statement_with};
@@ -18,9 +18,8 @@ use crate::poke::poke;
 use crate::run::run;
 use crate::steps::{back, forward};
 use crate::storage::storage;
-use macro_operands::FaultKind;
 use macro_operands::rows::Behind;
-use macro_requests::{Request, Statement};
+use macro_operands::{FaultKind, Request, Statement};
 use operand_texts::nesting::is_balanced;
 use operand_texts::words::{after_blanks, after_word, is_name, is_word, word, word_len};
 

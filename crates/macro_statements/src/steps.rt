@@ -4,15 +4,14 @@ ghost use Rattle.std.specs.Prelude.{◌≡◌, length};
 ghost use Rattle.operand_texts.specs.Field.{operands};
 ghost use Rattle.macro_operands.specs.Slots.{slots_in};
 ghost use Rattle.macro_statements.specs.Slots.{count_by};
-ghost use Rattle.macro_requests.specs.Requests.{back, forward};
+ghost use Rattle.macro_operands.specs.Requests.{back, forward};
 ghost use Rattle.macro_statements.specs.Rooms.{left};
 ghost use Rattle.macro_statements.specs.Steps.{count_in, step_with};
 
 use macro_operands::operands::{read, some_field};
 use macro_operands::rows::OperandRow;
 use macro_operands::said::{NOTHING, Said, count_at};
-use macro_operands::{FaultKind, position};
-use macro_requests::Request;
+use macro_operands::{FaultKind, Request, position};
 
 /// BACK and FORWARD.
 pub const STEPS: OperandRow = OperandRow {

@@ -10,8 +10,7 @@ use crate::forms::{
     LEFT_OUT_KEYWORDS, StorageForm, StorageMacro, obtaining, releasing, request_of, storage_row,
 };
 use macro_operands::rows::OperandRow;
-use macro_operands::{FaultKind, keyword};
-use macro_requests::{Form, Request};
+use macro_operands::{FaultKind, Form, Request, keyword};
 use vsm_model::Family;
 
 /// STORAGE OBTAIN.

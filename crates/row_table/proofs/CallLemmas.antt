@@ -22,7 +22,8 @@ use Rattle.row_table.specs.declared.row.Row.{Row}
 use Rattle.row_table.specs.Rows.{word, same_key, is_under, row_in, Single, Ascends}
 use Rattle.row_table.specs.Keys.{key_of, seven, row_in_item, link_in, links}
 use Rattle.row_table.specs.Kept.{IsKept}
-use Rattle.row_table.proofs.RowLemmas.{not_both, if_true, same_sym, same_parts, row_gone, row_put}
+use Rattle.std.proofs.lemmas.Bool.{cond-true}
+use Rattle.row_table.proofs.RowLemmas.{not_both, same_sym, same_parts, row_gone, row_put}
 use Rattle.row_table.proofs.AscendLemmas.{single}
 use Rattle.row_table.proofs.KeyLemmas.{false_by, key_parts, row_by_item, links_ascend, map_parts}
 use Rattle.row_table.proofs.TableLemmas.{stored_in}
@@ -192,7 +193,7 @@ module _ (s t : Store) (h : ItemTree) (a b : ℕ) (item : Item) (six words : Lis
   found'' = row_by_item a b (items s h) low ∙ ap (option_map row_in_item) found
 
   absent'' : row_in (word words 0) (word words 1) (xs'' ++ ys'') ≡ None
-  absent'' = left'' (word words 0) (word words 1) ∙ if_true (same_key a b (word words 0) (word words 1)) None (row_in (word words 0) (word words 1) (links s h)) (same_sym a b (word words 0) (word words 1) ∙ under)
+  absent'' = left'' (word words 0) (word words 1) ∙ cond-true (same_key a b (word words 0) (word words 1)) None (row_in (word words 0) (word words 1) (links s h)) (same_sym a b (word words 0) (word words 1) ∙ under)
 
   pub set_rows : (x y : ℕ) → row_in x y (links t h)
       ≡ (if is_under x y words then option_map (λ (r : Row). record { id = r.id; words = words }) (row_in a b (links s h)) else (if same_key a b x y then None else row_in x y (links s h)))

@@ -12,12 +12,13 @@ use Rattle.row_table.specs.declared.row.Row.{Row}
 use Rattle.row_table.specs.declared.table.RowTable.{RowTable}
 use Rattle.row_table.specs.Rows.{word, same_key, is_under}
 use Rattle.row_table.specs.RowTable.{row, rows, owned, IsTable}
-use Rattle.row_table.proofs.RowLemmas.{not_both, if_true, same_parts, same_sym}
+use Rattle.row_table.proofs.RowLemmas.{not_both, same_parts, same_sym}
+use Rattle.std.proofs.lemmas.Bool.{cond-true}
 use Rattle.row_table.proofs.TableLemmas.{tables_stand, tables_stay}
 
 -- under another key than that of a row which is put in under it, nothing changes
 pub key_free : (f g : ℕ → ℕ → Option Row) (a b x y : ℕ) → ((v w : ℕ) → g v w ≡ (if same_key a b v w then None else f v w)) → (same_key x y a b ≡ true) ⊎ (f x y ≡ None) → g x y ≡ None
-key_free f g a b x y left (inl p) = left x y ∙ if_true (same_key a b x y) None (f x y) (same_sym a b x y ∙ p)
+key_free f g a b x y left (inl p) = left x y ∙ cond-true (same_key a b x y) None (f x y) (same_sym a b x y ∙ p)
 key_free f g a b x y left (inr p) = left x y ∙ go (same_key a b x y) where
   go : (z : Bool) → (if z then None else f x y) ≡ None
   go true = refl

@@ -15,3 +15,14 @@ pub mod Meaning
 pub mod Laws
 pub mod Fresh
 pub mod Props
+pub mod StorageActions
+pub mod Leads
+pub mod StorageLaws
+pub mod Attaching
+pub mod Ending
+pub mod TaskLaws
+pub mod CellActions
+pub mod CellLaws
+pub mod MapCells
+pub mod MapLists
+pub mod MapTotals

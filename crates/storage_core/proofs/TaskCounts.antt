@@ -7,13 +7,13 @@ use Rattle.vsm_model.specs.declared.replies.Reply.TheVariants.{Obtained, Returne
 use Rattle.storage_changes.specs.declared.record.Record.{Record}
 use Rattle.storage_changes.specs.Changes.{Change as Meaning}
 use Rattle.storage_changes.specs.State.{StorageState}
-use Rattle.change_laws.specs.StorageActions.{register_records}
+use Rattle.storage_changes.specs.StorageActions.{register_records}
 use Rattle.storage_exchange.specs.declared.storage.Parts.{Parts}
 use Rattle.storage_swap.specs.declared.change.Change.{Change}
 use Rattle.storage_swap.specs.Reserve.{Reserves}
-use Rattle.change_laws.specs.Attaching.{given_records, gift_records, sharing_records, share_records, zero_records, attach_records, attach_blanks}
-use Rattle.change_laws.specs.Ending.{ended_below, end_records, with_turn}
-use Rattle.change_laws.proofs.EndCounts.{ends_are_short}
+use Rattle.storage_changes.specs.Attaching.{given_records, gift_records, sharing_records, share_records, zero_records, attach_records, attach_blanks}
+use Rattle.storage_changes.specs.Ending.{ended_below, end_records, with_turn}
+use Rattle.storage_changes.proofs.EndCounts.{ends_are_short}
 use Rattle.task_plans.specs.declared.attach.AttachPlan.{AttachPlan}
 use Rattle.task_plans.specs.declared.end.EndPlan.{EndPlan}
 use Rattle.task_plans.specs.TaskPlans.{numbers, attach_change, end_change, end_registers, parks_all}

@@ -12,7 +12,7 @@ use Rattle.descriptor_queue.specs.Laws.{PagesStand}
 use Rattle.free_queue.specs.FreeQueue as free_queue
 use Rattle.vsm_model.specs.declared.Subpool.{Subpool}
 use Rattle.subpool_storage.specs.Extents.{extents, free_areas}
-use Rattle.change_laws.specs.MapLists.{ExtentsEndInRegions, FreeAreasEndInRegions, UnassignedEndInRegions, UnassignedAreOne, unassigned_runs}
+use Rattle.storage_changes.specs.MapLists.{ExtentsEndInRegions, FreeAreasEndInRegions, UnassignedEndInRegions, UnassignedAreOne, unassigned_runs}
 use Rattle.storage_core.specs.declared.storage.Storage.{Storage}
 use Rattle.storage_core.specs.declared.walks.ExtentPlace.{ExtentPlace}
 use Rattle.storage_core.specs.declared.walks.FreeAreaPlace.{FreeAreaPlace}

@@ -23,7 +23,7 @@ use Rattle.storage_plans.specs.declared.plan.StoragePlan.{StoragePlan}
 use Rattle.storage_plans.specs.Plans.{change_in}
 use Rattle.storage_plans.specs.StorePlans.{store_change, CanBeStored}
 pub use Rattle.storage_plans.specs.Plans.{Assigns, AssignsOnly}
-use Rattle.change_laws.specs.Ending.{ended_below, weight_ended}
+use Rattle.storage_changes.specs.Ending.{ended_below, weight_ended}
 use Rattle.task_plans.specs.TaskPlans.{numbers, attach_change, end_change}
 use Rattle.task_plans.specs.TaskPlans.{CanBeAttached, CanBeEnded}
 pub use Rattle.task_plans.specs.TaskPlans.{IsAccepted}

@@ -10,14 +10,14 @@ ghost use Rattle.storage_core.specs.Meaning.{state_in_place, state_of};
 ghost use Rattle.storage_core.specs.Walks.{IsSubpoolPlace, subpools_left, IsBehindSubpool, subpool_before};
 ghost use Rattle.storage_core.specs.Walks.{IsSharerPlace, sharers_left, IsExtentPlace, IsFreeAreaPlace};
 ghost use Rattle.storage_core.specs.Walks.{IsUnassignedPlace};
-ghost use Rattle.change_laws.specs.MapLists.{unassigned_runs};
+ghost use Rattle.storage_changes.specs.MapLists.{unassigned_runs};
 
 use crate::storage::Storage;
-use change_laws::maps::{runs_are_shown, unassigned_are_shown};
 use descriptor_queue::laws::pages_stand;
 use descriptor_queue::{Extents, Pages};
 use free_queue::{Area, FreeQueue};
 use run_set::{Run, RunPlace};
+use storage_changes::maps::{runs_are_shown, unassigned_are_shown};
 use subpool_storage::{PoolPlace, SharerPlace, SubpoolStorage};
 use vsm_model::Subpool;
 

@@ -2,7 +2,7 @@
 use Rattle.std.proofs.Common.{◌≡◌, ◌+◌, ◌*◌, ◌^◌, ◌≤◌, true, false}
 use Rattle.std.proofs.Props.{props}
 use mathlib.Core.Logic.{∥∥₁_elim}
-use Rattle.change_laws.specs.MapTotals.{all_pages, all_free, PagesAreCounted, BytesAreCounted, TotalsAreFew}
+use Rattle.storage_changes.specs.MapTotals.{all_pages, all_free, PagesAreCounted, BytesAreCounted, TotalsAreFew}
 use Rattle.storage_changes.specs.State.{StorageState}
 use Rattle.storage_changes.specs.Meaning.{model_of, IsSound}
 use Rattle.vsm_model.specs.declared.limits.Settings.{Settings}

@@ -8,7 +8,7 @@ use Rattle.cell_extents.specs.declared.settings.CellSettings.{CellSettings}
 use Rattle.cell_pool.specs.Pools.{Pool, rounded}
 use Rattle.storage_changes.specs.TableOrder.{rows_behind}
 use Rattle.storage_changes.specs.PoolTable.{extent_of, cell_pool_of}
-use Rattle.change_laws.specs.MapCells.{EndInRegions}
+use Rattle.storage_changes.specs.MapCells.{EndInRegions}
 use Rattle.text_output.specs.Writing.{Puts}
 use Rattle.text_output.specs.declared.writing.Gathered.{Gathered}
 use Rattle.vsm_model.specs.CellPools.{CellPool, CellPools, CellExtent, extent_doublewords}

@@ -14,7 +14,7 @@ use Rattle.cell_pool.specs.Order.{IsNext, IsLast}
 use Rattle.storage_changes.specs.NamedPools.{AreNamed}
 use Rattle.storage_changes.specs.TableOrder.{rows_behind, NoneIsBehind, IsFirstBehind, ComesInOrder}
 use Rattle.storage_changes.specs.PoolTable.{cell_pool_of, cell_pools_in}
-use Rattle.change_laws.specs.MapCells.{EndInRegions, CellExtentsEndInRegions}
+use Rattle.storage_changes.specs.MapCells.{EndInRegions, CellExtentsEndInRegions}
 use Rattle.vsm_model.specs.CellPools.{CellPools as CellRows}
 use Rattle.storage_core.specs.declared.storage.Storage.{Storage}
 use Rattle.storage_map.specs.Cells.{cell_pool}

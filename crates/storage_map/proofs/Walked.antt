@@ -1,6 +1,6 @@
 -- The subpools and sharers of a storage that a walk by places goes over.
 use Rattle.std.proofs.Common.{◌≡◌, ◌∷◌, sym, ap, ◌∙◌}
-use Rattle.change_laws.specs.MapLists.{SharersAreShown}
+use Rattle.storage_changes.specs.MapLists.{SharersAreShown}
 use Rattle.subpool_set.specs.Pools as pools
 use Rattle.subpool_set.specs.declared.places.PoolPlace.{PoolPlace}
 use Rattle.subpool_set.specs.declared.places.SharerPlace.{SharerPlace}

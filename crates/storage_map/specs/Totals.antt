@@ -1,7 +1,7 @@
 -- The totals of a storage.
 -- Assembler Services Guide, "Virtual storage management".
 use Rattle.std.specs.Prelude.{ℕ, Bool, true, false}
-use Rattle.change_laws.specs.MapTotals.{subpool_pages, subpool_free}
+use Rattle.storage_changes.specs.MapTotals.{subpool_pages, subpool_free}
 use Rattle.subpool_set.specs.declared.places.PoolPlace.{PoolPlace}
 use Rattle.storage_core.specs.declared.storage.Storage.{Storage}
 use Rattle.storage_core.specs.Meaning.{state_in_place}

@@ -10,9 +10,9 @@ use crate::fields::put_field;
 use crate::subpools::put_subpools;
 use crate::sums::totals;
 use crate::tasks::put_tasks;
-use change_laws::maps::subpools_are_shown;
 use std::io;
 use std::io::Write;
+use storage_changes::maps::subpools_are_shown;
 use storage_core::Storage;
 use text_output::Gathered;
 

@@ -10,8 +10,8 @@ ghost use Rattle.text_output.specs.Writing.{Puts};
 
 use crate::areas::{put_extents, put_free_areas};
 use crate::fields::put_field;
-use change_laws::maps::{runs_are_shown, subpools_are_shown};
 use std::io::Write;
+use storage_changes::maps::{runs_are_shown, subpools_are_shown};
 use storage_core::{PoolPlace, Storage, Subpool};
 use text_output::{Gathered, put_decimal};
 

@@ -1,12 +1,12 @@
 //! The totals of a storage.
 ghost use Rattle.std.specs.Prelude.{◌≡◌, ◌+◌, ◌<◌, ◌^◌, true, false};
-ghost use Rattle.change_laws.specs.MapTotals.{pages_on_side, all_pages, all_free};
+ghost use Rattle.storage_changes.specs.MapTotals.{pages_on_side, all_pages, all_free};
 ghost use Rattle.storage_core.specs.Meaning.{state_in_place, state_of, settings_of};
 ghost use Rattle.storage_core.specs.Walks.{IsBehindSubpool};
 ghost use Rattle.storage_map.specs.Totals.{free_before, pages_before, totals_of};
 
 use crate::counts::Totals;
-use change_laws::maps::totals_are_sums;
+use storage_changes::maps::totals_are_sums;
 use storage_core::{PoolPlace, Run, Storage};
 use vsm_model::geometry::{LINE_PAGE, PAGE_BYTES, PAGE_K};
 

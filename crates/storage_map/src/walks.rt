@@ -1,10 +1,10 @@
 //! The extents and the free cells of a cell pool, one after the other, each at the cost of one element.
 ghost use Rattle.std.specs.Prelude.{◌≡◌, [], ◌∷◌, IsSome, IfSome, IfNone};
-ghost use Rattle.change_laws.specs.MapCells.{EndInRegions};
+ghost use Rattle.storage_changes.specs.MapCells.{EndInRegions};
 ghost use Rattle.storage_map.specs.Cells.{cell_pool, IsExtentPlace, extents_left, IsCellPlace, cells_left};
 
 use cell_pool::{CellExtentPlace, CellId, CellPlace, CellPools, Extent};
-use change_laws::maps::cell_extents_end;
+use storage_changes::maps::cell_extents_end;
 use storage_core::Storage;
 use subpool_storage::laws::cell_pools_are_named;
 

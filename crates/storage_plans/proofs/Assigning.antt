@@ -3,7 +3,7 @@ use Rattle.std.specs.Prelude.{⊤}
 use Rattle.std.proofs.Common.{◌≡◌, ℕ, zero, suc, ◌+◌, ◌-◌, ◌*◌, Bool, true, false, List, [], ◌∷◌, ◌++◌, refl, ◌∙◌, arith}
 use Rattle.std.proofs.lemmas.Bool.{cond-true}
 use Rattle.run_set.specs.Runs.{inside}
-use Rattle.change_laws.proofs.Cases.{inside_in}
+use Rattle.storage_changes.proofs.ActionCases.{inside_in}
 use Rattle.vsm_model.specs.declared.Subpool.{Subpool}
 use Rattle.vsm_model.specs.Regions.{pages_for}
 use Rattle.storage_changes.specs.declared.record.Record.{Record}
@@ -11,7 +11,7 @@ use Rattle.storage_changes.specs.declared.record.Record.TheVariants.{Area, Exten
 use Rattle.storage_changes.specs.State.{StorageState}
 use Rattle.storage_changes.specs.Steps.{step, walk}
 use Rattle.storage_changes.specs.Walk.{Walk}
-use Rattle.change_laws.specs.StorageActions.{area_records, own_records, register_records, run_of}
+use Rattle.storage_changes.specs.StorageActions.{area_records, own_records, register_records, run_of}
 use Rattle.storage_plans.specs.declared.places.AreaPlace.{AreaPlace}
 use Rattle.storage_plans.specs.declared.places.AreaPlace.TheVariants.{Inside, Fresh}
 use Rattle.storage_plans.specs.ObtainPlans.{place_pages, place_records}

@@ -9,7 +9,7 @@ use Rattle.vsm_model.proofs.Least.{all_pass_from}
 use Rattle.storage_changes.specs.State.{StorageState}
 use Rattle.storage_changes.specs.Meaning.{model_of}
 use Rattle.storage_changes.specs.Turned.{read}
-use Rattle.change_laws.specs.StorageActions.{bytes_with}
+use Rattle.storage_changes.specs.StorageActions.{bytes_with}
 use Rattle.raw_region.specs.Pages.{bytes_at}
 use Rattle.raw_region.proofs.ForCallers.{byte_at-assigned}
 use Rattle.storage_exchange.specs.declared.storage.Parts.{Parts}

@@ -21,9 +21,9 @@ use Rattle.storage_changes.specs.declared.record.Record.{Record}
 use Rattle.storage_changes.specs.State.{StorageState}
 use Rattle.storage_changes.specs.Changes.{Change, change_from, change_of}
 use Rattle.storage_changes.specs.Meaning.{model_of, IsSound}
-use Rattle.change_laws.specs.StorageActions.{run_of, register_records}
-use Rattle.change_laws.specs.Leads.{Leads, AreRegisters}
-use Rattle.change_laws.proofs.Rows.{none_fresh, setting_leads}
+use Rattle.storage_changes.specs.StorageActions.{run_of, register_records}
+use Rattle.storage_changes.specs.Leads.{Leads, AreRegisters}
+use Rattle.storage_changes.proofs.Rows.{none_fresh, setting_leads}
 use Rattle.storage_plans.specs.declared.plan.StoragePlan.{StoragePlan}
 use Rattle.storage_plans.specs.Plans.{Assigns, CarriesOut, change_in}
 use Rattle.storage_plans.proofs.Assigning.{none_assigned}

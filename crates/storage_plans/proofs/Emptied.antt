@@ -24,9 +24,9 @@ use Rattle.storage_changes.specs.NamedPools.{AreNamed}
 use Rattle.subpool_storage.specs.Subpools.{is_there}
 use Rattle.storage_changes.specs.State.{StorageState}
 use Rattle.storage_changes.specs.Meaning.{model_of, IsSound}
-use Rattle.change_laws.specs.StorageActions.{register_records, run_of}
-use Rattle.change_laws.proofs.Emptying.{emptying_leads}
-use Rattle.change_laws.proofs.Rows.{none_fresh}
+use Rattle.storage_changes.specs.StorageActions.{register_records, run_of}
+use Rattle.storage_changes.proofs.Emptying.{emptying_leads}
+use Rattle.storage_changes.proofs.Rows.{none_fresh}
 use Rattle.storage_plans.specs.declared.plan.StoragePlan.{StoragePlan}
 use Rattle.storage_plans.specs.Plans.{CarriesOut}
 use Rattle.storage_plans.proofs.Assigning.{none_assigned}

@@ -28,10 +28,10 @@ use Rattle.service_laws.proofs.Kept.{release_leaves_well_formed}
 use Rattle.storage_changes.specs.State.{StorageState}
 use Rattle.storage_changes.specs.Meaning.{model_of, subpool_of, is_taken, IsSound}
 use Rattle.storage_changes.proofs.MeaningLemmas.{named_pages_are_there}
-use Rattle.change_laws.specs.StorageActions.{run_of, emptied_pages, give_back_records, register_records}
-use Rattle.change_laws.proofs.GivingBack.{giving_back_leads}
-use Rattle.change_laws.proofs.Idle.{emptied_pages_are_a_run}
-use Rattle.change_laws.proofs.Rows.{none_fresh}
+use Rattle.storage_changes.specs.StorageActions.{run_of, emptied_pages, give_back_records, register_records}
+use Rattle.storage_changes.proofs.GivingBack.{giving_back_leads}
+use Rattle.storage_changes.proofs.Idle.{emptied_pages_are_a_run}
+use Rattle.storage_changes.proofs.Rows.{none_fresh}
 use Rattle.storage_plans.specs.declared.plan.StoragePlan.{StoragePlan}
 use Rattle.storage_plans.specs.declared.release.GivenBack.{GivenBack}
 use Rattle.storage_plans.specs.Plans.{CarriesOut}

@@ -35,11 +35,11 @@ use Rattle.storage_changes.specs.Changes.{change_of}
 use Rattle.storage_changes.specs.Meaning.{model_of, IsSound}
 use Rattle.storage_changes.proofs.MeaningLemmas.{free_storage_is_free, unassigned_pages_are_nobodys}
 use Rattle.subpool_storage.specs.Subpools.{is_there}
-use Rattle.change_laws.specs.StorageActions.{area_records, own_records, register_records, run_of, take_fresh_records}
-use Rattle.change_laws.specs.Leads.{AreRegisters, CanOwn, Leads, with_new}
-use Rattle.change_laws.proofs.Fresh.{taking_fresh_leads}
-use Rattle.change_laws.proofs.Rows.{none_fresh}
-use Rattle.change_laws.proofs.Taking.{taking_leads}
+use Rattle.storage_changes.specs.StorageActions.{area_records, own_records, register_records, run_of, take_fresh_records}
+use Rattle.storage_changes.specs.Leads.{AreRegisters, CanOwn, Leads, with_new}
+use Rattle.storage_changes.proofs.Fresh.{taking_fresh_leads}
+use Rattle.storage_changes.proofs.Rows.{none_fresh}
+use Rattle.storage_changes.proofs.Taking.{taking_leads}
 use Rattle.storage_plans.specs.declared.areas.FoundArea.{FoundArea}
 use Rattle.storage_plans.specs.declared.places.AreaPlace.{AreaPlace}
 use Rattle.storage_plans.specs.declared.places.AreaPlace.TheVariants as areas

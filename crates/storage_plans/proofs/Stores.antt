@@ -21,9 +21,9 @@ use Rattle.storage_changes.specs.declared.record.Record.TheVariants.{Bytes}
 use Rattle.storage_changes.specs.State.{StorageState}
 use Rattle.storage_changes.specs.Meaning.{model_of, IsSound}
 use Rattle.storage_changes.specs.Turned.{read}
-use Rattle.change_laws.specs.StorageActions.{bytes_with, blocks_for}
-use Rattle.change_laws.specs.Leads.{Leads}
-use Rattle.change_laws.proofs.Writing.{writing_leads}
+use Rattle.storage_changes.specs.StorageActions.{bytes_with, blocks_for}
+use Rattle.storage_changes.specs.Leads.{Leads}
+use Rattle.storage_changes.proofs.Writing.{writing_leads}
 use Rattle.storage_exchange.specs.declared.storage.Parts.{Parts}
 use Rattle.storage_exchange.specs.Storage.{state_of, IsFrameless}
 use Rattle.storage_plans.specs.declared.store.StorePlan.{StorePlan}

@@ -15,7 +15,8 @@ use Rattle.vsm_model.specs.Subpools.{seen_or_own, sees_one}
 use Rattle.storage_changes.specs.Meaning.{model_of}
 use Rattle.storage_changes.specs.declared.record.Record.{Record}
 use Rattle.storage_changes.specs.State.{StorageState}
-use Rattle.change_laws.specs.StorageActions.{own_records, take_records, take_fresh_records, register_records, run_of}
+use Rattle.storage_changes.specs.StorageActions.{own_records, take_records, take_fresh_records, register_records}
+use Rattle.storage_changes.specs.StorageActions.{run_of}
 use Rattle.storage_plans.specs.declared.areas.FoundArea.{FoundArea}
 use Rattle.storage_plans.specs.declared.places.AreaPlace.{AreaPlace}
 use Rattle.storage_plans.specs.declared.places.AreaPlace.TheVariants.{Inside, Fresh}

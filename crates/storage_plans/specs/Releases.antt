@@ -15,7 +15,7 @@ use Rattle.vsm_model.specs.State.{State}
 use Rattle.storage_changes.specs.declared.record.Record.{Record}
 use Rattle.storage_changes.specs.State.{StorageState}
 use Rattle.storage_changes.specs.Meaning.{model_of}
-use Rattle.change_laws.specs.StorageActions.{emptied_pages, give_back_records, register_records, run_of}
+use Rattle.storage_changes.specs.StorageActions.{emptied_pages, give_back_records, register_records, run_of}
 use Rattle.storage_plans.specs.declared.plan.StoragePlan.{StoragePlan}
 use Rattle.storage_plans.specs.declared.release.GivenBack.{GivenBack}
 

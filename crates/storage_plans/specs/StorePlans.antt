@@ -10,7 +10,7 @@ use Rattle.vsm_model.specs.Step.{step}
 use Rattle.storage_changes.specs.State.{StorageState}
 use Rattle.storage_changes.specs.Changes.{Change, change_of, no_pages}
 use Rattle.storage_changes.specs.Meaning.{model_of}
-use Rattle.change_laws.specs.StorageActions.{write_records}
+use Rattle.storage_changes.specs.StorageActions.{write_records}
 use Rattle.storage_plans.specs.declared.store.StorePlan.{StorePlan}
 use Rattle.storage_plans.specs.Plans.{IsAccepted}
 

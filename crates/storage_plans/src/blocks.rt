@@ -2,7 +2,7 @@
 ghost use Rattle.std.specs.Prelude.{◌≡◌, ℕ, ◌+◌, ◌-◌, ◌*◌, ◌/◌, ◌<◌, ◌^◌, length, slice_index_or, IsSome};
 ghost use Rattle.storage_changes.specs.Meaning.{model_of};
 ghost use Rattle.storage_changes.specs.Turned.{read};
-ghost use Rattle.change_laws.specs.StorageActions.{bytes_with};
+ghost use Rattle.storage_changes.specs.StorageActions.{bytes_with};
 ghost use Rattle.storage_exchange.specs.Storage.{state_of, IsFrameless};
 ghost use Rattle.storage_plans.specs.Reading.{put_at};
 

@@ -4,7 +4,7 @@ ghost use Rattle.arrayvec.specs.ArrayVec.{array_vec_len};
 ghost use Rattle.vsm_model.specs.declared.replies.Reply.TheVariants.{Obtained};
 ghost use Rattle.vsm_model.specs.Regions.{pages_for, settings_valid};
 ghost use Rattle.vsm_model.specs.Services.{obtain};
-ghost use Rattle.change_laws.specs.StorageActions.{own_records, register_records, run_of, take_fresh_records};
+ghost use Rattle.storage_changes.specs.StorageActions.{own_records, register_records, run_of, take_fresh_records};
 ghost use Rattle.storage_exchange.specs.Storage.{state_of};
 ghost use Rattle.storage_plans.specs.ObtainPlans.{reply_registers, obtain_records, place_address, place_blanks};
 ghost use Rattle.storage_plans.specs.ObtainPlans.{place_pages, place_records};

@@ -8,7 +8,7 @@ ghost use Rattle.vsm_model.specs.Services.{Service, is_conditional};
 ghost use Rattle.vsm_model.specs.Step.{causes};
 ghost use Rattle.storage_changes.specs.Meaning.{model_of, IsSound};
 ghost use Rattle.storage_changes.specs.declared.record.Record.TheVariants.{Register};
-ghost use Rattle.change_laws.specs.StorageActions.{area_records, register_records, run_of};
+ghost use Rattle.storage_changes.specs.StorageActions.{area_records, register_records, run_of};
 ghost use Rattle.storage_exchange.specs.Storage.{state_of};
 ghost use Rattle.storage_plans.specs.Plans.{IsPlanned};
 

@@ -4,7 +4,7 @@ ghost use Rattle.vsm_model.specs.declared.limits.Settings.{Settings};
 ghost use Rattle.vsm_model.specs.Bytes.{are_there};
 ghost use Rattle.vsm_model.specs.Services.{store};
 ghost use Rattle.storage_changes.specs.Meaning.{model_of};
-ghost use Rattle.change_laws.specs.StorageActions.{blocks_for, write_records};
+ghost use Rattle.storage_changes.specs.StorageActions.{blocks_for, write_records};
 ghost use Rattle.storage_exchange.specs.Storage.{state_of, IsFrameless};
 ghost use Rattle.storage_plans.specs.Places.{StandsSound};
 ghost use Rattle.storage_plans.specs.StorePlans.{IsStorePlanned};

@@ -8,7 +8,7 @@ ghost use Rattle.vsm_model.specs.Releasing.{whole_causes};
 ghost use Rattle.vsm_model.specs.Services.{whole};
 ghost use Rattle.vsm_model.specs.Subpools.{seen_or_own};
 ghost use Rattle.storage_changes.specs.Meaning.{model_of};
-ghost use Rattle.change_laws.specs.StorageActions.{register_records, run_of};
+ghost use Rattle.storage_changes.specs.StorageActions.{register_records, run_of};
 ghost use Rattle.storage_exchange.specs.Storage.{state_of, Stand};
 ghost use Rattle.storage_plans.specs.Places.{StandsSound};
 ghost use Rattle.storage_plans.specs.Plans.{IsPlanned};

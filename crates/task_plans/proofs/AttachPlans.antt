@@ -23,10 +23,10 @@ use Rattle.task_tree.specs.Tasks.{IsLeastFree}
 use Rattle.storage_changes.specs.NamedPools.{AreNamed}
 use Rattle.storage_changes.specs.State.{StorageState}
 use Rattle.storage_changes.specs.Meaning.{model_of, IsSound}
-use Rattle.change_laws.specs.Leads.{Leads}
+use Rattle.storage_changes.specs.Leads.{Leads}
 use Rattle.storage_plans.proofs.Carried.{no_registers, register_and}
-use Rattle.change_laws.specs.Attaching.{with_attached, CanAttach}
-use Rattle.change_laws.specs.TaskLaws.{AttachingLeads}
+use Rattle.storage_changes.specs.Attaching.{with_attached, CanAttach}
+use Rattle.storage_changes.specs.TaskLaws.{AttachingLeads}
 use Rattle.task_plans.specs.declared.attach.AttachPlan.{AttachPlan}
 use Rattle.task_plans.specs.TaskPlans.{numbers, attach_change, IsAccepted, IsAttachPlanned}
 

@@ -9,8 +9,8 @@ use Rattle.storage_exchange.specs.Storage.{state_of}
 use Rattle.storage_swap.specs.declared.builder.ChangeBuilder.{ChangeBuilder}
 use Rattle.storage_swap.specs.Builder.{Builds, Pushes}
 use Rattle.storage_swap.proofs.BuilderLemmas.{pushes-follow}
-use Rattle.change_laws.specs.StorageActions.{register_records}
-use Rattle.change_laws.specs.Attaching.{attach_records, gift_records, share_records, zero_records}
+use Rattle.storage_changes.specs.StorageActions.{register_records}
+use Rattle.storage_changes.specs.Attaching.{attach_records, gift_records, share_records, zero_records}
 use Rattle.task_plans.specs.declared.attach.AttachPlan.{AttachPlan}
 use Rattle.task_plans.specs.TaskPlans.{attach_change, numbers}
 use Rattle.task_plans.proofs.Walks.{ok_follows}

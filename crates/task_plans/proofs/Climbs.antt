@@ -6,9 +6,9 @@ use Rattle.std.proofs.lemmas.Bool.{or_cases, or_left, or_right, eqb-true, cases_
 use Rattle.vsm_model.specs.Search.{holds, is_in}
 use Rattle.vsm_model.specs.Ending.{climbs}
 use Rattle.service_laws.proofs.Options.{held}
-use Rattle.change_laws.proofs.Cases.{same_answers}
-use Rattle.change_laws.proofs.EndLists.{in_either, passes_in, is_in_passing}
-use Rattle.change_laws.specs.Ending.{is_below_by, ended_level, ended_from, ended_below}
+use Rattle.storage_changes.proofs.ActionCases.{same_answers}
+use Rattle.storage_changes.proofs.EndLists.{in_either, passes_in, is_in_passing}
+use Rattle.storage_changes.specs.Ending.{is_below_by, ended_level, ended_from, ended_below}
 
 -- who is in a run that was sifted is within the run
 within : (f : ℕ → Bool) (t len first : ℕ) → is_in (filter f (range_with_len first len)) t ≡ true → (first ≤ t) × (t < first + len)

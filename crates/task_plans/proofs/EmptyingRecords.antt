@@ -10,7 +10,7 @@ use Rattle.storage_changes.specs.declared.record.Record.{Record}
 use Rattle.storage_changes.specs.declared.record.Record.TheVariants.{Queues}
 use Rattle.storage_changes.specs.Changes.{unassigned_records}
 use Rattle.storage_changes.specs.State.{StorageState}
-use Rattle.change_laws.specs.Ending.{ended_below, emptying_records}
+use Rattle.storage_changes.specs.Ending.{ended_below, emptying_records}
 use Rattle.task_plans.specs.TaskPlans.{owned_among}
 
 module _ (m : StorageState) (top : ℕ) (p : Subpool) where

@@ -27,10 +27,10 @@ use Rattle.service_laws.proofs.TaskStays.{detach_leaves_well_formed, end_task_le
 use Rattle.storage_changes.specs.NamedPools.{AreNamed}
 use Rattle.storage_changes.specs.State.{StorageState}
 use Rattle.storage_changes.specs.Meaning.{model_of, IsSound}
-use Rattle.change_laws.proofs.Cases.{same_answers}
+use Rattle.storage_changes.proofs.ActionCases.{same_answers}
 use Rattle.storage_plans.proofs.Carried.{no_registers, register_and}
-use Rattle.change_laws.specs.Ending.{AreSubtasksFirst, CanEnd, ended_below}
-use Rattle.change_laws.specs.TaskLaws.{EndingLeads, EndsAreInOrder}
+use Rattle.storage_changes.specs.Ending.{AreSubtasksFirst, CanEnd, ended_below}
+use Rattle.storage_changes.specs.TaskLaws.{EndingLeads, EndsAreInOrder}
 use Rattle.task_plans.specs.declared.end.EndPlan.{EndPlan}
 use Rattle.task_plans.specs.TaskPlans.{end_change, IsAccepted, IsEndPlanned}
 use Rattle.task_plans.proofs.Climbs.{climb_here}

@@ -13,7 +13,7 @@ use Rattle.storage_swap.specs.declared.builder.ChangeBuilder.{ChangeBuilder}
 use Rattle.storage_swap.specs.Builder.{records_in, parked_in, Builds, Pushes}
 use Rattle.storage_swap.specs.Growth.{all_elements, MakesElements}
 use Rattle.storage_swap.proofs.BuilderLemmas.{makes-follow, pushes-follow}
-use Rattle.change_laws.specs.Ending.{ended_below, released_records}
+use Rattle.storage_changes.specs.Ending.{ended_below, released_records}
 use Rattle.task_plans.specs.declared.end.EndPlan.{EndPlan}
 use Rattle.task_plans.specs.TaskPlans.{end_change, parked_onto, parks_all, rest_records, ParksAll}
 use Rattle.task_plans.proofs.Parks.{onto_none}

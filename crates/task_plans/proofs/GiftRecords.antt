@@ -2,7 +2,7 @@
 use Rattle.std.proofs.Common.{◌≡◌, ℕ, Some, None, [], ◌∷◌, sym, ap, ◌∙◌}
 use Rattle.storage_changes.specs.declared.record.Record.{Record}
 use Rattle.storage_changes.specs.State.{StorageState}
-use Rattle.change_laws.specs.Attaching.{made, gift_records, given_records}
+use Rattle.storage_changes.specs.Attaching.{made, gift_records, given_records}
 
 module _ (m : StorageState) (task number now : ℕ) (is : now ≡ m.tasks.current) where
   of-now : gift_records m task number ≡ given_records task number (m.subpools.sight now number)

@@ -4,7 +4,7 @@ use Rattle.std.specs.Prelude.{filter, if◌then◌else◌}
 use Rattle.std.specs.List.{range_with_len}
 use Rattle.std.proofs.lemmas.Bool.{cases_lt}
 use Rattle.vsm_model.specs.Search.{holds}
-use Rattle.change_laws.specs.Ending.{is_below_by, ended_level, ended_from, ended_below}
+use Rattle.storage_changes.specs.Ending.{is_below_by, ended_level, ended_from, ended_below}
 
 -- nobody in a run is left where none passes
 nobody : (f : ℕ → Bool) (len first : ℕ) → ((t : ℕ) → first ≤ t → t < first + len → f t ≡ false) → filter f (range_with_len first len) ≡ []

@@ -11,9 +11,9 @@ use Rattle.storage_changes.specs.Laws.{CanBe}
 use Rattle.storage_changes.proofs.Cases.{same-is, same-self}
 use Rattle.storage_changes.specs.Names.{AreNames}
 use Rattle.service_laws.proofs.Options.{held}
-use Rattle.change_laws.specs.Ending.{owned_by_these}
-use Rattle.change_laws.proofs.EndEach.{Each, Apart, each_so}
-use Rattle.change_laws.proofs.EndSubpools.{IsAnother, owned_have, owned_are_apart}
+use Rattle.storage_changes.specs.Ending.{owned_by_these}
+use Rattle.storage_changes.proofs.EndEach.{Each, Apart, each_so}
+use Rattle.storage_changes.proofs.EndSubpools.{IsAnother, owned_have, owned_are_apart}
 
 all_of : {A : Type 0} (P : A → Type 0) (xs : List A) → Each P xs → All P xs
 all_of P [] e = All-nil P

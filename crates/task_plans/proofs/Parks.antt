@@ -20,7 +20,7 @@ use Rattle.storage_swap.specs.declared.builder.ChangeBuilder.{ChangeBuilder}
 use Rattle.storage_swap.specs.Builder.{records_in, parked_in, IsBuilding, Builds, Parks}
 use Rattle.storage_swap.specs.Growth.{all_elements, MakesElements}
 use Rattle.storage_swap.proofs.BuilderLemmas.{builds-none, builds-follow, makes-follow}
-use Rattle.change_laws.specs.Ending.{ended_below}
+use Rattle.storage_changes.specs.Ending.{ended_below}
 use Rattle.task_plans.specs.TaskPlans.{owned_among, parked_onto, parks_all, CanPark, ParksAll}
 use Rattle.task_plans.proofs.Walks.{place_kept}
 

@@ -5,8 +5,8 @@ use Rattle.vsm_model.specs.declared.replies.Reply.{Reply}
 use Rattle.vsm_model.specs.declared.replies.Reply.TheVariants.{Returned}
 use Rattle.storage_changes.specs.declared.record.Record.{Record}
 use Rattle.storage_changes.specs.State.{StorageState}
-use Rattle.change_laws.specs.StorageActions.{register_records}
-use Rattle.change_laws.specs.Ending.{ended_below, ended_records, removed_records, unshared_records, with_turn}
+use Rattle.storage_changes.specs.StorageActions.{register_records}
+use Rattle.storage_changes.specs.Ending.{ended_below, ended_records, removed_records, unshared_records, with_turn}
 use Rattle.task_plans.specs.declared.end.EndPlan.{EndPlan}
 use Rattle.task_plans.specs.TaskPlans.{end_registers}
 

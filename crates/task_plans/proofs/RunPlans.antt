@@ -15,14 +15,14 @@ use Rattle.vsm_model.proofs.Chosen.{Stepped}
 use Rattle.service_laws.proofs.TaskStays.{run_leaves_well_formed}
 use Rattle.storage_changes.specs.State.{StorageState}
 use Rattle.storage_changes.specs.Meaning.{model_of, IsSound}
-use Rattle.change_laws.specs.StorageActions.{run_of}
-use Rattle.change_laws.proofs.Rows.{none_fresh}
+use Rattle.storage_changes.specs.StorageActions.{run_of}
+use Rattle.storage_changes.proofs.Rows.{none_fresh}
 use Rattle.storage_plans.specs.declared.plan.StoragePlan.{StoragePlan}
 use Rattle.storage_plans.specs.Plans.{CarriesOut}
 use Rattle.storage_plans.proofs.Assigning.{none_assigned}
 use Rattle.storage_plans.proofs.Carried.{carries_out}
-use Rattle.change_laws.specs.Attaching.{turn_records}
-use Rattle.change_laws.specs.TaskLaws.{TurningLeads}
+use Rattle.storage_changes.specs.Attaching.{turn_records}
+use Rattle.storage_changes.specs.TaskLaws.{TurningLeads}
 
 module _ (settings : Settings) (names_full : Bool) (m : StorageState) (task : ℕ) where
   abbrev s : State

@@ -10,7 +10,7 @@ use Rattle.storage_exchange.specs.Storage.{state_of}
 use Rattle.storage_swap.specs.declared.builder.ChangeBuilder.{ChangeBuilder}
 use Rattle.storage_swap.specs.Builder.{Builds, Pushes}
 use Rattle.storage_swap.proofs.BuilderLemmas.{Leads, leads-more, leads-all, leads-room}
-use Rattle.change_laws.specs.Attaching.{made, shared, share_records, sharing_records}
+use Rattle.storage_changes.specs.Attaching.{made, shared, share_records, sharing_records}
 
 next : (k : ℕ) → suc k ≡ k + 1
 next k = omega arith

@@ -20,10 +20,10 @@ use Rattle.vsm_model.specs.Step.{step}
 use Rattle.storage_changes.specs.State.{StorageState}
 use Rattle.storage_changes.specs.Changes.{Change, change_parking}
 use Rattle.storage_changes.specs.Meaning.{model_of}
-use Rattle.change_laws.specs.StorageActions.{register_records}
-use Rattle.change_laws.specs.Attaching.{attach_records, attach_blanks, CanAttach}
-use Rattle.change_laws.specs.Ending.{ended_below, owned_by_these, end_records, end_blanks, with_turn, CanEnd}
-use Rattle.change_laws.specs.Ending.{ended_records, removed_records, unshared_records, weight_ended}
+use Rattle.storage_changes.specs.StorageActions.{register_records}
+use Rattle.storage_changes.specs.Attaching.{attach_records, attach_blanks, CanAttach}
+use Rattle.storage_changes.specs.Ending.{ended_below, owned_by_these, end_records, end_blanks, with_turn, CanEnd}
+use Rattle.storage_changes.specs.Ending.{ended_records, removed_records, unshared_records, weight_ended}
 pub use Rattle.storage_plans.specs.Plans.{IsAccepted}
 use Rattle.storage_exchange.specs.declared.storage.Parts.{Parts}
 use Rattle.storage_swap.specs.declared.builder.ChangeBuilder.{ChangeBuilder}

@@ -4,7 +4,7 @@ ghost use Rattle.std.specs.Prelude.{◌≡◌, ℕ, ◌<◌, ◌≤◌, false, [
 ghost use Rattle.vsm_model.specs.Search.{is_in};
 ghost use Rattle.storage_exchange.specs.Storage.{state_of, Stand};
 ghost use Rattle.storage_swap.specs.Builder.{IsBuilding, Builds, Pushes};
-ghost use Rattle.change_laws.specs.Ending.{cleared_quarter, is_below_by, ended_below, ended_level, ended_records};
+ghost use Rattle.storage_changes.specs.Ending.{cleared_quarter, is_below_by, ended_below, ended_level, ended_records};
 ghost use Rattle.std.specs.List.{flat_map};
 ghost use Rattle.task_plans.specs.Parents.{AreParents};
 

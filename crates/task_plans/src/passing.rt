@@ -4,7 +4,7 @@ ghost use Rattle.std.specs.Prelude.{◌≡◌, ◌≤◌, ◌++◌, length, All,
 ghost use Rattle.std.specs.List.{flat_map};
 ghost use Rattle.storage_exchange.specs.Storage.{state_of};
 ghost use Rattle.storage_swap.specs.Builder.{IsBuilding, Builds, Pushes};
-ghost use Rattle.change_laws.specs.Attaching.{made, shared, gift_records, share_records, zero_records};
+ghost use Rattle.storage_changes.specs.Attaching.{made, shared, gift_records, share_records, zero_records};
 
 use crate::numbers::Numbers;
 use crate::{Builder, Pushed};

@@ -4,15 +4,15 @@ ghost use Rattle.std.specs.Prelude.{◌≡◌, Bool, None, IfOk};
 ghost use Rattle.vsm_model.specs.declared.limits.Settings.{Settings};
 ghost use Rattle.vsm_model.specs.declared.replies.Reply.TheVariants.{Turn};
 ghost use Rattle.vsm_model.specs.Services.{run};
-ghost use Rattle.change_laws.specs.StorageActions.{run_of};
+ghost use Rattle.storage_changes.specs.StorageActions.{run_of};
 ghost use Rattle.storage_exchange.specs.Storage.{state_of, Stand};
 ghost use Rattle.storage_plans.specs.Places.{StandsSound};
 ghost use Rattle.storage_plans.specs.Plans.{IsPlanned};
-ghost use Rattle.change_laws.specs.Attaching.{turn_records};
+ghost use Rattle.storage_changes.specs.Attaching.{turn_records};
 
 use arrayvec::ArrayVec;
-use change_laws::tasks::turning_leads;
 use run_set::Run;
+use storage_changes::tasks::turning_leads;
 use storage_changes::{Record, TurnRecord};
 use storage_exchange::Parts;
 use storage_plans::StoragePlan;

@@ -1,4 +1,5 @@
-//! What only a Rust caller of the bench can try: readers and writers of its own, and calls of a `Bench`.
+//! What only a Rust caller of the bench can try: readers and writers of its own, and calls of a `Bench`
+//! and of a table of names.
 //!
 //! Scripts and command lines are tried with the built program, by the rows of tests/rows. Expected texts are written by
 //! hand from the rules of docs/STATEMENTS.md and docs/MESSAGES.md, never taken from a run.
@@ -8,6 +9,8 @@
 mod benches;
 #[cfg(test)]
 mod checks;
+#[cfg(test)]
+mod names;
 #[cfg(test)]
 mod readings;
 #[cfg(test)]

@@ -1,4 +1,4 @@
-//! Tests of the reader of scripts, of names and of kept changes, that need a Rust caller.
+//! Tests of the reader of scripts and of kept changes, that need a Rust caller.
 #![tactic(auto)]
 
 #[cfg(test)]
@@ -7,8 +7,6 @@ mod checks;
 mod counter;
 #[cfg(test)]
 mod kept_changes;
-#[cfg(test)]
-mod names;
 #[cfg(test)]
 mod read_lines;
 #[cfg(test)]

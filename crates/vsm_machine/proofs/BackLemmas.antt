@@ -2,7 +2,7 @@
 use Rattle.std.proofs.Common.{sym, subst}
 use Rattle.std.proofs.lemmas.Bool.{and_parts}
 use Rattle.storage_swap.specs.Swap as swap
-use Rattle.name_table.specs.Table.{rows_of}
+use Rattle.vsm_machine.specs.NameTable.{rows_of}
 use Rattle.step_history.specs.Single.{steps_twice}
 use Rattle.vsm_machine.specs.NameSteps.{is_ready, can_take_by, can_step, can_fit}
 use Rattle.vsm_machine.specs.declared.machine.Machine.{Machine}

@@ -1,3 +1,7 @@
+pub mod Entries
+pub mod SameName
+pub mod StepsBack
+pub mod TableRows
 pub mod Planning
 mod FirstCause
 mod BackLemmas

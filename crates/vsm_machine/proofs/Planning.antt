@@ -19,9 +19,9 @@ use Rattle.storage_changes.specs.Meaning.{model_of, IsSound}
 use Rattle.storage_core.specs.Planned.{Assigns, IsAccepted, change_for, elements_needed, fresh_pages, reply_of}
 use Rattle.storage_core.specs.Planned as planned
 use Rattle.storage_core.proofs.FramesBrought.{assigns_frames}
-use Rattle.name_table.specs.Steps.{define, reword, step_to}
-use Rattle.name_table.proofs.StepsBack.{step_to_can, step_to_rows}
-use Rattle.name_table.proofs.SameName.{same_name-self}
+use Rattle.vsm_machine.specs.NameChanges.{define, reword, step_to}
+use Rattle.vsm_machine.proofs.StepsBack.{step_to_can, step_to_rows}
+use Rattle.vsm_machine.proofs.SameName.{same_name-self}
 use Rattle.vsm_machine.specs.declared.plans.Planned.{Planned}
 use Rattle.vsm_machine.specs.declared.refusals.Refusal.{Refusal}
 use Rattle.vsm_machine.specs.declared.refusals.Refusal.TheVariants.{Abend}

@@ -28,8 +28,8 @@ use Rattle.storage_core.proofs.GivenFrames.{frames_back}
 use Rattle.step_history.specs.Laws.{ReversibleLaws}
 use Rattle.step_history.specs.Single.{SingleSteps, steps_fit, steps_states, steps_laws}
 use Rattle.step_history.specs.Chain.{FitsBefore, FitsAfter, start}
-use Rattle.name_table.specs.Table.{rows_of, knows}
-use Rattle.name_table.specs.Steps.{NameStep, step_in}
+use Rattle.vsm_machine.specs.NameTable.{rows_of, knows}
+use Rattle.vsm_machine.specs.NameChanges.{NameStep, step_in}
 use Rattle.vsm_machine.specs.NameSteps.{is_ready, stepped_by, turned_by, CanStepBy, can_take_by, defines_none}
 use Rattle.vsm_machine.specs.NameSteps.{undefines_none, name_fits_back, name_leads_back, name_turns_back, can_step}
 use Rattle.vsm_machine.specs.NameSteps.{same_ready}

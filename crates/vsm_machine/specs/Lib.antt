@@ -1,3 +1,5 @@
+pub mod NameChanges
+pub mod NameTable
 pub mod NameSteps
 pub mod Changes
 pub mod Laws

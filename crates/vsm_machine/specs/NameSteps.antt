@@ -4,11 +4,11 @@ use Rattle.std.specs.Prelude.{List, [], ◌∷◌, ◌++◌, length, refl}
 use Rattle.std.proofs.Common.{sym, ap, ◌∙◌, inl, inr, arith, true≢false}
 use Rattle.std.proofs.lemmas.Bool.{and_parts, and_from, eqb-true, cases_Bool, cond-true, cond-false}
 use Rattle.vsm_model.specs.Names.{same_name, word_of}
-use Rattle.name_table.specs.declared.tables.NameTable.{NameTable}
-use Rattle.name_table.specs.Table.{rows_of, knows}
-use Rattle.name_table.specs.Steps.{NameStep, define, undefine, reword, stepped, turned, IsLast, CanStep}
-use Rattle.name_table.proofs.SameName.{same_name-self, same_name-is}
-use Rattle.name_table.proofs.StepsBack.{first_is_other, step_back_fits, step_leads_back, step_turns_back}
+use Rattle.vsm_machine.specs.declared.names.NameTable.{NameTable}
+use Rattle.vsm_machine.specs.NameTable.{rows_of, knows}
+use Rattle.vsm_machine.specs.NameChanges.{NameStep, define, undefine, reword, stepped, turned, IsLast, CanStep}
+use Rattle.vsm_machine.proofs.SameName.{same_name-self, same_name-is}
+use Rattle.vsm_machine.proofs.StepsBack.{first_is_other, step_back_fits, step_leads_back, step_turns_back}
 
 -- the table holds the name that is to be defined, if one is
 abbrev pub is_ready : NameTable → Option NameStep → Bool

@@ -13,7 +13,7 @@ pub use Rattle.storage_core.specs.Planned.{elements_needed, fresh_pages, reply_o
 use Rattle.storage_core.specs.Weight.{weight}
 use Rattle.storage_changes.specs.State.{StorageState}
 use Rattle.storage_swap.specs.Reserve.{Reserves}
-use Rattle.name_table.specs.Steps.{NameStep, define, step_in, step_to}
+use Rattle.vsm_machine.specs.NameChanges.{NameStep, define, step_in, step_to}
 use Rattle.vsm_machine.specs.declared.machine.Machine.{Machine}
 use Rattle.vsm_machine.specs.declared.machine.MachineChange.{MachineChange}
 use Rattle.vsm_machine.specs.declared.plans.Planned.{Planned}

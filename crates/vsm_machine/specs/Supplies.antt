@@ -4,7 +4,7 @@ use Rattle.vsm_model.specs.declared.replies.Reply.{Reply}
 use Rattle.vsm_model.specs.Names.{NamedState, word_of}
 use Rattle.vsm_model.specs.Standing.{Accepted}
 use Rattle.macro_statements.specs.Requests.{Act}
-use Rattle.name_table.specs.Table.{HasRoom}
+use Rattle.vsm_machine.specs.NameTable.{HasRoom}
 use Rattle.storage_core.specs.Fresh.{HasFramesFor}
 use Rattle.storage_core.specs.Memory.{Makes}
 use Rattle.storage_core.specs.Planned.{fresh_pages, IsSpareFor}

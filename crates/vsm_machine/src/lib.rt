@@ -4,11 +4,16 @@
 //! [`plan_of`] finds by reading alone what a statement will do, or why it's refused; [`reserve`] makes a
 //! [`MachineChange`] of the plan, with all the memory that it needs; and the machine's `swap` applies the change and
 //! leaves what takes it back.
+//!
+//! A [`NameTable`] holds the names that are defined now and those of statements that were undone. A [`NameChange`] is
+//! one step of a statement: [`NameTable::swap`] takes it and leaves the step that takes it back.
 #![tactic(auto)]
 
 mod causes;
 pub mod laws;
 mod machine;
+mod name_changes;
+mod names;
 mod plans;
 mod refusals;
 mod services;
@@ -16,6 +21,9 @@ mod values;
 
 pub use causes::{UnknownName, cause_of};
 pub use machine::{Machine, MachineChange};
+pub use name_changes::NameChange;
+pub use names::NameTable;
+pub use operand_texts::Name;
 pub use plans::{Planned, plan_of, reserve};
 pub use refusals::{NewFault, Refusal};
 pub use services::service_of;

@@ -1,11 +1,12 @@
 //! What the history moves back and forward.
 ghost use Rattle.std.specs.Prelude.{◌≡◌, ℕ, true, List};
 ghost use Rattle.std.specs.Option.{option_map};
-ghost use Rattle.name_table.specs.Table.{rows_of, knows};
-ghost use Rattle.name_table.specs.Steps.{step_in};
+ghost use Rattle.vsm_machine.specs.NameTable.{rows_of, knows};
+ghost use Rattle.vsm_machine.specs.NameChanges.{step_in};
 ghost use Rattle.vsm_machine.specs.NameSteps.{stepped_by, turned_by, CanStepBy, is_ready};
 
-use name_table::{NameChange, NameTable};
+use crate::name_changes::NameChange;
+use crate::names::NameTable;
 use step_history::Reversible;
 use storage_core::Storage;
 

@@ -7,18 +7,20 @@ ghost use Rattle.storage_core.specs.Planned.{CanBeReserved, elements_needed, pag
 ghost use Rattle.storage_core.specs.Memory.{Makes};
 ghost use Rattle.storage_core.specs.Stays.{Stays};
 ghost use Rattle.macro_statements.specs.Requests.{act_in, IsValidAct};
-ghost use Rattle.name_table.specs.Table.{rows_of, knows, HasRoom};
-ghost use Rattle.name_table.specs.Steps.{step_in};
+ghost use Rattle.vsm_machine.specs.NameTable.{rows_of, knows, HasRoom};
+ghost use Rattle.vsm_machine.specs.NameChanges.{step_in};
 ghost use Rattle.vsm_machine.specs.NameSteps.{CanStepBy};
 ghost use Rattle.vsm_machine.specs.Changes.{shown, step_of};
 ghost use Rattle.vsm_machine.specs.Planned.{step_for, step_planned, defined_by, IsPlanned, IsChangeOf};
 ghost use Rattle.vsm_machine.specs.Supplies.{NeedsNoMore};
 
 use crate::machine::{Machine, MachineChange};
+use crate::name_changes::NameChange;
+use crate::names::NameTable;
 use crate::refusals::Refusal;
 use crate::services::{family_of, name_of, service_of};
 use macro_statements::Statement;
-use name_table::{Name, NameChange, NameTable};
+use operand_texts::Name;
 use std::alloc::AllocError;
 use storage_core::{Plan, Reply};
 

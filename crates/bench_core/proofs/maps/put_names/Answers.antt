@@ -1,6 +1,6 @@
 use Rattle.std.proofs.Common.{◌<◌, length, sym, subst, arith}
 use Rattle.std.proofs.lemmas.Option.{slice_get_within}
-use Rattle.name_table.specs.Table.{rows_of, row_of}
+use Rattle.vsm_machine.specs.NameTable.{rows_of, row_of}
 use Rattle.text_output.specs.Writing.{Puts}
 use Rattle.vsm_model.specs.Map.{name_lines}
 use Rattle.text_output.proofs.Gathering.{puts_none}

@@ -1,5 +1,5 @@
 use Rattle.std.proofs.Common.{◌-◌, length, take}
-use Rattle.name_table.specs.Table.{rows_of}
+use Rattle.vsm_machine.specs.NameTable.{rows_of}
 use Rattle.vsm_model.specs.Map.{name_lines}
 use Rattle.text_output.specs.Writing.{Puts}
 use Rattle.bench_core.proofs.maps.put_names.Given as goal

@@ -1,6 +1,6 @@
 use Rattle.std.proofs.Common.{arith}
 use Rattle.free_queue.specs.FreeQueue.{is_free}
-use Rattle.change_laws.specs.StorageActions.{run_of}
+use Rattle.storage_changes.specs.StorageActions.{run_of}
 use Rattle.cell_plans.proofs.NotingLemmas.{joins-before}
 use Rattle.cell_plans.proofs.noting.note_doubleword.Goals as goal
 

@@ -2,7 +2,7 @@ use Rattle.std.proofs.Common.{◌≡◌, ℕ, ◌+◌, ◌-◌, ◌≤◌, ◌||
 use Rattle.vsm_elements.specs.Ownership.{Leaves}
 use Rattle.run_set.specs.Runs.{inside}
 use Rattle.free_queue.specs.FreeQueue.{is_free, owned, IsFreeQueue}
-use Rattle.change_laws.specs.StorageActions.{run_of}
+use Rattle.storage_changes.specs.StorageActions.{run_of}
 use Rattle.cell_plans.proofs.noting.note_missing.Given as goal
 
 abbrev pub invariant-loop-doubleword : goal.invariant-loop-doubleword

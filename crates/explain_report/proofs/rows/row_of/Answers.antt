@@ -1,7 +1,7 @@
 use Rattle.std.proofs.Common.{true, false, ap, ◌∙◌}
 use Rattle.vsm_model.specs.declared.Subpool.{Subpool}
 use Rattle.subpool_storage.specs.Extents.{extents}
-use Rattle.change_laws.specs.MapTotals.{subpool_pages}
+use Rattle.storage_changes.specs.MapTotals.{subpool_pages}
 use Rattle.storage_core.specs.Meaning.{state_in_place}
 use Rattle.storage_core.specs.Walks.{subpool_before}
 use Rattle.explain_report.specs.declared.tallies.Tally.{Tally}

@@ -1,6 +1,6 @@
 use Rattle.std.proofs.Common.{sym}
 use Rattle.run_set.specs.RunSet.{place_index}
-use Rattle.change_laws.specs.MapLists.{unassigned_runs}
+use Rattle.storage_changes.specs.MapLists.{unassigned_runs}
 use Rattle.storage_core.specs.Meaning.{state_in_place}
 use Rattle.explain_report.proofs.Few.{unassigned_few}
 use Rattle.explain_report.proofs.Walked.{none_walked, one_walked, all_walked, room, fewer}

@@ -1,6 +1,6 @@
 use Rattle.std.proofs.Common.{◌-◌, length}
 use Rattle.run_set.specs.RunSet.{place_index}
-use Rattle.change_laws.specs.MapLists.{unassigned_runs}
+use Rattle.storage_changes.specs.MapLists.{unassigned_runs}
 use Rattle.storage_core.specs.Meaning.{state_in_place}
 use Rattle.storage_core.specs.Walks.{IsUnassignedPlace}
 use Rattle.explain_report.proofs.Walked.{Walked}

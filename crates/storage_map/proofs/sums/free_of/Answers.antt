@@ -2,7 +2,7 @@ use Rattle.std.proofs.Common.{ℕ, drop, sym, ap, subst, arith}
 use Rattle.run_set.specs.Runs.{Run}
 use Rattle.run_set.specs.RunSet.{place_index}
 use Rattle.subpool_storage.specs.Extents.{free_areas}
-use Rattle.change_laws.specs.MapTotals.{sum_of}
+use Rattle.storage_changes.specs.MapTotals.{sum_of}
 use Rattle.storage_core.specs.Meaning.{state_in_place}
 use Rattle.storage_core.specs.Walks.{subpool_before, IsFreeAreaPlace}
 use Rattle.storage_map.proofs.Remaining.{drop_next, drop_end, fewer}

@@ -1,7 +1,7 @@
 use Rattle.std.proofs.Common.{◌≡◌, ◌+◌, ◌-◌, length, drop}
 use Rattle.run_set.specs.RunSet.{place_index}
 use Rattle.subpool_storage.specs.Extents.{free_areas}
-use Rattle.change_laws.specs.MapTotals.{sum_of, subpool_free}
+use Rattle.storage_changes.specs.MapTotals.{sum_of, subpool_free}
 use Rattle.storage_core.specs.Meaning.{state_in_place}
 use Rattle.storage_core.specs.Walks.{subpool_before, IsFreeAreaPlace}
 use Rattle.storage_map.proofs.sums.free_of.Given as goal

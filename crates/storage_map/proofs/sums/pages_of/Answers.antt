@@ -1,7 +1,7 @@
 use Rattle.std.proofs.Common.{ℕ, Bool, true, false, drop, sym, ap, subst, arith}
 use Rattle.run_set.specs.RunSet.{place_index}
 use Rattle.subpool_storage.specs.Extents.{extents}
-use Rattle.change_laws.specs.MapTotals.{sum_of, pages_on_side}
+use Rattle.storage_changes.specs.MapTotals.{sum_of, pages_on_side}
 use Rattle.storage_core.specs.Meaning.{state_in_place}
 use Rattle.storage_core.specs.Walks.{subpool_before, IsExtentPlace}
 use Rattle.storage_map.proofs.Remaining.{drop_next, drop_end, fewer}

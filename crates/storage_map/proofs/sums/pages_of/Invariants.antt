@@ -1,7 +1,7 @@
 use Rattle.std.proofs.Common.{◌≡◌, ◌+◌, ◌-◌, true, false, length, drop}
 use Rattle.run_set.specs.RunSet.{place_index}
 use Rattle.subpool_storage.specs.Extents.{extents}
-use Rattle.change_laws.specs.MapTotals.{sum_of, pages_on_side, subpool_pages}
+use Rattle.storage_changes.specs.MapTotals.{sum_of, pages_on_side, subpool_pages}
 use Rattle.storage_core.specs.Meaning.{state_in_place}
 use Rattle.storage_core.specs.Walks.{subpool_before, IsExtentPlace}
 use Rattle.storage_map.proofs.sums.pages_of.Given as goal

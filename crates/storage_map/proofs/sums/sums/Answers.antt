@@ -1,6 +1,6 @@
 use Rattle.std.proofs.Common.{true, false, ap, arith}
 use Rattle.storage_core.specs.Walks.{subpools_left, subpool_before}
-use Rattle.change_laws.specs.MapTotals.{sum_of, subpool_pages, subpool_free}
+use Rattle.storage_changes.specs.MapTotals.{sum_of, subpool_pages, subpool_free}
 use Rattle.storage_core.specs.Meaning.{state_in_place}
 use Rattle.storage_map.proofs.Remaining.{shorter}
 use Rattle.storage_map.proofs.Walked.{next_before}

@@ -1,5 +1,5 @@
 use Rattle.std.proofs.Common.{◌≡◌, ◌+◌, true, false, length}
-use Rattle.change_laws.specs.MapTotals.{sum_of, subpool_pages, subpool_free, all_pages, all_free}
+use Rattle.storage_changes.specs.MapTotals.{sum_of, subpool_pages, subpool_free, all_pages, all_free}
 use Rattle.storage_core.specs.Meaning.{state_in_place}
 use Rattle.storage_core.specs.Walks.{IsSubpoolPlace, subpools_left}
 use Rattle.storage_map.proofs.sums.sums.Given as goal

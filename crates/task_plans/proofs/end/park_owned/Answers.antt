@@ -3,7 +3,7 @@ use Rattle.vsm_model.specs.declared.Subpool.{Subpool}
 use Rattle.subpool_storage.specs.Subpools.{Subpools}
 use Rattle.storage_changes.specs.State.{StorageState}
 use Rattle.storage_exchange.specs.Storage.{state_of}
-use Rattle.change_laws.specs.Ending.{ended_below}
+use Rattle.storage_changes.specs.Ending.{ended_below}
 use Rattle.task_plans.specs.TaskPlans.{owned_among, parks_all, CanPark}
 use Rattle.task_plans.proofs.OwnedNames.{owned_are_names}
 use Rattle.task_plans.proofs.Parks.{names_can, parks_none, parks_done, parks_can, parks_more, parks_less}

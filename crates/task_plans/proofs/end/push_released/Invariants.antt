@@ -3,7 +3,7 @@ use Rattle.std.specs.List.{flat_map}
 use Rattle.subpool_storage.specs.SubpoolStorage.{subpools_left}
 use Rattle.storage_exchange.specs.Storage.{state_of}
 use Rattle.task_plans.proofs.Walks.{WalkLeads}
-use Rattle.change_laws.specs.Ending.{emptying_records}
+use Rattle.storage_changes.specs.Ending.{emptying_records}
 use Rattle.task_plans.specs.TaskPlans.{owned_among}
 use Rattle.task_plans.proofs.end.push_released.Given as goal
 

@@ -1,6 +1,6 @@
 use Rattle.std.proofs.Common.{◌≡◌, List, [], ◌∷◌, refl, ap}
 use Rattle.std.specs.Prelude.{map}
-use Rattle.change_laws.specs.Ending.{ended_below, removed}
+use Rattle.storage_changes.specs.Ending.{ended_below, removed}
 use Rattle.storage_swap.proofs.BuilderLemmas.{builds-follow}
 use Rattle.task_plans.specs.TaskPlans.{owned_among}
 use Rattle.vsm_model.specs.declared.Subpool.{Subpool}

@@ -6,7 +6,7 @@ use Rattle.storage_changes.specs.declared.record.Record.{Record}
 use Rattle.storage_changes.specs.State.{StorageState}
 use Rattle.storage_exchange.specs.Storage.{state_of}
 use Rattle.storage_swap.proofs.BuilderLemmas.{builds-follow}
-use Rattle.change_laws.specs.Ending.{ended_below, unshared}
+use Rattle.storage_changes.specs.Ending.{ended_below, unshared}
 use Rattle.task_plans.specs.TaskPlans.{unseeing_among}
 use Rattle.task_plans.proofs.EndRecords.{never}
 use Rattle.task_plans.proofs.Walks.{sharers_all, sharers_room, sharers_more, sharers_less, mapped_first}

@@ -2,7 +2,7 @@ use Rattle.std.proofs.Common.{◌≡◌, List, [], ◌∷◌, refl, sym, ap, ◌
 use Rattle.std.specs.Prelude.{map}
 use Rattle.std.specs.List.{flat_map}
 use Rattle.std.proofs.lemmas.List.{append-nil}
-use Rattle.change_laws.specs.Ending.{ended_below, unseeing, unshared}
+use Rattle.storage_changes.specs.Ending.{ended_below, unseeing, unshared}
 use Rattle.vsm_model.specs.declared.Subpool.{Subpool}
 use Rattle.storage_changes.specs.declared.record.Record.{Record}
 use Rattle.storage_changes.specs.State.{StorageState}

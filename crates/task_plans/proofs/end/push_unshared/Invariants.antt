@@ -4,7 +4,7 @@ use Rattle.std.specs.List.{flat_map}
 use Rattle.subpool_storage.specs.SubpoolStorage.{subpools_left}
 use Rattle.storage_exchange.specs.Storage.{state_of}
 use Rattle.task_plans.proofs.Walks.{WalkLeads}
-use Rattle.change_laws.specs.Ending.{ended_below, unseeing, unshared}
+use Rattle.storage_changes.specs.Ending.{ended_below, unseeing, unshared}
 use Rattle.task_plans.proofs.end.push_unshared.Given as goal
 
 abbrev pub invariant-loop-subpool : goal.invariant-loop-subpool

@@ -1,6 +1,6 @@
 use Rattle.std.proofs.Common.{◌≡◌, ◌-◌}
 use Rattle.storage_exchange.specs.Storage.{state_of}
-use Rattle.change_laws.specs.Ending.{is_below_by}
+use Rattle.storage_changes.specs.Ending.{is_below_by}
 use Rattle.task_plans.proofs.ended.is_below_by.Given as goal
 
 abbrev pub invariant-loop : goal.invariant-loop

@@ -5,7 +5,7 @@ use Rattle.storage_changes.specs.declared.record.Record.{Record}
 use Rattle.storage_changes.specs.State.{StorageState}
 use Rattle.storage_exchange.specs.Storage.{state_of}
 use Rattle.storage_swap.proofs.BuilderLemmas.{Leads, builds-follow, leads-none, leads-more, leads-room}
-use Rattle.change_laws.specs.Ending.{ended_from, ended_level, ended_below, ended_records}
+use Rattle.storage_changes.specs.Ending.{ended_from, ended_level, ended_below, ended_records}
 use Rattle.task_plans.proofs.Climbs.{level_next}
 use Rattle.task_plans.proofs.Levels.{ended_levels}
 use Rattle.task_plans.proofs.Walks.{ok_last}

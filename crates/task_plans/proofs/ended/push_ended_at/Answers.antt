@@ -4,7 +4,7 @@ use Rattle.std.proofs.lemmas.List.{append-nil}
 use Rattle.storage_changes.specs.declared.record.Record.{Record}
 use Rattle.storage_exchange.specs.Storage.{state_of}
 use Rattle.storage_swap.specs.Builder.{Pushes}
-use Rattle.change_laws.specs.Ending.{is_below_by, ended_records}
+use Rattle.storage_changes.specs.Ending.{is_below_by, ended_records}
 use Rattle.task_plans.proofs.Rests.{passes_first}
 use Rattle.task_plans.proofs.ended.push_ended_at.Goals as goal
 

@@ -5,7 +5,7 @@ use Rattle.storage_changes.specs.declared.record.Record.{Record}
 use Rattle.storage_changes.specs.State.{StorageState}
 use Rattle.storage_exchange.specs.Storage.{state_of}
 use Rattle.storage_swap.proofs.BuilderLemmas.{builds-follow, leads-more, leads-room}
-use Rattle.change_laws.specs.Ending.{is_below_by, ended_records}
+use Rattle.storage_changes.specs.Ending.{is_below_by, ended_records}
 use Rattle.task_plans.proofs.Rests.{run_next}
 use Rattle.task_plans.proofs.Walks.{passed_first}
 use Rattle.task_plans.proofs.ParentLemmas.{still}

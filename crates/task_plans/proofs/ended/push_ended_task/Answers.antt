@@ -6,7 +6,7 @@ use Rattle.storage_changes.specs.declared.record.Record.TheVariants.{Task}
 use Rattle.storage_exchange.specs.Storage.{state_of}
 use Rattle.storage_swap.specs.Builder.{Pushes}
 use Rattle.storage_swap.proofs.BuilderLemmas.{builds-follow, leads-more, leads-all}
-use Rattle.change_laws.specs.Ending.{cleared_quarter}
+use Rattle.storage_changes.specs.Ending.{cleared_quarter}
 use Rattle.task_plans.proofs.Rests.{run_next}
 use Rattle.task_plans.proofs.Walks.{ok_follows}
 use Rattle.task_plans.proofs.ended.push_ended_task.Goals as goal

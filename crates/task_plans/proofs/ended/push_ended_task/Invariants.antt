@@ -1,7 +1,7 @@
 use Rattle.std.proofs.Common.{◌-◌}
 use Rattle.std.specs.Prelude.{map}
 use Rattle.std.specs.List.{range_with_len}
-use Rattle.change_laws.specs.Ending.{cleared_quarter}
+use Rattle.storage_changes.specs.Ending.{cleared_quarter}
 use Rattle.storage_swap.proofs.BuilderLemmas.{Leads}
 use Rattle.task_plans.proofs.ended.push_ended_task.Given as goal
 

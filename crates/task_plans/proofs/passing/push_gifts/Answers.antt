@@ -4,7 +4,7 @@ use Rattle.storage_changes.specs.State.{StorageState}
 use Rattle.storage_exchange.specs.Storage.{state_of}
 use Rattle.storage_swap.specs.Builder.{Pushes}
 use Rattle.storage_swap.proofs.BuilderLemmas.{builds-follow, leads-none}
-use Rattle.change_laws.specs.Attaching.{gift_records}
+use Rattle.storage_changes.specs.Attaching.{gift_records}
 use Rattle.task_plans.proofs.EndRecords.{never}
 use Rattle.task_plans.proofs.ShareRecords.{each_done, each_room, each_more}
 use Rattle.task_plans.proofs.passing.push_gifts.Goals as goal

@@ -1,7 +1,7 @@
 use Rattle.std.proofs.Common.{◌≤◌, List, [], ◌∷◌, length, OnOk, refl, sym, subst}
 use Rattle.storage_changes.specs.declared.record.Record.{Record}
 use Rattle.storage_exchange.specs.Storage.{state_of}
-use Rattle.change_laws.specs.Attaching.{shared}
+use Rattle.storage_changes.specs.Attaching.{shared}
 use Rattle.storage_swap.specs.Builder.{Pushes}
 use Rattle.storage_swap.proofs.BuilderLemmas.{builds-follow}
 use Rattle.task_plans.proofs.EndRecords.{never}

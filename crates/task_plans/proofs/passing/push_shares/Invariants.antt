@@ -2,7 +2,7 @@ use Rattle.std.proofs.Common.{drop}
 use Rattle.std.specs.List.{flat_map}
 use Rattle.storage_exchange.specs.Storage.{state_of}
 use Rattle.storage_swap.proofs.BuilderLemmas.{Leads}
-use Rattle.change_laws.specs.Attaching.{share_records}
+use Rattle.storage_changes.specs.Attaching.{share_records}
 use Rattle.task_plans.proofs.passing.push_shares.Given as goal
 
 abbrev pub invariant-loop-k : goal.invariant-loop-k

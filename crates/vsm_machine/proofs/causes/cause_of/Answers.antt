@@ -6,7 +6,7 @@ use Rattle.vsm_model.specs.Standing.{Refused}
 use Rattle.vsm_model.specs.Step.{step}
 use Rattle.storage_core.specs.Meaning.{state_of, settings_of}
 use Rattle.storage_core.specs.Planned.{CanBePlanned}
-use Rattle.name_table.specs.Table.{rows_of}
+use Rattle.vsm_machine.specs.NameTable.{rows_of}
 use Rattle.vsm_machine.specs.Causes.{unconditional}
 use Rattle.vsm_machine.proofs.FirstCause.{cause_none, cause_some, still_planned}
 use Rattle.vsm_machine.proofs.causes.cause_of.Goals as goal

@@ -1,5 +1,5 @@
 use Rattle.std.proofs.Common.{◌≡◌, true, IfSome, IsOk, sym, subst}
-use Rattle.name_table.specs.Table.{knows, HasRoom}
+use Rattle.vsm_machine.specs.NameTable.{knows, HasRoom}
 use Rattle.vsm_machine.proofs.Planning.{now_known}
 use Rattle.vsm_machine.proofs.plans.make_ready.Goals as goal
 

@@ -3,11 +3,11 @@ use Rattle.std.proofs.lemmas.List.{append-nil}
 use Rattle.vsm_model.specs.declared.replies.Reply.{Reply}
 use Rattle.storage_changes.specs.declared.record.Record.{Record}
 use Rattle.storage_changes.specs.declared.record.Record.TheVariants.{Register}
-use Rattle.change_laws.specs.StorageActions.{register_records}
+use Rattle.storage_changes.specs.StorageActions.{register_records}
 use Rattle.storage_exchange.specs.Storage.{state_of}
 use Rattle.storage_swap.specs.Builder.{Pushes}
 use Rattle.storage_swap.proofs.BuilderLemmas.{builds-follow}
-use Rattle.change_laws.specs.Ending.{with_turn}
+use Rattle.storage_changes.specs.Ending.{with_turn}
 use Rattle.task_plans.specs.TaskPlans.{end_registers}
 use Rattle.task_plans.proofs.EndRecords.{never}
 use Rattle.task_plans.proofs.FourSteps.{first_room, second_room, third_room, fourth_room, three_pushed}

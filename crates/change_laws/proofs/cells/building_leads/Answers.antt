@@ -1,5 +1,0 @@
-use Rattle.change_laws.proofs.CellBuilding.{building_leads}
-use Rattle.change_laws.proofs.cells.building_leads.Goals as goal
-
-pub returns : goal.returns
-returns c = building_leads c.new_pools_have_a_row.ensures

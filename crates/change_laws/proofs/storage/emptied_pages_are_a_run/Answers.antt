@@ -1,5 +1,0 @@
-use Rattle.change_laws.proofs.Idle.{emptied_pages_are_a_run}
-use Rattle.change_laws.proofs.storage.emptied_pages_are_a_run.Goals as goal
-
-pub returns : goal.returns
-returns c = emptied_pages_are_a_run

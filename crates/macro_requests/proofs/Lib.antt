@@ -1,2 +1,0 @@
-pub mod ValidForms
-pub mod ValidNames

@@ -1,4 +1,0 @@
-pub mod Entries
-pub mod SameName
-pub mod StepsBack
-pub mod TableRows

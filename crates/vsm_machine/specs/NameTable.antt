@@ -1,0 +1,37 @@
+-- What a table of names holds.
+use Rattle.std.specs.Prelude.{◌≡◌, ℕ, ◌+◌, ◌<◌, ◌⊎◌, Bool, true, false, Option, Some, None, is_some}
+use Rattle.std.specs.Prelude.{List, [], ◌∷◌, ◌++◌}
+use Rattle.std.specs.Prelude.{map, take}
+use Rattle.indexmap.specs.IndexMap.{spare}
+use Rattle.arrayvec.specs.ArrayString.{ArrayString}
+use Rattle.vsm_model.specs.Names.{same_name, word_of}
+use Rattle.vsm_machine.specs.declared.names.NameTable.{NameTable}
+
+-- an entry as a row: the characters of the name, and the word
+abbrev pub row_of : ArrayString × ℕ → List ℕ × ℕ
+row_of entry = (entry.0.bytes, entry.1)
+
+-- every row of the table: those that are defined, then those that are undone
+abbrev pub all_rows : NameTable → List (List ℕ × ℕ)
+all_rows t = map row_of t.table.entries
+
+-- the names that are defined, with their words, in the order in which they were defined
+abbrev pub rows_of : NameTable → List (List ℕ × ℕ)
+rows_of t = take t.defined (all_rows t)
+
+-- the table holds the name, defined or undone
+abbrev pub knows : NameTable → List ℕ → Bool
+knows t name = is_some (word_of (all_rows t) name)
+
+-- the table holds the name, or one more can come without memory
+abbrev pub HasRoom : NameTable → List ℕ → Type 0
+HasRoom t name = (knows t name ≡ true) ⊎ (0 < spare t.table)
+
+-- the first row behind the defined ones is that of the name
+abbrev pub IsNext : NameTable → List ℕ → Type 0
+IsNext t name = (word : ℕ) × (take (t.defined + 1) (all_rows t) ≡ rows_of t ++ (name, word) ∷ [])
+
+-- it is this name, if there is one
+abbrev pub is_own : Option ArrayString → List ℕ → Bool
+is_own None other = false
+is_own (Some name) other = same_name name.bytes other

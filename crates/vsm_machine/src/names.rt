@@ -1,0 +1,243 @@
+//! The table of the names that are defined or undone.
+ghost use Rattle.std.specs.Prelude.{◌≤◌};
+ghost use Rattle.indexmap.specs.IndexMap.{index_map_len};
+
+use crate::name_changes::NameChange;
+use indexmap::IndexMap;
+use operand_texts::Name;
+use std::alloc::{AllocError, Global};
+
+/// How many names may be defined.
+const MOST_NAMES: usize = 1024;
+
+/// The names of a bench with their words.
+///
+/// First stand those that are defined, in the order in which they were defined, then those of undone statements, in no
+/// order of their own. These stay, so that doing a statement again inserts nothing.
+#[derive(Drop)]
+pub struct NameTable {
+    table: IndexMap<Name, u32>,
+    defined: usize,
+    ghost within: { defined ≤ index_map_len table },
+}
+
+impl NameTable {
+    ghost use Rattle.std.specs.Prelude.{◌≡◌, ℕ, ◌<◌, ◌^◌, ◌&&◌, ◌||◌, not, false, true, is_some, [], List, length};
+    ghost use Rattle.std.specs.Prelude.{nat_le, None, IsOk, OnOk, OnErr, IfSome, IsTrue};
+    ghost use Rattle.std.specs.Prelude.{option_map, slice_get};
+    ghost use Rattle.vsm_model.specs.Names.{same_name, word_of, with_name};
+    ghost use Rattle.vsm_machine.specs.NameChanges.{CanStep, IsLast, name_of, step_in, step_to, stepped, turned};
+    ghost use Rattle.vsm_machine.specs.NameChanges.{without_name};
+    ghost use Rattle.vsm_machine.specs.NameChanges.{word_or_zero};
+    ghost use Rattle.vsm_machine.specs.NameTable.{all_rows, is_own, knows, row_of, rows_of, HasRoom, IsNext};
+
+    /// A table with no name. This takes no memory.
+    pub fn new(alloc: Global) -> NameTable
+        ensures rows { rows_of result ≡ [] }
+        ensures none { (name : List ℕ) → knows result name ≡ false }
+    {
+        NameTable {
+            table: IndexMap::new(alloc),
+            defined: 0,
+        }
+    }
+
+    /// The word that a name stands for, where it is defined.
+    pub fn word(&self, name: &Name) -> Option<u32>
+        ensures { result ≡ word_of (rows_of self.now) name.now.bytes }
+    {
+        match self.table.get_full(name) {
+            Some((index, _, word)) => {
+                if index < self.defined {
+                    Some(*word)
+                } else {
+                    None
+                }
+            }
+            None => None,
+        }
+    }
+
+    /// The name of this index, from 0 on, in the order in which names were defined, with its word; `None` past the
+    /// last.
+    pub fn name_at(&self, index: usize) -> Option<(Name, u32)>
+        ensures row { option_map row_of result ≡ slice_get (rows_of self.now) index }
+        ensures fits { IfSome result (λ _. index < 2 ^ 63) }
+    {
+        // The length is what says that the index fits.
+        let _len = self.table.len();
+        if index >= self.defined {
+            return None;
+        }
+        let (name, word) = self.table.get_index(index)?;
+        Some((*name, *word))
+    }
+
+    /// Whether no other name may be defined: 1,024 are.
+    pub fn is_full(&self) -> bool
+        ensures { result ≡ nat_le 1024 (length (rows_of self.now)) }
+    {
+        MOST_NAMES <= self.defined
+    }
+
+    /// The change after which the name stands for `word`: a name that is defined keeps its place, another one comes
+    /// last.
+    pub fn change_to(&self, name: Name, word: u32) -> NameChange
+        ensures { step_in result ≡ step_to (rows_of self.now) name.bytes word }
+    {
+        match self.word(&name) {
+            Some(_) => NameChange::Reword { name, word },
+            None => NameChange::Define { name, word },
+        }
+    }
+
+    /// Sees that the table holds the name, not yet defined where it is new: behind all others. On `AllocError` the
+    /// table holds what it held. Where it holds the name already, or has room for one more, no memory is asked for.
+    pub fn reserve(&mut self, name: Name) -> Result<(), AllocError>
+        ensures rows { rows_of self.new ≡ rows_of self.old }
+        ensures ok { OnOk result ((other : List ℕ)
+            → knows self.new other ≡ (same_name name.bytes other || knows self.old other)) }
+        ensures err { OnErr result ((other : List ℕ) → knows self.new other ≡ knows self.old other) }
+        ensures needless { HasRoom self.old name.bytes → IsOk result }
+    {
+        if self.table.contains_key(&name) {
+            return Ok(());
+        }
+        match self.table.insert(name, 0) {
+            Ok(_) => Ok(()),
+            Err(_) => Err(AllocError),
+        }
+    }
+
+    /// Takes every undone name out of the table but `own`, so that the table holds the defined names and, where it held
+    /// it, `own`. Nothing is inserted.
+    pub fn forget_undone(&mut self, own: Option<Name>)
+        ensures rows { rows_of self.new ≡ rows_of self.old }
+        ensures own { IfSome own (λ name. knows self.old name.bytes ≡ true → knows self.new name.bytes ≡ true) }
+        ensures others { (other : List ℕ) → knows self.new other
+            ≡ (is_some (word_of (rows_of self.old) other) || (is_own own other && knows self.old other)) }
+    {
+        match own {
+            None => self.table.truncate(self.defined),
+            Some(name) => {
+                if self.put_next(&name) {
+                    self.table.truncate(self.defined + 1);
+                } else {
+                    self.table.truncate(self.defined);
+                }
+            }
+        }
+    }
+
+    /// Takes the step, and leaves in `change` the one that takes it back. This takes no memory, and no name leaves the
+    /// table.
+    pub fn swap(&mut self, change: &mut NameChange)
+        requires { CanStep (rows_of self.old) (knows self.old) (step_in change.old) }
+        ensures rows { rows_of self.new ≡ stepped (rows_of self.old) (step_in change.old) }
+        ensures turned { step_in change.new ≡ turned (rows_of self.old) (step_in change.old) }
+        ensures same { (name : List ℕ) → knows self.new name ≡ knows self.old name }
+        ensures there { knows self.old (name_of (step_in change.old)) ≡ true }
+    {
+        *change = self.step(*change);
+    }
+
+    // Takes the step, and returns the one that takes it back.
+    fn step(&mut self, change: NameChange) -> NameChange
+        requires { CanStep (rows_of self.old) (knows self.old) (step_in change) }
+        ensures rows { rows_of self.new ≡ stepped (rows_of self.old) (step_in change) }
+        ensures turned { step_in result ≡ turned (rows_of self.old) (step_in change) }
+        ensures same { (name : List ℕ) → knows self.new name ≡ knows self.old name }
+        ensures there { knows self.old (name_of (step_in change)) ≡ true }
+    {
+        match change {
+            NameChange::Define { name, word } => {
+                self.define(&name, word);
+                NameChange::Undefine { name }
+            }
+            NameChange::Undefine { name } => {
+                let word = self.undefine(&name);
+                NameChange::Define { name, word }
+            }
+            NameChange::Reword { name, word } => {
+                let word = self.reword(&name, word);
+                NameChange::Reword { name, word }
+            }
+        }
+    }
+
+    // Defines a name that the table holds, and that isn't defined, behind the others.
+    fn define(&mut self, name: &Name, word: u32)
+        requires new { word_of (rows_of self.old) name.now.bytes ≡ None }
+        requires known { knows self.old name.now.bytes ≡ true }
+        ensures rows { rows_of self.new ≡ with_name (rows_of self.old) name.now.bytes word }
+        ensures same { (other : List ℕ) → knows self.new other ≡ knows self.old other }
+    {
+        self.put_next(name);
+        self.exchange(name, word);
+        self.defined += 1;
+    }
+
+    // Leaves the last name undone, and returns its word.
+    fn undefine(&mut self, name: &Name) -> u32
+        requires { IsLast (rows_of self.old) name.now.bytes }
+        ensures rows { rows_of self.new ≡ without_name (rows_of self.old) name.now.bytes }
+        ensures word { result ≡ word_or_zero (word_of (rows_of self.old) name.now.bytes) }
+        ensures same { (other : List ℕ) → knows self.new other ≡ knows self.old other }
+    {
+        let word = self.word(name);
+        self.defined -= 1;
+        word.unwrap_or(0)
+    }
+
+    // Gives a defined name its word, and returns the one that it had.
+    fn reword(&mut self, name: &Name, word: u32) -> u32
+        requires { is_some (word_of (rows_of self.old) name.now.bytes) ≡ true }
+        ensures rows { rows_of self.new ≡ with_name (rows_of self.old) name.now.bytes word }
+        ensures word { result ≡ word_or_zero (word_of (rows_of self.old) name.now.bytes) }
+        ensures same { (other : List ℕ) → knows self.new other ≡ knows self.old other }
+    {
+        self.exchange(name, word)
+    }
+
+    // Brings a name that is undone to the first place behind the defined ones. Whether it is undone.
+    fn put_next(&mut self, name: &Name) -> bool
+        ensures rows { rows_of self.new ≡ rows_of self.old }
+        ensures defined { self.new.defined ≡ self.old.defined }
+        ensures same { (other : List ℕ) → knows self.new other ≡ knows self.old other }
+        ensures undone { result ≡ (not (is_some (word_of (rows_of self.old) name.now.bytes))
+            && knows self.old name.now.bytes) }
+        ensures next { IsTrue result → IsNext self.new name.now.bytes }
+        ensures fits { self.new.defined < 2 ^ 63 }
+    {
+        // The length is what says that one more than `defined` fits.
+        let _len = self.table.len();
+        match self.table.get_index_of(name) {
+            Some(index) => {
+                if index < self.defined {
+                    return false;
+                }
+                self.table.move_index(index, self.defined);
+                true
+            }
+            None => false,
+        }
+    }
+
+    // Gives a name that the table holds its word there, and returns the one that it had.
+    fn exchange(&mut self, name: &Name, word: u32) -> u32
+        requires { knows self.old name.now.bytes ≡ true }
+        ensures rows { all_rows self.new ≡ with_name (all_rows self.old) name.now.bytes word }
+        ensures defined { self.new.defined ≡ self.old.defined }
+        ensures len { index_map_len self.new.table ≡ index_map_len self.old.table }
+        ensures old { result ≡ word_or_zero (word_of (all_rows self.old) name.now.bytes) }
+    {
+        match self.table.get_mut(name) {
+            Some(place) => {
+                let old = *place;
+                *place = word;
+                old
+            }
+            None => 0,
+        }
+    }
+}
