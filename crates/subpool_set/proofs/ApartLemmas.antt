@@ -1,11 +1,12 @@
 -- The queues of subpools, where a call on rows leaves them alone.
 use Rattle.std.proofs.Common.{◌≡◌, ℕ, Bool, true, false, ◌==◌, List, [], ◌++◌, Option, Some, None, IsSome, ◌⊎◌, inl, inr, refl, sym, ap, ◌∙◌, subst}
+use Rattle.std.proofs.lemmas.Bool.{cond-false, cond-true}
 use Rattle.std.specs.Prelude.{if◌then◌else◌}
 use Rattle.vsm_elements.specs.Store.{Store, at, among}
 use Rattle.vsm_elements.specs.Ownership.{Leaves, Apart}
 use Rattle.vsm_elements.proofs.ChainFrame.{stays, false_if}
 use Rattle.row_table.specs.Rows.{same_key, either_of}
-use Rattle.row_table.proofs.RowLemmas.{either, not_both, if_true, if_false, none_some, same_parts, same_by, eqb_same, eqb_refl}
+use Rattle.row_table.proofs.RowLemmas.{either, not_both, none_some, same_parts, same_by, eqb_same, eqb_refl}
 use Rattle.descriptor_queue.specs.declared.extents.Extents.{Extents}
 use Rattle.descriptor_queue.specs.Extents.{IsExtents, extents_of}
 use Rattle.descriptor_queue.specs.Extents
@@ -99,10 +100,10 @@ new_apart s t had has call f g number owner id put empty was =
     apart_after s t had has call f g (λ n o. o) (λ n o p e. from n o p (same_key owner number o n) refl (sym (put n o) ∙ e)) (λ n o r p x e k h. h) was where
       from : (n o : ℕ) (p : Pool) (b : Bool) → same_key owner number o n ≡ b → pools_with f number owner (Some (record { id = id; queues = no_queues })) n o ≡ Some p → (StandApart t p.queues × (ids_of t p.queues ≡ [])) ⊎ Came f n o p
       from n o p true h e =
-          let q : no_queues ≡ p.queues = ap (λ (z : Pool). z.queues) (some_pool (record { id = id; queues = no_queues }) p (sym (if_true (same_key owner number o n) (Some (record { id = id; queues = no_queues })) (f n o) h) ∙ e)) in
+          let q : no_queues ≡ p.queues = ap (λ (z : Pool). z.queues) (some_pool (record { id = id; queues = no_queues }) p (sym (cond-true (same_key owner number o n) (Some (record { id = id; queues = no_queues })) (f n o) h) ∙ e)) in
           let P : Queues → Type 0 = λ z. StandApart t z × (ids_of t z ≡ []) in
           inl (subst P q empty)
-      from n o p false h e = inr (record { pool = p; there = sym (if_false (same_key owner number o n) (Some (record { id = id; queues = no_queues })) (f n o) h) ∙ e; same = refl })
+      from n o p false h e = inr (record { pool = p; there = sym (cond-false (same_key owner number o n) (Some (record { id = id; queues = no_queues })) (f n o) h) ∙ e; same = refl })
 
 -- a subpool that is given away
 module _ (f : Pools) (number giver to : ℕ) where
@@ -110,13 +111,13 @@ module _ (f : Pools) (number giver to : ℕ) where
   home n o = if n == number then (if o == to then giver else o) else o
 
   home_here : (n o : ℕ) → (n == number) ≡ true → (o == to) ≡ true → home n o ≡ giver
-  home_here n o p q = if_true (n == number) (if o == to then giver else o) o p ∙ if_true (o == to) giver o q
+  home_here n o p q = cond-true (n == number) (if o == to then giver else o) o p ∙ cond-true (o == to) giver o q
 
   home_other : (n o : ℕ) → (n == number) ≡ true → (o == to) ≡ false → home n o ≡ o
-  home_other n o p q = if_true (n == number) (if o == to then giver else o) o p ∙ if_false (o == to) giver o q
+  home_other n o p q = cond-true (n == number) (if o == to then giver else o) o p ∙ cond-false (o == to) giver o q
 
   home_else : (n o : ℕ) → (n == number) ≡ false → home n o ≡ o
-  home_else n o p = if_false (n == number) (if o == to then giver else o) o p
+  home_else n o p = cond-false (n == number) (if o == to then giver else o) o p
 
   abbrev inner : ℕ → ℕ → Option Pool
   inner n o = if o == to then f n giver else (if o == giver then None else f n o)
@@ -124,16 +125,16 @@ module _ (f : Pools) (number giver to : ℕ) where
   given_home : (n o : ℕ) (p : Pool) → pools_given f number giver to n o ≡ Some p → f n (home n o) ≡ Some p
   given_home n o p e = go (n == number) (o == to) (o == giver) refl refl refl where
     go : (a b d : Bool) → (n == number) ≡ a → (o == to) ≡ b → (o == giver) ≡ d → f n (home n o) ≡ Some p
-    go false b d h k m = ap (f n) (home_else n o h) ∙ sym (if_false (n == number) (inner n o) (f n o) h) ∙ e
-    go true true d h k m = ap (f n) (home_here n o h k) ∙ sym (if_true (n == number) (inner n o) (f n o) h ∙ if_true (o == to) (f n giver) (if o == giver then None else f n o) k) ∙ e
-    go true false true h k m = absurd (none_some (pools_given f number giver to n o) p (if_true (n == number) (inner n o) (f n o) h ∙ if_false (o == to) (f n giver) (if o == giver then None else f n o) k ∙ if_true (o == giver) None (f n o) m) e)
-    go true false false h k m = ap (f n) (home_other n o h k) ∙ sym (if_true (n == number) (inner n o) (f n o) h ∙ if_false (o == to) (f n giver) (if o == giver then None else f n o) k ∙ if_false (o == giver) None (f n o) m) ∙ e
+    go false b d h k m = ap (f n) (home_else n o h) ∙ sym (cond-false (n == number) (inner n o) (f n o) h) ∙ e
+    go true true d h k m = ap (f n) (home_here n o h k) ∙ sym (cond-true (n == number) (inner n o) (f n o) h ∙ cond-true (o == to) (f n giver) (if o == giver then None else f n o) k) ∙ e
+    go true false true h k m = absurd (none_some (pools_given f number giver to n o) p (cond-true (n == number) (inner n o) (f n o) h ∙ cond-false (o == to) (f n giver) (if o == giver then None else f n o) k ∙ cond-true (o == giver) None (f n o) m) e)
+    go true false false h k m = ap (f n) (home_other n o h k) ∙ sym (cond-true (n == number) (inner n o) (f n o) h ∙ cond-false (o == to) (f n giver) (if o == giver then None else f n o) k ∙ cond-false (o == giver) None (f n o) m) ∙ e
 
   -- the giver has none
   giver_none : (n o : ℕ) (p : Pool) → (n == number) ≡ true → (o == to) ≡ false → pools_given f number giver to n o ≡ Some p → o ≡ giver → ⊥
   giver_none n o p h k e q =
-      none_some (pools_given f number giver to n o) p (if_true (n == number) (if o == to then f n giver else (if o == giver then None else f n o)) (f n o) h
-      ∙ if_false (o == to) (f n giver) (if o == giver then None else f n o) k ∙ if_true (o == giver) None (f n o) (ap (λ (z : ℕ). z == giver) q ∙ eqb_refl giver)) e
+      none_some (pools_given f number giver to n o) p (cond-true (n == number) (if o == to then f n giver else (if o == giver then None else f n o)) (f n o) h
+      ∙ cond-false (o == to) (f n giver) (if o == giver then None else f n o) k ∙ cond-true (o == giver) None (f n o) (ap (λ (z : ℕ). z == giver) q ∙ eqb_refl giver)) e
 
   home_one : (n o r : ℕ) (p x : Pool) → pools_given f number giver to n o ≡ Some p → pools_given f number giver to n r ≡ Some x → home n o ≡ home n r → o ≡ r
   home_one n o r p x e k h = go (n == number) (o == to) (r == to) refl refl refl where
@@ -218,11 +219,11 @@ module _ (s t : Store) (f g : Pools) (others : List ℕ) (n o : ℕ) (p : Pool) 
     go : (b : Bool) → same_key o n r m ≡ b → Which m r x
     go true k =
         let w : (o ≡ r) × (n ≡ m) = same_parts o n r m k in
-        this (same_by n o m r w.1 w.0) (ap (λ (z : Pool). z.queues) (some_pool (record { id = p.id; queues = queues }) x (sym (if_true (same_key o n r m) (Some (record { id = p.id; queues = queues })) (g m r) k) ∙ e)))
+        this (same_by n o m r w.1 w.0) (ap (λ (z : Pool). z.queues) (some_pool (record { id = p.id; queues = queues }) x (sym (cond-true (same_key o n r m) (Some (record { id = p.id; queues = queues })) (g m r) k) ∙ e)))
     go false k = another (elim (either (same_key n o m r)) [
       | inl q ↦ (let w : (n ≡ m) × (o ≡ r) = same_parts n o m r q in absurd (not_both (same_key o n r m) (same_by o n r m w.1 w.0) k))
       | inr q ↦ q
-    ]) (sym (same m r) ∙ sym (if_false (same_key o n r m) (Some (record { id = p.id; queues = queues })) (g m r) k) ∙ e)
+    ]) (sym (same m r) ∙ sym (cond-false (same_key o n r m) (Some (record { id = p.id; queues = queues })) (g m r) k) ∙ e)
 
   stay' : (m r : ℕ) (x : Pool) → same_key n o m r ≡ false → f m r ≡ Some x → StandApart t x.queues × (ids_of t x.queues ≡ ids_of s x.queues)
   stay' m r x d e = both_stay s t (ids_of s p.queues) (ids_of t queues) x.queues call (was.stand m r x e) (was.apart n o m r p x there e d)

@@ -1,5 +1,6 @@
 -- How often the queues of all subpools have an id.
 use Rattle.std.proofs.Common.{◌≡◌, ℕ, ◌+◌, ◌≤◌, Bool, true, false, ◌==◌, inl, inr, List, [], ◌∷◌, refl, ap, arith}
+use Rattle.std.proofs.lemmas.Bool.{cond-false, cond-true}
 use Rattle.vsm_elements.specs.Store.{Store}
 use Rattle.vsm_elements.specs.Ownership.{Apart}
 use Rattle.vsm_elements.specs.Owners.{times}
@@ -8,7 +9,6 @@ use Rattle.vsm_elements.proofs.MoveLemmas.{none-or-some}
 use Rattle.row_table.specs.declared.row.Row.{Row}
 use Rattle.row_table.specs.Rows.{word}
 use Rattle.row_table.specs.RowTable.{rows}
-use Rattle.row_table.proofs.RowLemmas.{if_true, if_false}
 use Rattle.row_table.proofs.TableLemmas.{tables_stand}
 use Rattle.descriptor_queue.specs.Extents
 use Rattle.descriptor_queue.proofs.PageLemmas.{extents_stand}
@@ -41,8 +41,8 @@ is_own r = word r.words 0 == word r.words 2
 one_once : (s : Store) (r : Row) → (is_own r ≡ true → StandApart s (queues_of r.words)) → (i : ℕ) → times i (ids_in s r) ≤ 1
 one_once s r stand i = go (is_own r) refl where
   go : (b : Bool) → is_own r ≡ b → times i (ids_in s r) ≤ 1
-  go true e = omega (arith, ap (times i) (if_true (is_own r) (ids_of s (queues_of r.words)) [] e), both_once s (queues_of r.words) (stand e) i)
-  go false e = omega (arith, ap (times i) (if_false (is_own r) (ids_of s (queues_of r.words)) [] e))
+  go true e = omega (arith, ap (times i) (cond-true (is_own r) (ids_of s (queues_of r.words)) [] e), both_once s (queues_of r.words) (stand e) i)
+  go false e = omega (arith, ap (times i) (cond-false (is_own r) (ids_of s (queues_of r.words)) [] e))
 
 all_once : (s : Store) (rs : List Row) → AllStand s rs → (i : ℕ) → times i (ids_in_all s rs) ≤ 1
 all_once s [] h i = omega arith

@@ -1,11 +1,12 @@
 -- How the counts of the queues' ids follow what becomes of one subpool.
 use Rattle.std.proofs.Common.{◌≡◌, ℕ, ◌+◌, ◌<◌, ◌≤◌, Bool, true, false, ◌⊎◌, inl, inr, List, Option, Some, None, refl, sym, ap, ◌∙◌, arith}
+use Rattle.std.proofs.lemmas.Bool.{cond-false, cond-true}
 use Rattle.vsm_elements.specs.Store.{Store, among}
 use Rattle.vsm_elements.specs.Owners.{times}
 use Rattle.vsm_elements.proofs.ChainFrame.{false_if}
 use Rattle.vsm_elements.proofs.TimesLemmas.{times-none, times-some}
 use Rattle.row_table.specs.Rows.{same_key}
-use Rattle.row_table.proofs.RowLemmas.{either, not_both, if_true, if_false, same_parts, same_by, same_self}
+use Rattle.row_table.proofs.RowLemmas.{either, not_both, same_parts, same_by, same_self}
 use Rattle.subpool_set.specs.declared.set.SubpoolSet.{SubpoolSet}
 use Rattle.subpool_set.specs.Pools.{Pool, Pools, pools_with}
 use Rattle.subpool_set.specs.QueueElements.{ids_of, AreApart}
@@ -46,10 +47,10 @@ module _ (s t : Store) (q r : SubpoolSet) (n o : ℕ) (x : Option Pool) (h : IsS
 
   -- the place itself, and any other
   this : pool t r n o ≡ x
-  this = with n o ∙ if_true (same_key o n o n) x (pool s q n o) (same_self o n)
+  this = with n o ∙ cond-true (same_key o n o n) x (pool s q n o) (same_self o n)
 
   other : (m k : ℕ) → same_key n o m k ≡ false → pool t r m k ≡ pool s q m k
-  other m k d = with m k ∙ if_false (same_key o n k m) x (pool s q m k) (turned m k d)
+  other m k d = with m k ∙ cond-false (same_key o n k m) x (pool s q m k) (turned m k d)
 
   -- an id that another subpool has
   record Other (i : ℕ) : Type 0 where

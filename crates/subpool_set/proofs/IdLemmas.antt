@@ -1,5 +1,6 @@
 -- A row that is written keeps its element, and a subpool that is gone leaves all others.
 use Rattle.std.proofs.Common.{◌≡◌, ℕ, true, false, inl, inr, List, Some, None, refl, sym, ap, ◌∙◌}
+use Rattle.std.proofs.lemmas.Bool.{cond-false, cond-true}
 use Rattle.std.specs.Prelude.{if◌then◌else◌}
 use Rattle.vsm_elements.specs.Store.{Store, among}
 use Rattle.vsm_elements.specs.Ownership.{Leaves}
@@ -7,7 +8,7 @@ use Rattle.row_table.specs.declared.row.Row.{Row}
 use Rattle.row_table.specs.declared.table.RowTable.{RowTable}
 use Rattle.row_table.specs.Rows.{same_key}
 use Rattle.row_table.specs.RowTable.{row, owned, IsTable}
-use Rattle.row_table.proofs.RowLemmas.{either, if_true, if_false, none_some, same_parts}
+use Rattle.row_table.proofs.RowLemmas.{either, none_some, same_parts}
 use Rattle.row_table.proofs.RowIdLemmas.{same_ids}
 use Rattle.subpool_set.specs.Pools.{Pool, Pools, pools_with}
 use Rattle.subpool_set.specs.QueueElements.{AreApart}
@@ -21,10 +22,10 @@ module _ (s t : Store) (q : RowTable) (a b : ℕ) (x y : Row) (rows : (m n : ℕ
       ap (row s q m) (sym u.1) ∙ ap (λ (z : ℕ). row s q z b) (sym u.0) ∙ there
 
   now : (m n : ℕ) → same_key a b m n ≡ true → row t q m n ≡ Some y
-  now m n p = rows m n ∙ if_true (same_key a b m n) (Some y) (row s q m n) p
+  now m n p = rows m n ∙ cond-true (same_key a b m n) (Some y) (row s q m n) p
 
   other : (m n : ℕ) → same_key a b m n ≡ false → row t q m n ≡ row s q m n
-  other m n p = rows m n ∙ if_false (same_key a b m n) (Some y) (row s q m n) p
+  other m n p = rows m n ∙ cond-false (same_key a b m n) (Some y) (row s q m n) p
 
   to : (m n : ℕ) (z : Row) → row s q m n ≡ Some z → (w : Row) × ((row t q m n ≡ Some w) × (w.id ≡ z.id))
   to m n z e = elim (either (same_key a b m n)) [
@@ -47,6 +48,6 @@ gone_apart s t had has call f g number owner left was =
     apart_after s t had has call f g (λ n o. o) (λ n o p e. inr (record { pool = p; there = less n o p (sym (left n o) ∙ e); same = refl })) (λ n o r p x e k h. h) was where
       less : (n o : ℕ) (p : Pool) → pools_with f number owner None n o ≡ Some p → f n o ≡ Some p
       less n o p e = elim (either (same_key owner number o n)) [
-        | inl k ↦ absurd (none_some (pools_with f number owner None n o) p (if_true (same_key owner number o n) None (f n o) k) e)
-        | inr k ↦ sym (if_false (same_key owner number o n) None (f n o) k) ∙ e
+        | inl k ↦ absurd (none_some (pools_with f number owner None n o) p (cond-true (same_key owner number o n) None (f n o) k) e)
+        | inr k ↦ sym (cond-false (same_key owner number o n) None (f n o) k) ∙ e
       ]

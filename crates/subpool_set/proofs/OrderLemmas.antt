@@ -2,9 +2,9 @@
 use Rattle.std.proofs.Common.{◌≡◌, ℕ, zero, suc, ◌+◌, ◌<◌, ◌≤◌, Bool, true, false, List, [], ◌∷◌, ◌++◌, Option, Some, None, ◌⊎◌, inl, inr, refl, sym, ap, ◌∙◌, subst, arith}
 use Rattle.std.specs.Prelude.{filter, if◌then◌else◌}
 use Rattle.std.specs.List.{range_with_len, flat_map, filter_map, cons_option}
-use Rattle.std.proofs.lemmas.Bool.{cases_lt}
+use Rattle.std.proofs.lemmas.Bool.{cases_lt, cond-true}
 use Rattle.row_table.specs.Rows.{comes_before}
-use Rattle.row_table.proofs.RowLemmas.{either, if_true}
+use Rattle.row_table.proofs.RowLemmas.{either}
 use Rattle.row_table.proofs.NextLemmas.{before_says, says_before}
 use Rattle.subpool_set.specs.Pools.{Pool, Pools, tasks, numbers, in_order}
 
@@ -149,7 +149,7 @@ module _ {A : Type 0} (p : ℕ → ℕ → Option A) where
   after n o = if comes_before 0 0 o n then p n o else None
 
   after_there : (n t : ℕ) → 0 < t → after n t ≡ p n t
-  after_there n t l = if_true (comes_before 0 0 t n) (p n t) None (says_before 0 0 t n (go (cases_lt 0 n))) where
+  after_there n t l = cond-true (comes_before 0 0 t n) (p n t) None (says_before 0 0 t n (go (cases_lt 0 n))) where
     go : (0 < n) ⊎ (n ≤ 0) → (0 < n) ⊎ ((0 ≡ n) × (0 < t))
     go (inl h) = inl h
     go (inr h) = inr (omega (arith, h), l)

@@ -1,5 +1,6 @@
 -- Places of walks over a set: that they stay, and what a walk from the first one comes by.
 use Rattle.std.proofs.Common.{◌≡◌, ◌≢◌, ℕ, Bool, true, false, ◌||◌, ◌==◌, List, [], ◌∷◌, take, drop, Some, None, inl, inr, refl, sym, ap, ◌∙◌, subst}
+use Rattle.std.proofs.lemmas.Bool.{cond-false, cond-true}
 use Rattle.std.specs.Prelude.{if◌then◌else◌}
 use Rattle.vsm_elements.specs.Store.{Store, at, among}
 use Rattle.vsm_elements.proofs.OwnerLemmas.{others_stay}
@@ -8,7 +9,7 @@ use Rattle.row_table.specs.declared.row.Row.{Row}
 use Rattle.row_table.specs.declared.table.RowTable.{RowTable}
 use Rattle.row_table.specs.Rows.{word, is_under, row_among}
 use Rattle.row_table.specs.RowTable.{rows, words_of, place_index, owned as table_owned}
-use Rattle.row_table.proofs.RowLemmas.{either, none_some, not_both, if_true, if_false, eqb_same, eqb_refl}
+use Rattle.row_table.proofs.RowLemmas.{either, none_some, not_both, eqb_same, eqb_refl}
 use Rattle.row_table.proofs.TableLemmas.{tables_kept, places_kept as rows_places_kept, rows_ascend}
 use Rattle.subpool_set.specs.declared.places.PoolPlace.{PoolPlace}
 use Rattle.subpool_set.specs.declared.set.SubpoolSet.{SubpoolSet}
@@ -55,14 +56,14 @@ still_among false i j xs h = h
 here_among : (x r : Row) (xs : List Row) → x ≡ r → owner_in r ≡ word r.words 0 → among r.id (pool_ids (x ∷ xs)) ≡ true
 here_among x r xs e own =
     ap (λ (z : Row). among r.id (pool_ids (z ∷ xs))) e
-    ∙ ap (among r.id) (if_true (owner_in r == word r.words 0) (r.id ∷ pool_ids xs) (pool_ids xs) (ap (λ (z : ℕ). z == word r.words 0) own ∙ eqb_refl (word r.words 0)))
+    ∙ ap (among r.id) (cond-true (owner_in r == word r.words 0) (r.id ∷ pool_ids xs) (pool_ids xs) (ap (λ (z : ℕ). z == word r.words 0) own ∙ eqb_refl (word r.words 0)))
     ∙ among_first r.id (pool_ids xs)
 
 row_listed : (a b : ℕ) (r : Row) (rs : List Row) → row_among a b rs ≡ Some r → owner_in r ≡ word r.words 0 → among r.id (pool_ids rs) ≡ true
 row_listed a b r [] e own = absurd (none_some None r refl e)
 row_listed a b r (x ∷ xs) e own = elim (either (is_under a b x.words)) [
-  | inl u ↦ here_among x r xs (some_row x r (sym (if_true (is_under a b x.words) (Some x) (row_among a b xs) u) ∙ e)) own
-  | inr u ↦ still_among (owner_in x == word x.words 0) r.id x.id (pool_ids xs) (row_listed a b r xs (sym (if_false (is_under a b x.words) (Some x) (row_among a b xs) u) ∙ e) own)
+  | inl u ↦ here_among x r xs (some_row x r (sym (cond-true (is_under a b x.words) (Some x) (row_among a b xs) u) ∙ e)) own
+  | inr u ↦ still_among (owner_in x == word x.words 0) r.id x.id (pool_ids xs) (row_listed a b r xs (sym (cond-false (is_under a b x.words) (Some x) (row_among a b xs) u) ∙ e) own)
 ]
 
 pub pool_listed : (s : Store) (q : SubpoolSet) (id : ℕ) → IsSubpoolSet s q → IsPool s q id → among id (ids_in_order (pool s q)) ≡ true

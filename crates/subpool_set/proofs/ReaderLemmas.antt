@@ -1,10 +1,10 @@
 -- What is behind a number and an owner, or behind a task, of what is walked over in order.
 use Rattle.std.proofs.Common.{◌≡◌, ◌≢◌, ℕ, ◌<◌, ◌≤◌, Bool, true, false, ◌&&◌, ◌==◌, not, nat_lt, List, [], ◌∷◌, Option, Some, None, IsSome, ◌⊎◌, inl, inr, refl, sym, ap, ◌∙◌, subst, arith}
 use Rattle.std.specs.Prelude.{if◌then◌else◌, filter, map, option_map}
-use Rattle.std.proofs.lemmas.Bool.{cases_lt, ltb-true, lt-ltb}
+use Rattle.std.proofs.lemmas.Bool.{cases_lt, ltb-true, lt-ltb, cond-false, cond-true}
 use Rattle.row_table.specs.declared.row.Row.{Row}
 use Rattle.row_table.specs.Rows.{word, comes_before}
-use Rattle.row_table.proofs.RowLemmas.{either, not_both, if_true, if_false, eqb_same, eqb_refl}
+use Rattle.row_table.proofs.RowLemmas.{either, not_both, eqb_same, eqb_refl}
 use Rattle.row_table.proofs.NextLemmas.{and_join, before_says, says_before, before_more, before_or}
 use Rattle.subpool_set.specs.Pools.{Pool, Sight, is_owner, sees, Pools, tasks, sharers, ids_in_order}
 use Rattle.vsm_elements.specs.Store.{Store}
@@ -38,11 +38,11 @@ pub past_end : (f : Rows) (a b v w : ℕ) → IsPast f a b v w → ((t n : ℕ) 
 past_end f a b v w past none = ap (map (λ (p : Pool). p.id)) (order_none (pools_after (pools_in f) b a) each) where
   each : (n o : ℕ) → pools_after (pools_in f) b a n o ≡ None
   each n o = elim (either (comes_before a b o n)) [
-    | inl e ↦ if_true (comes_before a b o n) (pools_in f n o) None e ∙ elim (either (comes_before v w o n)) [
+    | inl e ↦ cond-true (comes_before a b o n) (pools_in f n o) None e ∙ elim (either (comes_before v w o n)) [
       | inl k ↦ ap (pool_in o) (none o n k)
       | inr k ↦ past.none o n e k
     ]
-    | inr e ↦ if_false (comes_before a b o n) (pools_in f n o) None e
+    | inr e ↦ cond-false (comes_before a b o n) (pools_in f n o) None e
   ]
 
 -- a row that comes next
@@ -74,22 +74,22 @@ module _ (f : Rows) (a b v w : ℕ) (past : IsPast f a b v w) (r : Row) (there :
         from = past.further (word r.words 0) (word r.words 1) later
 
         here : pools_after (pools_in f) b a (word r.words 1) (word r.words 0) ≡ Some (record { id = r.id; queues = queues_of r.words })
-        here = if_true (comes_before a b (word r.words 0) (word r.words 1)) (pools_in f (word r.words 1) (word r.words 0)) None from
+        here = cond-true (comes_before a b (word r.words 0) (word r.words 1)) (pools_in f (word r.words 1) (word r.words 0)) None from
             ∙ ap (pool_in (word r.words 0)) there ∙ pool_own (word r.words 0) r own
 
         before : (m t : ℕ) → comes_before t m (word r.words 0) (word r.words 1) ≡ true → pools_after (pools_in f) b a m t ≡ None
         before m t h = elim (either (comes_before a b t m)) [
-          | inl e ↦ if_true (comes_before a b t m) (pools_in f m t) None e ∙ none_before t m e h
-          | inr e ↦ if_false (comes_before a b t m) (pools_in f m t) None e
+          | inl e ↦ cond-true (comes_before a b t m) (pools_in f m t) None e ∙ none_before t m e h
+          | inr e ↦ cond-false (comes_before a b t m) (pools_in f m t) None e
         ]
 
         behind : (m t : ℕ) → comes_before (word r.words 0) (word r.words 1) t m ≡ true → pools_after (pools_in f) b a m t ≡ pools_after (pools_in f) (word r.words 1) (word r.words 0) m t
         behind m t h =
-            if_true (comes_before a b t m) (pools_in f m t) None (before_more a b (word r.words 0) (word r.words 1) t m from h)
-            ∙ sym (if_true (comes_before (word r.words 0) (word r.words 1) t m) (pools_in f m t) None h)
+            cond-true (comes_before a b t m) (pools_in f m t) None (before_more a b (word r.words 0) (word r.words 1) t m from h)
+            ∙ sym (cond-true (comes_before (word r.words 0) (word r.words 1) t m) (pools_in f m t) None h)
 
         upto : (m t : ℕ) → comes_before (word r.words 0) (word r.words 1) t m ≡ false → pools_after (pools_in f) (word r.words 1) (word r.words 0) m t ≡ None
-        upto m t h = if_false (comes_before (word r.words 0) (word r.words 1) t m) (pools_in f m t) None h
+        upto m t h = cond-false (comes_before (word r.words 0) (word r.words 1) t m) (pools_in f m t) None h
 
 -- the other tasks that share a subpool
 

@@ -1,5 +1,6 @@
 -- Queues by their subpools, and queues by the rows that have their heads.
 use Rattle.std.proofs.Common.{◌≡◌, ℕ, Bool, true, false, ◌==◌, List, [], ◌∷◌, Some, None, inl, inr, refl, sym, ap, ◌∙◌}
+use Rattle.std.proofs.lemmas.Bool.{cond-false, cond-true}
 use Rattle.std.specs.Prelude.{map}
 use Rattle.vsm_elements.specs.Store.{Store, among}
 use Rattle.vsm_elements.specs.Ownership.{Apart}
@@ -13,7 +14,7 @@ use Rattle.row_table.specs.declared.table.RowTable.{RowTable}
 use Rattle.row_table.specs.Rows.{word, same_key, is_under, row_in, Single}
 use Rattle.row_table.specs.RowTable.{row, rows, row_of, IsTable}
 use Rattle.row_table.proofs.AscendLemmas.{single}
-use Rattle.row_table.proofs.RowLemmas.{either, not_both, if_true, if_false, none_some, same_parts, eqb_same, eqb_refl, same_self, row_here, row_later, under_own}
+use Rattle.row_table.proofs.RowLemmas.{either, not_both, none_some, same_parts, eqb_same, eqb_refl, same_self, row_here, row_later, under_own}
 use Rattle.subpool_set.specs.Pools.{Pool}
 use Rattle.subpool_set.specs.Kept.{Rows, queues_of, pool_in, pools_in}
 use Rattle.subpool_set.specs.Heads.{ids_in, ids_in_all, AllStand}
@@ -50,8 +51,8 @@ module _ (s : Store) where
   own_of : (r : Row) (i : ℕ) → among i (ids_in s r) ≡ true → (is_own r ≡ true) × (among i (ids_of s (queues_of r.words)) ≡ true)
   own_of r i m = go (is_own r) refl where
     go : (b : Bool) → is_own r ≡ b → (is_own r ≡ true) × (among i (ids_of s (queues_of r.words)) ≡ true)
-    go true e = (e, ap (among i) (sym (if_true (is_own r) (ids_of s (queues_of r.words)) [] e)) ∙ m)
-    go false e = absurd (not_both (among i (ids_in s r)) m (ap (among i) (if_false (is_own r) (ids_of s (queues_of r.words)) [] e)))
+    go true e = (e, ap (among i) (sym (cond-true (is_own r) (ids_of s (queues_of r.words)) [] e)) ∙ m)
+    go false e = absurd (not_both (among i (ids_in s r)) m (ap (among i) (cond-false (is_own r) (ids_of s (queues_of r.words)) [] e)))
 
   pool_of : (f : Rows) (r : Row) → f (word r.words 0) (word r.words 1) ≡ Some r → is_own r ≡ true → pools_in f (word r.words 1) (word r.words 0) ≡ Some (pool_at r)
   pool_of f r e own = ap (pool_in (word r.words 0)) e ∙ pool_own (word r.words 0) r (sym (eqb_same (word r.words 0) (word r.words 2) own))
@@ -126,4 +127,4 @@ held_id s q n o p i e m =
     let key : (word k.r.words 0 ≡ o) × (word k.r.words 1 ≡ n) = under_own o n (links s q.tree) k.r k.there in
     let own : is_own k.r ≡ true = ap (λ (z : ℕ). z == word k.r.words 2) key.0 ∙ ap (λ (z : ℕ). o == z) k.owner_is ∙ eqb_refl o in
     in_list s (links s q.tree) o n k.r i k.there
-    (ap (among i) (if_true (is_own k.r) (ids_of s (queues_of k.r.words)) [] own) ∙ ap (λ (z : Pool). among i (ids_of s z.queues)) (sym k.pool_is) ∙ m)
+    (ap (among i) (cond-true (is_own k.r) (ids_of s (queues_of k.r.words)) [] own) ∙ ap (λ (z : Pool). among i (ids_of s z.queues)) (sym k.pool_is) ∙ m)

@@ -1,7 +1,7 @@
 -- Walks over the rows of sight: what is left of them, as the set alone determines it.
 use Rattle.std.proofs.Common.{◌≡◌, ◌≢◌, ℕ, suc, ◌+◌, ◌<◌, ◌≤◌, Bool, true, false, ◌&&◌, ◌==◌, not, List, [], ◌∷◌, ◌++◌, length, take, drop, get_or, Option, Some, None, IsSome, ◌⊎◌, inl, inr, refl, sym, ap, ◌∙◌, subst, arith}
 use Rattle.std.specs.Prelude.{if◌then◌else◌, map, slice_get}
-use Rattle.std.proofs.lemmas.Bool.{cases_lt}
+use Rattle.std.proofs.lemmas.Bool.{cases_lt, cond-false, cond-true}
 use Rattle.std.proofs.lemmas.List.{take-append-drop, take_more}
 use Rattle.std.proofs.lemmas.Option.{get_or_from_slice_get, slice_get_within, slice_get-get_or}
 use Rattle.std.proofs.Math.ListN.{drop_of_length-le}
@@ -13,7 +13,7 @@ use Rattle.row_table.specs.declared.row.Row.{Row}
 use Rattle.row_table.specs.declared.table.RowTable.{RowTable}
 use Rattle.row_table.specs.Rows.{word, comes_before, is_under, RowsBehind, AreInOrder, row_among}
 use Rattle.row_table.specs.RowTable.{row, rows, place_index, IsPlace}
-use Rattle.row_table.proofs.RowLemmas.{either, none_some, not_both, if_true, if_false, and_parts, same_self, eqb_same, eqb_refl}
+use Rattle.row_table.proofs.RowLemmas.{either, none_some, not_both, and_parts, same_self, eqb_same, eqb_refl}
 use Rattle.row_table.proofs.NextLemmas.{before_says, says_before, before_more}
 use Rattle.row_table.proofs.AscendLemmas.{other_behind, other_before}
 use Rattle.row_table.proofs.TableLemmas.{rows_ascend}
@@ -41,13 +41,13 @@ rows_more t n v w (r ∷ rs) e h = (before_more t n v w (word r.words 0) (word r
 
 rows_none : (t n : ℕ) (rs : List Row) → RowsBehind t n rs → row_among t n rs ≡ None
 rows_none t n [] h = refl
-rows_none t n (r ∷ rs) h = if_false (is_under t n r.words) (Some r) (row_among t n rs) (behind_key t n r h.0) ∙ rows_none t n rs h.1
+rows_none t n (r ∷ rs) h = cond-false (is_under t n r.words) (Some r) (row_among t n rs) (behind_key t n r h.0) ∙ rows_none t n rs h.1
 
 row_first : (r : Row) (rs : List Row) → row_among (word r.words 0) (word r.words 1) (r ∷ rs) ≡ Some r
-row_first r rs = if_true (is_under (word r.words 0) (word r.words 1) r.words) (Some r) (row_among (word r.words 0) (word r.words 1) rs) (same_self (word r.words 0) (word r.words 1))
+row_first r rs = cond-true (is_under (word r.words 0) (word r.words 1) r.words) (Some r) (row_among (word r.words 0) (word r.words 1) rs) (same_self (word r.words 0) (word r.words 1))
 
 row_later : (t n : ℕ) (r : Row) (rs : List Row) → comes_before (word r.words 0) (word r.words 1) t n ≡ true → row_among t n (r ∷ rs) ≡ row_among t n rs
-row_later t n r rs h = if_false (is_under t n r.words) (Some r) (row_among t n rs) (before_key t n r h)
+row_later t n r rs h = cond-false (is_under t n r.words) (Some r) (row_among t n rs) (before_key t n r h)
 
 order_right : (xs ys : List Row) → AreInOrder (xs ++ ys) → AreInOrder ys
 order_right [] ys h = h
@@ -84,10 +84,10 @@ module _ (rs : List Row) (k : ℕ) (r : Row) (get : slice_get rs k ≡ Some r) w
   order_at order = let P : List Row → Type 0 = AreInOrder in order_right (take k rs) (r ∷ drop (k + 1) rs) (subst P whole order)
 
   pub pool_here : owner_in r ≡ word r.words 0 → pool_ids (drop k rs) ≡ r.id ∷ pool_ids (drop (k + 1) rs)
-  pool_here e = ap pool_ids drop_row ∙ if_true (owner_in r == word r.words 0) (r.id ∷ pool_ids (drop (k + 1) rs)) (pool_ids (drop (k + 1) rs)) (ap (λ (z : ℕ). z == word r.words 0) e ∙ eqb_refl (word r.words 0))
+  pool_here e = ap pool_ids drop_row ∙ cond-true (owner_in r == word r.words 0) (r.id ∷ pool_ids (drop (k + 1) rs)) (pool_ids (drop (k + 1) rs)) (ap (λ (z : ℕ). z == word r.words 0) e ∙ eqb_refl (word r.words 0))
 
   pub pool_passed : owner_in r ≢ word r.words 0 → pool_ids (drop k rs) ≡ pool_ids (drop (k + 1) rs)
-  pool_passed ne = ap pool_ids drop_row ∙ if_false (owner_in r == word r.words 0) (r.id ∷ pool_ids (drop (k + 1) rs)) (pool_ids (drop (k + 1) rs)) (differs (owner_in r) (word r.words 0) ne) where
+  pool_passed ne = ap pool_ids drop_row ∙ cond-false (owner_in r == word r.words 0) (r.id ∷ pool_ids (drop (k + 1) rs)) (pool_ids (drop (k + 1) rs)) (differs (owner_in r) (word r.words 0) ne) where
     differs : (a b : ℕ) → a ≢ b → (a == b) ≡ false
     differs a b ne' = elim (either (a == b)) [
       | inl e ↦ absurd (ne' (eqb_same a b e))
@@ -105,17 +105,17 @@ module _ (rs : List Row) (k : ℕ) (r : Row) (get : slice_get rs k ≡ Some r) w
     ]
 
     pub sharers_end : word r.words 1 ≢ number → sharer_tasks number owner (drop k rs) ≡ []
-    sharers_end ne = ap (sharer_tasks number owner) drop_row ∙ if_false (word r.words 1 == number) (if is_shared owner r then word r.words 0 ∷ rest else rest) [] (differ (word r.words 1) number ne)
+    sharers_end ne = ap (sharer_tasks number owner) drop_row ∙ cond-false (word r.words 1 == number) (if is_shared owner r then word r.words 0 ∷ rest else rest) [] (differ (word r.words 1) number ne)
 
     in_number : word r.words 1 ≡ number → sharer_tasks number owner (drop k rs) ≡ (if is_shared owner r then word r.words 0 ∷ rest else rest)
-    in_number e = ap (sharer_tasks number owner) drop_row ∙ if_true (word r.words 1 == number) (if is_shared owner r then word r.words 0 ∷ rest else rest) [] (ap (λ (z : ℕ). z == number) e ∙ eqb_refl number)
+    in_number e = ap (sharer_tasks number owner) drop_row ∙ cond-true (word r.words 1 == number) (if is_shared owner r then word r.words 0 ∷ rest else rest) [] (ap (λ (z : ℕ). z == number) e ∙ eqb_refl number)
 
     pub sharer_here : word r.words 1 ≡ number → owner_in r ≡ owner → word r.words 0 ≢ owner → sharer_tasks number owner (drop k rs) ≡ word r.words 0 ∷ rest
-    sharer_here e own other = in_number e ∙ if_true (is_shared owner r) (word r.words 0 ∷ rest) rest
+    sharer_here e own other = in_number e ∙ cond-true (is_shared owner r) (word r.words 0 ∷ rest) rest
         (ap (λ (b : Bool). b && not (word r.words 0 == owner)) (ap (λ (z : ℕ). z == owner) own ∙ eqb_refl owner) ∙ ap not (differ (word r.words 0) owner other))
 
     pub sharer_passed : word r.words 1 ≡ number → (owner_in r ≢ owner) ⊎ (word r.words 0 ≡ owner) → sharer_tasks number owner (drop k rs) ≡ rest
-    sharer_passed e other = in_number e ∙ if_false (is_shared owner r) (word r.words 0 ∷ rest) rest (go other) where
+    sharer_passed e other = in_number e ∙ cond-false (is_shared owner r) (word r.words 0 ∷ rest) rest (go other) where
       second : (a b : Bool) → b ≡ false → a && b ≡ false
       second true b h = h
       second false b h = refl
@@ -165,11 +165,11 @@ pools_walk f ranges (r ∷ rs) a b v w order behind follows past =
           → ((owner_in r == word r.words 0) ≡ true) ⊎ ((owner_in r == word r.words 0) ≡ false) → pool_ids (r ∷ rs) ≡ ids_in_order (pools_after (pools_in f) b a)
       go again (inl e) =
           let range : (1 ≤ word r.words 0) × (word r.words 0 ≤ 64) × (word r.words 1 ≤ 127) = ranges r there in
-          if_true (owner_in r == word r.words 0) (r.id ∷ pool_ids rs) (pool_ids rs) e
+          cond-true (owner_in r == word r.words 0) (r.id ∷ pool_ids rs) (pool_ids rs) e
           ∙ ap (λ (z : List ℕ). r.id ∷ z) (again (word r.words 0) (word r.words 1) (past_begin f (word r.words 0) (word r.words 1)))
           ∙ sym (past_found f a b v w past r there behind.0 next (eqb_same (owner_in r) (word r.words 0) e) range.0 range.1 range.2)
       go again (inr e) =
-          if_false (owner_in r == word r.words 0) (r.id ∷ pool_ids rs) (pool_ids rs) e
+          cond-false (owner_in r == word r.words 0) (r.id ∷ pool_ids rs) (pool_ids rs) e
           ∙ again a b
           (past_more f a b v w past r there behind.0 next (λ q. not_both (owner_in r == word r.words 0) (ap (λ (z : ℕ). z == word r.words 0) q ∙ eqb_refl (word r.words 0)) e))
 
@@ -191,14 +191,14 @@ sharers_walk f ranges (r ∷ rs) number owner behind last order above follows pa
       by_test again same (inl e) =
           let p : ((owner_in r == owner) ≡ true) × (not (word r.words 0 == owner) ≡ true) = and_parts (owner_in r == owner) (not (word r.words 0 == owner)) e in
           let range : (1 ≤ word r.words 0) × (word r.words 0 ≤ 64) × (word r.words 1 ≤ 127) = ranges r there in
-          if_true (is_shared owner r) (word r.words 0 ∷ sharer_tasks number owner rs) (sharer_tasks number owner rs) e
+          cond-true (is_shared owner r) (word r.words 0 ∷ sharer_tasks number owner rs) (sharer_tasks number owner rs) e
           ∙ ap (λ (z : List ℕ). word r.words 0 ∷ z) (again same (word r.words 0) (passed_begin f number owner (word r.words 0)))
           ∙ sym (passed_sharer f number owner behind last past r there above.0 next same (eqb_same (owner_in r) owner p.0) (λ q. no_true (word r.words 0 == owner) (ap (λ (z : ℕ). z == owner) q ∙ eqb_refl owner) p.1) range.0 range.1) where
             no_true : (z : Bool) → z ≡ true → not z ≡ true → ⊥
             no_true true h k = not_both false k refl
             no_true false h k = not_both false h refl
       by_test again same (inr e) =
-          if_false (is_shared owner r) (word r.words 0 ∷ sharer_tasks number owner rs) (sharer_tasks number owner rs) e
+          cond-false (is_shared owner r) (word r.words 0 ∷ sharer_tasks number owner rs) (sharer_tasks number owner rs) e
           ∙ again same behind (passed_row f number owner behind last past r there above.0 next same (other (either (owner_in r == owner)) (either (word r.words 0 == owner)))) where
             other : ((owner_in r == owner) ≡ true) ⊎ ((owner_in r == owner) ≡ false) → ((word r.words 0 == owner) ≡ true) ⊎ ((word r.words 0 == owner) ≡ false) → (owner_in r ≢ owner) ⊎ (word r.words 0 ≡ owner)
             other (inr p) q = inl (λ z. not_both (owner_in r == owner) (ap (λ (y : ℕ). y == owner) z ∙ eqb_refl owner) p)
@@ -207,8 +207,8 @@ sharers_walk f ranges (r ∷ rs) number owner behind last order above follows pa
 
       go : (word r.words 1 ≡ number → (from : ℕ) → IsPassed f number owner from (word r.words 0) → sharer_tasks number owner rs ≡ sharers_after (sight_in f) number owner from)
           → ((word r.words 1 == number) ≡ true) ⊎ ((word r.words 1 == number) ≡ false) → sharer_tasks number owner (r ∷ rs) ≡ sharers_after (sight_in f) number owner behind
-      go again (inl e) = if_true (word r.words 1 == number) (if is_shared owner r then word r.words 0 ∷ sharer_tasks number owner rs else sharer_tasks number owner rs) [] e ∙ by_test again (eqb_same (word r.words 1) number e) (either (is_shared owner r))
-      go again (inr e) = if_false (word r.words 1 == number) (if is_shared owner r then word r.words 0 ∷ sharer_tasks number owner rs else sharer_tasks number owner rs) [] e
+      go again (inl e) = cond-true (word r.words 1 == number) (if is_shared owner r then word r.words 0 ∷ sharer_tasks number owner rs else sharer_tasks number owner rs) [] e ∙ by_test again (eqb_same (word r.words 1) number e) (either (is_shared owner r))
+      go again (inr e) = cond-false (word r.words 1 == number) (if is_shared owner r then word r.words 0 ∷ sharer_tasks number owner rs else sharer_tasks number owner rs) [] e
           ∙ sym (passed_other f number owner behind last past r there above.0 next (λ q. not_both (word r.words 1 == number) (ap (λ (z : ℕ). z == number) q ∙ eqb_refl number) e))
 
 -- the beginnings

@@ -1,12 +1,13 @@
 -- Two storages exchange cell pools.
 use Rattle.std.proofs.Common.{◌≡◌, ℕ, ◌+◌, ◌-◌, ◌<◌, ◌≤◌, Bool, true, false, ◌⊎◌, inl, inr, ◌++◌, length, Option, Some, None, IsSome, refl, sym, ap, ◌∙◌, arith, subst, ◌==◌}
+use Rattle.std.proofs.lemmas.Bool.{cond-true}
 use Rattle.std.specs.Prelude.{IfSome, slice_get, if◌then◌else◌}
 use Rattle.vsm_elements.specs.Store.{Store, at}
 use Rattle.vsm_elements.specs.Ownership.{Leaves, Apart}
 use Rattle.vsm_elements.specs.Owners.{times, Moves}
 use Rattle.vsm_elements.proofs.TimesLemmas.{times-append, times-none, some-from}
 use Rattle.vsm_elements.proofs.MoveLemmas.{none-or-some, others-kept, moves-of, moves-by, moves-like, moves-follow, apart-from}
-use Rattle.subpool_set.proofs.KeyLemmas.{none_some, if_true, eqb_refl}
+use Rattle.subpool_set.proofs.KeyLemmas.{none_some, eqb_refl}
 use Rattle.cell_pool.specs.declared.pools.CellPools.{CellPools}
 use Rattle.vsm_model.specs.declared.Subpool.{Subpool}
 use Rattle.cell_pool.specs.Named.{AreNamed}
@@ -75,7 +76,7 @@ exchanged_back m k m' k' p e w can =
 
 -- the cell pool that has come
 pub is_new : (id : ℕ) (x : Option Pool) (p : Pool) (y : Option Pool) → x ≡ (if id == id then Some p else y) → x ≡ Some p
-is_new id x p y e = e ∙ if_true (id == id) (Some p) y (eqb_refl id)
+is_new id x p y e = e ∙ cond-true (id == id) (Some p) y (eqb_refl id)
 
 pub of_new : (P : Pool → Type 0) (x : Option Pool) (p : Pool) → x ≡ Some p → P p → IfSome x P
 of_new P x p e h = let Q : Option Pool → Type 0 = λ z. IfSome z P in subst Q (sym e) h

@@ -1,5 +1,6 @@
 -- Two sets of subpools exchange the queues of one subpool, by their heads.
 use Rattle.std.proofs.Common.{◌≡◌, ℕ, ◌+◌, ◌<◌, ◌≤◌, Bool, true, false, ◌&&◌, ◌==◌, inl, inr, Option, Some, refl, sym, ap, ◌∙◌, arith, subst}
+use Rattle.std.proofs.lemmas.Bool.{cond-false, cond-true}
 use Rattle.std.specs.Prelude.{if◌then◌else◌}
 use Rattle.vsm_elements.specs.Store.{Store, at, among}
 use Rattle.vsm_elements.specs.Ownership.{Leaves, Apart}
@@ -9,7 +10,7 @@ use Rattle.vsm_elements.proofs.TimesLemmas.{times-none, times-some}
 use Rattle.descriptor_queue.specs.Extents.{has_page}
 use Rattle.free_queue.specs.FreeQueue.{is_free}
 use Rattle.subpool_set.proofs.KeyLemmas.{same_key}
-use Rattle.subpool_set.proofs.KeyLemmas.{either, not_both, if_true, if_false, same_parts, same_by}
+use Rattle.subpool_set.proofs.KeyLemmas.{either, not_both, same_parts, same_by}
 use Rattle.vsm_model.specs.declared.Subpool.{Subpool}
 use Rattle.vsm_model.specs.Subpools.{same_subpool}
 use Rattle.subpool_set.specs.declared.queues.Queues.{Queues}
@@ -51,8 +52,8 @@ module _ (s t : Store) (q : SubpoolSet) (n o id : ℕ) (old new : Queues) (h : I
   which : (m l : ℕ) (x : Pool) → pools_with (pool s q) n o (Some after) m l ≡ Some x → Which m l x
   which m l x e = elim (either (same_key o n l m)) [
     | inl w ↦ (let u : (o ≡ l) × (n ≡ m) = same_parts o n l m w in
-        inl (same_by n o m l u.1 u.0, ap (λ (z : Pool). z.queues) (some_pool after x (sym (if_true (same_key o n l m) (Some after) (pool s q m l) w) ∙ e))))
-    | inr w ↦ inr (turned w, sym (if_false (same_key o n l m) (Some after) (pool s q m l) w) ∙ e)
+        inl (same_by n o m l u.1 u.0, ap (λ (z : Pool). z.queues) (some_pool after x (sym (cond-true (same_key o n l m) (Some after) (pool s q m l) w) ∙ e))))
+    | inr w ↦ inr (turned w, sym (cond-false (same_key o n l m) (Some after) (pool s q m l) w) ∙ e)
   ] where
     turned : same_key o n l m ≡ false → same_key n o m l ≡ false
     turned w = elim (either (same_key n o m l)) [

@@ -1,11 +1,12 @@
 -- The subpools and the sharers in order, as the set of subpools reads them.
 use Rattle.std.proofs.Common.{◌≡◌, ℕ, true, false, ◌==◌, List, [], ◌∷◌, ◌++◌, map, Option, Some, None, refl, sym, ap, ◌∙◌}
+use Rattle.std.proofs.lemmas.Bool.{cond-false, cond-true}
 use Rattle.std.specs.Prelude.{if◌then◌else◌, option_map}
 use Rattle.std.specs.List.{flat_map, filter_map, cons_option}
 use Rattle.std.proofs.lemmas.List.{map-append}
 use Rattle.vsm_elements.specs.Store.{Store}
 use Rattle.vsm_elements.proofs.ChainFrame.{false_if}
-use Rattle.subpool_set.proofs.KeyLemmas.{not_both, if_true, if_false, eqb_refl, eqb_same}
+use Rattle.subpool_set.proofs.KeyLemmas.{not_both, eqb_refl, eqb_same}
 use Rattle.subpool_set.specs.Pools.{Pool, tasks, numbers, ids_in_order}
 use Rattle.subpool_set.specs.SubpoolSet.{sight, pool, number_of, owner_of, IsPool}
 use Rattle.subpool_set.proofs.LawLemmas.{pools_are_named, own_is_there}
@@ -47,11 +48,11 @@ module _ (s : Store) (q : SubpoolStorage) (h : Stands s q) where
     seen (Some z) e = ap Some (eqb_same z o e)
 
     go : (y : Option Pool) → pool s q.set n o ≡ y → option_map (named s) (option_map (λ (x : Pool). x.id) y) ≡ (if is_there (subpools_of s q) (subpool n o) then Some (subpool n o) else None)
-    go None e = sym (if_false (is_there (subpools_of s q) (subpool n o)) (Some (subpool n o)) None (false_if (is_there (subpools_of s q) (subpool n o)) (λ k. own_is_there s q.set n o e (seen (sight s q.set o n) k))))
+    go None e = sym (cond-false (is_there (subpools_of s q) (subpool n o)) (Some (subpool n o)) None (false_if (is_there (subpools_of s q) (subpool n o)) (λ k. own_is_there s q.set n o e (seen (sight s q.set o n) k))))
     go (Some x) e =
         let k : IsPool s q.set x.id × (number_of s x.id ≡ n) × (owner_of s x.id ≡ o) × (sight s q.set o n ≡ Some o) = pools_are_named s q.set n o x h.set e in
         (λ i. Some (record { number = k.1 i; owner = k.2 i }))
-        ∙ sym (if_true (is_there (subpools_of s q) (subpool n o)) (Some (subpool n o)) None (ap (holds (λ owner. owner == o)) k.3 ∙ eqb_refl o))
+        ∙ sym (cond-true (is_there (subpools_of s q) (subpool n o)) (Some (subpool n o)) None (ap (holds (λ owner. owner == o)) k.3 ∙ eqb_refl o))
 
   -- all subpools are those of all ids
   pub all_named : map (named s) (ids_in_order (pool s q.set)) ≡ subpools_in_order (subpools_of s q)

@@ -1,5 +1,6 @@
 -- The queues of one subpool are turned, and their heads are written.
 use Rattle.std.proofs.Common.{◌≡◌, ℕ, ◌+◌, ◌<◌, ◌≤◌, Bool, true, false, ◌&&◌, ◌==◌, inl, inr, Option, Some, IsSome, refl, sym, ap, ◌∙◌, arith, subst}
+use Rattle.std.proofs.lemmas.Bool.{cond-true}
 use Rattle.std.specs.Prelude.{if◌then◌else◌}
 use Rattle.vsm_elements.specs.declared.element.Element.{Element}
 use Rattle.vsm_elements.specs.Store.{Store, at, among}
@@ -16,7 +17,7 @@ use Rattle.descriptor_queue.specs.Extents
 use Rattle.free_queue.specs.FreeQueue.{is_free, IsFreeQueue}
 use Rattle.free_queue.specs.FreeQueue
 use Rattle.subpool_set.proofs.KeyLemmas.{same_key}
-use Rattle.subpool_set.proofs.KeyLemmas.{either, not_both, if_true, same_self}
+use Rattle.subpool_set.proofs.KeyLemmas.{either, not_both, same_self}
 use Rattle.vsm_model.specs.declared.Subpool.{Subpool}
 use Rattle.vsm_model.specs.Subpools.{same_subpool}
 use Rattle.subpool_set.specs.declared.queues.Queues.{Queues}
@@ -89,7 +90,7 @@ module _ (s r : Store) (q : SubpoolSet) (n o id : ℕ) (old new : Queues) (h : I
         (stays r t (owned r q) (owned t q) own i (still_live (at r i) (at s i) first live) (ap (among i) stay.3 ∙ false_if (among i (owned s q)) (λ w. not_both (among i (ids_of s x.queues)) z (was.beside m l x e i w)))).1 ∙ first
 
     new_same : (i : ℕ) → among i (ids_of r new) ≡ true → at t i ≡ at r i
-    new_same i z = (stays r t (owned r q) (owned t q) own i (both_live r new stand i z) (false_if (among i (owned r q)) (λ w. not_both (among i (ids_of r new)) z (mid.beside n o after (if_true (same_key o n o n) (Some after) (pool r q n o) (same_self o n)) i w)))).1
+    new_same i z = (stays r t (owned r q) (owned t q) own i (both_live r new stand i z) (false_if (among i (owned r q)) (λ w. not_both (among i (ids_of r new)) z (mid.beside n o after (cond-true (same_key o n o n) (Some after) (pool r q n o) (same_self o n)) i w)))).1
 
     pub counted : (i : ℕ) → times i (queue_ids t q) + times i (ids_of s old) ≡ times i (queue_ids s q) + times i (ids_of r new)
     counted = counts s r t q n o id old new h was there stand k now pools_are other_same new_same

@@ -11,7 +11,8 @@ use Rattle.descriptor_queue.specs.Extents
 use Rattle.free_queue.specs.FreeQueue.{is_free, IsFreeQueue}
 use Rattle.free_queue.specs.FreeQueue
 use Rattle.subpool_set.proofs.KeyLemmas.{same_key}
-use Rattle.subpool_set.proofs.KeyLemmas.{either, not_both, if_true, if_false, same_parts, same_sym}
+use Rattle.subpool_set.proofs.KeyLemmas.{either, not_both, same_parts, same_sym}
+use Rattle.std.proofs.lemmas.Bool.{cond-false, cond-true}
 use Rattle.vsm_model.specs.declared.Subpool.{Subpool}
 use Rattle.subpool_set.specs.declared.queues.Queues.{Queues}
 use Rattle.subpool_set.specs.declared.set.SubpoolSet.{SubpoolSet}
@@ -58,14 +59,14 @@ module _ (s t : Store) (q r : SubpoolSet) (n o : ℕ) (x : Option Pool) (h : IsS
 
   pub set_pages : ((y : ℕ) → page_in s (pool s q n o) y ≡ false) → ((y : ℕ) → page_in t x y ≡ false) → (m l y : ℕ) → page_in t (pool t r m l) y ≡ page_in s (pool s q m l) y
   set_pages none none_now m l y = elim (either (same_key o n l m)) [
-    | inl e ↦ ap (λ (z : Option Pool). page_in t z y) (with m l ∙ if_true (same_key o n l m) x (pool s q m l) e) ∙ none_now y ∙ sym (ap (λ (z : Option Pool). page_in s z y) (here m l e) ∙ none y)
-    | inr e ↦ ap (λ (z : Option Pool). page_in t z y) (with m l ∙ if_false (same_key o n l m) x (pool s q m l) e) ∙ page_kept s t (pool s q m l) (was.stand m l) (kept m l) y
+    | inl e ↦ ap (λ (z : Option Pool). page_in t z y) (with m l ∙ cond-true (same_key o n l m) x (pool s q m l) e) ∙ none_now y ∙ sym (ap (λ (z : Option Pool). page_in s z y) (here m l e) ∙ none y)
+    | inr e ↦ ap (λ (z : Option Pool). page_in t z y) (with m l ∙ cond-false (same_key o n l m) x (pool s q m l) e) ∙ page_kept s t (pool s q m l) (was.stand m l) (kept m l) y
   ]
 
   pub set_free : ((y : ℕ) → free_in s (pool s q n o) y ≡ false) → ((y : ℕ) → free_in t x y ≡ false) → (m l y : ℕ) → free_in t (pool t r m l) y ≡ free_in s (pool s q m l) y
   set_free none none_now m l y = elim (either (same_key o n l m)) [
-    | inl e ↦ ap (λ (z : Option Pool). free_in t z y) (with m l ∙ if_true (same_key o n l m) x (pool s q m l) e) ∙ none_now y ∙ sym (ap (λ (z : Option Pool). free_in s z y) (here m l e) ∙ none y)
-    | inr e ↦ ap (λ (z : Option Pool). free_in t z y) (with m l ∙ if_false (same_key o n l m) x (pool s q m l) e) ∙ free_kept s t (pool s q m l) (was.stand m l) (kept m l) y
+    | inl e ↦ ap (λ (z : Option Pool). free_in t z y) (with m l ∙ cond-true (same_key o n l m) x (pool s q m l) e) ∙ none_now y ∙ sym (ap (λ (z : Option Pool). free_in s z y) (here m l e) ∙ none y)
+    | inr e ↦ ap (λ (z : Option Pool). free_in t z y) (with m l ∙ cond-false (same_key o n l m) x (pool s q m l) e) ∙ free_kept s t (pool s q m l) (was.stand m l) (kept m l) y
   ]
 
 -- of subpools with their storage

@@ -1,5 +1,6 @@
 -- A subpool is shared, or passes to another task: who sees what changes, and queues change their owner at most.
 use Rattle.std.proofs.Common.{◌≡◌, ℕ, ◌+◌, Bool, true, false, not, ◌&&◌, ◌==◌, inl, inr, Option, Some, None, refl, sym, ap, ◌∙◌, arith}
+use Rattle.std.proofs.lemmas.Bool.{cond-false, cond-true}
 use Rattle.std.specs.Prelude.{if◌then◌else◌}
 use Rattle.std.specs.Option.{option_map}
 use Rattle.vsm_elements.specs.Store.{Store, at, among}
@@ -8,7 +9,7 @@ use Rattle.vsm_elements.specs.Owners.{times, Moves}
 use Rattle.vsm_elements.proofs.ChainFrame.{stays, false_if}
 use Rattle.vsm_elements.proofs.TimesLemmas.{times-none, times-some}
 use Rattle.vsm_elements.proofs.MoveLemmas.{moves-of, moves-by}
-use Rattle.subpool_set.proofs.KeyLemmas.{either, not_both, if_true, if_false, eqb_refl, eqb_same, none_some, same_sym}
+use Rattle.subpool_set.proofs.KeyLemmas.{either, not_both, eqb_refl, eqb_same, none_some, same_sym}
 use Rattle.subpool_set.proofs.HeadLemmas.{both_live, both_kept}
 use Rattle.subpool_set.proofs.CountLemmas.{ids_once}
 use Rattle.subpool_set.proofs.LawLemmas.{queue_ids_are}
@@ -117,19 +118,19 @@ module _ (s t : Store) (q r : SubpoolSet) (n giver to : ℕ) (vacant : pool s q 
   in_number m l = if l == to then pool s q m giver else (if l == giver then None else pool s q m l)
 
   same_number : (m l : ℕ) → (m == n) ≡ true → pool t r m l ≡ in_number m l
-  same_number m l a = pools m l ∙ if_true (m == n) (in_number m l) (pool s q m l) a
+  same_number m l a = pools m l ∙ cond-true (m == n) (in_number m l) (pool s q m l) a
 
   at_taker : (m l : ℕ) → (m == n) ≡ true → (l == to) ≡ true → pool t r m l ≡ pool s q m giver
-  at_taker m l a b = same_number m l a ∙ if_true (l == to) (pool s q m giver) (if l == giver then None else pool s q m l) b
+  at_taker m l a b = same_number m l a ∙ cond-true (l == to) (pool s q m giver) (if l == giver then None else pool s q m l) b
 
   at_giver : (m l : ℕ) → (m == n) ≡ true → (l == to) ≡ false → (l == giver) ≡ true → pool t r m l ≡ None
-  at_giver m l a b c = same_number m l a ∙ if_false (l == to) (pool s q m giver) (if l == giver then None else pool s q m l) b ∙ if_true (l == giver) None (pool s q m l) c
+  at_giver m l a b c = same_number m l a ∙ cond-false (l == to) (pool s q m giver) (if l == giver then None else pool s q m l) b ∙ cond-true (l == giver) None (pool s q m l) c
 
   at_others : (m l : ℕ) → (m == n) ≡ true → (l == to) ≡ false → (l == giver) ≡ false → pool t r m l ≡ pool s q m l
-  at_others m l a b c = same_number m l a ∙ if_false (l == to) (pool s q m giver) (if l == giver then None else pool s q m l) b ∙ if_false (l == giver) None (pool s q m l) c
+  at_others m l a b c = same_number m l a ∙ cond-false (l == to) (pool s q m giver) (if l == giver then None else pool s q m l) b ∙ cond-false (l == giver) None (pool s q m l) c
 
   elsewhere : (m l : ℕ) → (m == n) ≡ false → pool t r m l ≡ pool s q m l
-  elsewhere m l a = pools m l ∙ if_false (m == n) (in_number m l) (pool s q m l) a
+  elsewhere m l a = pools m l ∙ cond-false (m == n) (in_number m l) (pool s q m l) a
 
   pub given_stays : (m l : ℕ) (p : Pool) → pool s q m l ≡ Some p → Somewhere t r p
   given_stays m l p e = go (m == n) (l == to) (l == giver) refl refl refl where

@@ -1,10 +1,11 @@
 -- Subpools as functions, where one of them gets other pages and other free storage.
 use Rattle.std.proofs.Common.{◌≡◌, ℕ, Bool, true, false, ◌&&◌, inl, inr, refl, sym, ap, ◌∙◌}
+use Rattle.std.proofs.lemmas.Bool.{cond-false, cond-true}
 use Rattle.std.specs.Prelude.{if◌then◌else◌}
 use Rattle.run_set.specs.Runs.{Run, inside}
 use Rattle.vsm_model.specs.declared.Subpool.{Subpool}
 use Rattle.vsm_model.specs.Subpools.{same_subpool}
-use Rattle.subpool_set.proofs.KeyLemmas.{either, if_true, if_false, same_parts}
+use Rattle.subpool_set.proofs.KeyLemmas.{either, same_parts}
 use Rattle.subpool_storage.specs.Subpools.{Subpools, with_pages, with_free}
 
 -- the subpool has these pages and this free storage
@@ -24,8 +25,8 @@ one_subpool q p e = let u : (q.number ≡ p.number) × (q.owner ≡ p.owner) = s
 -- what is the subpool's own is kept
 kept_at : (f : Subpool → ℕ → Bool) (q p : Subpool) (x : ℕ) → (if same_subpool q p then f p x else f q x) ≡ f q x
 kept_at f q p x = elim (either (same_subpool q p)) [
-  | inl e ↦ if_true (same_subpool q p) (f p x) (f q x) e ∙ ap (λ (z : Subpool). f z x) (sym (one_subpool q p e))
-  | inr e ↦ if_false (same_subpool q p) (f p x) (f q x) e
+  | inl e ↦ cond-true (same_subpool q p) (f p x) (f q x) e ∙ ap (λ (z : Subpool). f z x) (sym (one_subpool q p e))
+  | inr e ↦ cond-false (same_subpool q p) (f p x) (f q x) e
 ]
 
 -- within a run it is v

@@ -1,5 +1,6 @@
 -- The set once one subpool has other queues: its counts, its pages and its free storage.
 use Rattle.std.proofs.Common.{◌≡◌, ℕ, ◌+◌, true, false, ◌&&◌, ◌==◌, inl, inr, Option, Some, None, refl, sym, ap, ◌∙◌, arith}
+use Rattle.std.proofs.lemmas.Bool.{cond-false, cond-true}
 use Rattle.std.specs.Prelude.{if◌then◌else◌}
 use Rattle.vsm_elements.specs.Store.{Store, at, among}
 use Rattle.vsm_elements.specs.Owners.{times}
@@ -10,7 +11,7 @@ use Rattle.free_queue.specs.FreeQueue.{is_free, IsFreeQueue}
 use Rattle.free_queue.specs.FreeQueue
 use Rattle.free_queue.proofs.QueueLemmas.{queues_kept}
 use Rattle.subpool_set.proofs.KeyLemmas.{same_key}
-use Rattle.subpool_set.proofs.KeyLemmas.{either, not_both, if_true, if_false, same_parts, same_by, same_self, same_sym}
+use Rattle.subpool_set.proofs.KeyLemmas.{either, not_both, same_parts, same_by, same_self, same_sym}
 use Rattle.subpool_set.specs.declared.queues.Queues.{Queues}
 use Rattle.subpool_set.specs.declared.set.SubpoolSet.{SubpoolSet}
 use Rattle.subpool_set.specs.Pools.{Pool, pools_with}
@@ -39,7 +40,7 @@ module _ (s r t : Store) (q : SubpoolSet) (n o id : ℕ) (old new : Queues) (h :
   after = record { id = id; queues = new }
 
   this : pool t q n o ≡ Some after
-  this = pools_are n o ∙ if_true (same_key o n o n) (Some after) (pool s q n o) (same_self o n)
+  this = pools_are n o ∙ cond-true (same_key o n o n) (Some after) (pool s q n o) (same_self o n)
 
   turned : (m l : ℕ) → same_key n o m l ≡ false → same_key o n l m ≡ false
   turned m l d = elim (either (same_key o n l m)) [
@@ -48,7 +49,7 @@ module _ (s r t : Store) (q : SubpoolSet) (n o id : ℕ) (old new : Queues) (h :
   ]
 
   another : (m l : ℕ) → same_key n o m l ≡ false → pool t q m l ≡ pool s q m l
-  another m l d = pools_are m l ∙ if_false (same_key o n l m) (Some after) (pool s q m l) (turned m l d)
+  another m l d = pools_are m l ∙ cond-false (same_key o n l m) (Some after) (pool s q m l) (turned m l d)
 
   other_kept : (m l : ℕ) (x : Pool) → pool s q m l ≡ Some x → same_key n o m l ≡ false → ids_of t x.queues ≡ ids_of s x.queues
   other_kept m l x e d = (both_kept s t x.queues (was.stand m l x e) (other_same m l x e d)).1
@@ -65,8 +66,8 @@ module _ (s r t : Store) (q : SubpoolSet) (n o id : ℕ) (old new : Queues) (h :
     | inl e ↦ (let u : (m ≡ n) × (l ≡ o) = same_parts m l n o e in
         ap (λ (z : Option Pool). page_in t z x) (ap (λ (z : ℕ). pool t q z l) u.0 ∙ ap (pool t q n) u.1 ∙ this)
         ∙ (extents_kept r t new.extents stand.extents (λ i z. new_same i (in_left i (Extents.owned r new.extents) (FreeQueue.owned r new.free) z))).2 x
-        ∙ sym (if_true (same_key m l n o) (has_page r new.extents x) (page_in s (pool s q m l) x) e))
-    | inr e ↦ ap (λ (z : Option Pool). page_in t z x) (another m l (sym (same_sym m l n o) ∙ e)) ∙ page_kept s t (pool s q m l) (was.stand m l) (λ y k. other_same m l y k (sym (same_sym m l n o) ∙ e)) x ∙ sym (if_false (same_key m l n o) (has_page r new.extents x) (page_in s (pool s q m l) x) e)
+        ∙ sym (cond-true (same_key m l n o) (has_page r new.extents x) (page_in s (pool s q m l) x) e))
+    | inr e ↦ ap (λ (z : Option Pool). page_in t z x) (another m l (sym (same_sym m l n o) ∙ e)) ∙ page_kept s t (pool s q m l) (was.stand m l) (λ y k. other_same m l y k (sym (same_sym m l n o) ∙ e)) x ∙ sym (cond-false (same_key m l n o) (has_page r new.extents x) (page_in s (pool s q m l) x) e)
   ]
 
   pub free_at : (m l x : ℕ) → free_in t (pool t q m l) x ≡ (if (m == n) && (l == o) then is_free r new.free x else free_in s (pool s q m l) x)
@@ -74,6 +75,6 @@ module _ (s r t : Store) (q : SubpoolSet) (n o id : ℕ) (old new : Queues) (h :
     | inl e ↦ (let u : (m ≡ n) × (l ≡ o) = same_parts m l n o e in
         ap (λ (z : Option Pool). free_in t z x) (ap (λ (z : ℕ). pool t q z l) u.0 ∙ ap (pool t q n) u.1 ∙ this)
         ∙ (queues_kept r t new.free stand.free (λ i z. new_same i (in_right i (Extents.owned r new.extents) (FreeQueue.owned r new.free) z))).2 x
-        ∙ sym (if_true (same_key m l n o) (is_free r new.free x) (free_in s (pool s q m l) x) e))
-    | inr e ↦ ap (λ (z : Option Pool). free_in t z x) (another m l (sym (same_sym m l n o) ∙ e)) ∙ free_kept s t (pool s q m l) (was.stand m l) (λ y k. other_same m l y k (sym (same_sym m l n o) ∙ e)) x ∙ sym (if_false (same_key m l n o) (is_free r new.free x) (free_in s (pool s q m l) x) e)
+        ∙ sym (cond-true (same_key m l n o) (is_free r new.free x) (free_in s (pool s q m l) x) e))
+    | inr e ↦ ap (λ (z : Option Pool). free_in t z x) (another m l (sym (same_sym m l n o) ∙ e)) ∙ free_kept s t (pool s q m l) (was.stand m l) (λ y k. other_same m l y k (sym (same_sym m l n o) ∙ e)) x ∙ sym (cond-false (same_key m l n o) (is_free r new.free x) (free_in s (pool s q m l) x) e)
   ]

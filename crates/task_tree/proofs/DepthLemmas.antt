@@ -3,9 +3,9 @@ use Rattle.std.proofs.Common.{◌≡◌, ◌≢◌, ℕ, zero, suc, ◌+◌, ◌
 use Rattle.std.specs.Prelude.{if◌then◌else◌}
 use Rattle.std.proofs.Math.Logic.{∥∥₁_elim, ∥∥₁_map, ∥∥₁_map₂}
 use Rattle.std.proofs.Props.{props}
-use Rattle.std.proofs.lemmas.Bool.{le-leb, leb-true}
+use Rattle.std.proofs.lemmas.Bool.{le-leb, leb-true, cond-false, cond-true}
 use Rattle.row_table.specs.Rows.{either_of}
-use Rattle.row_table.proofs.RowLemmas.{either, not_both, if_true, if_false, none_some, eqb_same, eqb_refl}
+use Rattle.row_table.proofs.RowLemmas.{either, not_both, none_some, eqb_same, eqb_refl}
 use Rattle.task_tree.specs.Tasks.{Parents, IsBelow, HasDepths, parents_with}
 
 some_nat : (x y : ℕ) → Some x ≡ Some y → x ≡ y
@@ -81,9 +81,9 @@ first_depths : (f : Parents) → ((t : ℕ) → f t ≡ (if t == 1 then Some 0 e
 first_depths f first = (
   (λ x. x),
   λ t p e. elim (either (t == 1)) [
-    | inl h ↦ (let k : 0 ≡ p = some_nat 0 p (sym (if_true (t == 1) (Some 0) None h) ∙ sym (first t) ∙ e) in
+    | inl h ↦ (let k : 0 ≡ p = some_nat 0 p (sym (cond-true (t == 1) (Some 0) None h) ∙ sym (first t) ∙ e) in
         let l : t ≡ 1 = eqb_same t 1 h in omega (arith, k, l))
-    | inr h ↦ absurd (none_some (f t) p (first t ∙ if_false (t == 1) (Some 0) None h) e)
+    | inr h ↦ absurd (none_some (f t) p (first t ∙ cond-false (t == 1) (Some 0) None h) e)
   ],
 )
 
@@ -99,23 +99,23 @@ module _ (f g : Parents) (task under : ℕ) (absent : f task ≡ None) (low : 1 
   other : (p : ℕ) → (p ≡ task → ⊥) → more_depth p ≡ d.0 p
   other p ne = elim (either (p == task)) [
     | inl h ↦ absurd (ne (eqb_same p task h))
-    | inr h ↦ if_false (p == task) (suc (d.0 under)) (d.0 p) h
+    | inr h ↦ cond-false (p == task) (suc (d.0 under)) (d.0 p) h
   ]
 
   more_depths : HasDepths g
   more_depths = (
     more_depth,
     λ t p e. elim (either (t == task)) [
-      | inl h ↦ (let k : under ≡ p = some_nat under p (sym (if_true (t == task) (Some under) (f t) h) ∙ sym (added t) ∙ e) in
+      | inl h ↦ (let k : under ≡ p = some_nat under p (sym (cond-true (t == task) (Some under) (f t) h) ∙ sym (added t) ∙ e) in
           let ne : under ≡ task → ⊥ = (λ z. no_task (f under) (ap f z ∙ absent) home) in
           let l : more_depth under ≡ d.0 under = other under ne in
-          let m : more_depth t ≡ suc (d.0 under) = if_true (t == task) (suc (d.0 under)) (d.0 t) h in
+          let m : more_depth t ≡ suc (d.0 under) = cond-true (t == task) (suc (d.0 under)) (d.0 t) h in
           let n : more_depth p ≡ more_depth under = ap more_depth (sym k) in
           omega (arith, l, m, n))
-      | inr h ↦ (let k : f t ≡ Some p = sym (if_false (t == task) (Some under) (f t) h) ∙ sym (added t) ∙ e in
+      | inr h ↦ (let k : f t ≡ Some p = sym (cond-false (t == task) (Some under) (f t) h) ∙ sym (added t) ∙ e in
           let ne : p ≡ task → ⊥ = (λ z. no_task (f p) (ap f z ∙ absent) (parents t p k (λ w. positive task low (sym z ∙ w)))) in
           let l : more_depth p ≡ d.0 p = other p ne in
-          let m : more_depth t ≡ d.0 t = if_false (t == task) (suc (d.0 under)) (d.0 t) h in
+          let m : more_depth t ≡ d.0 t = cond-false (t == task) (suc (d.0 under)) (d.0 t) h in
           let n : d.0 p < d.0 t = d.1 t p k in
           omega (arith, l, m, n))
     ],
@@ -148,10 +148,10 @@ module _ (f g h : Parents) (df : HasDepths f) (dg : HasDepths g) (rows : (t : �
   joined_depth x = if is_some (f x) then suc (most dg.0 64) + df.0 x else dg.0 x
 
   parked : (x : ℕ) → is_some (f x) ≡ true → joined_depth x ≡ suc (most dg.0 64) + df.0 x
-  parked x e = if_true (is_some (f x)) (suc (most dg.0 64) + df.0 x) (dg.0 x) e
+  parked x e = cond-true (is_some (f x)) (suc (most dg.0 64) + df.0 x) (dg.0 x) e
 
   left : (x : ℕ) → is_some (f x) ≡ false → joined_depth x ≡ dg.0 x
-  left x e = if_false (is_some (f x)) (suc (most dg.0 64) + df.0 x) (dg.0 x) e
+  left x e = cond-false (is_some (f x)) (suc (most dg.0 64) + df.0 x) (dg.0 x) e
 
   at_home : (p : ℕ) → is_some (f p) ≡ false → IsSome (either_of (f p) (g p)) → IsSome (g p)
   at_home p e s = go (f p) e s where

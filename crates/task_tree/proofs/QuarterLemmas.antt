@@ -1,12 +1,13 @@
 -- The ids of a task's four rows.
 use Rattle.std.proofs.Common.{◌≡◌, ◌≢◌, ℕ, zero, suc, ◌<◌, List, [], ◌∷◌, get_or, Option, Some, None, IsSome, is_some, inl, refl, sym, ap, ◌∙◌, arith}
+use Rattle.std.proofs.lemmas.Bool.{cond-false}
 use Rattle.std.specs.Prelude.{option_map, if◌then◌else◌}
 use Rattle.vsm_elements.specs.Store.{Store}
 use Rattle.row_table.specs.declared.row.Row.{Row}
 use Rattle.row_table.specs.declared.table.RowTable.{RowTable}
 use Rattle.row_table.specs.Rows.{word, is_under}
 use Rattle.row_table.specs.RowTable.{row, words_of, IsTable, IsRow}
-use Rattle.row_table.proofs.RowLemmas.{not_both, if_false, differs}
+use Rattle.row_table.proofs.RowLemmas.{not_both, differs}
 use Rattle.row_table.proofs.SetLemmas.{row_of_id}
 use Rattle.row_table.proofs.TableLemmas.{tables_stand}
 use Rattle.task_tree.specs.Kept.{Rows, parents_in, AreQuarters}
@@ -37,7 +38,7 @@ pub others_stay : (f g : Rows) (id task : ℕ) (words : List ℕ) → word words
     → ((a b : ℕ) → g a b ≡ (if is_under a b words then Some (record { id = id; words = words }) else f a b))
     → (a b : ℕ) → a ≢ task → g a b ≡ f a b
 others_stay f g id task words first rows a b ne =
-    rows a b ∙ if_false (is_under a b words) (Some (record { id = id; words = words })) (f a b) (differs words a b (inl (λ e. ne (sym e ∙ first))))
+    rows a b ∙ cond-false (is_under a b words) (Some (record { id = id; words = words })) (f a b) (differs words a b (inl (λ e. ne (sym e ∙ first))))
 
 pub no_quarter : (x : Option Row) → id_in x ≡ None → x ≡ None
 no_quarter None e = refl
