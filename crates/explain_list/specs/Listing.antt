@@ -22,23 +22,23 @@ use Rattle.explain_list.specs.declared.checking.Shown.TheVariants as shown
 use Rattle.explain_list.specs.declared.faults.ListFault.{ListFault}
 use Rattle.explain_list.specs.declared.faults.ListFault.TheVariants as fault
 
--- What stands in a listing: its own words; the response to a statement, whose first line has this number; and the lines
--- behind it.
+-- What stands in a listing: its own words; the response to a statement, whose first line has this number, where these
+-- bytes are shown; and the lines behind it.
 pub data Item : Type 0 where
   words : List ℕ → Item
-  answer : ℕ → Response → Item
+  answer : ℕ → List ℕ → Response → Item
   behind : List ℕ → Item
 
 -- its text in the listing,
 abbrev pub item_text : Item → List ℕ
 item_text (words text) = text
-item_text (answer line response) = response_text response
+item_text (answer line bytes response) = response_text bytes response
 item_text (behind text) = text
 
 -- and in the output of a run.
 abbrev pub answer_text : Item → List ℕ
 answer_text (words text) = []
-answer_text (answer line response) = numbered line (response_text response)
+answer_text (answer line bytes response) = numbered line (response_text bytes response)
 answer_text (behind text) = text
 
 abbrev pub listing_text : List Item → List ℕ

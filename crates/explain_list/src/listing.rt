@@ -183,12 +183,18 @@ fn put_words<W: Write>(gathered: &mut Gathered, writer: &mut W, words: &[u8])
     gathered.put(writer, words);
 }
 
-/// Puts the text of a response.
-fn put_text<W: Write>(gathered: &mut Gathered, writer: &mut W, line: u32, response: &Response)
+/// Puts the text of a response, where these bytes are shown.
+fn put_text<W: Write>(
+    gathered: &mut Gathered,
+    writer: &mut W,
+    line: u32,
+    shown: &[u8],
+    response: &Response,
+)
     ensures { PutsItems (W.contents writer.old) (W.contents writer.new) gathered.old gathered.new
-        (numbered line (response_text response.now)) }
+        (numbered line (response_text shown.now response.now)) }
 {
-    put_response(gathered, writer, response);
+    put_response(gathered, writer, shown, response);
 }
 
 /// What stands in front of the text of a response.
@@ -210,37 +216,40 @@ fn add_kept(words: &mut Words, bench: &Bench, response: &Response) {
     words.add(b"\n");
 }
 
-/// Puts the answer to the statement whose first line has this number, and the lines behind it.
+/// Puts the answer to the statement whose first line has this number, where these bytes are shown, and the lines behind
+/// it.
 fn put_response_of<W: Write>(
     gathered: &mut Gathered,
     writer: &mut W,
     bench: &Bench,
     line: u32,
+    shown: &[u8],
     response: &Response,
 )
     ensures { PutsItems (W.contents writer.old) (W.contents writer.new) gathered.old gathered.new
-        (told_text (settings_in bench.now) (bench_of bench.now) (Some (line, response.now))) }
+        (told_text (settings_in bench.now) (bench_of bench.now) shown.now (Some (line, response.now))) }
 {
     let mut kept = Words::new();
     add_kept(&mut kept, bench, response);
     put_words(gathered, writer, mark_of(response));
-    put_text(gathered, writer, line, response);
+    put_text(gathered, writer, line, shown, response);
     put_words(gathered, writer, kept.as_slice());
     put_behind(gathered, writer, bench, response);
 }
 
-/// Puts an answer, if there is one, and the lines behind it.
+/// Puts an answer, if there is one, where these bytes are shown, and the lines behind it.
 fn put_answer<W: Write>(
     gathered: &mut Gathered,
     writer: &mut W,
     bench: &Bench,
+    shown: &[u8],
     told: &Option<(u32, Response)>,
 )
     ensures { PutsItems (W.contents writer.old) (W.contents writer.new) gathered.old gathered.new
-        (told_text (settings_in bench.now) (bench_of bench.now) told.now) }
+        (told_text (settings_in bench.now) (bench_of bench.now) shown.now told.now) }
 {
     match told {
-        Some((line, response)) => put_response_of(gathered, writer, bench, *line, response),
+        Some((line, response)) => put_response_of(gathered, writer, bench, *line, shown, response),
         None => (),
     }
 }
@@ -266,7 +275,13 @@ fn list_line<W: Write>(
         Ok(None) => Ok(None),
         Ok(Some(step)) => {
             put_words(gathered, writer, page.words());
-            put_answer(gathered, writer, session.bench(), &step.told);
+            put_answer(
+                gathered,
+                writer,
+                session.bench(),
+                session.shown(),
+                &step.told,
+            );
             Ok(Some(step.next))
         }
     }
@@ -319,14 +334,22 @@ fn put_ending<W: Write>(
     ending: &Ending,
 )
     ensures { PutsItems (W.contents writer.old) (W.contents writer.new) gathered.old gathered.new
-        (told_text (settings_in ending.now.bench) (bench_of ending.now.bench) ending.now.last
-        ++ told_text (settings_in ending.now.bench) (bench_of ending.now.bench) ending.now.open_statement) }
+        (told_text (settings_in ending.now.bench) (bench_of ending.now.bench) ending.now.shown.items ending.now.last
+        ++ told_text (settings_in ending.now.bench) (bench_of ending.now.bench) ending.now.shown.items
+        ending.now.open_statement) }
 {
+    let shown = ending.shown.as_slice();
     put_words(gathered, writer, page.words());
-    put_answer(gathered, writer, &ending.bench, &ending.last);
+    put_answer(gathered, writer, &ending.bench, shown, &ending.last);
     page.compose_open(Form::Listing, script, ending);
     put_words(gathered, writer, page.words());
-    put_answer(gathered, writer, &ending.bench, &ending.open_statement);
+    put_answer(
+        gathered,
+        writer,
+        &ending.bench,
+        shown,
+        &ending.open_statement,
+    );
 }
 
 /// Lists what stands behind the last line feed, and the end of the script.

@@ -81,25 +81,31 @@ fn end_text<W: Write>(
     }
 }
 
-/// Puts the first line of a report: which statement it stands behind, and what that was answered.
-fn put_first<W: Write>(gathered: &mut Gathered, writer: &mut W, told: &Told) {
+/// Puts the first line of a report: which statement it stands behind, and what that was answered, where these bytes are
+/// shown.
+fn put_first<W: Write>(gathered: &mut Gathered, writer: &mut W, shown: &[u8], told: &Told) {
     match told {
         Some((line, response)) => {
             gathered.put(writer, b"line ");
             put_decimal(gathered, writer, u64::from(*line));
             gathered.put(writer, b": ");
-            put_response(gathered, writer, response);
+            put_response(gathered, writer, shown, response);
             gathered.put(writer, b"\n");
         }
         None => gathered.put(writer, b"no statement\n"),
     }
 }
 
-/// Writes the report of a bench behind a statement.
-fn write_report<W: Write>(bench: &Bench, told: &Told, out: &mut W) -> Result<(), ReportFault> {
+/// Writes the report of a bench behind a statement, where these bytes are shown.
+fn write_report<W: Write>(
+    bench: &Bench,
+    shown: &[u8],
+    told: &Told,
+    out: &mut W,
+) -> Result<(), ReportFault> {
     let mut gathered = Gathered::new();
     let moment = moment_of(bench.storage());
-    put_first(&mut gathered, out, told);
+    put_first(&mut gathered, out, shown, told);
     put_table(&mut gathered, out, bench.storage(), &moment);
     end_text(gathered, out, Ok(()))
 }
@@ -112,15 +118,16 @@ fn report_end<W: Write>(
     last: &Told,
     out: &mut W,
 ) -> Result<(), ReportFault> {
-    if ending.open_statement.is_some() {
-        write_report(&ending.bench, &ending.open_statement, out)
+    let told = if ending.open_statement.is_some() {
+        &ending.open_statement
     } else if ending.last.is_some() {
-        write_report(&ending.bench, &ending.last, out)
+        &ending.last
     } else if has_line {
-        Err(ReportFault::Aside)
+        return Err(ReportFault::Aside);
     } else {
-        write_report(&ending.bench, last, out)
-    }
+        last
+    };
+    write_report(&ending.bench, ending.shown.as_slice(), told, out)
 }
 
 /// Takes a script up to the end of the statement of a line, or all of it, with the last answer in a room. Gives whether
@@ -163,7 +170,7 @@ fn report_on<W: Write, P: Watch>(
             outcome
         }
         Ok(false) => {
-            let outcome = write_report(session.bench(), last, out);
+            let outcome = write_report(session.bench(), session.shown(), last, out);
             drop(session);
             outcome
         }
@@ -186,9 +193,7 @@ pub fn report<W: Write, P: Watch>(
 ) -> Result<(), ReportFault> {
     let session = new_session(alloc, settings)?;
     let mut last = None;
-    let outcome = report_on(session, script, line, &mut last, out, watch);
-    drop(last);
-    outcome
+    report_on(session, script, line, &mut last, out, watch)
 }
 
 /// Whether what was answered may have changed the storage.

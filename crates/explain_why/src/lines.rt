@@ -15,7 +15,7 @@ use crate::faults::WhyFault;
 use crate::headings::put_fault_heading;
 use bench_core::{Bench, Refusal};
 use place_reasons::{Piece, put_pieces};
-use script_steps::{Ending, LINES, Response, Session, Stand, Told, Watch, put_response};
+use script_steps::{LINES, Response, Session, Stand, Told, Watch, put_response};
 use std::alloc::Global;
 use std::io::Write;
 use text_output::Gathered;
@@ -120,57 +120,6 @@ fn seek<P: Watch>(
     Err(WhyFault::TooLong)
 }
 
-/// The answer that the end of a script brings, if any: the first of two.
-fn told_at_end(ending: Ending) -> Told {
-    let Ending {
-        bench,
-        last,
-        open_statement,
-        ..
-    } = ending;
-    drop(bench);
-    last.or(open_statement)
-}
-
-/// What the end of the script is answered, where the statement isn't answered before.
-fn answer_at_end(session: Session, rest: &[u8]) -> Result<Told, WhyFault>
-    requires { NoFeed rest.now }
-{
-    let mut session = session;
-    match session.take_bytes(rest) {
-        Ok(()) => Ok(told_at_end(session.end())),
-        Err(_) => {
-            drop(session);
-            Err(WhyFault::TooLong)
-        }
-    }
-}
-
-/// Carries out the statement that begins at a place, before which the session stands, and gives its answer.
-fn answer(session: Session, script: &[u8], at: usize) -> Result<Told, WhyFault>
-    requires { at ≤ length script.now }
-{
-    let mut session = session;
-    let mut at = at;
-    for _ in 0..STATEMENT_LINES {
-        let step = match session.take_line(script, at) {
-            Ok(Some(step)) => step,
-            Ok(None) => return answer_at_end(session, &script[at..]),
-            Err(_) => {
-                drop(session);
-                return Err(WhyFault::TooLong);
-            }
-        };
-        if let Some(told) = step.told {
-            drop(session);
-            return Ok(Some(told));
-        }
-        at = step.next;
-    }
-    drop(session);
-    Ok(None)
-}
-
 /// Puts that a line goes on with a statement, where it isn't the first.
 fn put_goes_on<W: Write>(gathered: &mut Gathered, writer: &mut W, first: u32, line: u32)
     ensures { PutsSome (W.contents writer.old) (W.contents writer.new) gathered.old gathered.new }
@@ -235,17 +184,22 @@ fn put_no_memory<W: Write>(gathered: &mut Gathered, writer: &mut W, response: &R
     }
 }
 
-/// Puts the text of an answer.
-fn put_answered<W: Write>(gathered: &mut Gathered, writer: &mut W, response: &Response)
+/// Puts the text of an answer, where these bytes are shown.
+fn put_answered<W: Write>(
+    gathered: &mut Gathered,
+    writer: &mut W,
+    shown: &[u8],
+    response: &Response,
+)
     ensures { PutsSome (W.contents writer.old) (W.contents writer.new) gathered.old gathered.new }
 {
     gathered.put(writer, b"  answered: ");
-    put_response(gathered, writer, response);
+    put_response(gathered, writer, shown, response);
     gathered.put(writer, b"\n");
 }
 
-/// Puts an answer, and says whether it's a refusal.
-fn put_answer<W: Write>(gathered: &mut Gathered, writer: &mut W, told: &Told) -> bool
+/// Puts an answer, where these bytes are shown, and says whether it's a refusal.
+fn put_answer<W: Write>(gathered: &mut Gathered, writer: &mut W, shown: &[u8], told: &Told) -> bool
     ensures { PutsSome (W.contents writer.old) (W.contents writer.new) gathered.old gathered.new }
 {
     let Some((_, response)) = told else {
@@ -253,8 +207,65 @@ fn put_answer<W: Write>(gathered: &mut Gathered, writer: &mut W, told: &Told) ->
         return false;
     };
     put_no_memory(gathered, writer, response);
-    put_answered(gathered, writer, response);
+    put_answered(gathered, writer, shown, response);
     response.is_refused()
+}
+
+/// Puts what the end of the script is answered, where the statement isn't answered before: the first of two answers. Says
+/// whether it's a refusal.
+fn put_answer_at_end<W: Write>(
+    gathered: &mut Gathered,
+    writer: &mut W,
+    session: Session,
+    rest: &[u8],
+) -> Result<bool, WhyFault>
+    requires { NoFeed rest.now }
+    ensures { OnOk result (PutsSome (W.contents writer.old) (W.contents writer.new) gathered.old gathered.new) }
+{
+    let mut session = session;
+    if session.take_bytes(rest).is_err() {
+        drop(session);
+        return Err(WhyFault::TooLong);
+    }
+    let ending = session.end();
+    let told = ending.last.or(ending.open_statement);
+    let refused = put_answer(gathered, writer, ending.shown.as_slice(), &told);
+    drop(ending);
+    Ok(refused)
+}
+
+/// Carries out the statement that begins at a place, before which the session stands, and puts its answer. Says whether
+/// it's a refusal.
+fn put_answer_at<W: Write>(
+    gathered: &mut Gathered,
+    writer: &mut W,
+    session: Session,
+    script: &[u8],
+    at: usize,
+) -> Result<bool, WhyFault>
+    requires { at ≤ length script.now }
+    ensures { OnOk result (PutsSome (W.contents writer.old) (W.contents writer.new) gathered.old gathered.new) }
+{
+    let mut session = session;
+    let mut at = at;
+    for _ in 0..STATEMENT_LINES {
+        let step = match session.take_line(script, at) {
+            Ok(Some(step)) => step,
+            Ok(None) => return put_answer_at_end(gathered, writer, session, &script[at..]),
+            Err(_) => {
+                drop(session);
+                return Err(WhyFault::TooLong);
+            }
+        };
+        if step.told.is_some() {
+            let refused = put_answer(gathered, writer, session.shown(), &step.told);
+            drop(session);
+            return Ok(refused);
+        }
+        at = step.next;
+    }
+    drop(session);
+    Ok(put_answer(gathered, writer, &[], &None))
 }
 
 /// Writes why the statement at a place, before which the session stands, is answered as it is. `true` where it's
@@ -272,8 +283,7 @@ fn tell<W: Write>(
 {
     let mut gathered = Gathered::new();
     put_why(&mut gathered, out, session.bench(), line, place);
-    let told = answer(session, script, place.at)?;
-    let refused = put_answer(&mut gathered, out, &told);
+    let refused = put_answer_at(&mut gathered, out, session, script, place.at)?;
     match gathered.finish(out) {
         Ok(()) => Ok(refused),
         Err(_) => Err(WhyFault::Write),

@@ -68,13 +68,13 @@ step_brings_none settings script answers s (Err e) is = tt
 -- a line that was taken, with its line feed, and what it brings
 pub step_taken : (settings : Settings) (script : List ℕ) (at n : ℕ) (answers : List Marked) (s : Session) (step : Step) (told : Option (ℕ × Response)) → step.next ≡ at + n + 1 →
     step.told ≡ told → n < length (rest_of script at n) → slice_index (rest_of script at n) n ≡ 10 →
-    ((more : List Marked) × IsTold settings answers more (told_text settings (bench_of s.bench) told) × Brings settings answers more told
+    ((more : List Marked) × IsTold settings answers more (told_text settings (bench_of s.bench) s.shown.items told) × Brings settings answers more told
     × Took settings ((take at script ++ take n (rest_of script at n)) ++ 10 ∷ []) (answers ++ more) s) →
     TakesStep settings script at answers s (Ok (Some step)) × BringsStep settings script answers s (Ok (Some step))
 step_taken settings script at n answers s step told next same inside feed (more, is, brings, took) =
     let taken : Took settings (take step.next script) (answers ++ more) s =
     subst (λ k. Took settings (take k script) (answers ++ more) s) (sym next)
     (subst (λ given. Took settings given (answers ++ more) s) (behind_line script at n inside feed) took) in (
-      (more, subst (λ t. IsTold settings answers more (told_text settings (bench_of s.bench) t)) (sym same) is, taken),
+      (more, subst (λ t. IsTold settings answers more (told_text settings (bench_of s.bench) s.shown.items t)) (sym same) is, taken),
       (more, subst (λ t. Brings settings answers more t) (sym same) brings, taken),
     )

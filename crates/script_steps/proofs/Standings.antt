@@ -11,17 +11,36 @@ use Rattle.vsm_model.specs.Names.{NamedState, first_named_state}
 use Rattle.vsm_model.specs.Standing.{Bench, Standing, Call, Apply, Back, Forward, Look, Answer, Replied, RefusedFor, NoMemory, Moved, TooFar, Shown, Heard, Keeps, Leads, IsAccepted, new_bench, nothing_stands, stand_all, outcome_answer}
 use Rattle.vsm_model.proofs.Alone.{stands_alone}
 use Rattle.bench_core.specs.Machine.{Why, statement_step, shown_at}
-use Rattle.script_steps.specs.Responses.{response_to, reading_response, response_text, lines_behind, is_refused, numbered}
-use Rattle.script_steps.specs.Output.{Marked, call_in, alone_now, answer_to, IsMet, stands_behind, stands_with, responded_to, responded, stands_after, stands_all, AllMet, lines_with, text_of, texts, refusals, heard_call, heard_with, heard_all}
-use Rattle.script_steps.specs.Answers.{RespondsTo, Responds, Tells, told_text, told_count, told_refused}
+use Rattle.script_steps.specs.Responses.{response_to, reading_response, bytes_of, response_text, lines_behind, is_refused, numbered}
+use Rattle.script_steps.specs.Output.{Marked, call_in, alone_now, answer_to, IsMet, stands_behind, stands_with, responded_to, responded, bytes_shown, stands_after, stands_all, AllMet, lines_with, text_of, texts, refusals, heard_call, heard_with, heard_all}
+use Rattle.script_steps.specs.Answers.{RespondsTo, AreShown, Responds, Tells, told_text, told_count, told_refused}
 use Rattle.script_steps.specs.Taken.{Led, Brings, IsTold, answers_of}
 use Rattle.script_steps.specs.declared.responses.Response.{Response}
+use Rattle.script_steps.specs.declared.responses.Response.TheVariants as response
 
 plus_zero : (n : ℕ) → n + 0 ≡ n
 plus_zero n = omega arith
 
 same_statement : (x y : Act) → Some (Apply x) ≡ Some (Apply y) → x ≡ y
 same_statement x y e = cc
+
+-- the text of a response to a call is the same whatever is shown
+call_text : (call : Call Act) (answer : Answer Reply Why) (kept : ℕ) (bytes others : List ℕ) →
+    response_text bytes (response_to call answer kept) ≡ response_text others (response_to call answer kept)
+call_text call (Replied reply) kept bytes others = refl
+call_text call (RefusedFor why) kept bytes others = refl
+call_text call NoMemory kept bytes others = refl
+call_text call Moved kept bytes others = refl
+call_text call Shown kept bytes others = refl
+call_text (Apply x) (TooFar n) kept bytes others = refl
+call_text (Back m) (TooFar n) kept bytes others = refl
+call_text (Forward m) (TooFar n) kept bytes others = refl
+call_text Look (TooFar n) kept bytes others = refl
+
+-- that of a reading has its bytes
+reading_text : (r : Result (List ℕ) Why) (bytes : List ℕ) → AreShown r bytes → response_text bytes (reading_response r) ≡ response_text (bytes_of r) (reading_response r)
+reading_text (Ok read) bytes h = ap (λ xs. response_text xs response.Shown) h
+reading_text (Err why) bytes h = refl
 
 module _ (settings : Settings) where
   abbrev Stood : Type 0
@@ -192,19 +211,36 @@ module _ (settings : Settings) where
       )
 
   -- One answer more: how it is marked, that it leads on, and the response that is stated for it.
-  pub led_one : (xs : List Marked) (b c : Bench NamedState) (line : ℕ) (what : Result Asked FaultKind) (told : Response) → Led settings xs b →
-      Responds settings b what told c →
+  pub led_one : (xs : List Marked) (b c : Bench NamedState) (line : ℕ) (what : Result Asked FaultKind) (told : Response) (bytes : List ℕ) → Led settings xs b →
+      Responds settings b what told bytes c →
       (unmet : Bool) × Led settings (xs ++ marked line what unmet ∷ []) c × (told ≡ responded settings (stands_all settings nothing_stands xs) unmet what)
-  led_one xs b c line (Err kind) told led (is, same) = (false, led_idle xs b c line (Err kind) led same refl, is)
-  led_one xs b c line (Ok (act x)) told led h = led_call xs b c line (act x) (Apply x) told refl led h
-  led_one xs b c line (Ok (peek address count)) told led (is, same) = (
+  led_one xs b c line (Err kind) told bytes led (is, same) = (false, led_idle xs b c line (Err kind) led same refl, is)
+  led_one xs b c line (Ok (act x)) told bytes led h = led_call xs b c line (act x) (Apply x) told refl led h
+  led_one xs b c line (Ok (peek address count)) told bytes led (is, read, same) = (
     false,
     led_idle xs b c line (Ok (peek address count)) led same refl,
     is ∙ ap (λ m. reading_response (shown_at m address count)) (stands_for xs b led).present,
   )
-  led_one xs b c line (Ok map_asked) told led (is, same) = (false, led_idle xs b c line (Ok map_asked) led same refl, is)
-  led_one xs b c line (Ok (back n)) told led h = led_call xs b c line (back n) (Back n) told refl led h
-  led_one xs b c line (Ok (forward n)) told led h = led_call xs b c line (forward n) (Forward n) told refl led h
+  led_one xs b c line (Ok map_asked) told bytes led (is, same) = (false, led_idle xs b c line (Ok map_asked) led same refl, is)
+  led_one xs b c line (Ok (back n)) told bytes led h = led_call xs b c line (back n) (Back n) told refl led h
+  led_one xs b c line (Ok (forward n)) told bytes led h = led_call xs b c line (forward n) (Forward n) told refl led h
+
+  -- its text, with what is shown, is the one with the bytes that are stated
+  text_is : (xs : List Marked) (b c : Bench NamedState) (what : Result Asked FaultKind) (told : Response) (bytes : List ℕ) → Led settings xs b →
+      Responds settings b what told bytes c →
+      response_text bytes told ≡ response_text (bytes_shown settings (stands_all settings nothing_stands xs) what) told
+  text_is xs b c (Err kind) told bytes led (is, same) = ap (response_text bytes) is ∙ sym (ap (response_text []) is)
+  text_is xs b c (Ok (act x)) told bytes led (answer, keeps, is) =
+      ap (response_text bytes) is ∙ call_text (Apply x) answer (length c.past) bytes [] ∙ sym (ap (response_text []) is)
+  text_is xs b c (Ok (peek address count)) told bytes led (is, read, same) =
+      let r = shown_at b.present address count in
+      ap (response_text bytes) is ∙ reading_text r bytes read ∙ sym (ap (response_text (bytes_of r)) is)
+      ∙ ap (λ m. response_text (bytes_of (shown_at m address count)) told) (stands_for xs b led).present
+  text_is xs b c (Ok map_asked) told bytes led (is, same) = ap (response_text bytes) is ∙ sym (ap (response_text []) is)
+  text_is xs b c (Ok (back n)) told bytes led (answer, keeps, is) =
+      ap (response_text bytes) is ∙ call_text (Back n) answer (length c.past) bytes [] ∙ sym (ap (response_text []) is)
+  text_is xs b c (Ok (forward n)) told bytes led (answer, keeps, is) =
+      ap (response_text bytes) is ∙ call_text (Forward n) answer (length c.past) bytes [] ∙ sym (ap (response_text []) is)
 
   -- the lines behind a response: those of the state and the number that the standing statements give
   behind_is : (xs : List Marked) (c : Bench NamedState) (m : Marked) (told : Response) → Led settings (xs ++ m ∷ []) c →
@@ -214,18 +250,18 @@ module _ (settings : Settings) where
       (λ i. lines_behind settings (s.present i) (s.kept i) told) ∙ ap (λ l. lines_with settings l told) (stands_push nothing_stands xs (m ∷ []))
 
   -- What a line tells: the further answers, marked.
-  pub record TellsMore (xs : List Marked) (c : Bench NamedState) (told : List grammar.Answer) (shown : Option (ℕ × Response)) : Type 0 where
+  pub record TellsMore (xs : List Marked) (c : Bench NamedState) (told : List grammar.Answer) (shown : Option (ℕ × Response)) (bytes : List ℕ) : Type 0 where
     pub more : List Marked
     pub answers : answers_of more ≡ told
     pub led : Led settings (xs ++ more) c
-    pub text : IsTold settings xs more (told_text settings c shown)
+    pub text : IsTold settings xs more (told_text settings c bytes shown)
     pub brings : Brings settings xs more shown
     pub count : length more ≡ told_count shown
     pub refused : refusals settings (stands_all settings nothing_stands xs) more ≡ told_refused shown
 
-  pub tells_more : (xs : List Marked) (b c : Bench NamedState) (told : List grammar.Answer) (shown : Option (ℕ × Response)) → Led settings xs b →
-      Tells settings b told shown c → TellsMore xs c told shown
-  tells_more xs b c [] None led h = record {
+  pub tells_more : (xs : List Marked) (b c : Bench NamedState) (told : List grammar.Answer) (shown : Option (ℕ × Response)) (bytes : List ℕ) → Led settings xs b →
+      Tells settings b told shown bytes c → TellsMore xs c told shown bytes
+  tells_more xs b c [] None bytes led h = record {
     more = [];
     answers = refl;
     led = subst (λ ys. Led settings ys c) (sym (append-nil xs)) (subst (Led settings xs) (sym h) led);
@@ -234,25 +270,25 @@ module _ (settings : Settings) where
     count = refl;
     refused = refl;
   }
-  tells_more xs b c (a ∷ []) (Some shown) led (line, h) =
-      let one = led_one xs b c a.line a.what shown.1 led h in
+  tells_more xs b c (a ∷ []) (Some shown) bytes led (line, h) =
+      let one = led_one xs b c a.line a.what shown.1 bytes led h in
       let l = stands_all settings nothing_stands xs in
       let m = marked a.line a.what one.0 in
       record {
         more = m ∷ [];
         answers = refl;
         led = one.1;
-        text = (λ i. numbered (line i) (response_text shown.1) ++ behind_is xs c m shown.1 one.1 i)
-            ∙ ap (λ r. numbered a.line (response_text r) ++ lines_with settings (stands_after settings l m) r) one.2
+        text = (λ i. numbered (line i) (text_is xs b c a.what shown.1 bytes led h i) ++ behind_is xs c m shown.1 one.1 i)
+            ∙ ap (λ r. numbered a.line (response_text (bytes_shown settings l a.what) r) ++ lines_with settings (stands_after settings l m) r) one.2
             ∙ sym (append-nil _);
         brings = (line, one.2);
         count = refl;
         refused = plus_zero _ ∙ ap (λ r. if is_refused r then 1 else 0) (sym one.2);
       }
-  tells_more xs b c [] (Some shown) led h = absurd h
-  tells_more xs b c (a ∷ []) None led h = absurd h
-  tells_more xs b c (a ∷ d ∷ others) None led h = absurd h
-  tells_more xs b c (a ∷ d ∷ others) (Some shown) led h = absurd h
+  tells_more xs b c [] (Some shown) bytes led h = absurd h
+  tells_more xs b c (a ∷ []) None bytes led h = absurd h
+  tells_more xs b c (a ∷ d ∷ others) None bytes led h = absurd h
+  tells_more xs b c (a ∷ d ∷ others) (Some shown) bytes led h = absurd h
 
   -- the text of further answers, behind the text of others
   pub told_both : (xs ys zs : List Marked) (a b : List ℕ) → IsTold settings xs ys a → IsTold settings (xs ++ ys) zs b → IsTold settings xs (ys ++ zs) (a ++ b)

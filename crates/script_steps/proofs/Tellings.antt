@@ -11,7 +11,7 @@ use Rattle.script_steps.specs.declared.responses.Response.TheVariants as respons
 pub none_behind : (settings : Settings) (m : NamedState) (kept : ℕ) (r : Response) → (r ≡ response.Map → ⊥) → lines_behind settings m kept r ≡ []
 none_behind settings m kept (response.Replied reply) not_map = refl
 none_behind settings m kept (response.Refused why) not_map = refl
-none_behind settings m kept (response.Shown bytes) not_map = refl
+none_behind settings m kept response.Shown not_map = refl
 none_behind settings m kept (response.Kept n) not_map = refl
 none_behind settings m kept (response.TooFar n) not_map = refl
 none_behind settings m kept (response.TooFarAhead n) not_map = refl

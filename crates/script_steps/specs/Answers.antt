@@ -19,31 +19,41 @@ RespondsTo settings b call told c =
     (answer : Answer Reply Why) × Keeps (statement_step settings) settings.history b call answer c
     × (told ≡ response_to call answer (length c.past))
 
+-- The bytes that are shown are those of the reading, if it has any.
+abbrev pub AreShown : Result (List ℕ) Why → List ℕ → Type 0
+AreShown (Ok read) bytes = bytes ≡ read
+AreShown (Err why) bytes = Unit {0}
+
 -- A reading of bytes is answered by those of the present state; that, a map and a fault leave the bench as it was.
-abbrev pub Responds : Settings → Bench NamedState → Result Asked FaultKind → Response → Bench NamedState → Type 0
-Responds settings b (Err kind) told c = (told ≡ response.Fault kind) × (c ≡ b)
-Responds settings b (Ok (act x)) told c = RespondsTo settings b (Apply x) told c
-Responds settings b (Ok (peek address count)) told c =
-    (told ≡ reading_response (shown_at b.present address count)) × (c ≡ b)
-Responds settings b (Ok map_asked) told c = (told ≡ response.Map) × (c ≡ b)
-Responds settings b (Ok (back n)) told c = RespondsTo settings b (Back n) told c
-Responds settings b (Ok (forward n)) told c = RespondsTo settings b (Forward n) told c
+abbrev pub Responds : Settings → Bench NamedState → Result Asked FaultKind → Response → List ℕ → Bench NamedState
+    → Type 0
+Responds settings b (Err kind) told bytes c = (told ≡ response.Fault kind) × (c ≡ b)
+Responds settings b (Ok (act x)) told bytes c = RespondsTo settings b (Apply x) told c
+Responds settings b (Ok (peek address count)) told bytes c =
+    (told ≡ reading_response (shown_at b.present address count))
+    × AreShown (shown_at b.present address count) bytes × (c ≡ b)
+Responds settings b (Ok map_asked) told bytes c = (told ≡ response.Map) × (c ≡ b)
+Responds settings b (Ok (back n)) told bytes c = RespondsTo settings b (Back n) told c
+Responds settings b (Ok (forward n)) told bytes c = RespondsTo settings b (Forward n) told c
 
 -- A line has at most one answer, which is told with the number of the statement's first line.
-abbrev pub Tells : Settings → Bench NamedState → List grammar.Answer → Option (ℕ × Response) → Bench NamedState → Type 0
-Tells settings b [] None c = c ≡ b
-Tells settings b (a ∷ []) (Some told) c = (told.0 ≡ a.line) × Responds settings b a.what told.1 c
-Tells settings b _ _ c = ⊥
+abbrev pub Tells : Settings → Bench NamedState → List grammar.Answer → Option (ℕ × Response) → List ℕ
+    → Bench NamedState → Type 0
+Tells settings b [] None bytes c = c ≡ b
+Tells settings b (a ∷ []) (Some told) bytes c = (told.0 ≡ a.line) × Responds settings b a.what told.1 bytes c
+Tells settings b _ _ bytes c = ⊥
 
 -- What it tells whatever the bench is, which stays as it was.
 abbrev pub IsToldAlone : List grammar.Answer → Option (ℕ × Response) → Type 0
-IsToldAlone told shown = (settings : Settings) (b : Bench NamedState) → Tells settings b told shown b
+IsToldAlone told shown =
+    (settings : Settings) (b : Bench NamedState) (bytes : List ℕ) → Tells settings b told shown bytes b
 
--- The printed line of an answer, if there is one, and the lines behind it: those of a map show the bench as it is then.
-abbrev pub told_text : Settings → Bench NamedState → Option (ℕ × Response) → List ℕ
-told_text settings b None = []
-told_text settings b (Some told) =
-    numbered told.0 (response_text told.1) ++ lines_behind settings b.present (length b.past) told.1
+-- The printed line of an answer, if there is one, where these bytes are shown; and the lines behind it: those of a map
+-- show the bench as it is then.
+abbrev pub told_text : Settings → Bench NamedState → List ℕ → Option (ℕ × Response) → List ℕ
+told_text settings b bytes None = []
+told_text settings b bytes (Some told) =
+    numbered told.0 (response_text bytes told.1) ++ lines_behind settings b.present (length b.past) told.1
 
 -- how many lines are told, and how many of them are refusals
 abbrev pub told_count : Option (ℕ × Response) → ℕ

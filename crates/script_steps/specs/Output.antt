@@ -10,7 +10,7 @@ use Rattle.vsm_model.specs.Names.{NamedState, first_named_state}
 use Rattle.vsm_model.specs.Standing.{Standing, Call, Apply, Back, Forward, Look, Answer, NoMemory, Moved, TooFar, Shown}
 use Rattle.vsm_model.specs.Standing.{Heard, IsAccepted, nothing_stands, stand, alone, outcome_answer}
 use Rattle.bench_core.specs.Machine.{Why, statement_step, shown_at}
-use Rattle.script_steps.specs.Responses.{response_to, reading_response, response_text, lines_behind}
+use Rattle.script_steps.specs.Responses.{response_to, reading_response, bytes_of, response_text, lines_behind}
 use Rattle.script_steps.specs.Responses.{is_refused, numbered}
 use Rattle.script_steps.specs.declared.responses.Response.{Response}
 use Rattle.script_steps.specs.declared.responses.Response.TheVariants as response
@@ -70,6 +70,11 @@ module _ (settings : Settings) where
   responded l unmet (Ok (back n)) = responded_to l unmet (Back n)
   responded l unmet (Ok (forward n)) = responded_to l unmet (Forward n)
 
+  -- The bytes that it shows.
+  abbrev pub bytes_shown : Standing Act Reply → Result Asked FaultKind → List ℕ
+  bytes_shown l (Ok (peek address count)) = bytes_of (shown_at (alone_now l) address count)
+  bytes_shown l _ = []
+
   abbrev pub stands_after : Standing Act Reply → Marked → Standing Act Reply
   stands_after l m = stands_with l m.unmet m.answer.what
 
@@ -89,7 +94,7 @@ module _ (settings : Settings) where
   abbrev pub text_of : Standing Act Reply → Marked → List ℕ
   text_of l m =
       let told = responded l m.unmet m.answer.what in
-      numbered m.answer.line (response_text told) ++ lines_with (stands_after l m) told
+      numbered m.answer.line (response_text (bytes_shown l m.answer.what) told) ++ lines_with (stands_after l m) told
 
   -- the lines of output,
   abbrev pub texts : Standing Act Reply → List Marked → List ℕ

@@ -31,10 +31,15 @@ response_to (Forward m) (TooFar n) kept = response.TooFarAhead n
 response_to Look (TooFar n) kept = response.TooFar n
 response_to call Shown kept = response.Kept kept
 
--- the response to a reading: the bytes, or why they aren't shown
+-- the response to a reading: that the bytes are shown, or why they aren't
 abbrev pub reading_response : Result (List ℕ) Why → Response
-reading_response (Ok bytes) = response.Shown (record { items = bytes })
+reading_response (Ok bytes) = response.Shown
 reading_response (Err why) = response.Refused (refusal_for why)
+
+-- and the bytes of it
+abbrev pub bytes_of : Result (List ℕ) Why → List ℕ
+bytes_of (Ok bytes) = bytes
+bytes_of (Err why) = []
 
 abbrev pub fault_word : FaultKind → List ℕ
 fault_word kind.Column = codes "COLUMN"
@@ -55,21 +60,22 @@ refusal_text refusal.Name = codes "REFUSED NAME"
 refusal_text (refusal.Abend code) = codes "ABEND " ++ code_text code
 refusal_text refusal.NoMemory = codes "REFUSED MEMORY"
 
-abbrev pub response_text : Response → List ℕ
-response_text (response.Replied reply) = reply_text reply
-response_text (response.Refused r) = refusal_text r
-response_text (response.Shown bytes) = shown_text bytes.items
-response_text (response.Kept n) = codes "KEPT=" ++ decimal n
-response_text (response.TooFar n) = codes "REFUSED KEPT=" ++ decimal n
-response_text (response.TooFarAhead n) = codes "REFUSED UNDONE=" ++ decimal n
-response_text (response.Fault k) = codes "FAULT " ++ fault_word k
-response_text response.Map = codes "MAP"
+-- the text of a response, where these bytes are shown
+abbrev pub response_text : List ℕ → Response → List ℕ
+response_text bytes (response.Replied reply) = reply_text reply
+response_text bytes (response.Refused r) = refusal_text r
+response_text bytes response.Shown = shown_text bytes
+response_text bytes (response.Kept n) = codes "KEPT=" ++ decimal n
+response_text bytes (response.TooFar n) = codes "REFUSED KEPT=" ++ decimal n
+response_text bytes (response.TooFarAhead n) = codes "REFUSED UNDONE=" ++ decimal n
+response_text bytes (response.Fault k) = codes "FAULT " ++ fault_word k
+response_text bytes response.Map = codes "MAP"
 
 -- the lines behind that of a response, in this state and with so many changes kept: those of the map
 abbrev pub lines_behind : Settings → NamedState → ℕ → Response → List ℕ
 lines_behind settings m kept (response.Replied reply) = []
 lines_behind settings m kept (response.Refused r) = []
-lines_behind settings m kept (response.Shown bytes) = []
+lines_behind settings m kept response.Shown = []
 lines_behind settings m kept (response.Kept n) = []
 lines_behind settings m kept (response.TooFar n) = []
 lines_behind settings m kept (response.TooFarAhead n) = []
@@ -80,7 +86,7 @@ lines_behind settings m kept response.Map = map_text settings m kept
 abbrev pub is_refused : Response → Bool
 is_refused (response.Replied reply) = false
 is_refused (response.Refused r) = true
-is_refused (response.Shown bytes) = false
+is_refused response.Shown = false
 is_refused (response.Kept n) = false
 is_refused (response.TooFar n) = true
 is_refused (response.TooFarAhead n) = true

@@ -22,7 +22,7 @@ pub record IsLineOf (script : List ℕ) (at next : ℕ) : Type 0 where
 -- nothing is taken; or a byte that passes a bound, whatever follows the script.
 abbrev pub TakesStep : Settings → List ℕ → ℕ → List Marked → Session → Result (Option Step) TooLong → Type 0
 TakesStep settings script at answers s (Ok (Some step)) =
-    (more : List Marked) × IsTold settings answers more (told_text settings (bench_of s.bench) step.told)
+    (more : List Marked) × IsTold settings answers more (told_text settings (bench_of s.bench) s.shown.items step.told)
     × Took settings (take step.next script) (answers ++ more) s
 TakesStep settings script at answers s (Ok None) = Took settings (take at script) answers s
 TakesStep settings script at answers s (Err e) = PassesBound settings script answers

@@ -1,11 +1,13 @@
 //! A bench answers what a line asks for.
 ghost use Rattle.std.specs.Prelude.{◌≡◌, ◌≤◌, Ok, length};
-ghost use Rattle.macro_statements.specs.Requests.{act, peek, back, forward, act_in, asked_in, written_in, IsValidAct};
+ghost use Rattle.vsm_model.specs.Standing.{Apply, Back, Forward};
+ghost use Rattle.macro_statements.specs.Requests.{peek, act_in, asked_in, written_in, IsValidAct};
 ghost use Rattle.macro_statements.specs.Requests.{IsValidAsked};
 ghost use Rattle.macro_reader.specs.Scripts.{told_at_end};
 ghost use Rattle.macro_reader.specs.Rooms.{told_with, IsValidWith};
 ghost use Rattle.bench_core.specs.Stands.{bench_of, settings_in};
-ghost use Rattle.script_steps.specs.Answers.{Responds, Tells, told_count, told_refused, IsToldAlone};
+ghost use Rattle.script_steps.specs.Answers.{AreShown, Responds, RespondsTo, Tells, told_count, told_refused};
+ghost use Rattle.script_steps.specs.Answers.{IsToldAlone};
 ghost use Rattle.bench_core.specs.Machine.{shown_at};
 ghost use Rattle.script_steps.specs.Responses.{reading_response};
 
@@ -14,20 +16,19 @@ use arrayvec::ArrayVec;
 use bench_core::Bench;
 use macro_reader::{Fault, Request, Statement, Value};
 
-/// Bytes in room for as many as a PEEK may show, which is 256.
-fn with_room(bytes: &[u8]) -> ArrayVec<u8, 256>
+/// Puts bytes into room for as many as a PEEK may show, which is 256, in the place of what it has.
+fn keep_shown(shown: &mut ArrayVec<u8, 256>, bytes: &[u8])
     requires { length bytes.now ≤ 256 }
-    ensures { result.items ≡ bytes.now }
+    ensures { shown.new.items ≡ bytes.now }
 {
-    let mut room = ArrayVec::new();
-    room.try_extend_from_slice(bytes).unwrap();
-    room
+    shown.clear();
+    shown.try_extend_from_slice(bytes).unwrap();
 }
 
 /// Carries out a statement, or refuses it.
 fn carry_out(bench: &mut Bench, statement: &Statement) -> Response
     requires { IsValidAct (act_in statement.now) }
-    ensures responds { Responds (settings_in bench.old) (bench_of bench.old) (Ok (act (act_in statement.now))) result
+    ensures responds { RespondsTo (settings_in bench.old) (bench_of bench.old) (Apply (act_in statement.now)) result
         (bench_of bench.new) }
     ensures settings { settings_in bench.new ≡ settings_in bench.old }
 {
@@ -37,22 +38,27 @@ fn carry_out(bench: &mut Bench, statement: &Statement) -> Response
     }
 }
 
-/// Shows the bytes at an address, as many as are asked for.
-fn show(bench: &Bench, address: Value, count: u16) -> Response
+/// Shows the bytes at an address, as many as are asked for, in the room that is lent.
+fn show(bench: &Bench, address: Value, count: u16, shown: &mut ArrayVec<u8, 256>) -> Response
     requires { IsValidAsked (peek (written_in address) count) }
-    ensures { result ≡ reading_response (shown_at (bench_of bench.now).present (written_in address) count) }
+    ensures response { result
+        ≡ reading_response (shown_at (bench_of bench.now).present (written_in address) count) }
+    ensures shown { AreShown (shown_at (bench_of bench.now).present (written_in address) count) shown.new.items }
 {
     let mut room = [0; 256];
     let out = &mut room[..count as usize];
     match bench.peek(address, out) {
-        Ok(()) => Response::Shown(with_room(out)),
+        Ok(()) => {
+            keep_shown(shown, out);
+            Response::Shown
+        }
         Err(refusal) => Response::Refused(refusal),
     }
 }
 
 /// Undoes the last `n` changes, or none where fewer are kept.
 fn step_back(bench: &mut Bench, n: u32) -> Response
-    ensures responds { Responds (settings_in bench.old) (bench_of bench.old) (Ok (back n)) result (bench_of bench.new) }
+    ensures responds { RespondsTo (settings_in bench.old) (bench_of bench.old) (Back n) result (bench_of bench.new) }
     ensures settings { settings_in bench.new ≡ settings_in bench.old }
 {
     match bench.back(n) {
@@ -63,7 +69,7 @@ fn step_back(bench: &mut Bench, n: u32) -> Response
 
 /// Makes the first `n` undone changes again, or none where fewer are undone.
 fn step_forward(bench: &mut Bench, n: u32) -> Response
-    ensures responds { Responds (settings_in bench.old) (bench_of bench.old) (Ok (forward n)) result
+    ensures responds { RespondsTo (settings_in bench.old) (bench_of bench.old) (Forward n) result
         (bench_of bench.new) }
     ensures settings { settings_in bench.new ≡ settings_in bench.old }
 {
@@ -73,16 +79,16 @@ fn step_forward(bench: &mut Bench, n: u32) -> Response
     }
 }
 
-/// The response of a bench to a request.
-fn respond(bench: &mut Bench, request: &Request) -> Response
+/// The response of a bench to a request; the bytes of a reading go into the room that is lent.
+fn respond(bench: &mut Bench, request: &Request, shown: &mut ArrayVec<u8, 256>) -> Response
     requires { IsValidAsked (asked_in request.now) }
     ensures responds { Responds (settings_in bench.old) (bench_of bench.old) (Ok (asked_in request.now)) result
-        (bench_of bench.new) }
+        shown.new.items (bench_of bench.new) }
     ensures settings { settings_in bench.new ≡ settings_in bench.old }
 {
     match request {
         Request::Act(statement) => carry_out(bench, statement),
-        Request::Peek { addr, len } => show(bench, *addr, *len),
+        Request::Peek { addr, len } => show(bench, *addr, *len, shown),
         Request::Map => Response::Map,
         Request::Back(n) => step_back(bench, *n),
         Request::Forward(n) => step_forward(bench, *n),
@@ -90,15 +96,21 @@ fn respond(bench: &mut Bench, request: &Request) -> Response
 }
 
 /// The response to what a line brought: a request, which is in a room, with the number of the statement's first line.
-pub(crate) fn tell(bench: &mut Bench, fed: Result<Option<u32>, Fault>, request: &Request) -> Told
+/// The bytes of a reading go into another room.
+pub(crate) fn tell(
+    bench: &mut Bench,
+    fed: Result<Option<u32>, Fault>,
+    request: &Request,
+    shown: &mut ArrayVec<u8, 256>,
+) -> Told
     requires { IsValidWith fed (asked_in request.now) }
     ensures tells { Tells (settings_in bench.old) (bench_of bench.old) (told_with fed (asked_in request.now)) result
-        (bench_of bench.new) }
+        shown.new.items (bench_of bench.new) }
     ensures settings { settings_in bench.new ≡ settings_in bench.old }
 {
     match fed {
         Ok(None) => None,
-        Ok(Some(line)) => Some((line, respond(bench, request))),
+        Ok(Some(line)) => Some((line, respond(bench, request, shown))),
         Err(fault) => Some((fault.line, Response::Fault(fault.kind))),
     }
 }

@@ -30,6 +30,8 @@ pub struct Ending {
     pub last: Told,
     /// The fault of a statement that is open at the end.
     pub open_statement: Told,
+    /// The bytes of the last reading that was answered by its bytes.
+    pub shown: ArrayVec<u8, 256>,
 }
 
 /// Keeps the bytes of a line of which the first 80 are kept.
@@ -60,11 +62,17 @@ fn columns(kept: &[u8], size: u32) -> &[u8]
 }
 
 /// The response to a last line of so many bytes, of which the first 80 are kept: to none where there are no bytes.
-fn take_last(reader: &mut Reader, bench: &mut Bench, kept: &[u8], size: u32) -> Told
+fn take_last(
+    reader: &mut Reader,
+    bench: &mut Bench,
+    kept: &[u8],
+    size: u32,
+    shown: &mut ArrayVec<u8, 256>,
+) -> Told
     ensures tells { (lines : List Line) (answers : List Answer) (rest : List ℕ) → IsBehind lines answers reader.old
         → size ≡ length rest → kept.now ≡ take 80 rest
         → (more : List Answer) × IsBehind (lines ++ last_line rest) (answers ++ more) reader.new
-        × Tells (settings_in bench.old) (bench_of bench.old) more result (bench_of bench.new) }
+        × Tells (settings_in bench.old) (bench_of bench.old) more result shown.new.items (bench_of bench.new) }
     ensures settings { settings_in bench.new ≡ settings_in bench.old }
 {
     if size == 0 {
@@ -72,7 +80,7 @@ fn take_last(reader: &mut Reader, bench: &mut Bench, kept: &[u8], size: u32) -> 
     }
     let mut request = Request::Map;
     let fed = reader.next_into(kept, &mut request);
-    tell(bench, fed, &request)
+    tell(bench, fed, &request, shown)
 }
 
 impl Session {
@@ -88,6 +96,7 @@ impl Session {
             kept: ArrayVec::new(),
             statements: 0,
             refused: 0,
+            shown: ArrayVec::new(),
         }
     }
 
@@ -119,13 +128,13 @@ impl Session {
         requires { self.old.lines < 1048576 }
         ensures { (settings : Settings) (given : List ℕ) (answers : List Marked) → Took settings given answers self.old
             → (more : List Marked) × IsTold settings answers more
-            (told_text settings (bench_of self.new.bench) result)
+            (told_text settings (bench_of self.new.bench) self.new.shown.items result)
             × Brings settings answers more result × Took settings (given ++ 10 ∷ []) (answers ++ more) self.new }
     {
         let line = columns(self.kept.as_slice(), self.length);
         let mut request = Request::Map;
         let fed = self.reader.next_into(line, &mut request);
-        let told = tell(&mut self.bench, fed, &request);
+        let told = tell(&mut self.bench, fed, &request, &mut self.shown);
         self.kept.clear();
         self.length = 0;
         self.lines += 1;
@@ -138,8 +147,8 @@ impl Session {
     pub fn end(self) -> Ending
         ensures told { (settings : Settings) (given : List ℕ) (answers : List Marked) → Took settings given answers self
             → (more : List Marked) × IsTold settings answers more
-            (told_text settings (bench_of result.bench) result.last
-            ++ told_text settings (bench_of result.bench) result.open_statement)
+            (told_text settings (bench_of result.bench) result.shown.items result.last
+            ++ told_text settings (bench_of result.bench) result.shown.items result.open_statement)
             × Ended settings given (answers ++ more) × Counts settings (answers ++ more) result.totals }
         ensures brings { (settings : Settings) (given : List ℕ) (answers : List Marked)
             → Took settings given answers self → EndBrings settings given answers result }
@@ -152,9 +161,10 @@ impl Session {
             kept,
             statements,
             refused,
+            mut shown,
             ..
         } = self;
-        let last = take_last(&mut reader, &mut bench, kept.as_slice(), length);
+        let last = take_last(&mut reader, &mut bench, kept.as_slice(), length, &mut shown);
         let open_statement = tell_end(reader.finish());
         let totals = RunTotals {
             statements: statements + told_count(&last) + told_count(&open_statement),
@@ -165,6 +175,7 @@ impl Session {
             bench,
             last,
             open_statement,
+            shown,
         }
     }
 }

@@ -2,13 +2,12 @@
 ghost use Rattle.std.specs.Prelude.{◌≡◌};
 ghost use Rattle.script_steps.specs.Responses.{is_refused};
 
-use arrayvec::ArrayVec;
 use bench_core::Refusal;
 use macro_reader::FaultKind;
 use vsm_model::Reply;
 
 /// What a bench responds to a statement of a script.
-#[derive(Clone, Drop)]
+#[derive(Clone, Copy)]
 pub enum Response {
     /// The reply of an accepted service.
     Replied(Reply),
@@ -20,8 +19,8 @@ pub enum Response {
     TooFar(u32),
     /// FORWARD past what is undone, with that number.
     TooFarAhead(u32),
-    /// The bytes of a reading.
-    Shown(ArrayVec<u8, 256>),
+    /// The bytes of a reading, which the session shows.
+    Shown,
     /// The map, whose lines come behind.
     Map,
     /// The statement is wrong.
@@ -37,7 +36,7 @@ impl Response {
         ensures { result ≡ is_refused self.now }
     {
         match self {
-            Response::Replied(_) | Response::Kept(_) | Response::Shown(_) | Response::Map => false,
+            Response::Replied(_) | Response::Kept(_) | Response::Shown | Response::Map => false,
             Response::Refused(_)
             | Response::TooFar(_)
             | Response::TooFarAhead(_)

@@ -29,7 +29,7 @@ fn take_feed<W: Write>(
         return Err(TooLong);
     }
     let told = session.end_line();
-    put_told(gathered, writer, session.bench(), &told);
+    put_told(gathered, writer, session.bench(), session.shown(), &told);
     Ok(())
 }
 
@@ -101,8 +101,15 @@ fn finish<W: Write>(
         → Finishes settings left first (W.contents writer.new) given result }
 {
     let ending = session.end();
-    put_told(gathered, writer, &ending.bench, &ending.last);
-    put_told(gathered, writer, &ending.bench, &ending.open_statement);
+    let shown = ending.shown.as_slice();
+    put_told(gathered, writer, &ending.bench, shown, &ending.last);
+    put_told(
+        gathered,
+        writer,
+        &ending.bench,
+        shown,
+        &ending.open_statement,
+    );
     gathered.hand_out(writer)?;
     Ok(ending.totals)
 }

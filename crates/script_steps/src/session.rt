@@ -30,6 +30,8 @@ pub struct Session {
     pub(crate) kept: ArrayVec<u8, 80>,
     pub(crate) statements: u32,
     pub(crate) refused: u32,
+    /// The bytes of the last reading that was answered by its bytes.
+    pub(crate) shown: ArrayVec<u8, 256>,
     ghost short: { length ≤ 65536 },
     ghost few: { statements ≤ lines },
     ghost fewer: { refused ≤ statements },
@@ -42,6 +44,14 @@ impl Session {
         ensures { result.now ≡ self.now.bench }
     {
         &self.bench
+    }
+
+    /// The bytes of the last reading that was answered by its bytes: those of a response `Shown`, until the next line
+    /// is taken.
+    pub fn shown(&self) -> &[u8]
+        ensures { result.now ≡ self.now.shown.items }
+    {
+        self.shown.as_slice()
     }
 
     /// How many lines have ended: 1,048,576 at most.

@@ -109,16 +109,21 @@ fn put_count<W: Write>(gathered: &mut Gathered, writer: &mut W, word: &[u8], n: 
     put_decimal(gathered, writer, u64::from(n));
 }
 
-/// Puts the text of a response, as it stands behind the number of its line.
+/// Puts the text of a response, as it stands behind the number of its line, where these bytes are shown.
 #[tactic(auto, using(text_output::proofs::Gathering::puts_both))]
-pub fn put_response<W: Write>(gathered: &mut Gathered, writer: &mut W, response: &Response)
+pub fn put_response<W: Write>(
+    gathered: &mut Gathered,
+    writer: &mut W,
+    shown: &[u8],
+    response: &Response,
+)
     ensures { Puts (W.contents writer.old) (W.contents writer.new) gathered.old gathered.new
-        (response_text response.now) }
+        (response_text shown.now response.now) }
 {
     match response {
         Response::Replied(reply) => put_reply(gathered, writer, *reply),
         Response::Refused(refusal) => put_refusal(gathered, writer, *refusal),
-        Response::Shown(bytes) => put_shown(gathered, writer, bytes.as_slice()),
+        Response::Shown => put_shown(gathered, writer, shown),
         Response::Kept(n) => put_count(gathered, writer, b"KEPT=", *n),
         Response::TooFar(n) => put_count(gathered, writer, b"REFUSED KEPT=", *n),
         Response::TooFarAhead(n) => put_count(gathered, writer, b"REFUSED UNDONE=", *n),
@@ -130,19 +135,21 @@ pub fn put_response<W: Write>(gathered: &mut Gathered, writer: &mut W, response:
     }
 }
 
-/// Puts the line of a response: the number of the statement's first line, a blank, the text, a line feed.
+/// Puts the line of a response, where these bytes are shown: the number of the statement's first line, a blank, the
+/// text, a line feed.
 #[tactic(auto, using(text_output::proofs::Gathering::puts_both))]
 pub fn put_numbered<W: Write>(
     gathered: &mut Gathered,
     writer: &mut W,
     line: u32,
+    shown: &[u8],
     response: &Response,
 )
     ensures { Puts (W.contents writer.old) (W.contents writer.new) gathered.old gathered.new
-        (numbered line (response_text response.now)) }
+        (numbered line (response_text shown.now response.now)) }
 {
     put_line_number(gathered, writer, line);
-    put_response(gathered, writer, response);
+    put_response(gathered, writer, shown, response);
     gathered.put(writer, b"\n");
 }
 
@@ -162,14 +169,20 @@ pub fn put_behind<W: Write>(
     }
 }
 
-/// Puts the line of a response, if there is one, and the lines behind it.
+/// Puts the line of a response, if there is one, where these bytes are shown, and the lines behind it.
 #[tactic(auto, using(text_output::proofs::Gathering::puts_both))]
-pub fn put_told<W: Write>(gathered: &mut Gathered, writer: &mut W, bench: &Bench, told: &Told)
+pub fn put_told<W: Write>(
+    gathered: &mut Gathered,
+    writer: &mut W,
+    bench: &Bench,
+    shown: &[u8],
+    told: &Told,
+)
     ensures { Puts (W.contents writer.old) (W.contents writer.new) gathered.old gathered.new
-        (told_text (settings_in bench.now) (bench_of bench.now) told.now) }
+        (told_text (settings_in bench.now) (bench_of bench.now) shown.now told.now) }
 {
     if let Some((line, response)) = told {
-        put_numbered(gathered, writer, *line, response);
+        put_numbered(gathered, writer, *line, shown, response);
         put_behind(gathered, writer, bench, response);
     }
 }

@@ -19,8 +19,9 @@ returns-in-Ok-Some-clause-lists g c =
     λ settings first h.
     let e = takes settings h.answers h.took in
     let session = c.take_line.new.session in
-    let under = subst (λ s. IsTold settings h.answers e.0 (told_text s (bench_of session.bench) c.in-Ok-Some.step.told)) (sym e.2.under) e.1 in
-    let told = subst (λ b. IsTold settings h.answers e.0 (told_text (settings_in b) (bench_of b) c.in-Ok-Some.step.told)) (sym c.bench.ensures) under in
+    let under = subst (λ s. IsTold settings h.answers e.0 (told_text s (bench_of session.bench) session.shown.items c.in-Ok-Some.step.told)) (sym e.2.under) e.1 in
+    let of_bench = subst (λ b. IsTold settings h.answers e.0 (told_text (settings_in b) (bench_of b) session.shown.items c.in-Ok-Some.step.told)) (sym c.bench.ensures) under in
+    let told = subst (λ x. IsTold settings h.answers e.0 (told_text (settings_in c.bench.result.now) (bench_of c.bench.result.now) x c.in-Ok-Some.step.told)) (sym c.shown.ensures) of_bench in
     record {
       answers = h.answers ++ e.0;
       took = e.2;

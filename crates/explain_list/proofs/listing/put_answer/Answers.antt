@@ -9,5 +9,5 @@ pub returns-in-None : goal.returns-in-None
 returns-in-None g c =
     let bench = c.args.bench.now in
     let now = g.W.Write.contents c.args.writer.now in
-    subst (λ t. PutsItems now now c.args.gathered.now c.args.gathered.now (told_text (settings_in bench) (bench_of bench) t)) (sym c.in-None.is)
+    subst (λ t. PutsItems now now c.args.gathered.now c.args.gathered.now (told_text (settings_in bench) (bench_of bench) c.args.shown.now t)) (sym c.in-None.is)
     (no_items now c.args.gathered.now)

@@ -11,5 +11,5 @@ returns g c =
     let new = g.W.Write.contents c.put-2.new.writer in
     some_both old second new c.args.gathered.now c.put_response.new.gathered c.put-2.new.self
     (some_both old first second c.args.gathered.now c.put.new.self c.put_response.new.gathered (codes "  answered: ", c.put.ensures.puts)
-    (response_text c.args.response.now, c.put_response.ensures))
+    (response_text c.args.shown.now c.args.response.now, c.put_response.ensures))
     (codes "\n", c.put-2.ensures.puts)

@@ -13,10 +13,11 @@ returns g c = λ settings left first given end h.
     let b = c.end-ending.result.bench in
     let last = c.end-ending.result.last in
     let open_statement = c.end-ending.result.open_statement in
+    let bytes = c.end-ending.result.shown.items in
     let under : settings_in b ≡ settings = c.end-ending.ensures.settings ∙ h.took.under in
     let e = c.end-ending.ensures.told settings given h.answers h.took in
-    let told = subst (λ s. IsTold settings h.answers e.0 (told_text s (bench_of b) last ++ told_text s (bench_of b) open_statement)) (sym under) e.1 in
-    let puts = puts_both _ _ _ _ _ _ (told_text (settings_in b) (bench_of b) last) (told_text (settings_in b) (bench_of b) open_statement)
+    let told = subst (λ s. IsTold settings h.answers e.0 (told_text s (bench_of b) bytes last ++ told_text s (bench_of b) bytes open_statement)) (sym under) e.1 in
+    let puts = puts_both _ _ _ _ _ _ (told_text (settings_in b) (bench_of b) bytes last) (told_text (settings_in b) (bench_of b) bytes open_statement)
     c.put_told.ensures c.put_told-2.ensures in
     let out = out_more settings first _ _ _ _ h.answers e.0 _ told puts h.out in
     (h.answers ++ e.0, e.2, c.in_ok-hand_out.ensures.writes first _ out, e.3)
@@ -26,10 +27,11 @@ returns-in_err-hand_out g c = λ settings left first given end h.
     let b = c.end-ending.result.bench in
     let last = c.end-ending.result.last in
     let open_statement = c.end-ending.result.open_statement in
+    let bytes = c.end-ending.result.shown.items in
     let under : settings_in b ≡ settings = c.end-ending.ensures.settings ∙ h.took.under in
     let e = c.end-ending.ensures.told settings given h.answers h.took in
-    let told = subst (λ s. IsTold settings h.answers e.0 (told_text s (bench_of b) last ++ told_text s (bench_of b) open_statement)) (sym under) e.1 in
-    let puts = puts_both _ _ _ _ _ _ (told_text (settings_in b) (bench_of b) last) (told_text (settings_in b) (bench_of b) open_statement)
+    let told = subst (λ s. IsTold settings h.answers e.0 (told_text s (bench_of b) bytes last ++ told_text s (bench_of b) bytes open_statement)) (sym under) e.1 in
+    let puts = puts_both _ _ _ _ _ _ (told_text (settings_in b) (bench_of b) bytes last) (told_text (settings_in b) (bench_of b) bytes open_statement)
     c.put_told.ensures c.put_told-2.ensures in
     let out = out_more settings first _ _ _ _ h.answers e.0 _ told puts h.out in
     subst (Finishes settings left first (g.W.Write.contents c.hand_out.new.writer) given) (sym (passed_up c.from_residual.result fault.Write c.from_residual.ensures.1))

@@ -18,10 +18,14 @@ pub returns : goal.returns
 returns g c = λ settings first given h.
     let e = c.end_line-told.ensures settings given h.answers h.took in
     let now = bench_of c.end_line-told.new.self.bench in
-    let told = subst (λ s. IsTold settings h.answers e.0 (told_text s now c.end_line-told.result)) (sym e.3.under) e.1 in
+    let bytes = c.end_line-told.new.self.shown.items in
+    let told = subst (λ s. IsTold settings h.answers e.0 (told_text s now bytes c.end_line-told.result)) (sym e.3.under) e.1 in
     let puts = subst
     (λ b. Puts (g.W.Write.contents c.args.writer.now) (g.W.Write.contents c.put_told.new.writer) c.args.gathered.now c.put_told.new.gathered
-    (told_text (settings_in b) (bench_of b) c.end_line-told.result)) c.bench.ensures c.put_told.ensures in
+    (told_text (settings_in b) (bench_of b) bytes c.end_line-told.result)) c.bench.ensures
+    (subst
+    (λ x. Puts (g.W.Write.contents c.args.writer.now) (g.W.Write.contents c.put_told.new.writer) c.args.gathered.now c.put_told.new.gathered
+    (told_text (settings_in c.bench.result.now) (bench_of c.bench.result.now) x c.end_line-told.result)) c.shown.ensures c.put_told.ensures) in
     record {
       answers = h.answers ++ e.0;
       took = e.3;

@@ -16,11 +16,12 @@ returns-clause-told c = λ settings given answers h.
     let b1 = bench_of c.take_last-last.new.bench in
     let shown = c.take_last-last.result in
     let shown2 = c.tell_end-open_statement.result in
+    let bytes = c.take_last-last.new.shown.items in
     let at_end = told_at_end c.finish.result in
     let last = c.take_last-last.ensures.tells (map columns h.lines) (answers_of answers) h.rest h.told h.long (c.as_slice.ensures.value ∙ h.kept) in
-    let tells : Tells settings b0 last.0 shown b1 = subst (λ s. Tells s b0 last.0 shown b1) h.under last.2 in
-    let t = tells_more settings answers b0 b1 last.0 shown h.led tells in
-    let u = tells_more settings (answers ++ t.more) b1 b1 at_end shown2 t.led (c.tell_end-open_statement.ensures settings b1) in
+    let tells : Tells settings b0 last.0 shown bytes b1 = subst (λ s. Tells s b0 last.0 shown bytes b1) h.under last.2 in
+    let t = tells_more settings answers b0 b1 last.0 shown bytes h.led tells in
+    let u = tells_more settings (answers ++ t.more) b1 b1 at_end shown2 bytes t.led (c.tell_end-open_statement.ensures settings b1 bytes) in
     let more = t.more ++ u.more in
     let all : (answers_of answers ++ last.0) ++ at_end ≡ answers_of (answers ++ more) =
     (λ i. (answers_of answers ++ sym t.answers i) ++ sym u.answers i)
@@ -31,7 +32,7 @@ returns-clause-told c = λ settings given answers h.
     let size2 = length-append t.more u.more in
     let refused = refused_both settings answers t.more u.more in (
       more,
-      told_both settings answers t.more u.more (told_text settings b1 shown) (told_text settings b1 shown2) t.text u.text,
+      told_both settings answers t.more u.more (told_text settings b1 bytes shown) (told_text settings b1 bytes shown2) t.text u.text,
       record {
         lines = h.lines;
         rest = h.rest;
@@ -51,11 +52,12 @@ returns-clause-brings c = λ settings given answers h.
     let b1 = bench_of c.take_last-last.new.bench in
     let shown = c.take_last-last.result in
     let shown2 = c.tell_end-open_statement.result in
+    let bytes = c.take_last-last.new.shown.items in
     let at_end = told_at_end c.finish.result in
     let last = c.take_last-last.ensures.tells (map columns h.lines) (answers_of answers) h.rest h.told h.long (c.as_slice.ensures.value ∙ h.kept) in
-    let tells : Tells settings b0 last.0 shown b1 = subst (λ s. Tells s b0 last.0 shown b1) h.under last.2 in
-    let t = tells_more settings answers b0 b1 last.0 shown h.led tells in
-    let u = tells_more settings (answers ++ t.more) b1 b1 at_end shown2 t.led (c.tell_end-open_statement.ensures settings b1) in
+    let tells : Tells settings b0 last.0 shown bytes b1 = subst (λ s. Tells s b0 last.0 shown bytes b1) h.under last.2 in
+    let t = tells_more settings answers b0 b1 last.0 shown bytes h.led tells in
+    let u = tells_more settings (answers ++ t.more) b1 b1 at_end shown2 bytes t.led (c.tell_end-open_statement.ensures settings b1 bytes) in
     let all : (answers_of answers ++ last.0) ++ at_end ≡ answers_of ((answers ++ t.more) ++ u.more) =
     (λ i. (answers_of answers ++ sym t.answers i) ++ sym u.answers i)
     ∙ ap (λ x. x ++ answers_of u.more) (sym (map-append _ answers t.more))

@@ -17,8 +17,9 @@ returns c = λ settings given answers h.
     let told = told_with c.next_into-fed.result (asked_in c.next_into-fed.new.request) in
     let old = bench_of c.args.self.now.bench in
     let new = bench_of c.tell-told.new.bench in
-    let tells : Tells settings old told c.tell-told.result new = subst (λ s. Tells s old told c.tell-told.result new) h.under c.tell-told.ensures.tells in
-    let t = tells_more settings answers old new told c.tell-told.result h.led tells in
+    let bytes = c.tell-told.new.shown.items in
+    let tells : Tells settings old told c.tell-told.result bytes new = subst (λ s. Tells s old told c.tell-told.result bytes new) h.under c.tell-told.ensures.tells in
+    let t = tells_more settings answers old new told c.tell-told.result bytes h.led tells in
     let shown : c.columns-line.result.now ≡ columns h.rest = c.columns-line.ensures h.rest h.long (c.as_slice.ensures.value ∙ h.kept) in
     let lines : map columns h.lines ++ c.columns-line.result.now ∷ [] ≡ map columns (h.lines ++ h.rest ∷ []) =
     ap (λ x. map columns h.lines ++ x ∷ []) shown ∙ sym (map_push columns h.lines h.rest) in
