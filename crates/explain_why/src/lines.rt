@@ -211,8 +211,8 @@ fn put_answer<W: Write>(gathered: &mut Gathered, writer: &mut W, shown: &[u8], t
     response.is_refused()
 }
 
-/// Puts what the end of the script is answered, where the statement isn't answered before: the first of two answers. Says
-/// whether it's a refusal.
+/// Puts what the end of the script is answered, where the statement isn't answered before: the first of two answers.
+/// Says whether it's a refusal.
 fn put_answer_at_end<W: Write>(
     gathered: &mut Gathered,
     writer: &mut W,

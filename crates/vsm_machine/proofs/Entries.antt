@@ -12,7 +12,7 @@ use Rattle.arrayvec.specs.ArrayString.{ArrayString}
 use Rattle.indexmap.specs.IndexMap.{move_index}
 use Rattle.vsm_model.specs.Names.{same_name, word_of, with_name}
 use Rattle.vsm_machine.specs.NameTable.{row_of}
-use Rattle.vsm_machine.proofs.SameName.{same_name-is}
+use Rattle.vsm_machine.specs.SameName.{same_name-is}
 use Rattle.vsm_machine.proofs.TableRows.{word_of-within, word_of-behind, word_of-none, take-front, forgot-but, forgot-all}
 
 abbrev Entry : Type 0

@@ -1,6 +1,4 @@
 pub mod Entries
-pub mod SameName
-pub mod StepsBack
 pub mod TableRows
 pub mod Planning
 mod FirstCause

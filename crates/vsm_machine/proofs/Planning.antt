@@ -20,8 +20,8 @@ use Rattle.storage_core.specs.Planned.{Assigns, IsAccepted, change_for, elements
 use Rattle.storage_core.specs.Planned as planned
 use Rattle.storage_core.proofs.FramesBrought.{assigns_frames}
 use Rattle.vsm_machine.specs.NameChanges.{define, reword, step_to}
-use Rattle.vsm_machine.proofs.StepsBack.{step_to_can, step_to_rows}
-use Rattle.vsm_machine.proofs.SameName.{same_name-self}
+use Rattle.vsm_machine.specs.StepsBack.{step_to_can, step_to_rows}
+use Rattle.vsm_machine.specs.SameName.{same_name-self}
 use Rattle.vsm_machine.specs.declared.plans.Planned.{Planned}
 use Rattle.vsm_machine.specs.declared.refusals.Refusal.{Refusal}
 use Rattle.vsm_machine.specs.declared.refusals.Refusal.TheVariants.{Abend}

@@ -4,8 +4,8 @@ use Rattle.std.proofs.lemmas.Bool.{cases_Bool, cond-true, cond-false}
 use Rattle.std.proofs.lemmas.List.{take_at, length-take-le, length_push}
 use Rattle.vsm_model.specs.Names.{same_name, word_of, with_name}
 use Rattle.vsm_machine.specs.NameChanges.{without_name, IsLast}
-use Rattle.vsm_machine.proofs.SameName.{same_name-self, same_name-is}
-use Rattle.vsm_machine.proofs.StepsBack.{first_is_other, with_name-new, word_of-last, without_name-last}
+use Rattle.vsm_machine.specs.SameName.{same_name-self, same_name-is}
+use Rattle.vsm_machine.specs.StepsBack.{first_is_other, with_name-new, word_of-last, without_name-last}
 
 abbrev Rows : Type 0
 Rows = List (List ℕ × ℕ)

@@ -1,4 +1,6 @@
 pub mod NameChanges
+pub mod SameName
+pub mod StepsBack
 pub mod NameTable
 pub mod NameSteps
 pub mod Changes

@@ -7,8 +7,8 @@ use Rattle.vsm_model.specs.Names.{same_name, word_of}
 use Rattle.vsm_machine.specs.declared.names.NameTable.{NameTable}
 use Rattle.vsm_machine.specs.NameTable.{rows_of, knows}
 use Rattle.vsm_machine.specs.NameChanges.{NameStep, define, undefine, reword, stepped, turned, IsLast, CanStep}
-use Rattle.vsm_machine.proofs.SameName.{same_name-self, same_name-is}
-use Rattle.vsm_machine.proofs.StepsBack.{first_is_other, step_back_fits, step_leads_back, step_turns_back}
+use Rattle.vsm_machine.specs.SameName.{same_name-self, same_name-is}
+use Rattle.vsm_machine.specs.StepsBack.{first_is_other, step_back_fits, step_leads_back, step_turns_back}
 
 -- the table holds the name that is to be defined, if one is
 abbrev pub is_ready : NameTable → Option NameStep → Bool

@@ -2,7 +2,7 @@
 use Rattle.std.proofs.Common.{◌≡◌, true, ap, sym, subst, ◌∙◌}
 use Rattle.vsm_machine.specs.NameChanges.{CanStep, name_of, step_in}
 use Rattle.vsm_machine.specs.NameTable.{knows, rows_of}
-use Rattle.vsm_machine.proofs.StepsBack.{step_still_fits}
+use Rattle.vsm_machine.specs.StepsBack.{step_still_fits}
 use Rattle.tests_bench.proofs.names.forget_others.Goals as goal
 
 pub returns : goal.returns

@@ -2,8 +2,8 @@
 use Rattle.std.proofs.Common.{◌≡◌, true, ◌||◌, ap, sym, subst, ◌∙◌}
 use Rattle.vsm_machine.specs.NameChanges.{CanStep}
 use Rattle.vsm_machine.specs.NameTable.{knows, rows_of}
-use Rattle.vsm_machine.proofs.SameName.{same_name-self}
-use Rattle.vsm_machine.proofs.StepsBack.{step_to_can}
+use Rattle.vsm_machine.specs.SameName.{same_name-self}
+use Rattle.vsm_machine.specs.StepsBack.{step_to_can}
 use Rattle.tests_bench.proofs.names.put.Goals as goal
 
 pub turn-requires : goal.turn-requires

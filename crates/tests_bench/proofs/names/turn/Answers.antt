@@ -2,7 +2,7 @@
 use Rattle.std.proofs.Common.{◌≡◌, true, ap, sym, subst, ◌∙◌}
 use Rattle.vsm_machine.specs.NameChanges.{CanStep, name_of, step_in, stepped}
 use Rattle.vsm_machine.specs.NameTable.{knows, rows_of}
-use Rattle.vsm_machine.proofs.StepsBack.{step_back_fits, name_of-turned}
+use Rattle.vsm_machine.specs.StepsBack.{step_back_fits, name_of-turned}
 use Rattle.tests_bench.proofs.names.turn.Goals as goal
 
 pub returns-clause-can : goal.returns-clause-can

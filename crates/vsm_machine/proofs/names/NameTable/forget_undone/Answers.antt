@@ -4,7 +4,7 @@ use Rattle.std.proofs.lemmas.Bool.{and_parts}
 use Rattle.vsm_model.specs.Names.{word_of}
 use Rattle.vsm_machine.specs.NameTable.{row_of, rows_of, knows, is_own}
 use Rattle.vsm_machine.proofs.Entries.{rows-kept, all-kept, left-with-next, left-without}
-use Rattle.vsm_machine.proofs.SameName.{same_name-self}
+use Rattle.vsm_machine.specs.SameName.{same_name-self}
 use Rattle.vsm_machine.proofs.TableRows.{or-false, own-kept}
 use Rattle.vsm_machine.proofs.names.NameTable.forget_undone.Goals as goal
 

@@ -3,7 +3,7 @@ use Rattle.std.proofs.Common.{◌≡◌, true, is_some, ap, sym, subst, ◌∙�
 use Rattle.vsm_model.specs.Names.{word_of}
 use Rattle.vsm_machine.specs.NameChanges.{CanStep, IsLast, name_of, step_in}
 use Rattle.vsm_machine.specs.NameTable.{all_rows, rows_of, knows}
-use Rattle.vsm_machine.proofs.StepsBack.{word_of-last}
+use Rattle.vsm_machine.specs.StepsBack.{word_of-last}
 use Rattle.vsm_machine.proofs.TableRows.{known-front}
 use Rattle.vsm_machine.proofs.names.NameTable.step.Goals as goal
 
