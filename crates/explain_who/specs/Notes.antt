@@ -16,7 +16,7 @@ with_told seen before (Some (line, response.Kept after)) t = stepped t before af
 with_told seen before (Some (line, response.Refused why)) t = t
 with_told seen before (Some (line, response.TooFar n)) t = t
 with_told seen before (Some (line, response.TooFarAhead n)) t = t
-with_told seen before (Some (line, response.Shown bytes)) t = t
+with_told seen before (Some (line, response.Shown)) t = t
 with_told seen before (Some (line, response.Map)) t = t
 with_told seen before (Some (line, response.Fault kind)) t = t
 
