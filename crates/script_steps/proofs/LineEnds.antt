@@ -7,8 +7,8 @@ use Rattle.bench_core.specs.Stands.{bench_of}
 use Rattle.script_steps.specs.Answers.{told_text}
 use Rattle.script_steps.specs.Output.{Marked}
 use Rattle.script_steps.specs.Script.{NoFeed}
-use Rattle.script_steps.specs.Steps.{BringsStep, IsLineOf, TakesStep}
-use Rattle.script_steps.specs.Taken.{Took, PassesBound, Brings, IsTold}
+use Rattle.script_steps.specs.Steps.{BringsStep, ShowsStep, IsLineOf, TakesStep}
+use Rattle.script_steps.specs.Taken.{Took, PassesBound, Brings, IsTold, Shows}
 use Rattle.script_steps.specs.declared.responses.Response.{Response}
 use Rattle.script_steps.specs.declared.session.Session.{Session}
 use Rattle.script_steps.specs.declared.session.TooLong.{TooLong}
@@ -65,16 +65,22 @@ pub step_brings_none : (settings : Settings) (script : List ℕ) (answers : List
 step_brings_none settings script answers s (Ok x) is = absurd (true≢false (sym is))
 step_brings_none settings script answers s (Err e) is = tt
 
+pub step_shows_none : (settings : Settings) (script : List ℕ) (answers : List Marked) (s : Session) (r : Result (Option Step) TooLong) → IsErr r →
+    ShowsStep settings script answers s r
+step_shows_none settings script answers s (Ok x) is = absurd (true≢false (sym is))
+step_shows_none settings script answers s (Err e) is = tt
+
 -- a line that was taken, with its line feed, and what it brings
 pub step_taken : (settings : Settings) (script : List ℕ) (at n : ℕ) (answers : List Marked) (s : Session) (step : Step) (told : Option (ℕ × Response)) → step.next ≡ at + n + 1 →
     step.told ≡ told → n < length (rest_of script at n) → slice_index (rest_of script at n) n ≡ 10 →
     ((more : List Marked) × IsTold settings answers more (told_text settings (bench_of s.bench) s.shown.items told) × Brings settings answers more told
-    × Took settings ((take at script ++ take n (rest_of script at n)) ++ 10 ∷ []) (answers ++ more) s) →
-    TakesStep settings script at answers s (Ok (Some step)) × BringsStep settings script answers s (Ok (Some step))
-step_taken settings script at n answers s step told next same inside feed (more, is, brings, took) =
+    × Took settings ((take at script ++ take n (rest_of script at n)) ++ 10 ∷ []) (answers ++ more) s × Shows settings answers more s.shown.items) →
+    TakesStep settings script at answers s (Ok (Some step)) × BringsStep settings script answers s (Ok (Some step)) × ShowsStep settings script answers s (Ok (Some step))
+step_taken settings script at n answers s step told next same inside feed (more, is, brings, took, shows) =
     let taken : Took settings (take step.next script) (answers ++ more) s =
     subst (λ k. Took settings (take k script) (answers ++ more) s) (sym next)
     (subst (λ given. Took settings given (answers ++ more) s) (behind_line script at n inside feed) took) in (
       (more, subst (λ t. IsTold settings answers more (told_text settings (bench_of s.bench) s.shown.items t)) (sym same) is, taken),
       (more, subst (λ t. Brings settings answers more t) (sym same) brings, taken),
+      (more, subst (λ t. Brings settings answers more t) (sym same) brings, shows, taken),
     )

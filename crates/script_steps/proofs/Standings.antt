@@ -14,7 +14,7 @@ use Rattle.bench_core.specs.Machine.{Why, statement_step, shown_at}
 use Rattle.script_steps.specs.Responses.{response_to, reading_response, bytes_of, response_text, lines_behind, is_refused, numbered}
 use Rattle.script_steps.specs.Output.{Marked, call_in, alone_now, answer_to, IsMet, stands_behind, stands_with, responded_to, responded, bytes_shown, stands_after, stands_all, AllMet, lines_with, text_of, texts, refusals, heard_call, heard_with, heard_all}
 use Rattle.script_steps.specs.Answers.{RespondsTo, AreShown, Responds, Tells, told_text, told_count, told_refused}
-use Rattle.script_steps.specs.Taken.{Led, Brings, IsTold, answers_of}
+use Rattle.script_steps.specs.Taken.{Led, Brings, IsTold, Shows, ShowsRead, answers_of}
 use Rattle.script_steps.specs.declared.responses.Response.{Response}
 use Rattle.script_steps.specs.declared.responses.Response.TheVariants as response
 
@@ -242,6 +242,17 @@ module _ (settings : Settings) where
   text_is xs b c (Ok (forward n)) told bytes led (answer, keeps, is) =
       ap (response_text bytes) is ∙ call_text (Forward n) answer (length c.past) bytes [] ∙ sym (ap (response_text []) is)
 
+  -- and what is shown is what a reading has
+  shows_is : (xs : List Marked) (b c : Bench NamedState) (what : Result Asked FaultKind) (told : Response) (bytes : List ℕ) → Led settings xs b →
+      Responds settings b what told bytes c → ShowsRead settings (stands_all settings nothing_stands xs) what bytes
+  shows_is xs b c (Err kind) told bytes led h = tt
+  shows_is xs b c (Ok (act x)) told bytes led h = tt
+  shows_is xs b c (Ok (peek address count)) told bytes led (is, read, same) =
+      subst (λ m. AreShown (shown_at m address count) bytes) (stands_for xs b led).present read
+  shows_is xs b c (Ok map_asked) told bytes led h = tt
+  shows_is xs b c (Ok (back n)) told bytes led h = tt
+  shows_is xs b c (Ok (forward n)) told bytes led h = tt
+
   -- the lines behind a response: those of the state and the number that the standing statements give
   behind_is : (xs : List Marked) (c : Bench NamedState) (m : Marked) (told : Response) → Led settings (xs ++ m ∷ []) c →
       lines_behind settings c.present (length c.past) told ≡ lines_with settings (stands_after settings (stands_all settings nothing_stands xs) m) told
@@ -256,6 +267,7 @@ module _ (settings : Settings) where
     pub led : Led settings (xs ++ more) c
     pub text : IsTold settings xs more (told_text settings c bytes shown)
     pub brings : Brings settings xs more shown
+    pub shows : Shows settings xs more bytes
     pub count : length more ≡ told_count shown
     pub refused : refusals settings (stands_all settings nothing_stands xs) more ≡ told_refused shown
 
@@ -267,6 +279,7 @@ module _ (settings : Settings) where
     led = subst (λ ys. Led settings ys c) (sym (append-nil xs)) (subst (Led settings xs) (sym h) led);
     text = refl;
     brings = tt;
+    shows = tt;
     count = refl;
     refused = refl;
   }
@@ -282,6 +295,7 @@ module _ (settings : Settings) where
             ∙ ap (λ r. numbered a.line (response_text (bytes_shown settings l a.what) r) ++ lines_with settings (stands_after settings l m) r) one.2
             ∙ sym (append-nil _);
         brings = (line, one.2);
+        shows = shows_is xs b c a.what shown.1 bytes led h;
         count = refl;
         refused = plus_zero _ ∙ ap (λ r. if is_refused r then 1 else 0) (sym one.2);
       }

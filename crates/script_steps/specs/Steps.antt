@@ -6,7 +6,7 @@ use Rattle.bench_core.specs.Stands.{bench_of}
 use Rattle.script_steps.specs.Answers.{told_text}
 use Rattle.script_steps.specs.Output.{Marked}
 use Rattle.script_steps.specs.Script.{NoFeed}
-use Rattle.script_steps.specs.Taken.{Took, PassesBound, Brings, IsTold}
+use Rattle.script_steps.specs.Taken.{Took, PassesBound, Brings, IsTold, Shows}
 use Rattle.script_steps.specs.declared.session.Session.{Session}
 use Rattle.script_steps.specs.declared.session.TooLong.{TooLong}
 use Rattle.script_steps.specs.declared.steps.Step.{Step}
@@ -33,6 +33,13 @@ BringsStep settings script answers s (Ok (Some step)) =
     (more : List Marked) × Brings settings answers more step.told
     × Took settings (take step.next script) (answers ++ more) s
 BringsStep settings script answers s _ = Unit {0}
+
+-- And where it's a reading's, the session shows its bytes.
+abbrev pub ShowsStep : Settings → List ℕ → List Marked → Session → Result (Option Step) TooLong → Type 0
+ShowsStep settings script answers s (Ok (Some step)) =
+    (more : List Marked) × Brings settings answers more step.told × Shows settings answers more s.shown.items
+    × Took settings (take step.next script) (answers ++ more) s
+ShowsStep settings script answers s _ = Unit {0}
 
 -- Where the line is that was taken.
 abbrev pub StepsOver : List ℕ → ℕ → Result (Option Step) TooLong → Type 0

@@ -3,9 +3,13 @@ use Rattle.std.specs.Prelude.{◌≡◌, ℕ, List, [], ◌∷◌, ◌++◌, len
 use Rattle.macro_reader.specs.Scripts as grammar
 use Rattle.vsm_model.specs.declared.limits.Settings.{Settings}
 use Rattle.vsm_model.specs.Names.{NamedState, first_named_state}
-use Rattle.vsm_model.specs.Standing.{Bench, Leads, new_bench, nothing_stands}
-use Rattle.bench_core.specs.Machine.{statement_step}
-use Rattle.script_steps.specs.Output.{Marked, AllMet, heard_all, refusals, responded, stands_all, texts}
+use Rattle.vsm_model.specs.Standing.{Bench, Leads, Standing, new_bench, nothing_stands}
+use Rattle.bench_core.specs.Machine.{Why, statement_step, shown_at}
+use Rattle.macro_operands.specs.declared.faults.FaultKind.{FaultKind}
+use Rattle.macro_statements.specs.Requests.{Act, Asked, peek}
+use Rattle.vsm_model.specs.declared.replies.Reply.{Reply}
+use Rattle.script_steps.specs.Answers.{AreShown}
+use Rattle.script_steps.specs.Output.{Marked, AllMet, alone_now, heard_all, refusals, responded, stands_all, texts}
 use Rattle.script_steps.specs.Script.{columns, Within, IsPast, last_line}
 use Rattle.bench_core.specs.Stands.{bench_of, settings_in}
 use Rattle.script_steps.specs.declared.lines.Ending.{Ending}
@@ -88,12 +92,24 @@ Brings settings answers (m ∷ []) (Some told) =
     × (told.1 ≡ responded settings (stands_all settings nothing_stands answers) m.unmet m.answer.what)
 Brings settings answers _ _ = ⊥
 
+-- A reading's bytes are shown: those of the state of the standing statements alone.
+abbrev pub ShowsRead : Settings → Standing Act Reply → Result Asked FaultKind → List ℕ → Type 0
+ShowsRead settings l (Ok (peek address count)) bytes = AreShown (shown_at (alone_now settings l) address count) bytes
+ShowsRead settings l _ bytes = Unit {0}
+
+-- These bytes are shown by further answers: none, or one.
+abbrev pub Shows : Settings → List Marked → List Marked → List ℕ → Type 0
+Shows settings answers (m ∷ []) bytes =
+    ShowsRead settings (stands_all settings nothing_stands answers) m.answer.what bytes
+Shows settings answers _ bytes = Unit {0}
+
 -- What the end of a script brings: the answers to a last line without a line feed, and then to an open statement, which
 -- leaves the bench as it was.
 pub record EndBrings (settings : Settings) (given : List ℕ) (answers : List Marked) (e : Ending) : Type 0 where
   pub more : List Marked
   pub also : List Marked
   pub last : Brings settings answers more e.last
+  pub shows : Shows settings answers more e.shown.items
   pub unended : Brings settings (answers ++ more) also e.open_statement
   pub led : Led settings (answers ++ more) (bench_of e.bench)
   pub led_on : Led settings ((answers ++ more) ++ also) (bench_of e.bench)

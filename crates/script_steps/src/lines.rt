@@ -8,7 +8,7 @@ ghost use Rattle.script_steps.specs.Answers.{Tells, told_text};
 ghost use Rattle.script_steps.specs.Output.{Marked};
 ghost use Rattle.script_steps.specs.Script.{NoFeed, columns, last_line};
 ghost use Rattle.bench_core.specs.Stands.{IsNew, bench_of, settings_in};
-ghost use Rattle.script_steps.specs.Taken.{Took, TakesBytes, Brings, IsTold, Ended, EndBrings, Counts};
+ghost use Rattle.script_steps.specs.Taken.{Took, TakesBytes, Brings, IsTold, Shows, Ended, EndBrings, Counts};
 
 use crate::answers::{tell, tell_end, told_count, told_refused};
 use crate::responses::Told;
@@ -129,7 +129,8 @@ impl Session {
         ensures { (settings : Settings) (given : List ℕ) (answers : List Marked) → Took settings given answers self.old
             → (more : List Marked) × IsTold settings answers more
             (told_text settings (bench_of self.new.bench) self.new.shown.items result)
-            × Brings settings answers more result × Took settings (given ++ 10 ∷ []) (answers ++ more) self.new }
+            × Brings settings answers more result × Took settings (given ++ 10 ∷ []) (answers ++ more) self.new
+            × Shows settings answers more self.new.shown.items }
     {
         let line = columns(self.kept.as_slice(), self.length);
         let mut request = Request::Map;

@@ -3,7 +3,7 @@ ghost use Rattle.std.specs.Prelude.{◌≡◌, ◌<◌, ◌≤◌, ℕ, List, le
 ghost use Rattle.vsm_model.specs.declared.limits.Settings.{Settings};
 ghost use Rattle.script_steps.specs.Output.{Marked};
 ghost use Rattle.script_steps.specs.Script.{NoFeed};
-ghost use Rattle.script_steps.specs.Steps.{BringsStep, StepsOver, TakesStep};
+ghost use Rattle.script_steps.specs.Steps.{BringsStep, ShowsStep, StepsOver, TakesStep};
 ghost use Rattle.script_steps.specs.Taken.{Took};
 
 use crate::responses::Told;
@@ -54,6 +54,9 @@ impl Session {
         ensures brings { (settings : Settings) (answers : List Marked)
             → Took settings (take at script.now) answers self.old
             → BringsStep settings script.now answers self.new result }
+        ensures shows { (settings : Settings) (answers : List Marked)
+            → Took settings (take at script.now) answers self.old
+            → ShowsStep settings script.now answers self.new result }
         ensures place { StepsOver script.now at result }
     {
         let rest = &script[at..];

@@ -66,6 +66,7 @@ returns-clause-brings c = λ settings given answers h.
       more = t.more;
       also = u.more;
       last = t.brings;
+      shows = t.shows;
       unended = u.brings;
       led = t.led;
       led_on = u.led;

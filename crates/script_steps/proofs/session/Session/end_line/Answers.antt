@@ -42,4 +42,5 @@ returns c = λ settings given answers h.
         statements = (let e = length-append answers t.more in omega (arith, e, h.statements, c.told_count.ensures.count, t.count));
         refused = (let e = refusals_push settings nothing_stands answers t.more in omega (arith, e, h.refused, c.told_refused.ensures.count, t.refused));
       },
+      t.shows,
     )
