@@ -72,17 +72,14 @@ fn put_share<W: Write>(gathered: &mut Gathered, writer: &mut W, share: &Share) {
     put_column(gathered, writer, 11, could_get(share));
 }
 
-/// Puts the tasks that see the subpool before the place besides its owner.
+/// Puts the tasks that see the subpool besides its owner.
 fn put_sharers<W: Write>(
     gathered: &mut Gathered,
     writer: &mut W,
     storage: &Storage,
     subpool: Subpool,
-    subpool_place: PoolPlace,
-)
-    requires { IsBehindSubpool storage.now subpool_place }
-{
-    let front = Storage::first_sharer_place(subpool_place);
+) {
+    let front = Storage::first_sharer_place();
     let Some((first, second)) = storage.next_sharer(subpool, front) else {
         gathered.put(writer, b" NONE");
         return;
@@ -128,12 +125,12 @@ fn put_row<W: Write>(
     let row = row_of(storage, subpool, place);
     if row.low.pages > 0 || row.high.pages == 0 {
         put_side(gathered, writer, &row, b" BELOW", &row.low);
-        put_sharers(gathered, writer, storage, subpool, place);
+        put_sharers(gathered, writer, storage, subpool);
         gathered.put(writer, b"\n");
     }
     if row.high.pages > 0 {
         put_side(gathered, writer, &row, b" ABOVE", &row.high);
-        put_sharers(gathered, writer, storage, subpool, place);
+        put_sharers(gathered, writer, storage, subpool);
         gathered.put(writer, b"\n");
     }
 }

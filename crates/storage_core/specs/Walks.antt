@@ -8,7 +8,7 @@ use Rattle.descriptor_queue.specs.Pages as pages
 use Rattle.free_queue.specs.FreeQueue as free_queue
 use Rattle.vsm_model.specs.declared.Subpool.{Subpool}
 use Rattle.subpool_set.specs.declared.places.PoolPlace.{PoolPlace}
-use Rattle.subpool_set.specs.declared.places.SharerPlace.{SharerPlace}
+use Rattle.subpool_set.specs.declared.sharers.SharerPlace.{SharerPlace}
 use Rattle.subpool_storage.specs.SubpoolStorage as subpools
 use Rattle.subpool_storage.specs.Extents.{extents, free_areas}
 use Rattle.storage_core.specs.declared.storage.Storage.{Storage}
@@ -30,10 +30,7 @@ IsBehindSubpool s place = subpools.IsBehindSubpool s.parts.elements s.parts.subp
 abbrev pub subpool_before : Storage → PoolPlace → Subpool
 subpool_before s place = subpools.subpool_before s.parts.elements place
 
--- the place is before, between or behind sharers, and these tasks behind it see the subpool besides its owner
-abbrev pub IsSharerPlace : Storage → SharerPlace → Type 0
-IsSharerPlace s place = subpools.IsSharerPlace s.parts.elements s.parts.subpools place
-
+-- the tasks behind the place that see the subpool besides its owner
 abbrev pub sharers_left : Storage → SharerPlace → Subpool → List ℕ
 sharers_left s place p = subpools.sharers_left s.parts.elements s.parts.subpools place p
 

@@ -8,7 +8,7 @@ ghost use Rattle.subpool_storage.specs.Order.{subpools_in_order};
 ghost use Rattle.subpool_storage.specs.Subpools.{is_there};
 ghost use Rattle.storage_core.specs.Meaning.{state_in_place, state_of};
 ghost use Rattle.storage_core.specs.Walks.{IsSubpoolPlace, subpools_left, IsBehindSubpool, subpool_before};
-ghost use Rattle.storage_core.specs.Walks.{IsSharerPlace, sharers_left, IsExtentPlace, IsFreeAreaPlace};
+ghost use Rattle.storage_core.specs.Walks.{sharers_left, IsExtentPlace, IsFreeAreaPlace};
 ghost use Rattle.storage_core.specs.Walks.{IsUnassignedPlace};
 ghost use Rattle.storage_changes.specs.MapLists.{unassigned_runs};
 
@@ -69,25 +69,21 @@ impl Storage {
             .next_subpool(&self.parts.elements, place)
     }
 
-    /// The place before the first task that shares the subpool before the place.
-    pub fn first_sharer_place(place: PoolPlace) -> SharerPlace
-        ensures place { (s : Storage) → IsBehindSubpool s place → IsSharerPlace s result }
-        ensures all { (s : Storage) → IsBehindSubpool s place
-            → sharers_left s result (subpool_before s place) ≡ sharers (state_in_place s).subpools.sight
-            (subpool_before s place).number (subpool_before s place).owner }
+    /// The place before the first task that shares any subpool.
+    pub fn first_sharer_place() -> SharerPlace
+        ensures { (s : Storage) (p : Named)
+            → sharers_left s result p ≡ sharers (state_in_place s).subpools.sight p.number p.owner }
     {
-        SubpoolStorage::first_sharer_place(place)
+        SubpoolStorage::first_sharer_place()
     }
 
     /// The task behind the place that sees the subpool besides its owner, and the place behind that task; `None` behind
     /// the last. From the first place on, the tasks come in ascending order. (z/OS MVS Programming: Assembler Services
     /// Guide, "Subpool handling".)
     pub fn next_sharer(&self, subpool: Subpool, place: SharerPlace) -> Option<(u8, SharerPlace)>
-        requires { IsSharerPlace self.now place }
         ensures none { IfNone result (sharers_left self.now place subpool ≡ []) }
         ensures next { IfSome result (λ r. sharers_left self.now place subpool
             ≡ r.0 ∷ sharers_left self.now r.1 subpool) }
-        ensures place { IfSome result (λ r. IsSharerPlace self.now r.1) }
     {
         self.parts
             .subpools

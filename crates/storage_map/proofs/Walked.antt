@@ -3,7 +3,7 @@ use Rattle.std.proofs.Common.{◌≡◌, ◌∷◌, sym, ap, ◌∙◌}
 use Rattle.storage_changes.specs.MapLists.{SharersAreShown}
 use Rattle.subpool_set.specs.Pools as pools
 use Rattle.subpool_set.specs.declared.places.PoolPlace.{PoolPlace}
-use Rattle.subpool_set.specs.declared.places.SharerPlace.{SharerPlace}
+use Rattle.subpool_set.specs.declared.sharers.SharerPlace.{SharerPlace}
 use Rattle.storage_core.specs.declared.storage.Storage.{Storage}
 use Rattle.storage_core.specs.Meaning.{state_in_place, state_of}
 use Rattle.storage_core.specs.Walks.{subpools_left, subpool_before, sharers_left}
@@ -16,10 +16,7 @@ pub next_before : (s : Storage) (at behind : PoolPlace) (p : Subpool) → subpoo
 next_before s at behind p next before = next ∙ ap (λ (q : Subpool). q ∷ subpools_left s behind) (sym before)
 
 -- the sharers of the plain machine are those from the first place on
-pub sharers_begin : SharersAreShown → (s : Storage) (at : PoolPlace) (front : SharerPlace) (p : Subpool) → subpool_before s at ≡ p
-    → sharers_left s front (subpool_before s at) ≡ pools.sharers (state_in_place s).subpools.sight (subpool_before s at).number (subpool_before s at).owner
+pub sharers_begin : SharersAreShown → (s : Storage) (front : SharerPlace) (p : Subpool)
+    → sharers_left s front p ≡ pools.sharers (state_in_place s).subpools.sight p.number p.owner
     → sharers (state_of s) p.number p.owner ≡ sharers_left s front p
-sharers_begin shown s at front p before all =
-    shown (state_in_place s) p.number p.owner
-    ∙ ap (λ (q : Subpool). pools.sharers (state_in_place s).subpools.sight q.number q.owner) (sym before)
-    ∙ sym all ∙ ap (sharers_left s front) before
+sharers_begin shown s front p all = shown (state_in_place s) p.number p.owner ∙ sym all

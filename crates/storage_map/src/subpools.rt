@@ -32,20 +32,24 @@ fn put_sharer<W: Write>(gathered: &mut Gathered, writer: &mut W, task: u8)
 }
 
 /// Puts the tasks that see the subpool besides its owner, with commas between, or NONE.
-fn put_sharers<W: Write>(gathered: &mut Gathered, writer: &mut W, storage: &Storage, found: Found)
-    requires { IsFound storage.now found }
+fn put_sharers<W: Write>(
+    gathered: &mut Gathered,
+    writer: &mut W,
+    storage: &Storage,
+    subpool: Subpool,
+)
     ensures { Puts (W.contents writer.old) (W.contents writer.new) gathered.old gathered.new
-        (listed (sharers (state_of storage.now) found.subpool.number found.subpool.owner)) }
+        (listed (sharers (state_of storage.now) subpool.number subpool.owner)) }
 {
     subpools_are_shown();
-    let front = Storage::first_sharer_place(found.behind);
-    let Some((first, second)) = storage.next_sharer(found.subpool, front) else {
+    let front = Storage::first_sharer_place();
+    let Some((first, second)) = storage.next_sharer(subpool, front) else {
         gathered.put(writer, b"NONE");
         return;
     };
     put_decimal(gathered, writer, u64::from(first));
     let mut place = second;
-    while let Some((task, behind)) = storage.next_sharer(found.subpool, place) {
+    while let Some((task, behind)) = storage.next_sharer(subpool, place) {
         put_sharer(gathered, writer, task);
         place = behind;
     }
@@ -71,7 +75,7 @@ fn put_subpool_line<W: Write>(
     );
     put_field(gathered, writer, b" OWNER", u64::from(found.subpool.owner));
     gathered.put(writer, b" SHARERS ");
-    put_sharers(gathered, writer, storage, found);
+    put_sharers(gathered, writer, storage, found.subpool);
     gathered.put(writer, b"\n");
 }
 

@@ -1,27 +1,20 @@
 -- What is behind a number and an owner, or behind a task, of what is walked over in order.
-use Rattle.std.proofs.Common.{◌≡◌, ◌≢◌, ℕ, ◌<◌, ◌≤◌, Bool, true, false, ◌&&◌, ◌==◌, not, nat_lt, List, [], ◌∷◌, Option, Some, None, IsSome, ◌⊎◌, inl, inr, refl, sym, ap, ◌∙◌, subst, arith}
-use Rattle.std.specs.Prelude.{if◌then◌else◌, filter, map, option_map}
+use Rattle.std.proofs.Common.{◌≡◌, ◌≢◌, ℕ, ◌<◌, ◌≤◌, Bool, true, false, ◌&&◌, nat_lt, List, [], ◌∷◌, Some, None, inl, inr, refl, sym, ap, ◌∙◌, arith}
+use Rattle.std.specs.Prelude.{if◌then◌else◌, filter, map}
 use Rattle.std.proofs.lemmas.Bool.{cases_lt, ltb-true, lt-ltb, cond-false, cond-true}
 use Rattle.row_table.specs.declared.row.Row.{Row}
 use Rattle.row_table.specs.Rows.{word, comes_before}
-use Rattle.row_table.proofs.RowLemmas.{either, not_both, eqb_same, eqb_refl}
-use Rattle.row_table.proofs.NextLemmas.{and_join, before_says, says_before, before_more, before_or}
-use Rattle.subpool_set.specs.Pools.{Pool, Sight, is_owner, sees, Pools, tasks, sharers, ids_in_order}
-use Rattle.vsm_elements.specs.Store.{Store}
-use Rattle.row_table.specs.declared.table.RowTable.{RowTable}
-use Rattle.row_table.specs.RowTable.{row}
-use Rattle.subpool_set.specs.Kept.{Rows, IsKept, owner_in, queues_of, pool_in, sight_in, pools_in}
+use Rattle.row_table.proofs.RowLemmas.{either, not_both}
+use Rattle.row_table.proofs.NextLemmas.{and_join, before_more, before_or}
+use Rattle.subpool_set.specs.Pools.{Pool, Sight, Pools, tasks, sharers, ids_in_order}
+use Rattle.subpool_set.specs.Kept.{Rows, owner_in, queues_of, pool_in, pools_in}
+use Rattle.subpool_set.specs.Walks.{is_sharer, sharers_behind, HasNoSharer, IsFirstSharer}
 use Rattle.subpool_set.proofs.KeptLemmas.{pool_own, pool_none, some_nat}
 use Rattle.subpool_set.proofs.OrderLemmas.{order_none, order_first, passed_none, passed_first, passed_behind, tasks_are}
 
 -- the subpools behind this number and this owner
 abbrev pub pools_after : Pools → ℕ → ℕ → Pools
 pools_after p number owner n o = if comes_before owner number o n then p n o else None
-
--- the sharers of a subpool behind this task
-abbrev pub sharers_after : Sight → ℕ → ℕ → ℕ → List ℕ
-sharers_after f number owner behind =
-    filter (λ task. nat_lt behind task && (sees f number owner task && not (task == owner))) tasks
 
 -- From one key on to another there is no subpool, and the other is not before the one.
 pub record IsPast (f : Rows) (owner number last_owner last_number : ℕ) : Type 0 where
@@ -93,20 +86,6 @@ module _ (f : Rows) (a b v w : ℕ) (past : IsPast f a b v w) (r : Row) (there :
 
 -- the other tasks that share a subpool
 
-abbrev pub is_sharer : Sight → ℕ → ℕ → ℕ → Bool
-is_sharer f number owner t = sees f number owner t && not (t == owner)
-
--- from one task on to another, there is no sharer, and the other is not below
-pub record IsPassed (f : Rows) (number owner behind last : ℕ) : Type 0 where
-  pub none : (t : ℕ) → behind < t → t ≤ last → is_sharer (sight_in f) number owner t ≡ false
-  pub further : behind ≤ last
-
-pub passed_begin : (f : Rows) (number owner behind : ℕ) → IsPassed f number owner behind behind
-passed_begin f number owner behind = record { none = λ t h k. absurd (omega (arith, h, k)); further = omega arith }
-
-no_row : (f : Rows) (number owner t : ℕ) → f t number ≡ None → is_sharer (sight_in f) number owner t ≡ false
-no_row f number owner t h = ap (λ (o : Option Row). is_owner owner (option_map owner_in o) && not (t == owner)) h
-
 no_test : (a t : ℕ) (b : Bool) → b ≡ false → nat_lt a t && b ≡ false
 no_test a t b h = ap (λ (z : Bool). nat_lt a t && z) h ∙ last (nat_lt a t) where
   last : (z : Bool) → z && false ≡ false
@@ -119,126 +98,43 @@ not_less a t h = elim (either (nat_lt a t)) [
   | inr e ↦ e
 ]
 
-module _ (f : Rows) (number owner behind last : ℕ) (past : IsPassed f number owner behind last) where
-  -- no task from here to there has a row of the number
-  pub passed_end : ((t : ℕ) → last < t → f t number ≡ None) → sharers_after (sight_in f) number owner behind ≡ []
-  passed_end none = passed_none (λ t. nat_lt behind t && is_sharer (sight_in f) number owner t) each tasks where
-    each : (t : ℕ) → nat_lt behind t && is_sharer (sight_in f) number owner t ≡ false
-    each t = elim (cases_lt behind t) [
-      | inl l ↦ no_test behind t (is_sharer (sight_in f) number owner t) (elim (cases_lt last t) [
-        | inl m ↦ no_row f number owner t (none t m)
-        | inr m ↦ past.none t l m
-      ])
-      | inr l ↦ ap (λ (z : Bool). z && is_sharer (sight_in f) number owner t) (not_less behind t l)
-    ]
+-- where no task behind one shares, none is left
+pub none_left : (f : Sight) (number owner behind : ℕ) → HasNoSharer f number owner behind → sharers_behind f number owner behind ≡ []
+none_left f number owner behind none = passed_none (λ t. nat_lt behind t && is_sharer f number owner t) each tasks where
+  each : (t : ℕ) → nat_lt behind t && is_sharer f number owner t ≡ false
+  each t = elim (cases_lt behind t) [
+    | inl l ↦ no_test behind t (is_sharer f number owner t) (none t l)
+    | inr l ↦ ap (λ (z : Bool). z && is_sharer f number owner t) (not_less behind t l)
+  ]
 
-  module _ (task : ℕ) (up : last < task) (next : (t : ℕ) → last < t → t < task → f t number ≡ None) where
-    none_below : (t : ℕ) → behind < t → t < task → is_sharer (sight_in f) number owner t ≡ false
-    none_below t h k = elim (cases_lt last t) [
-      | inl m ↦ no_row f number owner t (next t m k)
-      | inr m ↦ past.none t h m
-    ]
+-- the first task behind one that shares is the first that is left, and then those behind it are
+pub first_left : (f : Sight) (number owner behind task : ℕ) → IsFirstSharer f number owner behind task → 1 ≤ task → task ≤ 64 → (k : ℕ) → k ≡ 64
+    → sharers_behind f number owner behind ≡ task ∷ sharers_behind f number owner task
+first_left f number owner behind task h one high k q =
+    ap (filter mine) (tasks_are k q)
+    ∙ passed_first mine rest task (and_join (nat_lt behind task) (is_sharer f number owner task) (lt-ltb behind task h.later) h.shares) before upto later k 1 one (omega (arith, high, q))
+    ∙ ap (λ (z : List ℕ). task ∷ filter rest z) (sym (tasks_are k q)) where
+      mine : ℕ → Bool
+      mine t = nat_lt behind t && is_sharer f number owner t
 
-    pub passed_more : is_sharer (sight_in f) number owner task ≡ false → IsPassed f number owner behind task
-    passed_more e = record {
-      none = λ t h k. elim (cases_lt t task) [
-        | inl l ↦ none_below t h l
-        | inr l ↦ (let q : t ≡ task = omega (arith, k, l) in ap (is_sharer (sight_in f) number owner) q ∙ e)
-      ];
-      further = (let l : behind ≤ last = past.further in omega (arith, l, up));
-    }
+      rest : ℕ → Bool
+      rest t = nat_lt task t && is_sharer f number owner t
 
-    pub passed_found : is_sharer (sight_in f) number owner task ≡ true → 1 ≤ task → task ≤ 64 → (k : ℕ) → k ≡ 64
-        → sharers_after (sight_in f) number owner behind ≡ task ∷ sharers_after (sight_in f) number owner task
-    passed_found e one high k q =
-        ap (filter mine) (tasks_are k q)
-        ∙ passed_first mine rest task (and_join (nat_lt behind task) (is_sharer (sight_in f) number owner task) (lt-ltb behind task from) e) before upto later k 1 one (omega (arith, high, q))
-        ∙ ap (λ (z : List ℕ). task ∷ filter rest z) (sym (tasks_are k q)) where
-          mine : ℕ → Bool
-          mine t = nat_lt behind t && is_sharer (sight_in f) number owner t
+      before : (t : ℕ) → t < task → mine t ≡ false
+      before t l = elim (cases_lt behind t) [
+        | inl m ↦ no_test behind t (is_sharer f number owner t) (h.first t m l)
+        | inr m ↦ ap (λ (z : Bool). z && is_sharer f number owner t) (not_less behind t m)
+      ]
 
-          rest : ℕ → Bool
-          rest t = nat_lt task t && is_sharer (sight_in f) number owner t
+      upto : (t : ℕ) → t ≤ task → rest t ≡ false
+      upto t l = ap (λ (z : Bool). z && is_sharer f number owner t) (not_less task t l)
 
-          from : behind < task
-          from = let l : behind ≤ last = past.further in omega (arith, l, up)
-
-          before : (t : ℕ) → t < task → mine t ≡ false
-          before t l = elim (cases_lt behind t) [
-            | inl m ↦ no_test behind t (is_sharer (sight_in f) number owner t) (none_below t m l)
-            | inr m ↦ ap (λ (z : Bool). z && is_sharer (sight_in f) number owner t) (not_less behind t m)
-          ]
-
-          upto : (t : ℕ) → t ≤ task → rest t ≡ false
-          upto t l = ap (λ (z : Bool). z && is_sharer (sight_in f) number owner t) (not_less task t l)
-
-          later : (t : ℕ) → task < t → mine t ≡ rest t
-          later t l = ap (λ (z : Bool). z && is_sharer (sight_in f) number owner t) (lt-ltb behind t (omega (arith, from, l)) ∙ sym (lt-ltb task t l))
+      later : (t : ℕ) → task < t → mine t ≡ rest t
+      later t l = ap (λ (z : Bool). z && is_sharer f number owner t) (lt-ltb behind t (omega (arith, h.later, l)) ∙ sym (lt-ltb task t l))
 
 -- behind task 0 are all
-pub sharers_begin : (f : Sight) (number owner k : ℕ) → k ≡ 64 → sharers_after f number owner 0 ≡ sharers f number owner
-sharers_begin f number owner k e =
+pub all_left : (f : Sight) (number owner k : ℕ) → k ≡ 64 → sharers_behind f number owner 0 ≡ sharers f number owner
+all_left f number owner k e =
     ap (filter (λ t. nat_lt 0 t && is_sharer f number owner t)) (tasks_are k e)
     ∙ passed_behind (λ t. nat_lt 0 t && is_sharer f number owner t) (is_sharer f number owner) 0 (λ t l. ap (λ (z : Bool). z && is_sharer f number owner t) (lt-ltb 0 t l)) k 1 (omega arith)
     ∙ ap (filter (is_sharer f number owner)) (sym (tasks_are k e))
-
--- a row that comes next behind the task, of a number
-module _ (f : Rows) (number owner behind last : ℕ) (past : IsPassed f number owner behind last) where
-  pub passed_all : ((t n : ℕ) → comes_before last number t n ≡ true → f t n ≡ None) → sharers_after (sight_in f) number owner behind ≡ []
-  passed_all none = passed_end f number owner behind last past (λ t l. none t number (says_before last number t number (inr (refl, l))))
-
-  module _ (r : Row) (there : f (word r.words 0) (word r.words 1) ≡ Some r) (later : comes_before last number (word r.words 0) (word r.words 1) ≡ true)
-      (next : (t n : ℕ) → comes_before last number t n ≡ true → comes_before t n (word r.words 0) (word r.words 1) ≡ true → f t n ≡ None) where
-    pub passed_other : word r.words 1 ≢ number → sharers_after (sight_in f) number owner behind ≡ []
-    passed_other other = passed_end f number owner behind last past (λ t l. next t number (says_before last number t number (inr (refl, l))) (says_before t number (word r.words 0) (word r.words 1) (inl (above (before_says last number (word r.words 0) (word r.words 1) later))))) where
-      above : (number < word r.words 1) ⊎ ((number ≡ word r.words 1) × (last < word r.words 0)) → number < word r.words 1
-      above (inl h) = h
-      above (inr h) = absurd (other (sym h.0))
-
-    module _ (same : word r.words 1 ≡ number) where
-      up : last < word r.words 0
-      up = go (before_says last number (word r.words 0) (word r.words 1) later) where
-        go : (number < word r.words 1) ⊎ ((number ≡ word r.words 1) × (last < word r.words 0)) → last < word r.words 0
-        go (inl h) = absurd (omega (arith, h, same))
-        go (inr h) = h.1
-
-      between : (t : ℕ) → last < t → t < word r.words 0 → f t number ≡ None
-      between t l m = next t number (says_before last number t number (inr (refl, l))) (says_before t number (word r.words 0) (word r.words 1) (inr (sym same, m)))
-
-      its_row : f (word r.words 0) number ≡ Some r
-      its_row = ap (f (word r.words 0)) (sym same) ∙ there
-
-      tested : is_sharer (sight_in f) number owner (word r.words 0) ≡ (owner_in r == owner) && not (word r.words 0 == owner)
-      tested = ap (λ (o : Option Row). is_owner owner (option_map owner_in o) && not (word r.words 0 == owner)) its_row
-
-      pub passed_row : (owner_in r ≢ owner) ⊎ (word r.words 0 ≡ owner) → IsPassed f number owner behind (word r.words 0)
-      passed_row other = passed_more f number owner behind last past (word r.words 0) up between (tested ∙ go other) where
-        differs : owner_in r ≢ owner → (owner_in r == owner) ≡ false
-        differs ne = elim (either (owner_in r == owner)) [
-          | inl e ↦ absurd (ne (eqb_same (owner_in r) owner e))
-          | inr e ↦ e
-        ]
-
-        second : (a b : Bool) → b ≡ false → a && b ≡ false
-        second true b h = h
-        second false b h = refl
-
-        go : (owner_in r ≢ owner) ⊎ (word r.words 0 ≡ owner) → (owner_in r == owner) && not (word r.words 0 == owner) ≡ false
-        go (inl ne) = ap (λ (z : Bool). z && not (word r.words 0 == owner)) (differs ne)
-        go (inr e) = second (owner_in r == owner) (not (word r.words 0 == owner)) (ap not (ap (λ (z : ℕ). z == owner) e ∙ eqb_refl owner))
-
-      pub passed_sharer : owner_in r ≡ owner → word r.words 0 ≢ owner → 1 ≤ word r.words 0 → word r.words 0 ≤ 64
-          → sharers_after (sight_in f) number owner behind ≡ word r.words 0 ∷ sharers_after (sight_in f) number owner (word r.words 0)
-      passed_sharer own other one high = passed_found f number owner behind last past (word r.words 0) up between
-          (tested ∙ and_join (owner_in r == owner) (not (word r.words 0 == owner)) (ap (λ (z : ℕ). z == owner) own ∙ eqb_refl owner) (ap not differs)) one high 64 refl where
-            differs : (word r.words 0 == owner) ≡ false
-            differs = elim (either (word r.words 0 == owner)) [
-              | inl e ↦ absurd (other (eqb_same (word r.words 0) owner e))
-              | inr e ↦ e
-            ]
-
-pub row_range : (s : Store) (q : RowTable) → IsKept s q → (r : Row) → row s q (word r.words 0) (word r.words 1) ≡ Some r → (1 ≤ word r.words 0) × (word r.words 0 ≤ 64) × (word r.words 1 ≤ 127)
-row_range s q kept r there = kept.sound.ranges (word r.words 0) (word r.words 1) (let P : Option Row → Type 0 = λ o. IsSome o in subst P (sym there) refl)
-
-pub sharers_by : (f : Rows) (n o number owner t : ℕ) → number ≡ n → owner ≡ o → sharers_after (sight_in f) n o t ≡ sharers_after (sight_in f) number owner t
-sharers_by f n o number owner t p q = ap (λ (z : ℕ). sharers_after (sight_in f) z o t) (sym p) ∙ ap (λ (z : ℕ). sharers_after (sight_in f) number z t) (sym q)

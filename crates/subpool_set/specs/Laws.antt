@@ -12,9 +12,9 @@ use Rattle.row_table.specs.Rows.{same_key, either_of}
 use Rattle.subpool_set.specs.Pools.{Pool, Sight, Pools, no_queues, sight_of_pool, sight_without, pools_with, pool_alone}
 use Rattle.subpool_set.specs.SubpoolSet.{sight, pool, owned, number_of, owner_of, IsSubpoolSet, IsPool}
 use Rattle.subpool_set.specs.SubpoolSet.{queue_ids, QueuesStand, IsParked, parked_pool, parked_owned, parked_queue_ids}
-use Rattle.subpool_set.specs.SubpoolSet.{IsPoolPlace, pools_left, IsSharerPlace, sharers_left}
+use Rattle.subpool_set.specs.SubpoolSet.{IsPoolPlace, pools_left, sharers_left}
 use Rattle.subpool_set.specs.declared.places.PoolPlace.{PoolPlace}
-use Rattle.subpool_set.specs.declared.places.SharerPlace.{SharerPlace}
+use Rattle.subpool_set.specs.declared.sharers.SharerPlace.{SharerPlace}
 use Rattle.subpool_set.specs.declared.parked.ParkedPool.{ParkedPool}
 use Rattle.subpool_set.specs.QueueElements.{ids_of, StandApart, AreApart, AreApartTogether}
 use Rattle.subpool_set.specs.declared.queues.Queues.{Queues}
@@ -55,15 +55,14 @@ SetsStay = (s t : Store) (had has : List ℕ) (q : SubpoolSet) → Leaves s t ha
     → IsSubpoolSet t q × ((task n : ℕ) → sight t q task n ≡ sight s q task n)
     × ((n o : ℕ) → pool t q n o ≡ pool s q n o) × (owned t q ≡ owned s q)
 
--- a place in a set whose elements are as they were stays one, with what is left behind it
+-- a place in a set whose elements are as they were stays one, with what is left behind it, and so do the sharers
 abbrev pub PlacesKept : Type 0
 PlacesKept = (s t : Store) (q : SubpoolSet) → IsSubpoolSet s q
     → ((i : ℕ) → among i (owned s q) ≡ true → at t i ≡ at s i)
     → ((place : PoolPlace) → IsPoolPlace s q place
     → IsPoolPlace t q place × (pools_left t q place ≡ pools_left s q place))
-    × ((place : SharerPlace) → IsSharerPlace s q place
-    → IsSharerPlace t q place
-    × ((number owner : ℕ) → sharers_left t q place number owner ≡ sharers_left s q place number owner))
+    × ((place : SharerPlace) (number owner : ℕ)
+    → sharers_left t q place number owner ≡ sharers_left s q place number owner)
 
 -- so it does over a call that leaves the set's elements alone
 abbrev pub PlacesStay : Type 0
@@ -71,9 +70,8 @@ PlacesStay = (s t : Store) (had has : List ℕ) (q : SubpoolSet) → Leaves s t 
     → Apart had (owned s q)
     → ((place : PoolPlace) → IsPoolPlace s q place
     → IsPoolPlace t q place × (pools_left t q place ≡ pools_left s q place))
-    × ((place : SharerPlace) → IsSharerPlace s q place
-    → IsSharerPlace t q place
-    × ((number owner : ℕ) → sharers_left t q place number owner ≡ sharers_left s q place number owner))
+    × ((place : SharerPlace) (number owner : ℕ)
+    → sharers_left t q place number owner ≡ sharers_left s q place number owner)
 
 -- where the elements of the set and of its queues are as they were, the queues stand, and their ids are the same
 abbrev pub QueuesKept : Type 0

@@ -6,16 +6,16 @@
 use Rattle.std.specs.Prelude.{◌≡◌, ℕ, List, drop, Some, option_map}
 use Rattle.vsm_elements.specs.Store.{Store}
 use Rattle.row_table.specs.Rows.{word}
-use Rattle.row_table.specs.RowTable.{row, rows, words_of, id_before}
+use Rattle.row_table.specs.RowTable.{row, rows, words_of, id_before, place_index, IsPlace}
 use Rattle.row_table.specs.RowTable
 use Rattle.subpool_set.specs.declared.set.SubpoolSet.{SubpoolSet}
 use Rattle.subpool_set.specs.declared.parked.ParkedPool.{ParkedPool}
 use Rattle.subpool_set.specs.declared.places.PoolPlace.{PoolPlace}
-use Rattle.subpool_set.specs.declared.places.SharerPlace.{SharerPlace}
+use Rattle.subpool_set.specs.declared.sharers.SharerPlace.{SharerPlace}
 use Rattle.subpool_set.specs.Pools.{Sight, Pools}
 use Rattle.subpool_set.specs.Kept.{sight_in, pools_in, IsKept}
 use Rattle.subpool_set.specs.Heads.{ids_in_all}
-use Rattle.subpool_set.specs.Walks.{pool_ids, sharer_tasks, IsWalkPlace}
+use Rattle.subpool_set.specs.Walks.{pool_ids, sharers_behind}
 use Rattle.subpool_set.specs.QueueElements.{AreApart}
 
 -- the owner of the subpool that a task sees at a number
@@ -55,28 +55,19 @@ QueuesStand s q = AreApart s (pool s q) (owned s q)
 
 -- the place is before, between or behind the set's subpools
 unfoldable pub IsPoolPlace : Store → SubpoolSet → PoolPlace → Type 0
-IsPoolPlace s q place = IsWalkPlace s q.rows place
+IsPoolPlace s q place = IsPlace s q.rows place.next
 
 -- the ids of the subpools behind the place
 unfoldable pub pools_left : Store → SubpoolSet → PoolPlace → List ℕ
-pools_left s q place = pool_ids (drop (RowTable.place_index place.next) (rows s q.rows))
-
--- the number of the subpool before the place
-unfoldable pub number_at : PoolPlace → ℕ
-number_at place = place.number
+pools_left s q place = pool_ids (drop (place_index place.next) (rows s q.rows))
 
 -- the id of the subpool before the place, behind one that was read
 unfoldable pub pool_before : PoolPlace → ℕ
 pool_before place = id_before place.next
 
--- the place is before, between or behind sharers
-unfoldable pub IsSharerPlace : Store → SubpoolSet → SharerPlace → Type 0
-IsSharerPlace s q place = RowTable.IsPlace s q.rows place.next
-
 -- the tasks behind the place that share the subpool of this number with this owner
 unfoldable pub sharers_left : Store → SubpoolSet → SharerPlace → ℕ → ℕ → List ℕ
-sharers_left s q place number owner =
-    sharer_tasks number owner (drop (RowTable.place_index place.next) (rows s q.rows))
+sharers_left s q place number owner = sharers_behind (sight s q) number owner place.behind
 
 -- A parked pool is a small set of its own.
 

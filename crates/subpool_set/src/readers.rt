@@ -3,9 +3,7 @@
 ghost use Rattle.std.specs.Prelude.{◌≡◌, IfSome, option_map, slice_get};
 ghost use Rattle.subpool_set.specs.Pools.{sharers, in_order};
 ghost use Rattle.subpool_set.specs.SubpoolSet.{sight, pool, number_of, owner_of, IsSubpoolSet, IsPool};
-ghost use Rattle.subpool_set.specs.SubpoolSet.{number_at, IsPoolPlace};
 
-use crate::places::PoolPlace;
 use crate::set::{PoolId, SubpoolSet};
 use vsm_elements::Elements;
 
@@ -32,25 +30,8 @@ impl SubpoolSet {
         Some(id)
     }
 
-    // The place behind the subpool.
-    fn place_of(&self, elements: &Elements, id: PoolId) -> PoolPlace
-        requires set { IsSubpoolSet elements.now self.now }
-        requires pool { IsPool elements.now self.now id }
-        ensures place { IsPoolPlace elements.now self.now result }
-        ensures number { number_at result ≡ number_of elements.now id }
-    {
-        let mut place = Self::first_place();
-        while let Some((pool, behind)) = self.next_pool(elements, place) {
-            if pool == id {
-                return behind;
-            }
-            place = behind;
-        }
-        place
-    }
-
     /// The `i`-th of the tasks that share the subpool with its owner, in ascending order from 0 on; `None` past the
-    /// last. Each row of sight up to the subpool, and each of its number, is read once on the way.
+    /// last. Each row of sight of its number is read once on the way.
     pub fn sharer_at(&self, elements: &Elements, id: PoolId, i: u32) -> Option<u8>
         requires set { IsSubpoolSet elements.now self.now }
         requires pool { IsPool elements.now self.now id }
@@ -59,7 +40,7 @@ impl SubpoolSet {
     {
         let number = self.number(elements, id);
         let owner = self.owner(elements, id);
-        let mut place = Self::first_sharer(self.place_of(elements, id));
+        let mut place = Self::first_sharer();
         for _ in 0..i {
             (_, place) = self.next_sharer(elements, number, owner, place)?;
         }

@@ -9,7 +9,7 @@ use Rattle.subpool_set.proofs.OrderLemmas.{passed_none}
 use Rattle.subpool_set.specs.declared.places.PoolPlace.{PoolPlace}
 use Rattle.subpool_set.specs.declared.queues.Queues.{Queues}
 use Rattle.subpool_set.specs.Pools.{Pool, is_owner, sees, tasks, in_order, ids_in_order, sharers}
-use Rattle.subpool_set.specs.SubpoolSet.{sight, pool, pool_before, number_at, number_of, owner_of}
+use Rattle.subpool_set.specs.SubpoolSet.{sight, pool, pool_before, number_of, owner_of}
 use Rattle.vsm_model.specs.declared.Subpool.{Subpool}
 use Rattle.vsm_model.specs.Search.{holds}
 use Rattle.subpool_storage.specs.declared.storage.SubpoolStorage.{SubpoolStorage}
@@ -27,14 +27,10 @@ pub before_there : (s : Store) (q : SubpoolStorage) (place : PoolPlace) (id : �
 unfolding subpool_before
 before_there s q place id queues e there = pool_there s q.set (number_of s (pool_before place)) (owner_of s (pool_before place)) id queues (ap (number_of s) e) (ap (owner_of s) e) there
 
--- a place behind a subpool is one of the walk, and has the subpool's number
+-- a place behind a subpool is one of the walk
 pub behind_place : (s : Store) (q : SubpoolStorage) (place : PoolPlace) → IsBehindSubpool s q place → IsSubpoolPlace s q place
 unfolding IsBehindSubpool IsSubpoolPlace
 behind_place s q place h = h.walked
-
-pub behind_number : (s : Store) (q : SubpoolStorage) (place : PoolPlace) → IsBehindSubpool s q place → number_at place ≡ (subpool_before s place).number
-unfolding IsBehindSubpool subpool_before
-behind_number s q place h = h.number
 
 module _ (s : Store) (q : SubpoolStorage) (h : Stands s q) where
   -- the subpool of an index is that of the id of this index

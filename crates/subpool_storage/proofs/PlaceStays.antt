@@ -18,7 +18,7 @@ use Rattle.subpool_set.specs.Walks.{pool_ids}
 use Rattle.subpool_set.specs.SubpoolSet.{owned, number_of, owner_of, pools_left}
 use Rattle.subpool_set.proofs.KeyLemmas.{not_both}
 use Rattle.subpool_set.proofs.PlaceLemmas.{places_kept}
-use Rattle.subpool_storage.specs.SubpoolStorage.{hold, named, Stands, IsSubpoolPlace, subpools_left, IsSharerPlace, sharers_left}
+use Rattle.subpool_storage.specs.SubpoolStorage.{hold, named, Stands, IsSubpoolPlace, subpools_left, sharers_left}
 use Rattle.subpool_storage.specs.PlaceLaws.{PlacesStay}
 
 -- an id is among more where it's among fewer
@@ -53,12 +53,12 @@ same_names s t [] h = refl
 same_names s t (x ∷ xs) h = λ i. same_named s t x (h x (among_first x xs)) i ∷ same_names s t xs (λ j m. h j (among_later j x xs m)) i
 
 pub places_stay : PlacesStay
-unfolding Stands hold IsSubpoolPlace subpools_left IsSharerPlace sharers_left
+unfolding Stands hold IsSubpoolPlace subpools_left sharers_left
 places_stay s t q h same =
     let own : (i : ℕ) → among i (owned s q.set) ≡ true → at t i ≡ at s i = λ i m. same i (omega (arith, times-some i (owned s q.set) m)) in
     let k = places_kept s t q.set h.set own in (
       (λ place p.
           let r = k.0 place p in
           (r.0, ap (map (named t)) r.1 ∙ same_names s t (pools_left s q.set place) (λ i m. own i (left_owned s q.set place i m)))),
-      (λ place p. let r = k.1 place p in (r.0, λ x. r.1 x.number x.owner)),
+      (λ place p. k.1 place p.number p.owner),
     )

@@ -3,15 +3,15 @@ use Rattle.std.specs.Prelude.{◌≡◌, ℕ, ◌<◌}
 use Rattle.vsm_elements.specs.Store.{Store, at}
 use Rattle.vsm_model.specs.declared.Subpool.{Subpool}
 use Rattle.subpool_set.specs.declared.places.PoolPlace.{PoolPlace}
-use Rattle.subpool_set.specs.declared.places.SharerPlace.{SharerPlace}
+use Rattle.subpool_set.specs.declared.sharers.SharerPlace.{SharerPlace}
 use Rattle.subpool_storage.specs.declared.storage.SubpoolStorage.{SubpoolStorage}
-use Rattle.subpool_storage.specs.SubpoolStorage.{hold, Stands, IsSubpoolPlace, subpools_left}
-use Rattle.subpool_storage.specs.SubpoolStorage.{IsSharerPlace, sharers_left}
+use Rattle.subpool_storage.specs.SubpoolStorage.{hold, Stands, IsSubpoolPlace}
+use Rattle.subpool_storage.specs.SubpoolStorage.{subpools_left, sharers_left}
 
--- where the elements that it holds are as they were, a place stays one, with what is left behind it
+-- where the elements that it holds are as they were, a place stays one, with what is left behind it, and so do the
+-- sharers
 abbrev pub PlacesStay : Type 0
 PlacesStay = (s t : Store) (q : SubpoolStorage) → Stands s q → ((i : ℕ) → 0 < hold s q i → at t i ≡ at s i)
     → ((place : PoolPlace) → IsSubpoolPlace s q place
     → IsSubpoolPlace t q place × (subpools_left t q place ≡ subpools_left s q place))
-    × ((place : SharerPlace) → IsSharerPlace s q place
-    → IsSharerPlace t q place × ((p : Subpool) → sharers_left t q place p ≡ sharers_left s q place p))
+    × ((place : SharerPlace) (p : Subpool) → sharers_left t q place p ≡ sharers_left s q place p)

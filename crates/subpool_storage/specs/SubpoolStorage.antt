@@ -10,10 +10,10 @@ use Rattle.cell_pool.specs.CellPools.{by_id, IsCellPools}
 use Rattle.cell_pool.specs.CellPools
 use Rattle.subpool_set.specs.Pools.{Pool}
 use Rattle.subpool_set.specs.SubpoolSet.{sight, pool, owned, queue_ids, number_of, owner_of, IsSubpoolSet, QueuesStand}
-use Rattle.subpool_set.specs.SubpoolSet.{number_at, pool_before}
+use Rattle.subpool_set.specs.SubpoolSet.{pool_before}
 use Rattle.subpool_set.specs.SubpoolSet
 use Rattle.subpool_set.specs.declared.places.PoolPlace.{PoolPlace}
-use Rattle.subpool_set.specs.declared.places.SharerPlace.{SharerPlace}
+use Rattle.subpool_set.specs.declared.sharers.SharerPlace.{SharerPlace}
 use Rattle.vsm_model.specs.declared.Subpool.{Subpool}
 use Rattle.subpool_storage.specs.declared.storage.SubpoolStorage.{SubpoolStorage}
 use Rattle.subpool_storage.specs.Subpools.{Subpools}
@@ -74,14 +74,9 @@ subpool_before s place = named s (pool_before place)
 pub record IsBehind (s : Store) (q : SubpoolStorage) (place : PoolPlace) : Type 0 where
   pub walked : SubpoolSet.IsPoolPlace s q.set place
   pub pool : SubpoolSet.IsPool s q.set (pool_before place)
-  pub number : number_at place ≡ number_of s (pool_before place)
 
 unfoldable pub IsBehindSubpool : Store → SubpoolStorage → PoolPlace → Type 0
 IsBehindSubpool s q place = IsBehind s q place
-
--- the place is before, between or behind sharers
-unfoldable pub IsSharerPlace : Store → SubpoolStorage → SharerPlace → Type 0
-IsSharerPlace s q place = SubpoolSet.IsSharerPlace s q.set place
 
 -- the tasks behind the place that see the subpool besides its owner
 unfoldable pub sharers_left : Store → SubpoolStorage → SharerPlace → Subpool → List ℕ

@@ -7,12 +7,12 @@ ghost use Rattle.descriptor_queue.specs.Extents.{extents as extents_in, has_page
 ghost use Rattle.descriptor_queue.specs.Extents.{IsExtents};
 ghost use Rattle.free_queue.specs.FreeQueue.{areas, is_free, owned as areas_own, IsFreeQueue};
 ghost use Rattle.subpool_set.specs.Pools.{sharers};
-ghost use Rattle.subpool_set.specs.SubpoolSet.{number_at, IsPool};
+ghost use Rattle.subpool_set.specs.SubpoolSet.{IsPool};
 ghost use Rattle.subpool_storage.specs.Extents.{extents, free_areas};
 ghost use Rattle.subpool_storage.specs.Subpools.{is_there};
 ghost use Rattle.subpool_storage.specs.Order.{subpools_in_order};
 ghost use Rattle.subpool_storage.specs.SubpoolStorage.{subpools_of, hold, named, subpools_left, sharers_left, Stands};
-ghost use Rattle.subpool_storage.specs.SubpoolStorage.{subpool_before, IsSubpoolPlace, IsBehindSubpool, IsSharerPlace};
+ghost use Rattle.subpool_storage.specs.SubpoolStorage.{subpool_before, IsSubpoolPlace, IsBehindSubpool};
 
 use crate::storage::SubpoolStorage;
 use descriptor_queue::Extents;
@@ -29,7 +29,7 @@ crate::specs::SubpoolStorage::subpools_left, crate::specs::SubpoolStorage::IsSub
 // which subpool is before it
 crate::specs::SubpoolStorage::subpool_before, crate::specs::SubpoolStorage::IsBehindSubpool,
 // where one over sharers does
-crate::specs::SubpoolStorage::sharers_left, crate::specs::SubpoolStorage::IsSharerPlace))]
+crate::specs::SubpoolStorage::sharers_left))]
 impl SubpoolStorage {
     /// The place before the first subpool of any storage. A place is one as long as who sees which subpool stays as it
     /// is.
@@ -55,7 +55,6 @@ impl SubpoolStorage {
             ≡ r.0 ∷ subpools_left elements.now self.now r.1) }
         ensures there { IfSome result (λ r. is_there (subpools_of elements.now self.now) r.0 ≡ true) }
         ensures place { IfSome result (λ r. IsSubpoolPlace elements.now self.now r.1) }
-        ensures number { IfSome result (λ r. number_at r.1 ≡ r.0.number) }
         ensures behind { IfSome result (λ r. IsBehindSubpool elements.now self.now r.1) }
         ensures before { IfSome result (λ r. subpool_before elements.now r.1 ≡ r.0) }
     {
@@ -123,14 +122,12 @@ impl SubpoolStorage {
         self.queues_at(elements, place).free
     }
 
-    /// The place before the first task that shares the subpool before the place, or another one of its number.
-    pub fn first_sharer_place(place: PoolPlace) -> SharerPlace
-        ensures place { (s : Store) (q : SubpoolStorage) → IsSubpoolPlace s q place → IsSharerPlace s q result }
-        ensures all { (s : Store) (q : SubpoolStorage) (p : Subpool) → Stands s q → IsSubpoolPlace s q place
-            → number_at place ≡ p.number
+    /// The place before the first task that shares any subpool.
+    pub fn first_sharer_place() -> SharerPlace
+        ensures { (s : Store) (q : SubpoolStorage) (p : Subpool)
             → sharers_left s q result p ≡ sharers (subpools_of s q).sight p.number p.owner }
     {
-        SubpoolSet::first_sharer(place)
+        SubpoolSet::first_sharer()
     }
 
     /// The task behind the place that sees the subpool besides its owner, and the place behind that task; `None` behind
@@ -143,11 +140,9 @@ impl SubpoolStorage {
         place: SharerPlace,
     ) -> Option<(u8, SharerPlace)>
         requires stands { Stands elements.now self.now }
-        requires place { IsSharerPlace elements.now self.now place }
         ensures none { IfNone result (sharers_left elements.now self.now place subpool ≡ []) }
         ensures next { IfSome result (λ r. sharers_left elements.now self.now place subpool
             ≡ r.0 ∷ sharers_left elements.now self.now r.1 subpool) }
-        ensures place { IfSome result (λ r. IsSharerPlace elements.now self.now r.1) }
     {
         self.set
             .next_sharer(elements, subpool.number, subpool.owner, place)

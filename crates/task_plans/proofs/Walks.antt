@@ -16,10 +16,10 @@ use Rattle.descriptor_queue.specs.Extents
 use Rattle.descriptor_queue.proofs.PageLemmas.{extents_kept, extent_places_kept}
 use Rattle.vsm_model.specs.declared.Subpool.{Subpool}
 use Rattle.subpool_set.specs.declared.places.PoolPlace.{PoolPlace}
-use Rattle.subpool_set.specs.declared.places.SharerPlace.{SharerPlace}
+use Rattle.subpool_set.specs.declared.sharers.SharerPlace.{SharerPlace}
 use Rattle.subpool_storage.specs.declared.storage.SubpoolStorage.{SubpoolStorage as TheSubpools}
 use Rattle.subpool_storage.specs.Order.{subpools_in_order}
-use Rattle.subpool_storage.specs.SubpoolStorage.{IsSubpoolPlace, subpools_left, IsSharerPlace, sharers_left}
+use Rattle.subpool_storage.specs.SubpoolStorage.{IsSubpoolPlace, subpools_left, sharers_left}
 use Rattle.subpool_storage.specs.SubpoolStorage
 use Rattle.subpool_storage.proofs.PlaceStays.{places_stay}
 use Rattle.storage_changes.specs.declared.record.Record.{Record}
@@ -46,11 +46,10 @@ module _ (t u : Parts) (f g : ℕ → ℕ) (k : Keeps t u f g) (stand : Stand t)
       let P : TheSubpools → Type 0 = λ q. IsSubpoolPlace u.elements q place × (subpools_left u.elements q place ≡ subpools_left t.elements t.subpools place) in
       subst P (sym same-subpools) ((places_stay t.elements u.elements t.subpools stand.subpools its-kept).0 place h)
 
-  pub sharer_place_kept : (place : SharerPlace) → IsSharerPlace t.elements t.subpools place
-      → IsSharerPlace u.elements u.subpools place × ((p : Subpool) → sharers_left u.elements u.subpools place p ≡ sharers_left t.elements t.subpools place p)
-  sharer_place_kept place h =
-      let P : TheSubpools → Type 0 = λ q. IsSharerPlace u.elements q place × ((p : Subpool) → sharers_left u.elements q place p ≡ sharers_left t.elements t.subpools place p) in
-      subst P (sym same-subpools) ((places_stay t.elements u.elements t.subpools stand.subpools its-kept).1 place h)
+  pub sharers_kept : (place : SharerPlace) (p : Subpool) → sharers_left u.elements u.subpools place p ≡ sharers_left t.elements t.subpools place p
+  sharers_kept place p =
+      let P : TheSubpools → Type 0 = λ q. sharers_left u.elements q place p ≡ sharers_left t.elements t.subpools place p in
+      subst P (sym same-subpools) ((places_stay t.elements u.elements t.subpools stand.subpools its-kept).1 place p)
 
 -- Of the records of the subpools, those behind the place are left.
 pub record WalkLeads (h : List Subpool → List Record) (s : Parts) (a : ChangeBuilder) (t : Parts) (b : ChangeBuilder) (place : PoolPlace) : Type 0 where
@@ -99,14 +98,13 @@ module _ (h : List Subpool → List Record) (s : Parts) (a : ChangeBuilder) wher
 
 -- Of the records of those who share a subpool, those behind the place are left.
 pub record SharersLead (h : List ℕ → List Record) (p : Subpool) (all : List ℕ) (s : Parts) (a : ChangeBuilder) (t : Parts) (b : ChangeBuilder) (place : SharerPlace) : Type 0 where
-  pub there : IsSharerPlace t.elements t.subpools place
   pub leads : Leads s a (h all) t b (h (sharers_left t.elements t.subpools place p))
 
 module _ (h : List ℕ → List Record) (p : Subpool) (all : List ℕ) (s : Parts) (a : ChangeBuilder) where
-  pub sharers_none : (place : SharerPlace) → IsBuilding s a → IsSharerPlace s.elements s.subpools place → sharers_left s.elements s.subpools place p ≡ all → SharersLead h p all s a s a place
-  sharers_none place building there is =
+  pub sharers_none : (place : SharerPlace) → IsBuilding s a → sharers_left s.elements s.subpools place p ≡ all → SharersLead h p all s a s a place
+  sharers_none place building is =
       let P : List ℕ → Type 0 = λ xs. Leads s a (h all) s a (h xs) in
-      record { there = there; leads = subst P (sym is) (leads-none s a (h all) building) }
+      record { leads = subst P (sym is) (leads-none s a (h all) building) }
 
   module _ (t : Parts) (b : ChangeBuilder) (place : SharerPlace) (w : SharersLead h p all s a t b place) where
     pub sharers_all : sharers_left t.elements t.subpools place p ≡ [] → h [] ≡ [] → Pushes s a (h all) t b
@@ -122,20 +120,19 @@ module _ (h : List ℕ → List Record) (p : Subpool) (all : List ℕ) (s : Part
           let r = leads-room s t a b (h all) (h (sharers_left t.elements t.subpools place p)) w.leads room in
           omega (arith, r, ap length before, length-append added (h (sharers_left t.elements t.subpools next p)))
 
-      pub sharers_more : (u : Parts) (c : ChangeBuilder) → IsSharerPlace t.elements t.subpools next → Builds t b u c → Pushes t b added u c → SharersLead h p all s a u c next
-      sharers_more u c there builds pushes =
-          let k = sharer_place_kept t u _ _ builds.keeps w.leads.builds.building.ready.stands.storage next there in
+      pub sharers_more : (u : Parts) (c : ChangeBuilder) → Builds t b u c → Pushes t b added u c → SharersLead h p all s a u c next
+      sharers_more u c builds pushes =
+          let k = sharers_kept t u _ _ builds.keeps w.leads.builds.building.ready.stands.storage next p in
           let P : List ℕ → Type 0 = λ xs. Leads s a (h all) u c (h xs) in
           record {
-            there = k.0;
-            leads = subst P (sym (k.1 p)) (leads-more s t a b (h all) (h (sharers_left t.elements t.subpools place p)) w.leads u c added (h (sharers_left t.elements t.subpools next p)) before builds pushes);
+            leads = subst P (sym k) (leads-more s t a b (h all) (h (sharers_left t.elements t.subpools place p)) w.leads u c added (h (sharers_left t.elements t.subpools next p)) before builds pushes);
           }
 
-      pub sharers_less : (u : Parts) (c : ChangeBuilder) → IsSharerPlace t.elements t.subpools next → Builds t b u c
+      pub sharers_less : (u : Parts) (c : ChangeBuilder) → Builds t b u c
           → length (sharers_left u.elements u.subpools next p) < length (sharers_left t.elements t.subpools place p)
-      sharers_less u c there builds =
-          let k = sharer_place_kept t u _ _ builds.keeps w.leads.builds.building.ready.stands.storage next there in
-          omega (arith, ap length (k.1 p), ap length is)
+      sharers_less u c builds =
+          let k = sharers_kept t u _ _ builds.keeps w.leads.builds.building.ready.stands.storage next p in
+          omega (arith, ap length k, ap length is)
 
 -- Of the records of extents, those behind the place are left.
 pub record ExtentsLead (all : List Run) (s : Parts) (a : ChangeBuilder) (t : Parts) (b : ChangeBuilder) (q : TheExtents) (place : RunPlace) : Type 0 where

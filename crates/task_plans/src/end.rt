@@ -7,10 +7,8 @@ ghost use Rattle.vsm_elements.specs.Store.{live_count};
 ghost use Rattle.vsm_model.specs.declared.limits.Settings.{Settings};
 ghost use Rattle.vsm_model.specs.Regions.{settings_valid};
 ghost use Rattle.vsm_model.specs.Services.{detach, end_task};
-ghost use Rattle.subpool_set.specs.SubpoolSet.{number_at};
 ghost use Rattle.subpool_storage.specs.Extents.{extents};
 ghost use Rattle.subpool_storage.specs.Subpools.{no_subpools};
-ghost use Rattle.subpool_storage.specs.SubpoolStorage.{IsSubpoolPlace};
 ghost use Rattle.storage_changes.specs.Changes.{unassigned_records, empties};
 ghost use Rattle.storage_changes.specs.Names.{AreNames};
 ghost use Rattle.storage_exchange.specs.Storage.{hold, state_of, Stand, IsFrameless};
@@ -33,7 +31,6 @@ use storage_changes::tasks::{ending_leads, ends_are_in_order};
 use storage_changes::{OwnRecord, PagesRecord, QueuesRecord, Record, SharerRecord, TurnRecord};
 use storage_exchange::Parts;
 use storage_swap::Change;
-use subpool_set::PoolPlace;
 use subpool_storage::SubpoolStorage;
 use subpool_storage::laws::{cell_pools_are_named, subpools_are_there};
 use task_tree::TreeFault;
@@ -329,24 +326,21 @@ fn push_unshared(storage: &mut Parts, builder: &mut Builder, tree: &Tree) -> Pus
 {
     let mut place = SubpoolStorage::first_subpool_place();
     while let Some((subpool, next)) = storage.subpools.next_subpool(&storage.elements, place) {
-        push_unseeing(storage, builder, tree, subpool, next)?;
+        push_unseeing(storage, builder, tree, subpool)?;
         place = next;
     }
     Ok(())
 }
 
-// Those who share the subpool and end, or all where its owner does, see it no more. The place is right behind it.
+// Those who share the subpool and end, or all where its owner does, see it no more.
 fn push_unseeing(
     storage: &mut Parts,
     builder: &mut Builder,
     tree: &Tree,
     subpool: Subpool,
-    behind: PoolPlace,
 ) -> Pushed
     requires building { IsBuilding storage.old builder.old }
     requires tree { AreParents tree.now.parents.of (state_of storage.old).tasks.parents }
-    requires place { IsSubpoolPlace storage.old.elements storage.old.subpools behind }
-    requires number { number_at behind ≡ subpool.number }
     ensures builds { Builds storage.old builder.old storage.new builder.new }
     ensures ok { OnOk result (Pushes storage.old builder.old
         (map (unshared subpool) (unseeing (state_of storage.old).subpools
@@ -355,7 +349,7 @@ fn push_unseeing(
         (ended_below (state_of storage.old).tasks.parents tree.now.top) subpool)) ≤ storage.old.elements.spare
         → IsOk result }
 {
-    let mut place = SubpoolStorage::first_sharer_place(behind);
+    let mut place = SubpoolStorage::first_sharer_place();
     while let Some((task, next)) = storage
         .subpools
         .next_sharer(&storage.elements, subpool, place)

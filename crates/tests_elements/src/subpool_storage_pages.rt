@@ -206,7 +206,7 @@ fn in_order(rt: &impl Abort, elements: &Elements, storage: &SubpoolStorage)
         storage.free_areas_at(elements, place),
         storage.free_areas(elements, FIRST)
     );
-    let sharers = SubpoolStorage::first_sharer_place(place);
+    let sharers = SubpoolStorage::first_sharer_place();
     same!(rt; storage.next_sharer(elements, FIRST, sharers), None);
     same!(rt; storage.sharer_at(elements, FIRST, 0), None);
     let Some((subpool, place)) = storage.next_subpool(elements, place) else {

@@ -1,12 +1,12 @@
 //! A set beside the plain slow program: the owner that each task sees at each number.
 
-ghost use Rattle.subpool_set.specs.SubpoolSet.{IsSubpoolSet, IsPoolPlace, QueuesStand};
+ghost use Rattle.subpool_set.specs.SubpoolSet.{IsSubpoolSet, QueuesStand};
 
 use crate::checks::{all_given_back, holds, same, stocked};
 use std::process::Abort;
 use std::test::Fail;
+use subpool_set::SubpoolSet;
 use subpool_set::laws::{discards_keep, put_back, sets_stay};
-use subpool_set::{PoolId, PoolPlace, SubpoolSet};
 use vsm_elements::Elements;
 
 // The owner that each of four tasks sees at each of three numbers; 0 where it sees none.
@@ -50,21 +50,6 @@ fn list_subpools(rt: &impl Abort, elements: &Elements, set: &SubpoolSet, want: &
     same!(rt; set.pool_at(elements, i.saturating_add(1)), None);
 }
 
-// The place behind the subpool, or behind the last one.
-fn place_behind(elements: &Elements, set: &SubpoolSet, id: PoolId) -> PoolPlace
-    requires { IsSubpoolSet elements.now set.now }
-    ensures { IsPoolPlace elements.now set.now result }
-{
-    let mut place = SubpoolSet::first_place();
-    while let Some((pool, behind)) = set.next_pool(elements, place) {
-        if pool == id {
-            return behind;
-        }
-        place = behind;
-    }
-    place
-}
-
 // These tasks share the subpool of this number with its owner, in this order, on a walk as by position.
 fn list_sharers(
     rt: &impl Abort,
@@ -80,7 +65,7 @@ fn list_sharers(
         holds!(rt; false);
         return;
     };
-    let mut place = SubpoolSet::first_sharer(place_behind(elements, set, id));
+    let mut place = SubpoolSet::first_sharer();
     let mut i = 0u32;
     for sharer in want {
         match set.next_sharer(elements, number, owner, place) {

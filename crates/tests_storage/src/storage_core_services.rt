@@ -339,7 +339,7 @@ fn count_subpools(rt: &impl Abort, storage: &Storage) -> u32 {
             storage.first_free_area_at(behind),
             storage.first_free_area(subpool)
         );
-        let front = Storage::first_sharer_place(behind);
+        let front = Storage::first_sharer_place();
         same!(rt; storage.next_sharer(subpool, front), None);
         same!(rt; storage.sharer_at(subpool, 0), None);
         place = behind;

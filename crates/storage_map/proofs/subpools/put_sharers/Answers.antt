@@ -13,21 +13,20 @@ pub returns-in_default : goal.returns-in_default
 returns-in_default g c =
     let s = c.args.storage.now in
     let front = c.first_sharer_place-front in
-    let none = sharers_begin c.subpools_are_shown.ensures.sharers s c.args.found.behind front.result c.args.found.subpool c.requires.before (front.ensures.all s c.requires.behind) ∙ c.in_default.ensures.none in
+    let none = sharers_begin c.subpools_are_shown.ensures.sharers s front.result c.args.subpool (front.ensures s c.args.subpool) ∙ c.in_default.ensures.none in
     subst (λ (tasks : List ℕ). Puts (g.W.Write.contents c.args.writer.now) (g.W.Write.contents c.put.new.writer) c.args.gathered.now c.put.new.self (listed tasks))
     (sym none) c.put.ensures.puts
 
 pub loop-task-init : goal.loop-task-init
 loop-task-init g c =
     let s = c.args.storage.now in
-    let p = c.args.found.subpool in
+    let p = c.args.subpool in
     let front = c.first_sharer_place-front in
     let now = g.W.Write.contents c.args.writer.now in
     let new = g.W.Write.contents c.put_decimal.new.writer in
     let all = listed (sharers (state_of s) p.number p.owner) in
-    let shown = sharers_begin c.subpools_are_shown.ensures.sharers s c.args.found.behind front.result p c.requires.before (front.ensures.all s c.requires.behind) ∙ c.in-Some.ensures.next in
+    let shown = sharers_begin c.subpools_are_shown.ensures.sharers s front.result p (front.ensures s p) ∙ c.in-Some.ensures.next in
     record {
-      place = c.in-Some.ensures.place;
       text = remains_less now now new c.args.gathered.now c.args.gathered.now c.put_decimal.new.gathered all all (decimal c.in-Some.first)
           (flat_map sharer_text (sharers_left s c.in-Some.second p))
           (remains_all now c.args.gathered.now all all refl) (ap listed shown)
@@ -37,15 +36,14 @@ loop-task-init g c =
 pub loop-task-smaller : goal.loop-task-smaller
 loop-task-smaller g c =
     let s = c.args.storage.now in
-    let p = c.args.found.subpool in
+    let p = c.args.subpool in
     shorter (sharers_left s c.loop-task.place p) (sharers_left s c.in-Some-next_sharer.behind p) c.in-Some-next_sharer.task c.in-Some-next_sharer.ensures.next
 
 pub loop-task-preserved : goal.loop-task-preserved
 loop-task-preserved g c =
     let s = c.args.storage.now in
-    let p = c.args.found.subpool in
+    let p = c.args.subpool in
     record {
-      place = c.in-Some-next_sharer.ensures.place;
       text = remains_less (g.W.Write.contents c.args.writer.now) (g.W.Write.contents c.loop-task.writer) (g.W.Write.contents c.put_sharer.new.writer)
           c.args.gathered.now c.loop-task.gathered c.put_sharer.new.gathered
           (listed (sharers (state_of s) p.number p.owner)) (flat_map sharer_text (sharers_left s c.loop-task.place p))
@@ -56,7 +54,7 @@ loop-task-preserved g c =
 pub returns : goal.returns
 returns g c =
     let s = c.args.storage.now in
-    let p = c.args.found.subpool in
+    let p = c.args.subpool in
     all_put (g.W.Write.contents c.args.writer.now) (g.W.Write.contents c.loop-task.writer) c.args.gathered.now c.loop-task.gathered
     (listed (sharers (state_of s) p.number p.owner)) (flat_map sharer_text (sharers_left s c.loop-task.place p))
     c.loop-task.invariant.text (ap (flat_map sharer_text) c.in_default-next_sharer.ensures.none)

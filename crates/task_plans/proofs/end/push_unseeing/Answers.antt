@@ -26,7 +26,7 @@ loop-task-smaller c =
     let its : h (state_of t) (x ∷ []) ≡ h (state_of p) (x ∷ []) = ap (λ (m : StorageState). h m (x ∷ [])) w.leads.builds.keeps.shows in
     let ended = ended_below (state_of p).tasks.parents top in
     sharers_less (h (state_of p)) q all p c.args.builder.now t c.loop-task.builder c.loop-task.place w (mapped_first (λ k. is_in ended k || is_in ended q.owner) (unshared q)) c.in-Some.next x c.in-Some.ensures.next (h (state_of t) (x ∷ [])) its
-    c.push_unseen.new.storage c.push_unseen.new.builder c.in-Some.ensures.place c.push_unseen.ensures.builds
+    c.push_unseen.new.storage c.push_unseen.new.builder c.push_unseen.ensures.builds
 
 pub loop-task-preserved : goal.loop-task-preserved
 loop-task-preserved c =
@@ -41,7 +41,7 @@ loop-task-preserved c =
     let its : h (state_of t) (x ∷ []) ≡ h (state_of p) (x ∷ []) = ap (λ (m : StorageState). h m (x ∷ [])) w.leads.builds.keeps.shows in
     let ended = ended_below (state_of p).tasks.parents top in
     sharers_more (h (state_of p)) q all p c.args.builder.now t c.loop-task.builder c.loop-task.place w (mapped_first (λ k. is_in ended k || is_in ended q.owner) (unshared q)) c.in-Some.next x c.in-Some.ensures.next (h (state_of t) (x ∷ [])) its
-    c.push_unseen.new.storage c.push_unseen.new.builder c.in-Some.ensures.place c.push_unseen.ensures.builds c.in_ok-push_unseen.ensures.ok
+    c.push_unseen.new.storage c.push_unseen.new.builder c.push_unseen.ensures.builds c.in_ok-push_unseen.ensures.ok
 
 pub push_unseen-requires-clause-tree : goal.push_unseen-requires-clause-tree
 push_unseen-requires-clause-tree c = still c.args.tree.now.parents.of _ _ (c.loop-task.invariant.leads.builds.keeps.shows) c.requires.tree

@@ -1,11 +1,11 @@
 use Rattle.subpool_set.specs.SubpoolSet.{pool, pools_left, IsPoolPlace, IsSubpoolSet}
-use Rattle.subpool_set.proofs.WalkLemmas.{front_place, front_pools}
+use Rattle.subpool_set.proofs.WalkLemmas.{front_pools}
 use Rattle.subpool_set.proofs.set.SubpoolSet.first_place.Goals as goal
 
 pub returns-clause-place : goal.returns-clause-place
 unfolding IsPoolPlace
-returns-clause-place c s q = front_place s q.rows c.first_place-front.result (c.first_place-front.ensures.place s q.rows) c.first_place-front.ensures.index
+returns-clause-place c s q = c.first_place.ensures.place s q.rows
 
 pub returns-clause-all : goal.returns-clause-all
 unfolding pool pools_left IsSubpoolSet
-returns-clause-all c s q h = front_pools s q.rows h c.first_place-front.result c.first_place-front.ensures.index
+returns-clause-all c s q h = front_pools s q.rows h c.first_place.result c.first_place.ensures.index
