@@ -87,7 +87,7 @@ fn put_sharers<W: Write>(
     gathered.put(writer, b" ");
     put_decimal(gathered, writer, u64::from(first));
     let mut place = second;
-    'sharers: for _ in 0..64u32 {
+    for _ in 0..64u32 {
         let Some((task, behind)) = storage.next_sharer(subpool, place) else {
             return;
         };

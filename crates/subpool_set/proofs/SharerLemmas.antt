@@ -12,7 +12,7 @@ use Rattle.row_table.proofs.NextLemmas.{before_says, says_before, before_more, b
 use Rattle.row_table.proofs.TableLemmas.{rows_ascend}
 use Rattle.subpool_set.specs.Pools.{is_owner}
 use Rattle.subpool_set.specs.Kept.{IsKept, owner_in, sight_in}
-use Rattle.subpool_set.specs.Walks.{is_sharer, shares, HasNoSharer, IsFirstSharer}
+use Rattle.subpool_set.specs.Walks.{is_sharer, is_sharers_row, HasNoSharer, IsFirstSharer}
 use Rattle.subpool_set.proofs.WalkLemmas.{behind_key, rows_more, rows_none, row_later, row_middle, behind_right}
 
 -- rows that are split at one
@@ -67,31 +67,31 @@ module _ (s : Store) (q b e : RowTable) (r : Row) (table : IsTable s q) (before 
   split : (t n : ℕ) → row s q t n ≡ row_among t n (rows s b ++ r ∷ rows s e)
   split t n = (rows_ascend s q table).1 t n ∙ ap (row_among t n) parts
 
-  abbrev by : RowTable → ℕ → Bool
-  by x t = is_sharer (sight_in (row s x)) number owner t
+  abbrev is_sharer_in : RowTable → ℕ → Bool
+  is_sharer_in x t = is_sharer (sight_in (row s x)) number owner t
 
-  of_row : (x y : RowTable) (t : ℕ) → row s x t number ≡ row s y t number → by x t ≡ by y t
+  of_row : (x y : RowTable) (t : ℕ) → row s x t number ≡ row s y t number → is_sharer_in x t ≡ is_sharer_in y t
   of_row x y t h = ap (λ (o : Option Row). is_owner owner (option_map owner_in o) && not (t == owner)) h
 
-  no_row : (x : RowTable) (t : ℕ) → row s x t number ≡ None → by x t ≡ false
+  no_row : (x : RowTable) (t : ℕ) → row s x t number ≡ None → is_sharer_in x t ≡ false
   no_row x t h = ap (λ (o : Option Row). is_owner owner (option_map owner_in o) && not (t == owner)) h
 
-  left : (t : ℕ) → comes_before t number task (word r.words 1) ≡ true → by q t ≡ by b t
+  left : (t : ℕ) → comes_before t number task (word r.words 1) ≡ true → is_sharer_in q t ≡ is_sharer_in b t
   left t h = of_row q b t (split t number ∙ left_of t number (rows s b) r (rows s e) order h ∙ sym ((rows_ascend s b before).1 t number))
 
-  right : (t : ℕ) → comes_before task (word r.words 1) t number ≡ true → by q t ≡ by e t
+  right : (t : ℕ) → comes_before task (word r.words 1) t number ≡ true → is_sharer_in q t ≡ is_sharer_in e t
   right t h = of_row q e t (split t number ∙ right_of t number (rows s b) r (rows s e) order h ∙ sym ((rows_ascend s e behind).1 t number))
 
-  left_before : (t : ℕ) → by b t ≡ true → comes_before t number task (word r.words 1) ≡ true
+  left_before : (t : ℕ) → is_sharer_in b t ≡ true → comes_before t number task (word r.words 1) ≡ true
   left_before t h = elim (either (comes_before t number task (word r.words 1))) [
     | inl k ↦ k
-    | inr k ↦ absurd (not_both (by b t) h (no_row b t ((rows_ascend s b before).1 t number ∙ none_on_left t number (rows s b) r (rows s e) order k)))
+    | inr k ↦ absurd (not_both (is_sharer_in b t) h (no_row b t ((rows_ascend s b before).1 t number ∙ none_on_left t number (rows s b) r (rows s e) order k)))
   ]
 
-  right_behind : (t : ℕ) → by e t ≡ true → comes_before task (word r.words 1) t number ≡ true
+  right_behind : (t : ℕ) → is_sharer_in e t ≡ true → comes_before task (word r.words 1) t number ≡ true
   right_behind t h = elim (either (comes_before task (word r.words 1) t number)) [
     | inl k ↦ k
-    | inr k ↦ absurd (not_both (by e t) h (no_row e t ((rows_ascend s e behind).1 t number ∙ none_on_right t number r (rows s e) (order_behind (rows s b) r (rows s e) order) k)))
+    | inr k ↦ absurd (not_both (is_sharer_in e t) h (no_row e t ((rows_ascend s e behind).1 t number ∙ none_on_right t number r (rows s e) (order_behind (rows s b) r (rows s e) order) k)))
   ]
 
   above : (t : ℕ) → from < t → comes_before from number t number ≡ true
@@ -105,11 +105,11 @@ module _ (s : Store) (q b e : RowTable) (r : Row) (table : IsTable s q) (before 
       go (inl k) = before_more task (word r.words 1) from number t number k (above t l)
       go (inr e) = says_before task (word r.words 1) t number (inr (e.1, omega (arith, e.0, l)))
 
-    pub passed_none : HasNoSharer (sight_in (row s e)) number owner from → HasNoSharer (sight_in (row s q)) number owner from
-    passed_none none t l = right t (beyond t l) ∙ none t l
+    pub beyond_none : HasNoSharer (sight_in (row s e)) number owner from → HasNoSharer (sight_in (row s q)) number owner from
+    beyond_none none t l = right t (beyond t l) ∙ none t l
 
-    pub passed_first : (t : ℕ) → IsFirstSharer (sight_in (row s e)) number owner from t → IsFirstSharer (sight_in (row s q)) number owner from t
-    passed_first t h = record {
+    pub beyond_first : (t : ℕ) → IsFirstSharer (sight_in (row s e)) number owner from t → IsFirstSharer (sight_in (row s q)) number owner from t
+    beyond_first t h = record {
       later = h.later;
       shares = right t (beyond t h.later) ∙ h.shares;
       first = λ u l m. right u (beyond u l) ∙ h.first u l m;
@@ -137,24 +137,24 @@ module _ (s : Store) (q b e : RowTable) (r : Row) (table : IsTable s q) (before 
         go (inl k) = absurd (omega (arith, k, same))
         go (inr k) = k.1
 
-      below : (t : ℕ) → from < t → t < task → by q t ≡ false
+      below : (t : ℕ) → from < t → t < task → is_sharer_in q t ≡ false
       below t l m = left t (says_before t number task (word r.words 1) (inr (sym same, m))) ∙ none t l
 
-      tested : by q task ≡ shares owner r
+      tested : is_sharer_in q task ≡ is_sharers_row owner r
       tested = ap (λ (o : Option Row). is_owner owner (option_map owner_in o) && not (task == owner))
           (ap (row s q task) (sym same) ∙ split task (word r.words 1) ∙ row_middle (rows s b) r (rows s e) order)
 
-      pub here_first : shares owner r ≡ true → IsFirstSharer (sight_in (row s q)) number owner from task
+      pub here_first : is_sharers_row owner r ≡ true → IsFirstSharer (sight_in (row s q)) number owner from task
       here_first h = record { later = up; shares = tested ∙ h; first = below }
 
-      module _ (alone : shares owner r ≡ false) where
-        beside : (t : ℕ) → from < t → comes_before task (word r.words 1) t number ≡ false → by q t ≡ false
+      module _ (alone : is_sharers_row owner r ≡ false) where
+        beside : (t : ℕ) → from < t → comes_before task (word r.words 1) t number ≡ false → is_sharer_in q t ≡ false
         beside t l h = elim (before_or task (word r.words 1) t number h) [
           | inl k ↦ left t k ∙ none t l
-          | inr k ↦ ap (by q) k.0 ∙ tested ∙ alone
+          | inr k ↦ ap (is_sharer_in q) k.0 ∙ tested ∙ alone
         ]
 
-        each : (t : ℕ) → from < t → by e t ≡ false → by q t ≡ false
+        each : (t : ℕ) → from < t → is_sharer_in e t ≡ false → is_sharer_in q t ≡ false
         each t l h = elim (either (comes_before task (word r.words 1) t number)) [
           | inl k ↦ right t k ∙ h
           | inr k ↦ beside t l k

@@ -2,7 +2,7 @@
 use Rattle.std.proofs.Common.{◌≡◌, ◌≢◌, ℕ, suc, ◌+◌, ◌<◌, ◌≤◌, true, false, ◌==◌, List, [], ◌∷◌, ◌++◌, length, take, drop, get_or, Option, Some, None, IsSome, ◌⊎◌, inl, inr, refl, sym, ap, ◌∙◌, subst, arith}
 use Rattle.std.specs.Prelude.{map, slice_get}
 use Rattle.std.proofs.lemmas.Bool.{cases_lt, cond-false, cond-true}
-use Rattle.std.proofs.lemmas.List.{take-append-drop, take_more}
+use Rattle.std.proofs.lemmas.List.{take-append-drop}
 use Rattle.std.proofs.lemmas.Option.{get_or_from_slice_get, slice_get_within, slice_get-get_or}
 use Rattle.std.proofs.Math.ListN.{drop_of_length-le}
 use Rattle.std.proofs.Math.Seq.{drop-cons}
@@ -48,10 +48,6 @@ row_first r rs = cond-true (is_under (word r.words 0) (word r.words 1) r.words) 
 pub row_later : (t n : ℕ) (r : Row) (rs : List Row) → comes_before (word r.words 0) (word r.words 1) t n ≡ true → row_among t n (r ∷ rs) ≡ row_among t n rs
 row_later t n r rs h = cond-false (is_under t n r.words) (Some r) (row_among t n rs) (before_key t n r h)
 
-order_right : (xs ys : List Row) → AreInOrder (xs ++ ys) → AreInOrder ys
-order_right [] ys h = h
-order_right (x ∷ xs) ys h = order_right xs ys h.1
-
 pub behind_right : (t n : ℕ) (xs ys : List Row) → RowsBehind t n (xs ++ ys) → RowsBehind t n ys
 behind_right t n [] ys h = h
 behind_right t n (x ∷ xs) ys h = behind_right t n xs ys h.1
@@ -67,20 +63,14 @@ module _ (rs : List Row) (k : ℕ) (r : Row) (get : slice_get rs k ≡ Some r) w
   in_rows : k < length rs
   in_rows = slice_get_within rs k r get
 
-  pub drop_row : drop k rs ≡ r ∷ drop (k + 1) rs
+  drop_row : drop k rs ≡ r ∷ drop (k + 1) rs
   drop_row = let e : suc k ≡ k + 1 = omega arith in drop-cons rs k r in_rows ∙ ap (λ (x : Row). x ∷ drop (suc k) rs) (get_or_from_slice_get rs k r r get) ∙ ap (λ (j : ℕ). r ∷ drop j rs) e
-
-  take_row : take (k + 1) rs ≡ take k rs ++ r ∷ []
-  take_row = take_more rs k r in_rows ∙ ap (λ (x : Row). take k rs ++ x ∷ []) (get_or_from_slice_get rs k r r get)
 
   whole : rs ≡ take k rs ++ r ∷ drop (k + 1) rs
   whole = sym (take-append-drop k rs) ∙ ap (λ (z : List Row). take k rs ++ z) drop_row
 
   pub row_at : AreInOrder rs → row_among (word r.words 0) (word r.words 1) rs ≡ Some r
   row_at order = let P : List Row → Type 0 = AreInOrder in ap (row_among (word r.words 0) (word r.words 1)) whole ∙ row_middle (take k rs) r (drop (k + 1) rs) (subst P whole order)
-
-  pub order_at : AreInOrder rs → AreInOrder (r ∷ drop (k + 1) rs)
-  order_at order = let P : List Row → Type 0 = AreInOrder in order_right (take k rs) (r ∷ drop (k + 1) rs) (subst P whole order)
 
   pub pool_here : owner_in r ≡ word r.words 0 → pool_ids (drop k rs) ≡ r.id ∷ pool_ids (drop (k + 1) rs)
   pool_here e = ap pool_ids drop_row ∙ cond-true (owner_in r == word r.words 0) (r.id ∷ pool_ids (drop (k + 1) rs)) (pool_ids (drop (k + 1) rs)) (ap (λ (z : ℕ). z == word r.words 0) e ∙ eqb_refl (word r.words 0))
@@ -179,7 +169,7 @@ module _ (s : Store) (q : RowTable) (kept : IsKept s q) where
   pub range_at : (k : ℕ) (r : Row) → slice_get (rows s q) k ≡ Some r → (1 ≤ word r.words 0) × (word r.words 0 ≤ 64) × (word r.words 1 ≤ 127)
   range_at k r get = ranges r (there_at k r get)
 
-  pub all_pools : pool_ids (rows s q) ≡ ids_in_order (pools_in f)
+  all_pools : pool_ids (rows s q) ≡ ids_in_order (pools_in f)
   all_pools =
       pools_walk f ranges (rows s q) 0 0 0 0 order (all_behind f ranges (rows s q) order (λ r ys e. first_there [] r ys e)) (λ t n h. among t n) (past_begin f 0 0)
       ∙ ap (map (λ (p : Pool). p.id)) (order_begins (pools_in f) 64 refl)

@@ -20,8 +20,8 @@ abbrev pub sharers_behind : Sight → ℕ → ℕ → ℕ → List ℕ
 sharers_behind f number owner behind = filter (λ task. nat_lt behind task && is_sharer f number owner task) tasks
 
 -- the row is that of a task that shares the owner's subpool
-abbrev pub shares : ℕ → Row → Bool
-shares owner r = (owner_in r == owner) && not (word r.words 0 == owner)
+abbrev pub is_sharers_row : ℕ → Row → Bool
+is_sharers_row owner r = (owner_in r == owner) && not (word r.words 0 == owner)
 
 -- behind this task no task shares the subpool
 abbrev pub HasNoSharer : Sight → ℕ → ℕ → ℕ → Type 0

@@ -31,7 +31,7 @@ impl SubpoolSet {
     }
 
     /// The `i`-th of the tasks that share the subpool with its owner, in ascending order from 0 on; `None` past the
-    /// last. Each row of sight of its number is read once on the way.
+    /// last. Each row of sight of its number is read on the way, and a descent for each sharer.
     pub fn sharer_at(&self, elements: &Elements, id: PoolId, i: u32) -> Option<u8>
         requires set { IsSubpoolSet elements.now self.now }
         requires pool { IsPool elements.now self.now id }

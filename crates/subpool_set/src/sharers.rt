@@ -1,4 +1,5 @@
-//! The sharers of a subpool in ascending order, from place to place: each row of its number is read once on the way.
+//! The sharers of a subpool in ascending order, from place to place: each row of its number is read on the way, and a
+//! descent for each sharer.
 
 ghost use Rattle.std.specs.Prelude.{◌≡◌, ℕ, [], ◌∷◌, IfSome, IfNone};
 ghost use Rattle.vsm_elements.specs.Store.{Store};
@@ -7,7 +8,7 @@ ghost use Rattle.row_table.specs.Rows.{word, comes_before};
 ghost use Rattle.subpool_set.specs.Kept.{sight_in};
 ghost use Rattle.subpool_set.specs.Pools.{sharers};
 ghost use Rattle.subpool_set.specs.SubpoolSet.{sight, sharers_left, IsSubpoolSet};
-ghost use Rattle.subpool_set.specs.Walks.{shares, HasNoSharer, IsFirstSharer};
+ghost use Rattle.subpool_set.specs.Walks.{is_sharers_row, HasNoSharer, IsFirstSharer};
 
 use crate::set::SubpoolSet;
 use row_table::{Row, RowTable};
@@ -28,14 +29,14 @@ fn comes_behind(row: Row, task: u32, number: u32) -> bool
 }
 
 // The row is that of a task that shares the owner's subpool.
-fn is_shared(row: Row, owner: u32) -> bool
-    ensures { result ≡ shares owner row }
+fn is_sharers_row(row: Row, owner: u32) -> bool
+    ensures { result ≡ is_sharers_row owner row }
 {
     row.words[2] == owner && row.words[0] != owner
 }
 
 // The first task behind this one that shares the subpool, by a table's rows. Of those of other numbers it reads the
-// ones alone that stand above the number's own.
+// ones alone on the ways down to where the number's begin and end.
 fn sharer_among(
     table: RowTable,
     elements: &Elements,
@@ -57,7 +58,7 @@ fn sharer_among(
     if part.row.words[1] != number {
         return None;
     }
-    if is_shared(part.row, owner) {
+    if is_sharers_row(part.row, owner) {
         return Some(part.row.words[0]);
     }
     sharer_among(part.behind, elements, number, owner, behind)

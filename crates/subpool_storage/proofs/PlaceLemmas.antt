@@ -15,7 +15,7 @@ use Rattle.vsm_model.specs.Search.{holds}
 use Rattle.subpool_storage.specs.declared.storage.SubpoolStorage.{SubpoolStorage}
 use Rattle.subpool_storage.specs.Order.{subpools_in_order}
 use Rattle.subpool_storage.specs.Subpools.{is_there}
-use Rattle.subpool_storage.specs.SubpoolStorage.{subpools_of, named, subpool_before, IsSubpoolPlace, IsBehindSubpool, Stands}
+use Rattle.subpool_storage.specs.SubpoolStorage.{subpools_of, named, subpool_before, Stands}
 use Rattle.subpool_storage.proofs.LawLemmas.{subpools_are_there}
 use Rattle.subpool_storage.proofs.OrderLemmas.{all_named}
 use Rattle.subpool_storage.proofs.PutLemmas.{pool_there}
@@ -26,11 +26,6 @@ pub before_there : (s : Store) (q : SubpoolStorage) (place : PoolPlace) (id : �
     → pool s q.set (subpool_before s place).number (subpool_before s place).owner ≡ Some (record { id = id; queues = queues })
 unfolding subpool_before
 before_there s q place id queues e there = pool_there s q.set (number_of s (pool_before place)) (owner_of s (pool_before place)) id queues (ap (number_of s) e) (ap (owner_of s) e) there
-
--- a place behind a subpool is one of the walk
-pub behind_place : (s : Store) (q : SubpoolStorage) (place : PoolPlace) → IsBehindSubpool s q place → IsSubpoolPlace s q place
-unfolding IsBehindSubpool IsSubpoolPlace
-behind_place s q place h = h.walked
 
 module _ (s : Store) (q : SubpoolStorage) (h : Stands s q) where
   -- the subpool of an index is that of the id of this index

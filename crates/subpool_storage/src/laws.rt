@@ -45,8 +45,8 @@ pub fn pools_are_held()
     ensures { PoolsAreHeld }
 {}
 
-/// A place among the subpools, or among the tasks that share one, stays one where the elements of the storage are as
-/// they were, with what is left behind it.
+/// A place among the subpools stays one where the elements of the storage are as they were, with what is left behind
+/// it, and so do the tasks that share one.
 pub fn places_stay()
     ensures { PlacesStay }
 {}

@@ -131,8 +131,9 @@ impl SubpoolStorage {
     }
 
     /// The task behind the place that sees the subpool besides its owner, and the place behind that task; `None` behind
-    /// the last. From the first place on, the tasks come in ascending order, and each row of sight of the subpool's
-    /// number is read once on the way. (z/OS MVS Programming: Assembler Services Guide, "Subpool handling".)
+    /// the last. From the first place on, the tasks come in ascending order. Each row of sight of the subpool's number
+    /// is read on the way, and a descent for each task. (z/OS MVS Programming: Assembler Services Guide, "Subpool
+    /// handling".)
     pub fn next_sharer(
         &self,
         elements: &Elements,
