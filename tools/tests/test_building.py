@@ -157,6 +157,21 @@ def test_pools_of_a_doubleword_alone_in_pages(monkeypatch: pytest.MonkeyPatch, w
     assert count
 
 
+def test_pools_of_a_doubleword_where_areas_keep_pages(monkeypatch: pytest.MonkeyPatch) -> None:
+    """If there may be one more than they are, just those are made that aren't refused."""
+    words, pages, most = 3, 4, 4
+    for module in (building, narrows):
+        monkeypatch.setattr(module, "PAGE", 8 * words)
+    made, told = Region(words, pages, most, True).made(), {}
+    for offsets in product([None, *range(words)], repeat=pages):
+        pools = [(words * k + at, words * k + at + 1) for k, at in enumerate(offsets) if at is not None]
+        if len(pools) == most - 1:
+            builds = [Build(Area(8 * start, 8), KEY, 24) for start, _ in pools]
+            told[offsets] = [unheld(0, builds, most, is_alone) is not None for is_alone in (False, True)]
+            assert told[offsets][0] != (State(pools) in made), pools
+    assert {it for it, both in told.items() if both == [False, True]} == {(at, 2, None, 0) for at in range(words)}
+
+
 def made_beside(low: Region, high: Region, most: int) -> set[tuple[State, State]]:
     """All that's made in two regions, with so many cell pools at once in both."""
     low_nexts, high_nexts = (lru_cache(maxsize=None)(lambda state, it=it: list(it.nexts(state))) for it in (low, high))

@@ -12,6 +12,7 @@ import signal
 import subprocess
 import sys
 import time
+from dataclasses import replace
 from pathlib import Path
 from typing import Callable, Iterable, Optional
 
@@ -483,6 +484,23 @@ def test_too_many_cell_pools_alone_in_their_pages(run: Callable, vsm: str, offse
     text = one_line(run(TOOL, "--vsm", vsm, *WIDER[:4], given="".join(line + "\n" for line in lines).encode()), TOOL)
     assert time.monotonic() - start < MOST_SECONDS and "no list of statements makes this: " + told in text
     assert lines[int(text.split(":")[1]) - 1].startswith(" CELLPOOL C%08X " % in_pages(offsets)[first])
+
+
+def beside_a_task(lines: list[str]) -> list[str]:
+    """The map of a task 2 with register 1 0 that task 1 attached, which may obtain, but sees no subpool of task 2."""
+    shown = maps.parse_map(lines)
+    tasks = [maps.Task(1, 0, False, [0, 2] + [0] * 14), maps.Task(2, 1, True, [0] * 16)]
+    subpools = [maps.Subpool(0, 1, [], [], [])] + [replace(it, owner=2) for it in shown.subpools]
+    pools = [replace(it, owner=2) for it in shown.cell_pools]
+    return maps.map_lines(replace(shown, tasks=tasks, subpools=subpools, cell_pools=pools))
+
+
+def test_too_many_cell_pools_beside_a_task_that_obtains() -> None:
+    """Areas don't help behind an unassigned page: what is told is of the lowest cell pool there."""
+    lines = beside_a_task(lone_cells((at, 0) for at in in_pages([MIDDLE] * 9 + [None] + [MIDDLE] * 246)))
+    with pytest.raises(Fault, match="no list of statements makes this: " + UNHELD) as fault:
+        loading.Loader(maps.parse_map(lines), "map").load()
+    assert lines[(fault.value.line or 0) - 1].startswith(" CELLPOOL C%08X " % (maps.LOW_START + 10 * maps.PAGE + MIDDLE))
 
 
 def test_too_many_cell_pools_on_both_sides(run: Callable, vsm: str) -> None:

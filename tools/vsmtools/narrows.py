@@ -9,8 +9,9 @@ that when it came.
 
 - If that was the BUILD of a cell pool in page N or above, the pages below are filled, by N fillers at least, as an end
   of one is within each page. None is left for the gap behind the cell pool of page N, where one above comes, nor for
-  what is left of page N, if that has none. None is left to hold page N, where its own comes, nor for a gap above,
-  without which that would go to a new page: but if there's none above, it comes so.
+  what is left of page N, if that has none; or if an area keeps page N, as there's one filler more then, to hold a page
+  above. None is left to hold page N, where its own comes, nor for a gap above, without which what comes goes to a new
+  page: but if there's no other one above and it begins with its page, it comes so.
 - If a page below got something, that was shorter than a page, so that it would go into a gap above of all but 8 bytes
   of a page, or more (a long one): each has another filler. The other N-2 pages below are held, two by one at best. So
   there are at most N/2 long gaps.
@@ -43,18 +44,20 @@ class Narrow(NamedTuple):
 
 
 def narrows(first: int, wanted: list[Build], is_alone: bool) -> Iterator[Narrow]:
-    """first: where the region begins. wanted: those of one subpool there. is_alone: whether no areas take pages
-    meanwhile."""
+    """first: where the region begins. wanted: those of one subpool there. is_alone: whether no areas keep pages from
+    them, so that one alone above an unassigned page doesn't come while all before that is filled."""
     its = sorted(wanted, key=lambda it: it.area.start)
     pages = [page_start(it.area.start) for it in its]
     is_lone = len(set(pages)) == len(its) and all(it.area.length == 8 for it in its)
     for k in range(1, len(its) if is_lone and pages[:1] == [first] else 0):
         is_behind_hole = pages[k] != first + k * PAGE
-        if is_behind_hole and is_alone or its[k].area.start == pages[k] and not is_behind_hole:
+        if is_behind_hole or its[k].area.start == pages[k]:
             above = its[k:]
             gaps = sum(gap.length >= PAGE - 8 for gap in Ground([], above).gaps(above[0].key))
             is_last = k == 2 and gaps == 1 and its[1].area.end % PAGE == 0 and (is_behind_hole or len(its) > 3)
-            yield Narrow(its[k], min(len(its) + 2, len(above) + gaps + k // 2 + 1), len(above) + (k + 1) // 2, is_last)
+            is_free = not is_alone and len(above) == 1 and its[k].area.start == pages[k]
+            yield Narrow(its[k], min(len(its) + 2, len(above) + gaps + k // 2 + 1), len(above) + (k + 1) // 2,
+                         is_last and not is_free)
         if is_behind_hole:
             return
 
