@@ -1,5 +1,5 @@
 -- The extents of a cell pool lie in the pages of its subpool, which lie in the regions: so none ends behind these.
-use Rattle.std.proofs.Common.{◌≡◌, ℕ, ◌+◌, ◌-◌, ◌*◌, ◌^◌, ◌<◌, ◌≤◌, ◌⊎◌, inl, inr, Bool, true, false, if◌then◌else◌, Option, Some, None, List, [], ◌∷◌, All, map, sym, ap, ◌∙◌, subst, arith}
+use Rattle.std.proofs.Common.{◌≡◌, ℕ, ◌+◌, ◌-◌, ◌*◌, ◌^◌, ◌<◌, ◌≤◌, inl, inr, true, Option, Some, None, List, [], ◌∷◌, All, map, sym, ◌∙◌, subst, arith}
 use Rattle.std.specs.Prelude.{◌/◌, ◌%◌, ◌==◌, ◌&&◌, nat_le, nat_lt}
 use Rattle.std.specs.Ordering.{nat_cmp, eq_by_cmp}
 use Rattle.std.specs.Cmp.Lexicographic.{slice_cmp}
@@ -8,18 +8,17 @@ use Rattle.std.proofs.lemmas.Bool.{and_parts, and_from, leb-true, le-leb, lt-ltb
 use Rattle.std.proofs.lemmas.List.Elements.{All-head, All-tail, All-cons, All-nil}
 use Rattle.cell_extents.specs.declared.settings.Extent.{Extent}
 use Rattle.cell_pool.specs.Pools.{Pool, rounded}
-use Rattle.storage_changes.specs.NamedPools.{AreNamed}
 use Rattle.storage_changes.specs.PoolTable.{extent_of, cell_pool_of}
 use Rattle.storage_changes.specs.TableLaws.{PoolsAreFound}
 use Rattle.storage_changes.specs.State.{StorageState}
 use Rattle.storage_changes.specs.Meaning.{model_of, IsSound}
 use Rattle.vsm_model.specs.declared.limits.Settings.{Settings}
 use Rattle.vsm_model.specs.Regions.{among, in_a_region, settings_valid}
-use Rattle.vsm_model.specs.CellPools.{CellPool, CellPools, CellExtent, cell_pool_in, extent_doublewords}
+use Rattle.vsm_model.specs.CellPools.{CellPool, CellPools, cell_pool_in, extent_doublewords}
 use Rattle.vsm_model.specs.State.{State}
 use Rattle.vsm_model.specs.WellFormed.{IsInSubpool, PoolIsSound}
-use Rattle.storage_changes.specs.MapCells.{EndInRegions, CellExtentsEndInRegions}
-use Rattle.storage_changes.proofs.MapRanges.{InEither, sizes, either_region}
+use Rattle.storage_changes.specs.MapCells.{CellExtentsEndInRegions}
+use Rattle.storage_changes.proofs.MapRanges.{sizes, either_region}
 
 some_none : (pool : CellPool) → ◌≡◌ {A = Option CellPool} None (Some pool) → ⊥
 some_none pool e = cc

@@ -1,18 +1,16 @@
 -- How many records tasks that end take.
 use Rattle.std.proofs.Common.{◌≡◌, ℕ, ◌+◌, ◌*◌, List, [], ◌∷◌, ◌++◌, length, refl, arith}
-use Rattle.std.specs.Prelude.{map}
 use Rattle.std.specs.List.{flat_map}
 use Rattle.std.proofs.lemmas.List.{length-append, length-map}
 use Rattle.run_set.specs.Runs.{Run}
 use Rattle.vsm_model.specs.declared.Subpool.{Subpool}
 use Rattle.subpool_storage.specs.Extents.{extents}
-use Rattle.subpool_storage.specs.Order.{subpools_in_order}
 use Rattle.subpool_storage.specs.Subpools.{Subpools}
 use Rattle.storage_changes.specs.declared.record.Record.{Record}
 use Rattle.storage_changes.specs.declared.record.Record.TheVariants.{Turn}
 use Rattle.storage_changes.specs.Changes.{unassigned_records}
 use Rattle.storage_changes.specs.State.{StorageState}
-use Rattle.storage_changes.specs.Ending.{owned_by_these, emptying_records, released_records, unseeing, unshared, unshared_records, removed, removed_records, ended_records}
+use Rattle.storage_changes.specs.Ending.{owned_by_these, emptying_records, released_records, rows_unseen, unshared, unshared_records, removed, removed_records, ended_records}
 use Rattle.storage_changes.specs.Ending.{end_records, extents_ended, sights_ended}
 use Rattle.storage_changes.specs.TaskLaws.{EndsAreShort}
 
@@ -29,16 +27,6 @@ module _ (m : Subpools) where
     length-append (extents m p) (flat_map (extents m) ps),
     unassigned-length (extents m p),
     released-length ps,
-  )
-
-  unshared-length : (ended : List ℕ) (ps : List Subpool) → length (flat_map (λ p. map (unshared p) (unseeing m ended p)) ps) ≡ length (flat_map (unseeing m ended) ps)
-  unshared-length ended [] = refl
-  unshared-length ended (p ∷ ps) = omega (
-    arith,
-    length-append (map (unshared p) (unseeing m ended p)) (flat_map (λ p. map (unshared p) (unseeing m ended p)) ps),
-    length-append (unseeing m ended p) (flat_map (unseeing m ended) ps),
-    length-map (unseeing m ended p) (unshared p),
-    unshared-length ended ps,
   )
 
 ended-length : (m : StorageState) (tasks : List ℕ) → length (flat_map (ended_records m) tasks) ≡ 5 * length tasks
@@ -59,7 +47,7 @@ module _ (m : StorageState) (ended : List ℕ) (next : ℕ) where
     length-append seen_no_more (removed_records m.subpools ended),
     length-append (released_records m.subpools ended) (Turn (record { task = next }) ∷ unshared_records m.subpools ended),
     released-length m.subpools owned,
-    unshared-length m.subpools ended (subpools_in_order m.subpools),
+    length-map (rows_unseen m.subpools ended) unshared,
     length-map owned removed,
     ended-length m ended,
   )

@@ -82,6 +82,19 @@ apart_filter R f (x ∷ xs) a =
     let later = apart_filter R f xs a.1 in
     cond_both (f x) (x ∷ filter f xs) (filter f xs) (Apart R) (λ _. (each_filter (R x) (R x) f xs (λ y _ r. r) a.0, later)) (λ _. later)
 
+-- of those that pass, each and each later one do
+pub apart_passing : {A : Type 0} (R : A → A → Type 0) (f : A → Bool) (xs : List A) → Apart R xs → Apart (λ x y. R x y × (f x ≡ true) × (f y ≡ true)) (filter f xs)
+apart_passing R f [] a = tt
+apart_passing R f (x ∷ xs) a =
+    let later = apart_passing R f xs a.1 in
+    cond_both (f x) (x ∷ filter f xs) (filter f xs) (Apart (λ y z. R y z × (f y ≡ true) × (f z ≡ true)))
+    (λ passes. (each_filter (R x) (λ y. R x y × (f x ≡ true) × (f y ≡ true)) f xs (λ y its r. (r, passes, its)) a.0, later)) (λ _. later)
+
+-- with what holds of each
+pub apart_each : {A : Type 0} (R : A → A → Type 0) (P : A → Type 0) (xs : List A) → Apart R xs → Each P xs → Apart (λ x y. R x y × P x × P y) xs
+apart_each R P [] a e = tt
+apart_each R P (x ∷ xs) a e = (each_both (R x) P (λ y. R x y × P x × P y) xs (λ y r its. (r, e.0, its)) a.0 e.1, apart_each R P xs a.1 e.1)
+
 pub apart_given : {A B : Type 0} (R : B → B → Type 0) (S : A → A → Type 0) (g : A → Option B) (xs : List A)
     → ((x y : A) (u v : B) → S x y → g x ≡ Some u → g y ≡ Some v → R u v) → Apart S xs → Apart R (filter_map g xs)
 apart_given R S g [] h a = tt
@@ -187,16 +200,3 @@ in_range first (suc len) t low high =
       | inl more ↦ or_right (first == t) _ (in_range (first + 1) len t (omega (arith, more)) (omega (arith, high)))
       | inr less ↦ or_left (first == t) _ (eq-eqb first t (omega (arith, low, less)))
     ]
-
--- a list of lists, mapped
-append_map : {A B : Type 0} (g : A → B) (xs ys : List A) → map g (xs ++ ys) ≡ map g xs ++ map g ys
-append_map g [] ys = refl
-append_map g (x ∷ xs) ys = ap (λ zs. g x ∷ zs) (append_map g xs ys)
-
-pub map_flat : {A B C : Type 0} (g : B → C) (h : A → List B) (xs : List A) → map g (flat_map h xs) ≡ flat_map (λ x. map g (h x)) xs
-map_flat g h [] = refl
-map_flat g h (x ∷ xs) = append_map g (h x) (flat_map h xs) ∙ ap (λ zs. map g (h x) ++ zs) (map_flat g h xs)
-
-pub map_map : {A B C : Type 0} (g : B → C) (h : A → B) (xs : List A) → map g (map h xs) ≡ map (λ x. g (h x)) xs
-map_map g h [] = refl
-map_map g h (x ∷ xs) = ap (λ zs. g (h x) ∷ zs) (map_map g h xs)

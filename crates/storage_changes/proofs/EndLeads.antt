@@ -1,6 +1,6 @@
 -- The end of tasks: their records lead to its effect.
 use Rattle.std.proofs.Common.{◌≡◌, ◌≢◌, ℕ, Bool, true, false, not, ◌&&◌, ◌||◌, ◌==◌, if◌then◌else◌, List, [], ◌∷◌, ◌++◌, Option, Some, None, is_some, refl, sym, ◌∙◌, ap, true≢false}
-use Rattle.std.specs.Prelude.{◌/◌, map}
+use Rattle.std.specs.Prelude.{◌/◌}
 use Rattle.std.specs.List.{flat_map}
 use Rattle.run_set.specs.Runs.{inside}
 use Rattle.std.proofs.lemmas.Bool.{cond-true, both_ways, eqb-true, false_from_ne_true}
@@ -22,16 +22,16 @@ use Rattle.storage_changes.specs.Meaning.{model_of, IsSound}
 use Rattle.storage_changes.specs.StorageActions.{register_records, run_of}
 use Rattle.storage_changes.specs.Leads.{Leads, AreRegisters}
 use Rattle.storage_changes.proofs.Rows.{with_rows, task_is_there, leads_to, none_fresh, fresh_of}
-use Rattle.storage_changes.specs.Ending.{owned_by_these, released_records, unshared, unshared_records, removed_records, ended_records}
+use Rattle.storage_changes.specs.Ending.{owned_by_these, released_records, rows_unseen, unshared_records, removed_records, ended_records}
 use Rattle.storage_changes.specs.Ending.{end_records, end_blanks, with_turn, CanEnd}
 use Rattle.storage_changes.specs.TaskLaws.{EndingLeads}
 use Rattle.storage_changes.proofs.EndModel.{pages_lead, taken_lead, stands}
 use Rattle.storage_changes.proofs.EndParked.{gone, released, released_go}
-use Rattle.storage_changes.proofs.EndRows.{rows, records_are_rows, rows_are_shared, rows_are_apart, unshared_sight, last_sight, owned_are_alone, sight_leads}
+use Rattle.storage_changes.proofs.EndRows.{rows_are_shared, rows_are_apart, unshared_sight, last_sight, owned_are_alone, sight_leads}
 use Rattle.storage_changes.proofs.EndSight.{seeing, unshared_lead, removed_lead}
 use Rattle.storage_changes.proofs.EndSubpools.{owned_are_apart}
 use Rattle.storage_changes.proofs.EndTasks.{having, AllGo, ends_go}
-use Rattle.storage_changes.proofs.EndWalk.{Comes, LeadsOn, leads_first, leads_by_same, comes_on, rows_then}
+use Rattle.storage_changes.proofs.EndWalk.{Comes, LeadsOn, leads_first, comes_on, rows_then}
 
 -- what is known of tables: each cell pool is found in one, and what it becomes where some of them go
 abbrev TableLaws : Type 0
@@ -74,10 +74,7 @@ module _ (settings : Settings) (m : StorageState) (ended : List ℕ) (next : ℕ
   last = having removed_state all_go.after_parents all_go.after_words
 
   unshared_leads : LeadsOn turned (unshared_records m.subpools ended) unshared_state
-  unshared_leads =
-      leads_by_same turned unshared_state (map (λ row. unshared row.0 row.1) (rows settings m sound ended)) (unshared_records m.subpools ended)
-      (records_are_rows settings m sound ended)
-      (unshared_lead turned m.subpools.sight (rows settings m sound ended) (rows_are_shared settings m sound ended) (rows_are_apart settings m sound ended))
+  unshared_leads = unshared_lead turned m.subpools.sight (rows_unseen m.subpools ended) (rows_are_shared settings m sound ended) (rows_are_apart settings m sound ended)
 
   removed_leads : LeadsOn unshared_state (removed_records m.subpools ended) removed_state
   removed_leads =

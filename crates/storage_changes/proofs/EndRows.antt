@@ -1,121 +1,157 @@
 -- The rows of sight that go when tasks end, and what is seen then.
-use Rattle.std.proofs.Common.{◌≡◌, ◌≢◌, ℕ, ◌<◌, Bool, true, false, not, ◌&&◌, ◌||◌, ◌==◌, if◌then◌else◌, List, Option, Some, None, refl, sym, ◌∙◌, ap, arith, inl, inr, true≢false}
-use Rattle.std.specs.Prelude.{map}
-use Rattle.std.specs.List.{flat_map, list_any}
-use Rattle.std.proofs.lemmas.Bool.{cond-true, cond-false, and_parts, and_left, and_from, or_left, or_right, or_parts, eqb-true, eq-eqb, ne_eqb, cases_Bool, both_ways, not-true, false_from_ne_true}
+use Rattle.std.proofs.Common.{◌≡◌, ◌≢◌, ℕ, ◌<◌, ◌⊎◌, Bool, true, false, not, ◌&&◌, ◌||◌, ◌==◌, if◌then◌else◌, List, [], ◌∷◌, Option, Some, None, refl, sym, ◌∙◌, ap, arith, inl, inr, true≢false}
+use Rattle.std.specs.List.{list_any}
+use Rattle.std.proofs.lemmas.Bool.{cond-true, cond-false, and_parts, and_left, and_from, or_left, or_right, or_cases, or_parts, eqb-true, eq-eqb, ne_eqb, cases_Bool, cond_both, both_ways, not-true, false_from_ne_true}
 use Rattle.vsm_model.specs.declared.Subpool.{Subpool}
 use Rattle.vsm_model.specs.declared.limits.Settings.{Settings}
 use Rattle.vsm_model.specs.Search.{holds, is_in}
 use Rattle.vsm_model.specs.Subpools.{same_subpool}
 use Rattle.subpool_set.specs.Pools.{is_owner, sees, sharers, tasks}
-use Rattle.subpool_storage.specs.Order.{subpools_in_order}
 use Rattle.subpool_storage.specs.Subpools.{is_there}
-use Rattle.storage_changes.specs.declared.record.Record.{Record}
 use Rattle.storage_changes.specs.Meaning.{IsSound}
 use Rattle.storage_changes.specs.State.{StorageState}
-use Rattle.storage_changes.proofs.Cases.{same-is}
+use Rattle.storage_changes.proofs.Cases.{same-is, same-self}
 use Rattle.storage_changes.proofs.Owned.{there_is_named}
 use Rattle.service_laws.proofs.Options.{none_some, same_some}
-use Rattle.storage_changes.specs.Ending.{owned_by_these, unseeing, unshared, unshared_records}
-use Rattle.storage_changes.proofs.EndEach.{Each, Apart, each_all, each_so, each_flat, each_map, each_filter, apart_flat, apart_map, apart_filter, some_has, any_none, any_map, any_flat, any_filter, any_so, map_flat, map_map}
-use Rattle.storage_changes.proofs.EndSubpools.{IsAnother, in_tasks, tasks_ascend, order_has, order_is_apart, order_lists, owned_have, owned_list}
-use Rattle.storage_changes.proofs.EndSight.{Sight, is_row, without_rows, is_among_rows, without_rows_is, IsOtherRow, IsShared, IsAlone, own_stays, own_rows, saw}
+use Rattle.storage_changes.specs.Ending.{SightRow, seen_by_these, is_own, owned_by_these, sharer_rows, rows_with, rows_unseen}
+use Rattle.storage_changes.proofs.EndEach.{Each, Apart, each_all, each_so, each_flat, each_map, each_filter, apart_flat, apart_map, apart_filter, apart_each, some_has, any_none, any_map, any_flat, any_filter, any_so}
+use Rattle.storage_changes.proofs.EndSubpools.{is_row, IsOtherRow, IsSeen, in_tasks, tasks_ascend, seen_have, seen_are_apart, seen_list, owned_have, owned_list}
+use Rattle.storage_changes.proofs.EndSight.{Sight, without_rows, is_among_rows, without_rows_is, IsShared, IsAlone, own_stays, own_rows, saw}
 
 owner_is : (owner : ℕ) (o : Option ℕ) → is_owner owner o ≡ true → o ≡ Some owner
 owner_is owner None e = absurd (true≢false (sym e))
 owner_is owner (Some x) e = ap Some (eqb-true x owner e)
 
 -- The task shares the subpool, and it or the owner has ended.
-pub record IsUnseeing (f : Sight) (ended : List ℕ) (p : Subpool) (task : ℕ) : Type 0 where
-  pub seen : f task p.number ≡ Some p.owner
-  pub sharer : task ≢ p.owner
-  pub ends : (is_in ended task || is_in ended p.owner) ≡ true
+pub record IsUnseeing (f : Sight) (ended : List ℕ) (row : SightRow) : Type 0 where
+  pub seen : f row.1 row.0.number ≡ Some row.0.owner
+  pub sharer : row.1 ≢ row.0.owner
+  pub ends : (is_in ended row.1 || is_in ended row.0.owner) ≡ true
+
+-- Such a row, which goes with one of a task that ends: that task is the owner, or it shares what one owns that stays.
+pub record GoesWith (f : Sight) (ended : List ℕ) (x row : SightRow) : Type 0 where
+  pub seen : f row.1 row.0.number ≡ Some row.0.owner
+  pub sharer : row.1 ≢ row.0.owner
+  pub ends : (is_in ended row.1 || is_in ended row.0.owner) ≡ true
+  pub number : row.0.number ≡ x.0.number
+  pub by : (row.0.owner ≡ x.1) ⊎ ((row.1 ≡ x.1) × (is_in ended row.0.owner ≡ false))
 
 module _ (settings : Settings) (m : StorageState) (sound : IsSound settings m) (ended : List ℕ) where
   abbrev sight : Sight
   sight = m.subpools.sight
 
-  abbrev of_pool : Subpool → List (Subpool × ℕ)
-  of_pool p = map (λ task. (p, task)) (unseeing m.subpools ended p)
+  abbrev pub rows : List SightRow
+  rows = rows_unseen m.subpools ended
 
-  abbrev pub rows : List (Subpool × ℕ)
-  rows = flat_map of_pool (subpools_in_order m.subpools)
+  abbrev seen : List SightRow
+  seen = seen_by_these m.subpools ended
 
-  pub records_are_rows : map (λ row. unshared row.0 row.1) rows ≡ unshared_records m.subpools ended
-  records_are_rows =
-      map_flat {B = Subpool × ℕ} (λ row. unshared row.0 row.1) of_pool (subpools_in_order m.subpools)
-      ∙ ap (λ (h : Subpool → List Record). flat_map h (subpools_in_order m.subpools))
-      (λ i p. map_map {B = Subpool × ℕ} (λ row. unshared row.0 row.1) (λ task. (p, task)) (unseeing m.subpools ended p) i)
-
-  unseeing_have : (p : Subpool) → Each (IsUnseeing sight ended p) (unseeing m.subpools ended p)
-  unseeing_have p =
-      each_filter (λ task. (sight task p.number ≡ Some p.owner) × (task ≢ p.owner)) (IsUnseeing sight ended p)
-      (λ task. is_in ended task || is_in ended p.owner) (sharers sight p.number p.owner)
-      (λ task ends facts. record { seen = facts.0; sharer = facts.1; ends = ends })
-      (each_filter (λ task. Unit {0}) (λ task. (sight task p.number ≡ Some p.owner) × (task ≢ p.owner))
+  sharers_share : (p : Subpool) → Each (λ task. (sight task p.number ≡ Some p.owner) × (task ≢ p.owner)) (sharers sight p.number p.owner)
+  sharers_share p =
+      each_filter (λ task. Unit {0}) (λ task. (sight task p.number ≡ Some p.owner) × (task ≢ p.owner))
       (λ task. sees sight p.number p.owner task && not (task == p.owner)) tasks
       (λ task passes _.
       let parts = and_parts (sees sight p.number p.owner task) (not (task == p.owner)) passes in
       (owner_is p.owner (sight task p.number) parts.0, λ same. both_ways (task == p.owner) (not-true (task == p.owner) parts.1) (eq-eqb task p.owner same)))
-      (each_all (λ task. Unit {0}) tasks (λ _. tt)))
+      (each_all (λ task. Unit {0}) tasks (λ _. tt))
 
-  -- each row is one of a subpool that is there
-  rows_have : Each (λ row. (is_there m.subpools row.0 ≡ true) × IsUnseeing sight ended row.0 row.1) rows
+  -- what each row that goes with one of a task that ends has to do with it
+  rows_go : (x : SightRow) → IsSeen m.subpools ended x → Each (GoesWith sight ended x) (rows_with m.subpools ended x)
+  rows_go x is =
+      cond_both (is_own x) (sharer_rows m.subpools x.0) (if is_in ended x.0.owner then [] else x ∷ []) (Each (GoesWith sight ended x))
+      (λ own.
+      let same = eqb-true x.0.owner x.1 own in
+      each_map (GoesWith sight ended x) (λ task. (x.0, task)) (sharers sight x.0.number x.0.owner)
+      (each_so (λ task. (sight task x.0.number ≡ Some x.0.owner) × (task ≢ x.0.owner)) (λ task. GoesWith sight ended x (x.0, task)) (sharers sight x.0.number x.0.owner)
+      (λ task shares. record {
+        seen = shares.0;
+        sharer = shares.1;
+        ends = or_right (is_in ended task) (is_in ended x.0.owner) (ap (is_in ended) same ∙ is.ends);
+        number = refl;
+        by = inl same;
+      })
+      (sharers_share x.0)))
+      (λ other. cond_both (is_in ended x.0.owner) [] (x ∷ []) (Each (GoesWith sight ended x)) (λ _. tt)
+      (λ stays. (
+        record {
+          seen = is.sees;
+          sharer = λ same. both_ways (is_own x) other (eq-eqb x.0.owner x.1 (sym same));
+          ends = or_left (is_in ended x.1) (is_in ended x.0.owner) is.ends;
+          number = refl;
+          by = inr (refl, stays);
+        },
+        tt,
+      )))
+
+  rows_have : Each (IsUnseeing sight ended) rows
   rows_have =
-      each_flat (λ row. (is_there m.subpools row.0 ≡ true) × IsUnseeing sight ended row.0 row.1) of_pool (subpools_in_order m.subpools)
-      (each_so (λ p. is_there m.subpools p ≡ true) (λ p. Each (λ row. (is_there m.subpools row.0 ≡ true) × IsUnseeing sight ended row.0 row.1) (of_pool p)) (subpools_in_order m.subpools)
-      (λ p there. each_map (λ row. (is_there m.subpools row.0 ≡ true) × IsUnseeing sight ended row.0 row.1) (λ task. (p, task)) (unseeing m.subpools ended p)
-      (each_so (IsUnseeing sight ended p) (λ task. (is_there m.subpools p ≡ true) × IsUnseeing sight ended p task) (unseeing m.subpools ended p)
-      (λ task is. (there, is)) (unseeing_have p)))
-      (order_has m.subpools))
+      each_flat (IsUnseeing sight ended) (rows_with m.subpools ended) seen
+      (each_so (IsSeen m.subpools ended) (λ x. Each (IsUnseeing sight ended) (rows_with m.subpools ended x)) seen
+      (λ x is. each_so (GoesWith sight ended x) (IsUnseeing sight ended) (rows_with m.subpools ended x) (λ row goes. record { seen = goes.seen; sharer = goes.sharer; ends = goes.ends })
+      (rows_go x is)) (seen_have m.subpools ended))
 
   pub rows_are_shared : Each (IsShared sight) rows
   rows_are_shared =
-      each_so (λ row. (is_there m.subpools row.0 ≡ true) × IsUnseeing sight ended row.0 row.1) (IsShared sight) rows
-      (λ row facts. record {
-        owner_sees = sound.well_formed.sight.owner_sees row.0.number row.0.owner facts.0;
-        seen = facts.1.seen;
-        sharer = facts.1.sharer;
-        range = sound.well_formed.tasks.numbered row.1 (sound.well_formed.sight.seer_is_task row.1 row.0.number row.0.owner facts.1.seen);
+      each_so (IsUnseeing sight ended) (IsShared sight) rows
+      (λ row its. record {
+        owner_sees = sound.well_formed.sight.owner_sees row.0.number row.0.owner (sound.well_formed.sight.seen_is_there row.1 row.0.number row.0.owner its.seen);
+        seen = its.seen;
+        sharer = its.sharer;
+        range = sound.well_formed.tasks.numbered row.1 (sound.well_formed.sight.seer_is_task row.1 row.0.number row.0.owner its.seen);
       }) rows_have
 
-  across : (p q : Subpool) → IsAnother p q → Each (λ u. Each (IsOtherRow u) (of_pool q)) (of_pool p)
-  across p q other =
-      each_map (λ u. Each (IsOtherRow u) (of_pool q)) (λ task. (p, task)) (unseeing m.subpools ended p)
-      (each_so (IsUnseeing sight ended p) (λ task. Each (IsOtherRow (p, task)) (of_pool q)) (unseeing m.subpools ended p)
-      (λ task is. each_map (IsOtherRow (p, task)) (λ t. (q, t)) (unseeing m.subpools ended q)
-      (each_so (IsUnseeing sight ended q) (λ t. is_row task p.number t q.number ≡ false) (unseeing m.subpools ended q)
-      (λ t so. false_from_ne_true (is_row task p.number t q.number) (λ same.
-      let parts = and_parts (t == task) (q.number == p.number) same in
-      let at = eqb-true t task parts.0 in
-      let number = eqb-true q.number p.number parts.1 in
-      let both : Some q.owner ≡ Some p.owner = sym so.seen ∙ (λ i. sight (at i) (number i)) ∙ is.seen in
-      true≢false (sym (and_from (q.number == p.number) (q.owner == p.owner) parts.1 (eq-eqb q.owner p.owner (same_some q.owner p.owner both))) ∙ other)))
-      (unseeing_have q)))
-      (unseeing_have p))
+  -- no row goes with two of them
+  goes_once : (x y u v : SightRow) → IsSeen m.subpools ended x → IsSeen m.subpools ended y → IsOtherRow x y → GoesWith sight ended x u → GoesWith sight ended y v → IsOtherRow u v
+  goes_once x y u v first second other at is = false_from_ne_true (is_row u.1 u.0.number v.1 v.0.number) (λ same.
+      let parts = and_parts (v.1 == u.1) (v.0.number == u.0.number) same in
+      let task = eqb-true v.1 u.1 parts.0 in
+      let number = eqb-true v.0.number u.0.number parts.1 in
+      let both : Some v.0.owner ≡ Some u.0.owner = sym is.seen ∙ (λ i. sight (task i) (number i)) ∙ at.seen in
+      let owner = same_some v.0.owner u.0.owner both in
+      let meet : y.1 ≡ x.1 → ⊥ = λ seer.
+      both_ways (is_row x.1 x.0.number y.1 y.0.number) other
+      (and_from (y.1 == x.1) (y.0.number == x.0.number) (eq-eqb y.1 x.1 seer) (eq-eqb y.0.number x.0.number (sym is.number ∙ number ∙ at.number))) in
+      elim at.by [
+        | inl own ↦ elim is.by [
+          | inl its ↦ meet (sym its ∙ owner ∙ own)
+          | inr foreign ↦ both_ways (is_in ended v.0.owner) foreign.1 (ap (is_in ended) (owner ∙ own) ∙ first.ends)
+        ]
+        | inr foreign ↦ elim is.by [
+          | inl its ↦ both_ways (is_in ended u.0.owner) foreign.1 (ap (is_in ended) (sym owner ∙ its) ∙ second.ends)
+          | inr its ↦ meet (sym its.0 ∙ task ∙ foreign.0)
+        ]
+      ])
 
-  of_pool_apart : (p : Subpool) → Apart IsOtherRow (of_pool p)
-  of_pool_apart p =
-      apart_map IsOtherRow (λ j k. j < k) (λ task. (p, task)) (unseeing m.subpools ended p)
-      (λ j k less. and_left (k == j) (p.number == p.number) (ne_eqb k j (λ same. absurd (omega (arith, less, same)))))
-      (apart_filter (λ j k. j < k) (λ task. is_in ended task || is_in ended p.owner) (sharers sight p.number p.owner)
-      (apart_filter (λ j k. j < k) (λ task. sees sight p.number p.owner task && not (task == p.owner)) tasks (tasks_ascend m.subpools)))
+  across : (x y : SightRow) → IsOtherRow x y × IsSeen m.subpools ended x × IsSeen m.subpools ended y → Each (λ u. Each (IsOtherRow u) (rows_with m.subpools ended y)) (rows_with m.subpools ended x)
+  across x y (other, first, second) =
+      each_so (GoesWith sight ended x) (λ u. Each (IsOtherRow u) (rows_with m.subpools ended y)) (rows_with m.subpools ended x)
+      (λ u at. each_so (GoesWith sight ended y) (IsOtherRow u) (rows_with m.subpools ended y) (λ v is. goes_once x y u v first second other at is) (rows_go y second))
+      (rows_go x first)
+
+  each_apart : (x : SightRow) → Apart IsOtherRow (rows_with m.subpools ended x)
+  each_apart x =
+      cond_both (is_own x) (sharer_rows m.subpools x.0) (if is_in ended x.0.owner then [] else x ∷ []) (Apart IsOtherRow)
+      (λ _. apart_map IsOtherRow (λ j k. j < k) (λ task. (x.0, task)) (sharers sight x.0.number x.0.owner)
+      (λ j k less. and_left (k == j) (x.0.number == x.0.number) (ne_eqb k j (λ same. absurd (omega (arith, less, same)))))
+      (apart_filter (λ j k. j < k) (λ task. sees sight x.0.number x.0.owner task && not (task == x.0.owner)) tasks tasks_ascend))
+      (λ _. cond_both (is_in ended x.0.owner) [] (x ∷ []) (Apart IsOtherRow) (λ _. tt) (λ _. (tt, tt)))
 
   pub rows_are_apart : Apart IsOtherRow rows
   rows_are_apart =
-      apart_flat IsOtherRow IsAnother of_pool (subpools_in_order m.subpools) across
-      (each_all (λ p. Apart IsOtherRow (of_pool p)) (subpools_in_order m.subpools) of_pool_apart) (order_is_apart m.subpools)
+      apart_flat IsOtherRow (λ x y. IsOtherRow x y × IsSeen m.subpools ended x × IsSeen m.subpools ended y) (rows_with m.subpools ended) seen across
+      (each_all (λ x. Apart IsOtherRow (rows_with m.subpools ended x)) seen each_apart)
+      (apart_each IsOtherRow (IsSeen m.subpools ended) seen (seen_are_apart m.subpools ended) (seen_have m.subpools ended))
 
   -- the rows are just those of who shares a subpool and has ended, or whose owner has
   rows_only : (t n o : ℕ) → sight t n ≡ Some o → (is_in ended t || is_in ended o) ≡ false → is_among_rows rows t n ≡ false
   rows_only t n o at stays = false_from_ne_true (is_among_rows rows t n) (λ any.
-      let (row, facts, same) = some_has (λ row. (is_there m.subpools row.0 ≡ true) × IsUnseeing sight ended row.0 row.1) (λ row. is_row row.1 row.0.number t n) rows rows_have any in
+      let (row, its, same) = some_has (IsUnseeing sight ended) (λ row. is_row row.1 row.0.number t n) rows rows_have any in
       let parts = and_parts (t == row.1) (n == row.0.number) same in
       let task = eqb-true t row.1 parts.0 in
       let number = eqb-true n row.0.number parts.1 in
-      let both : Some o ≡ Some row.0.owner = sym at ∙ (λ i. sight (task i) (number i)) ∙ facts.1.seen in
+      let both : Some o ≡ Some row.0.owner = sym at ∙ (λ i. sight (task i) (number i)) ∙ its.seen in
       let owner = same_some o row.0.owner both in
-      true≢false (sym facts.1.ends ∙ sym (λ i. is_in ended (task i) || is_in ended (owner i)) ∙ stays))
+      true≢false (sym its.ends ∙ sym (λ i. is_in ended (task i) || is_in ended (owner i)) ∙ stays))
 
   sharers_have : (t n o : ℕ) → sight t n ≡ Some o → t ≢ o → list_any (λ k. k == t) (sharers sight n o) ≡ true
   sharers_have t n o at apart =
@@ -129,24 +165,58 @@ module _ (settings : Settings) (m : StorageState) (sound : IsSound settings m) (
       ))
       (in_tasks t range.0 range.1)
 
-  of_pool_has : (t n o : ℕ) → sight t n ≡ Some o → t ≢ o → (is_in ended t || is_in ended o) ≡ true
-      → is_among_rows (of_pool (record { number = n; owner = o })) t n ≡ true
-  of_pool_has t n o at apart ends =
+  -- this row
+  abbrev is_this : SightRow → SightRow → Bool
+  is_this x y = same_subpool x.0 y.0 && (y.1 == x.1)
+
+  this_is : (x y : SightRow) → is_this x y ≡ true → x ≡ y
+  this_is x y same =
+      let parts = and_parts (same_subpool x.0 y.0) (y.1 == x.1) same in
+      let p = same-is x.0 y.0 parts.0 in
+      let task = sym (eqb-true y.1 x.1 parts.1) in
+      λ i. (p i, task i)
+
+  this_one : (x : SightRow) → is_this x x ≡ true
+  this_one x = and_from (same_subpool x.0 x.0) (x.1 == x.1) (same-self x.0) (eq-eqb x.1 x.1 refl)
+
+  -- what goes with a row of a task that ends is among them
+  goes_too : (t n : ℕ) (task : ℕ) (p : Subpool) → is_in ended task ≡ true → sight task p.number ≡ Some p.owner → is_among_rows (rows_with m.subpools ended (p, task)) t n ≡ true → is_among_rows rows t n ≡ true
+  goes_too t n task p ends sees with =
+      let seer = sound.well_formed.tasks.numbered task (sound.well_formed.sight.seer_is_task task p.number p.owner sees) in
+      let can = there_is_named settings m sound p (sound.well_formed.sight.seen_is_there task p.number p.owner sees) in
+      any_flat (λ row. is_row row.1 row.0.number t n) (is_this (p, task)) (rows_with m.subpools ended) seen
+      (λ x same. ap (λ y. is_among_rows (rows_with m.subpools ended y) t n) (sym (this_is (p, task) x same)) ∙ with)
+      (seen_list m.subpools ended (is_this (p, task)) task p seer can.0 ends sees (this_one (p, task)))
+
+  of_owner : (t n o : ℕ) → sight t n ≡ Some o → t ≢ o → is_in ended o ≡ true → is_among_rows rows t n ≡ true
+  of_owner t n o at apart ends =
       let p : Subpool = record { number = n; owner = o } in
-      any_map (λ row. is_row row.1 row.0.number t n) (λ task. (p, task)) (unseeing m.subpools ended p)
-      ∙ any_filter (λ k. is_row k n t n) (λ k. k == t) (λ k. is_in ended k || is_in ended o) (sharers sight n o)
-      (λ k same.
-      let is = eqb-true k t same in
-      (ap (λ j. is_in ended j || is_in ended o) is ∙ ends, and_from (t == k) (n == n) (eq-eqb t k (sym is)) (eq-eqb n n refl)))
-      (sharers_have t n o at apart)
+      let sees = sound.well_formed.sight.owner_sees n o (sound.well_formed.sight.seen_is_there t n o at) in
+      goes_too t n o p ends sees
+      (ap (λ rs. is_among_rows rs t n) (cond-true (o == o) (sharer_rows m.subpools p) (if is_in ended o then [] else (p, o) ∷ []) (eq-eqb o o refl))
+      ∙ any_map (λ row. is_row row.1 row.0.number t n) (λ task. (p, task)) (sharers sight n o)
+      ∙ any_so (λ k. k == t) (λ k. is_row k n t n) (sharers sight n o)
+      (λ k same. and_from (t == k) (n == n) (eq-eqb t k (sym (eqb-true k t same))) (eq-eqb n n refl))
+      (sharers_have t n o at apart))
+
+  of_sharer : (t n o : ℕ) → sight t n ≡ Some o → t ≢ o → is_in ended o ≡ false → is_in ended t ≡ true → is_among_rows rows t n ≡ true
+  of_sharer t n o at apart stays ends =
+      let p : Subpool = record { number = n; owner = o } in
+      goes_too t n t p ends at
+      (ap (λ rs. is_among_rows rs t n)
+      (cond-false (o == t) (sharer_rows m.subpools p) (if is_in ended o then [] else (p, t) ∷ []) (ne_eqb o t (λ same. apart (sym same)))
+      ∙ cond-false (is_in ended o) [] ((p, t) ∷ []) stays)
+      ∙ or_left (is_row t n t n) false (and_from (t == t) (n == n) (eq-eqb t t refl) (eq-eqb n n refl)))
 
   rows_all : (t n o : ℕ) → sight t n ≡ Some o → t ≢ o → (is_in ended t || is_in ended o) ≡ true → is_among_rows rows t n ≡ true
   rows_all t n o at apart ends =
-      let p : Subpool = record { number = n; owner = o } in
-      let there = sound.well_formed.sight.seen_is_there t n o at in
-      any_flat (λ row. is_row row.1 row.0.number t n) (same_subpool p) of_pool (subpools_in_order m.subpools)
-      (λ q same. ap (λ r. is_among_rows (of_pool r) t n) (sym (same-is p q same)) ∙ of_pool_has t n o at apart ends)
-      (order_lists m.subpools p (there_is_named settings m sound p there) there)
+      elim (cases_Bool (is_in ended o)) [
+        | inl goes ↦ of_owner t n o at apart goes
+        | inr stays ↦ elim (or_cases (is_in ended t) (is_in ended o) ends) [
+          | inl its ↦ of_sharer t n o at apart stays its
+          | inr goes ↦ absurd (both_ways (is_in ended o) stays goes)
+        ]
+      ]
 
   -- the subpools that go are seen by their owners alone
   abbrev pub unshared_sight : Sight

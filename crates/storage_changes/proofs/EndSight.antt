@@ -1,5 +1,5 @@
 -- Rows of sight that go, and subpools that their owners don't see any more.
-use Rattle.std.proofs.Common.{◌≡◌, ◌≢◌, ℕ, ◌≤◌, Bool, true, false, ◌&&◌, ◌||◌, ◌==◌, if◌then◌else◌, List, [], ◌∷◌, Option, Some, None, refl, sym, ◌∙◌, ap, arith, true≢false}
+use Rattle.std.proofs.Common.{◌≡◌, ◌≢◌, ℕ, ◌≤◌, Bool, true, false, ◌||◌, ◌==◌, if◌then◌else◌, List, [], ◌∷◌, Option, Some, None, refl, sym, ◌∙◌, ap, arith, true≢false}
 use Rattle.std.specs.Prelude.{map}
 use Rattle.std.specs.List.{list_any}
 use Rattle.std.proofs.lemmas.Bool.{cond-false, and_parts, and_from, eqb-true, eq-eqb, false_from_ne_true}
@@ -7,9 +7,9 @@ use Rattle.vsm_model.specs.declared.Subpool.{Subpool}
 use Rattle.vsm_model.specs.Search.{holds}
 use Rattle.storage_changes.specs.State.{StorageState}
 use Rattle.service_laws.proofs.Options.{none_some, same_some}
-use Rattle.storage_changes.specs.Ending.{unshared, removed}
+use Rattle.storage_changes.specs.Ending.{SightRow, unshared, removed}
 use Rattle.storage_changes.proofs.EndEach.{Each, Apart, each_both}
-use Rattle.storage_changes.proofs.EndSubpools.{IsAnother}
+use Rattle.storage_changes.proofs.EndSubpools.{IsAnother, is_row, IsOtherRow}
 use Rattle.storage_changes.proofs.EndWalk.{LeadsOn, leads_nowhere, leads_first}
 
 abbrev pub Sight : Type 0
@@ -19,19 +19,15 @@ Sight = ℕ → ℕ → Option ℕ
 abbrev pub seeing : StorageState → Sight → StorageState
 seeing m f = record m { subpools = record m.subpools { sight = f } }
 
--- the row of a task and a number
-abbrev pub is_row : ℕ → ℕ → ℕ → ℕ → Bool
-is_row task number t n = (t == task) && (n == number)
-
 abbrev pub without_row : Sight → ℕ → ℕ → Sight
 without_row f task number t n = if is_row task number t n then None else f t n
 
 -- rows of subpools and tasks go
-abbrev pub without_rows : Sight → List (Subpool × ℕ) → Sight
+abbrev pub without_rows : Sight → List SightRow → Sight
 without_rows f [] = f
 without_rows f (row ∷ rows) = without_rows (without_row f row.1 row.0.number) rows
 
-abbrev pub is_among_rows : List (Subpool × ℕ) → ℕ → ℕ → Bool
+abbrev pub is_among_rows : List SightRow → ℕ → ℕ → Bool
 is_among_rows rows t n = list_any (λ row. is_row row.1 row.0.number t n) rows
 
 one_or_more : {A : Type 0} (b c : Bool) (x y : A) → (if c then x else (if b then x else y)) ≡ (if b || c then x else y)
@@ -39,25 +35,21 @@ one_or_more true true x y = refl
 one_or_more true false x y = refl
 one_or_more false c x y = refl
 
-pub without_rows_is : (f : Sight) (rows : List (Subpool × ℕ)) (t n : ℕ) → without_rows f rows t n ≡ (if is_among_rows rows t n then None else f t n)
+pub without_rows_is : (f : Sight) (rows : List SightRow) (t n : ℕ) → without_rows f rows t n ≡ (if is_among_rows rows t n then None else f t n)
 without_rows_is f [] t n = refl
 without_rows_is f (row ∷ rows) t n =
     without_rows_is (without_row f row.1 row.0.number) rows t n
     ∙ one_or_more (is_row row.1 row.0.number t n) (is_among_rows rows t n) None (f t n)
 
--- the second row is another than the first
-abbrev pub IsOtherRow : Subpool × ℕ → Subpool × ℕ → Type 0
-IsOtherRow row other = is_row row.1 row.0.number other.1 other.0.number ≡ false
-
 -- the owner sees its subpool, and another task shares it
-pub record IsShared (f : Sight) (row : Subpool × ℕ) : Type 0 where
+pub record IsShared (f : Sight) (row : SightRow) : Type 0 where
   pub owner_sees : f row.0.owner row.0.number ≡ Some row.0.owner
   pub seen : f row.1 row.0.number ≡ Some row.0.owner
   pub sharer : row.1 ≢ row.0.owner
   pub range : (1 ≤ row.1) × (row.1 ≤ 64)
 
 -- who sees its own subpool has no row of another's that goes
-pub own_stays : (f : Sight) (row : Subpool × ℕ) (p : Subpool) → IsShared f row → f p.owner p.number ≡ Some p.owner → is_row row.1 row.0.number p.owner p.number ≡ false
+pub own_stays : (f : Sight) (row : SightRow) (p : Subpool) → IsShared f row → f p.owner p.number ≡ Some p.owner → is_row row.1 row.0.number p.owner p.number ≡ false
 own_stays f row p shared sees = false_from_ne_true (is_row row.1 row.0.number p.owner p.number) (λ is.
     let parts = and_parts (p.owner == row.1) (p.number == row.0.number) is in
     let task = eqb-true p.owner row.1 parts.0 in
@@ -65,7 +57,7 @@ own_stays f row p shared sees = false_from_ne_true (is_row row.1 row.0.number p.
     let both : Some p.owner ≡ Some row.0.owner = sym sees ∙ (λ i. f (task i) (number i)) ∙ shared.seen in
     shared.sharer (sym task ∙ same_some p.owner row.0.owner both))
 
-shared_still : (f : Sight) (row other : Subpool × ℕ) → IsShared f row → IsOtherRow row other → IsShared f other → IsShared (without_row f row.1 row.0.number) other
+shared_still : (f : Sight) (row other : SightRow) → IsShared f row → IsOtherRow row other → IsShared f other → IsShared (without_row f row.1 row.0.number) other
 shared_still f row other first apart shared = record {
   owner_sees =
       cond-false (is_row row.1 row.0.number other.0.owner other.0.number) None (f other.0.owner other.0.number) (own_stays f row other.0 first shared.owner_sees)
@@ -79,12 +71,12 @@ pub is_seen : (f : Sight) (p : Subpool) → f p.owner p.number ≡ Some p.owner 
 is_seen f p sees = ap (holds (λ owner. owner == p.owner)) sees ∙ eq-eqb p.owner p.owner refl
 
 -- tasks don't share others' subpools any more
-pub unshared_lead : (m : StorageState) (f : Sight) (rows : List (Subpool × ℕ)) → Each (IsShared f) rows → Apart IsOtherRow rows
-    → LeadsOn (seeing m f) (map (λ row. unshared row.0 row.1) rows) (seeing m (without_rows f rows))
+pub unshared_lead : (m : StorageState) (f : Sight) (rows : List SightRow) → Each (IsShared f) rows → Apart IsOtherRow rows
+    → LeadsOn (seeing m f) (map unshared rows) (seeing m (without_rows f rows))
 unshared_lead m f [] shared apart = leads_nowhere (seeing m f)
 unshared_lead m f (row ∷ rows) shared apart =
     let g = without_row f row.1 row.0.number in
-    leads_first (seeing m f) (seeing m g) (seeing m (without_rows g rows)) (unshared row.0 row.1) (map (λ row. unshared row.0 row.1) rows)
+    leads_first (seeing m f) (seeing m g) (seeing m (without_rows g rows)) (unshared row) (map unshared rows)
     (λ w rests. (
       record {
         there = is_seen f row.0 shared.0.owner_sees;
@@ -98,7 +90,7 @@ unshared_lead m f (row ∷ rows) shared apart =
     (unshared_lead m g rows (each_both (IsOtherRow row) (IsShared f) (IsShared g) rows (λ other is so. shared_still f row other shared.0 is so) apart.0 shared.1) apart.1)
 
 -- the rows of owners
-abbrev pub own_rows : List Subpool → List (Subpool × ℕ)
+abbrev pub own_rows : List Subpool → List SightRow
 own_rows ps = map (λ p. (p, p.owner)) ps
 
 -- An empty subpool that its owner alone sees, of a task's number and a number of private storage.

@@ -1,19 +1,19 @@
--- The subpools in their order: each that is there comes once, and those of some owners among them.
-use Rattle.std.proofs.Common.{◌≡◌, ℕ, ◌<◌, ◌≤◌, Bool, true, false, ◌==◌, Option, Some, None, List, refl, sym, ◌∙◌, ap, arith}
-use Rattle.std.specs.Prelude.{if◌then◌else◌}
-use Rattle.std.specs.List.{filter_map, list_any}
-use Rattle.std.proofs.lemmas.Bool.{and_left, and_right, ne_eqb, eqb-true, cond-true}
+-- What tasks that end see: each row of theirs comes once, and the subpools that they own among them.
+use Rattle.std.proofs.Common.{◌≡◌, ℕ, ◌<◌, ◌≤◌, Bool, true, false, ◌&&◌, ◌==◌, Option, Some, None, List, refl, sym, ◌∙◌, ap, arith, true≢false}
+use Rattle.std.specs.Prelude.{filter, option_map}
+use Rattle.std.specs.List.{list_any}
+use Rattle.std.proofs.lemmas.Bool.{and_left, and_right, and_parts, and_from, ne_eqb, eqb-true, eq-eqb, false_from_ne_true}
 use Rattle.vsm_model.specs.declared.Subpool.{Subpool}
-use Rattle.vsm_model.specs.Search.{is_in}
+use Rattle.vsm_model.specs.Search.{holds, is_in}
 use Rattle.vsm_model.specs.Subpools.{same_subpool}
 use Rattle.subpool_set.specs.Pools.{tasks, numbers}
-use Rattle.subpool_storage.specs.Order.{subpool_at, subpools_in_order}
 use Rattle.subpool_storage.specs.Subpools.{Subpools, is_there}
 use Rattle.storage_changes.specs.Laws.{CanBe}
-use Rattle.storage_changes.proofs.Cases.{same-is, same-self}
-use Rattle.service_laws.proofs.Options.{none_some, same_some}
-use Rattle.storage_changes.specs.Ending.{owned_by_these}
-use Rattle.storage_changes.proofs.EndEach.{Each, Apart, each_all, each_so, each_flat, each_filter, each_given, apart_flat, apart_filter, apart_given, range_ascends, any_flat, any_given, any_filter, in_range}
+use Rattle.storage_changes.proofs.Cases.{same-self}
+use Rattle.service_laws.proofs.Options.{none_some, same_some, held}
+use Rattle.storage_changes.specs.Ending.{SightRow, row_at, rows_of, seen_by_these, is_own, owned_by_these}
+use Rattle.storage_changes.proofs.EndEach.{Each, Apart, each_all, each_so, each_flat, each_map, each_filter, each_given, apart_flat, apart_map, apart_filter, apart_passing, apart_given}
+use Rattle.storage_changes.proofs.EndEach.{range_ascends, any_flat, any_given, any_map, any_filter, in_range}
 
 -- the second one is another subpool than the first
 abbrev pub IsAnother : Subpool → Subpool → Type 0
@@ -23,90 +23,127 @@ IsAnother p q = same_subpool q p ≡ false
 abbrev pub is_listed : List Subpool → Subpool → Bool
 is_listed ps q = list_any (λ p. same_subpool q p) ps
 
-picked : {A : Type 0} (b : Bool) (x y : A) → ◌≡◌ {A = Option A} (if b then Some x else None) (Some y) → (b ≡ true) × (x ≡ y)
-picked true x y e = (refl, same_some x y e)
-picked false x y e = absurd (none_some y e)
+-- the row of a task and a number
+abbrev pub is_row : ℕ → ℕ → ℕ → ℕ → Bool
+is_row task number t n = (t == task) && (n == number)
+
+-- the second row is another than the first
+abbrev pub IsOtherRow : SightRow → SightRow → Type 0
+IsOtherRow row other = is_row row.1 row.0.number other.1 other.0.number ≡ false
 
 pub in_tasks : (task : ℕ) → 1 ≤ task → task ≤ 64 → list_any (λ k. k == task) tasks ≡ true
 unfolding tasks
 in_tasks task low high = in_range 1 64 task low (omega (arith, high))
 
+in_numbers : (number : ℕ) → number ≤ 127 → list_any (λ k. k == number) numbers ≡ true
+unfolding numbers
+in_numbers number high = in_range 0 128 number (omega arith) (omega (arith, high))
+
+pub tasks_ascend : Apart (λ j k. j < k) tasks
+unfolding tasks
+tasks_ascend = range_ascends 1 64
+
+numbers_ascend : Apart (λ j k. j < k) numbers
+unfolding numbers
+numbers_ascend = range_ascends 0 128
+
+-- The task ends, and sees the subpool.
+pub record IsSeen (m : Subpools) (ended : List ℕ) (row : SightRow) : Type 0 where
+  pub ends : is_in ended row.1 ≡ true
+  pub sees : m.sight row.1 row.0.number ≡ Some row.0.owner
+
 module _ (m : Subpools) where
-  at_is : (number owner : ℕ) (p : Subpool) → subpool_at m number owner ≡ Some p → (p.number ≡ number) × (p.owner ≡ owner) × (is_there m p ≡ true)
-  at_is number owner p e =
-      let q : Subpool = record { number = number; owner = owner } in
-      let (there, is) = picked (is_there m q) q p e in
-      (ap (λ r. r.number) (sym is), ap (λ r. r.owner) (sym is), ap (is_there m) (sym is) ∙ there)
+  at_is : (task number : ℕ) (row : SightRow) → row_at m task number ≡ Some row → (row.1 ≡ task) × (row.0.number ≡ number) × (m.sight task number ≡ Some row.0.owner)
+  at_is task number row e = go (m.sight task number) refl e where
+    go : (o : Option ℕ) → m.sight task number ≡ o → ◌≡◌ {A = Option SightRow} (option_map (λ owner. (record { number = number; owner = owner }, task)) o) (Some row)
+        → (row.1 ≡ task) × (row.0.number ≡ number) × (m.sight task number ≡ Some row.0.owner)
+    go None at e = absurd (none_some row e)
+    go (Some owner) at e =
+        let p : Subpool = record { number = number; owner = owner } in
+        let is : ◌≡◌ {A = SightRow} (p, task) row = same_some (p, task) row e in
+        (sym (ap (λ (r : SightRow). r.1) is), sym (ap (λ (r : SightRow). r.0.number) is), at ∙ ap (λ (r : SightRow). Some r.0.owner) is)
 
-  -- those of one number, by their owners
-  abbrev row : ℕ → List Subpool
-  row number = filter_map (λ owner. subpool_at m number owner) tasks
+  its_rows : (task : ℕ) → Each (λ row. (row.1 ≡ task) × (m.sight row.1 row.0.number ≡ Some row.0.owner)) (rows_of m task)
+  its_rows task =
+      each_given (λ number. Unit {0}) (λ row. (row.1 ≡ task) × (m.sight row.1 row.0.number ≡ Some row.0.owner)) (row_at m task) numbers
+      (λ number row _ e. let (same, at, sees) = at_is task number row e in (same, (λ i. m.sight (same i) (at i)) ∙ sees))
+      (each_all (λ number. Unit {0}) numbers (λ _. tt))
 
-  row_has : (number : ℕ) → Each (λ p. (p.number ≡ number) × (is_there m p ≡ true)) (row number)
-  row_has number =
-      each_given (λ owner. Unit {0}) (λ p. (p.number ≡ number) × (is_there m p ≡ true)) (subpool_at m number) tasks
-      (λ owner p _ e. let at = at_is number owner p e in (at.0, at.2)) (each_all (λ owner. Unit {0}) tasks (λ _. tt))
+  its_rows_apart : (task : ℕ) → Apart IsOtherRow (rows_of m task)
+  its_rows_apart task =
+      apart_given IsOtherRow (λ j k. j < k) (row_at m task) numbers
+      (λ j k x y less at is.
+      let first = (at_is task j x at).1 in
+      let second = (at_is task k y is).1 in
+      and_right (y.1 == x.1) (y.0.number == x.0.number) (ne_eqb y.0.number x.0.number (λ same. absurd (omega (arith, less, first, second, same)))))
+      numbers_ascend
 
-  pub tasks_ascend : Apart (λ j k. j < k) tasks
-  unfolding tasks
-  tasks_ascend = range_ascends 1 64
-
-  numbers_ascend : Apart (λ j k. j < k) numbers
-  unfolding numbers
-  numbers_ascend = range_ascends 0 128
-
-  row_apart : (number : ℕ) → Apart IsAnother (row number)
-  row_apart number =
-      apart_given IsAnother (λ j k. j < k) (subpool_at m number) tasks
-      (λ j k p q less at is.
-      let first = (at_is number j p at).1 in
-      let second = (at_is number k q is).1 in
-      and_right (q.number == p.number) (q.owner == p.owner) (ne_eqb q.owner p.owner (λ same. absurd (omega (arith, less, first, second, same)))))
-      tasks_ascend
-
-  rows_apart : (j k : ℕ) → j < k → Each (λ p. Each (IsAnother p) (row k)) (row j)
+  rows_apart : (j k : ℕ) → j < k → Each (λ x. Each (IsOtherRow x) (rows_of m k)) (rows_of m j)
   rows_apart j k less =
-      each_so (λ p. (p.number ≡ j) × (is_there m p ≡ true)) (λ p. Each (IsAnother p) (row k)) (row j)
-      (λ p first. each_so (λ q. (q.number ≡ k) × (is_there m q ≡ true)) (IsAnother p) (row k)
-      (λ q second.
+      each_so (λ x. (x.1 ≡ j) × (m.sight x.1 x.0.number ≡ Some x.0.owner)) (λ x. Each (IsOtherRow x) (rows_of m k)) (rows_of m j)
+      (λ x first. each_so (λ y. (y.1 ≡ k) × (m.sight y.1 y.0.number ≡ Some y.0.owner)) (IsOtherRow x) (rows_of m k)
+      (λ y second.
       let at = first.0 in
       let is = second.0 in
-      and_left (q.number == p.number) (q.owner == p.owner) (ne_eqb q.number p.number (λ same. absurd (omega (arith, less, at, is, same)))))
-      (row_has k))
-      (row_has j)
-
-  pub order_has : Each (λ p. is_there m p ≡ true) (subpools_in_order m)
-  order_has =
-      each_flat (λ p. is_there m p ≡ true) row numbers
-      (each_all (λ number. Each (λ p. is_there m p ≡ true) (row number)) numbers
-      (λ number. each_so (λ p. (p.number ≡ number) × (is_there m p ≡ true)) (λ p. is_there m p ≡ true) (row number) (λ p h. h.1) (row_has number)))
-
-  pub order_is_apart : Apart IsAnother (subpools_in_order m)
-  order_is_apart = apart_flat IsAnother (λ j k. j < k) row numbers rows_apart (each_all (λ number. Apart IsAnother (row number)) numbers row_apart) numbers_ascend
-
-  pub order_lists : (p : Subpool) → CanBe p → is_there m p ≡ true → is_listed (subpools_in_order m) p ≡ true
-  unfolding tasks numbers
-  order_lists p can there =
-      any_flat (same_subpool p) (λ k. k == p.number) row numbers
-      (λ k at. any_given (same_subpool p) (λ j. j == p.owner) (subpool_at m k) tasks
-      (λ j is.
-      let number = eqb-true k p.number at in
-      let owner = eqb-true j p.owner is in
-      let same : subpool_at m k j ≡ subpool_at m p.number p.owner = λ i. subpool_at m (number i) (owner i) in
-      (p, same ∙ cond-true (is_there m p) (Some p) None there, same-self p))
-      (in_range 1 64 p.owner can.1 (let high = can.2 in omega (arith, high))))
-      (in_range 0 128 p.number (omega arith) (let high = can.0 in omega (arith, high)))
+      and_left (y.1 == x.1) (y.0.number == x.0.number) (ne_eqb y.1 x.1 (λ same. absurd (omega (arith, less, at, is, same)))))
+      (its_rows k))
+      (its_rows j)
 
   module _ (ended : List ℕ) where
+    pub seen_have : Each (IsSeen m ended) (seen_by_these m ended)
+    seen_have =
+        each_flat (IsSeen m ended) (rows_of m) (filter (is_in ended) tasks)
+        (each_filter (λ task. Unit {0}) (λ task. Each (IsSeen m ended) (rows_of m task)) (is_in ended) tasks
+        (λ task ends _. each_so (λ row. (row.1 ≡ task) × (m.sight row.1 row.0.number ≡ Some row.0.owner)) (IsSeen m ended) (rows_of m task)
+        (λ row its. record { ends = ap (is_in ended) its.0 ∙ ends; sees = its.1 }) (its_rows task))
+        (each_all (λ task. Unit {0}) tasks (λ _. tt)))
+
+    pub seen_are_apart : Apart IsOtherRow (seen_by_these m ended)
+    seen_are_apart =
+        apart_flat IsOtherRow (λ j k. j < k) (rows_of m) (filter (is_in ended) tasks) rows_apart
+        (each_all (λ task. Apart IsOtherRow (rows_of m task)) (filter (is_in ended) tasks) its_rows_apart)
+        (apart_filter (λ j k. j < k) (is_in ended) tasks tasks_ascend)
+
+    -- a row of theirs that passes is among them
+    pub seen_list : (f : SightRow → Bool) (task : ℕ) (p : Subpool) → (1 ≤ task) × (task ≤ 64) → p.number ≤ 127 → is_in ended task ≡ true → m.sight task p.number ≡ Some p.owner
+        → f (p, task) ≡ true → list_any f (seen_by_these m ended) ≡ true
+    seen_list f task p range high ends sees passes =
+        any_flat f (λ k. k == task) (rows_of m) (filter (is_in ended) tasks)
+        (λ k at. any_given f (λ j. j == p.number) (row_at m k) numbers
+        (λ j is.
+        let its = eqb-true k task at in
+        let number = eqb-true j p.number is in
+        let same : row_at m k j ≡ row_at m task p.number = λ i. row_at m (its i) (number i) in
+        ((p, task), same ∙ ap (option_map (λ owner. (record { number = p.number; owner = owner }, task))) sees, passes))
+        (in_numbers p.number high))
+        (any_filter (λ k. k == task) (λ k. k == task) (is_in ended) tasks (λ k same. (ap (is_in ended) (eqb-true k task same) ∙ ends, same)) (in_tasks task range.0 range.1))
+
     pub owned_have : Each (λ p. (is_in ended p.owner ≡ true) × (is_there m p ≡ true)) (owned_by_these m ended)
     owned_have =
-        each_filter (λ p. is_there m p ≡ true) (λ p. (is_in ended p.owner ≡ true) × (is_there m p ≡ true)) (λ p. is_in ended p.owner) (subpools_in_order m)
-        (λ p passes there. (passes, there)) order_has
+        each_map (λ p. (is_in ended p.owner ≡ true) × (is_there m p ≡ true)) (λ row. row.0) (filter is_own (seen_by_these m ended))
+        (each_filter (IsSeen m ended) (λ row. (is_in ended row.0.owner ≡ true) × (is_there m row.0 ≡ true)) is_own (seen_by_these m ended)
+        (λ row own is.
+        let same = eqb-true row.0.owner row.1 own in
+        (
+          ap (is_in ended) same ∙ is.ends,
+          ap (λ task. holds (λ owner. owner == row.0.owner) (m.sight task row.0.number)) same ∙ ap (holds (λ owner. owner == row.0.owner)) is.sees ∙ eq-eqb row.0.owner row.0.owner refl,
+        ))
+        seen_have)
 
     pub owned_are_apart : Apart IsAnother (owned_by_these m ended)
-    owned_are_apart = apart_filter IsAnother (λ p. is_in ended p.owner) (subpools_in_order m) order_is_apart
+    owned_are_apart =
+        apart_map IsAnother (λ x y. IsOtherRow x y × (is_own x ≡ true) × (is_own y ≡ true)) (λ row. row.0) (filter is_own (seen_by_these m ended))
+        (λ x y both. false_from_ne_true (same_subpool y.0 x.0) (λ same.
+        let parts = and_parts (y.0.number == x.0.number) (y.0.owner == x.0.owner) same in
+        let its = sym (eqb-true y.0.owner y.1 both.2) ∙ eqb-true y.0.owner x.0.owner parts.1 ∙ eqb-true x.0.owner x.1 both.1 in
+        true≢false (sym (and_from (y.1 == x.1) (y.0.number == x.0.number) (eq-eqb y.1 x.1 its) parts.0) ∙ both.0)))
+        (apart_passing IsOtherRow is_own (seen_by_these m ended) seen_are_apart)
 
     pub owned_list : (p : Subpool) → CanBe p → is_there m p ≡ true → is_in ended p.owner ≡ true → is_listed (owned_by_these m ended) p ≡ true
     owned_list p can there ends =
-        any_filter (same_subpool p) (same_subpool p) (λ q. is_in ended q.owner) (subpools_in_order m)
-        (λ q same. (ap (λ r. is_in ended r.owner) (sym (same-is p q same)) ∙ ends, same)) (order_lists p can there)
+        let (owner, at, is) = held (λ owner. owner == p.owner) (m.sight p.owner p.number) there in
+        any_map (same_subpool p) (λ row. row.0) (filter is_own (seen_by_these m ended))
+        ∙ any_filter (λ row. same_subpool p row.0) (λ row. same_subpool p row.0 && is_own row) is_own (seen_by_these m ended)
+        (λ row both. let parts = and_parts (same_subpool p row.0) (is_own row) both in (parts.1, parts.0))
+        (seen_list (λ row. same_subpool p row.0 && is_own row) p.owner p (can.1, can.2) can.0 ends (at ∙ ap Some (eqb-true owner p.owner is))
+        (and_from (same_subpool p p) (p.owner == p.owner) (same-self p) (eq-eqb p.owner p.owner refl)))

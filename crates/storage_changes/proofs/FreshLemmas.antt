@@ -1,11 +1,11 @@
 -- By cases over what is said of one page.
 use Rattle.std.proofs.Common.{◌≡◌, ℕ, Bool, true, false, not, ◌&&◌, Option, Some, None, is_some, refl}
-use Rattle.run_set.specs.Runs.{Run, inside}
+use Rattle.run_set.specs.Runs.{inside}
 use Rattle.vsm_model.specs.declared.Subpool.{Subpool}
 use Rattle.vsm_model.specs.declared.limits.Settings.{Settings}
 use Rattle.vsm_model.specs.Regions.{in_a_region}
 use Rattle.storage_changes.specs.State.{StorageState}
-use Rattle.storage_changes.specs.Meaning.{subpool_of, model_of, IsSound}
+use Rattle.storage_changes.specs.Meaning.{subpool_of, IsSound}
 use Rattle.storage_changes.specs.Fresh.{FreshIsNew}
 
 bools : (i u v r a b : Bool) → u ≡ (r && not a) → v ≡ (r && not b) → (i ≡ true → u ≡ true) → (i ≡ true → v ≡ false)

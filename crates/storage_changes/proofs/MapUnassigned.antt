@@ -1,8 +1,8 @@
 -- The runs of unassigned pages are those of the plain machine, end in the regions, and are one list.
-use Rattle.std.proofs.Common.{◌≡◌, ℕ, ◌+◌, ◌<◌, ◌≤◌, inl, inr, Bool, true, false, not, ◌&&◌, ◌||◌, List, [], ◌∷◌, ◌++◌, map, refl, sym, ap, ◌∙◌, arith}
+use Rattle.std.proofs.Common.{◌≡◌, ℕ, ◌+◌, ◌≤◌, inr, Bool, true, false, not, ◌&&◌, ◌||◌, List, [], ◌∷◌, ◌++◌, map, refl, sym, ap, ◌∙◌, arith}
 use Rattle.std.specs.Prelude.{◌/◌, ◌^◌, is_some}
 use Rattle.std.proofs.lemmas.Bool.{and_parts}
-use Rattle.run_set.specs.Runs.{Run, contains, Spaced, AreRunsOf}
+use Rattle.run_set.specs.Runs.{Run, contains, Spaced}
 use Rattle.run_set.proofs.PartLemmas.{outside}
 use Rattle.run_set.proofs.OneLemmas.{runs_one}
 use Rattle.vsm_model.specs.declared.limits.Settings.{Settings}
@@ -12,7 +12,7 @@ use Rattle.subpool_storage.specs.Extents.{run_in}
 use Rattle.subpool_storage.proofs.ExtentLemmas.{are_below}
 use Rattle.storage_changes.specs.State.{StorageState}
 use Rattle.storage_changes.specs.Meaning.{subpool_of, model_of, IsSound}
-use Rattle.storage_changes.specs.MapLists.{pair_of, unassigned_in, unassigned_runs, UnassignedAreShown, UnassignedEndInRegions, UnassignedAreOne}
+use Rattle.storage_changes.specs.MapLists.{unassigned_in, unassigned_runs, UnassignedAreShown, UnassignedEndInRegions, UnassignedAreOne}
 use Rattle.storage_changes.proofs.MapRunLists.{runs_agree}
 use Rattle.storage_changes.proofs.MapRanges.{InEither, sizes, is_within, either_region}
 use Rattle.storage_changes.proofs.MapListsShown.{parted, as_runs, append_nil, ends_of_two}

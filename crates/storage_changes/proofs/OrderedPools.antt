@@ -1,5 +1,5 @@
 -- The rows behind a name in a table in order: all, none, or the next one and those behind it.
-use Rattle.std.proofs.Common.{◌≡◌, ℕ, ◌^◌, Bool, true, false, ◌&&◌, if◌then◌else◌, Option, Some, None, List, [], ◌∷◌, filter, refl, sym, ◌∙◌, ap, subst, true≢false, is_lt, inl, inr}
+use Rattle.std.proofs.Common.{◌≡◌, ℕ, ◌^◌, true, false, Option, Some, None, List, [], ◌∷◌, refl, sym, ◌∙◌, ap, true≢false, is_lt, inl, inr}
 use Rattle.std.specs.Ordering.{eq_by_cmp}
 use Rattle.std.specs.FinMap.Entries.{below_all}
 use Rattle.std.proofs.lemmas.Bool.{cond-true, cond-false, and_parts, cases_Bool}
@@ -9,7 +9,7 @@ use Rattle.cell_pool.specs.Order.{is_before, is_behind}
 use Rattle.cell_pool.proofs.OrderLemmas.{before_chain, before_itself}
 use Rattle.storage_changes.specs.NamedPools.{AreNamed}
 use Rattle.storage_changes.specs.PoolTable.{cell_pool_of, cell_pools_in}
-use Rattle.storage_changes.specs.TableOrder.{rows_behind, NoneIsBehind, IsFirstBehind, RowsComeInOrder}
+use Rattle.storage_changes.specs.TableOrder.{rows_behind, RowsComeInOrder}
 use Rattle.storage_changes.proofs.PoolRows.{by_name, same_name, own_name, found_first, found_later, none_below, some_none, same_some}
 use Rattle.storage_changes.proofs.TabledPools.{Has, has_or_not, table_of, has}
 

@@ -1,14 +1,14 @@
 -- The records of tasks that end. Assembler Services Reference, DETACH; Assembler Services Guide, "Virtual storage
 -- management", "Subpool handling": when a task ends, the subpools that it owns are released.
-use Rattle.std.specs.Prelude.{◌≡◌, ℕ, zero, suc, ◌+◌, ◌*◌, Bool, true, false, ◌||◌, ◌==◌, Option, Some, unwrap_or}
+use Rattle.std.specs.Prelude.{◌≡◌, ℕ, zero, suc, ◌+◌, ◌*◌, Bool, true, false, ◌==◌, if◌then◌else◌, Option, Some, option_map}
+use Rattle.std.specs.Prelude.{unwrap_or}
 use Rattle.std.specs.Prelude.{List, [], ◌∷◌, ◌++◌, length, map, filter}
-use Rattle.std.specs.List.{flat_map, range_with_len}
+use Rattle.std.specs.List.{flat_map, filter_map, range_with_len}
 use Rattle.vsm_model.specs.declared.Subpool.{Subpool}
 use Rattle.vsm_model.specs.Search.{holds, is_in}
 use Rattle.vsm_model.specs.State.{State, is_task}
-use Rattle.subpool_set.specs.Pools.{sharers}
+use Rattle.subpool_set.specs.Pools.{sharers, tasks, numbers}
 use Rattle.subpool_storage.specs.Extents.{extents}
-use Rattle.subpool_storage.specs.Order.{subpools_in_order}
 use Rattle.subpool_storage.specs.Subpools.{Subpools}
 use Rattle.storage_changes.specs.declared.record.Record.{Record}
 use Rattle.storage_changes.specs.declared.record.Record.TheVariants.{Own, Queues, Registers, Task, Turn, Sharer}
@@ -33,9 +33,33 @@ ended_from parents top (suc steps) = ended_level parents top (suc steps) ++ ende
 unfoldable pub ended_below : (ℕ → Option ℕ) → ℕ → List ℕ
 ended_below parents top = ended_from parents top 63
 
+-- a row of sight: a subpool, and a task that sees it
+abbrev pub SightRow : Type 0
+SightRow = Subpool × ℕ
+
+-- the row of a task at a number, if it sees a subpool there
+abbrev pub row_at : Subpools → ℕ → ℕ → Option SightRow
+row_at m task number = option_map (λ owner. (record { number = number; owner = owner }, task)) (m.sight task number)
+
+-- the rows of a task, by number
+abbrev pub rows_of : Subpools → ℕ → List SightRow
+rows_of m task = filter_map (row_at m task) numbers
+
+-- what these tasks see, by task and then by number
+abbrev pub seen_by_these : Subpools → List ℕ → List SightRow
+seen_by_these m ended = flat_map (rows_of m) (filter (is_in ended) tasks)
+
+-- whether the task owns what it sees
+abbrev pub is_own : SightRow → Bool
+is_own row = row.0.owner == row.1
+
+-- the subpools of rows that are owners' own
+abbrev pub owned_in : List SightRow → List Subpool
+owned_in rows = map (λ row. row.0) (filter is_own rows)
+
 -- the subpools that these tasks own
 abbrev pub owned_by_these : Subpools → List ℕ → List Subpool
-owned_by_these m ended = filter (λ p. is_in ended p.owner) (subpools_in_order m)
+owned_by_these m ended = owned_in (seen_by_these m ended)
 
 -- The storage of a subpool goes over into the change, and its pages become unassigned.
 abbrev pub emptying_records : Subpools → Subpool → List Record
@@ -44,16 +68,25 @@ emptying_records m p = Queues (record { subpool = p }) ∷ unassigned_records (e
 abbrev pub released_records : Subpools → List ℕ → List Record
 released_records m ended = flat_map (emptying_records m) (owned_by_these m ended)
 
--- who shares a subpool and has ended, or whose owner has: none of them sees it any more
-abbrev pub unseeing : Subpools → List ℕ → Subpool → List ℕ
-unseeing m ended p =
-    filter (λ task. is_in ended task || is_in ended p.owner) (sharers m.sight p.number p.owner)
+-- the rows of those who share a subpool
+abbrev pub sharer_rows : Subpools → Subpool → List SightRow
+sharer_rows m p = map (λ task. (p, task)) (sharers m.sight p.number p.owner)
 
-abbrev pub unshared : Subpool → ℕ → Record
-unshared p task = Sharer (record { subpool = p; task = task; present = false })
+-- The rows that go with one of a task that ends: with an owner's own those of who shares its subpool, and one of another's
+-- subpool itself. Where that other ends too, it goes with the owner's.
+abbrev pub rows_with : Subpools → List ℕ → SightRow → List SightRow
+rows_with m ended row =
+    if is_own row then sharer_rows m row.0 else if is_in ended row.0.owner then [] else row ∷ []
+
+-- the rows that go besides those of owners: none of their tasks sees the subpool any more
+abbrev pub rows_unseen : Subpools → List ℕ → List SightRow
+rows_unseen m ended = flat_map (rows_with m ended) (seen_by_these m ended)
+
+abbrev pub unshared : SightRow → Record
+unshared row = Sharer (record { subpool = row.0; task = row.1; present = false })
 
 abbrev pub unshared_records : Subpools → List ℕ → List Record
-unshared_records m ended = flat_map (λ p. map (unshared p) (unseeing m ended p)) (subpools_in_order m)
+unshared_records m ended = map unshared (rows_unseen m ended)
 
 -- the subpools, which are empty by then and seen by their owners alone, are gone
 abbrev pub removed : Subpool → Record
@@ -96,7 +129,7 @@ extents_ended m ended = length (flat_map (extents m) (owned_by_these m ended))
 
 -- and how many rows of sight go besides those of owners
 abbrev pub sights_ended : Subpools → List ℕ → ℕ
-sights_ended m ended = length (flat_map (unseeing m ended) (subpools_in_order m))
+sights_ended m ended = length (rows_unseen m ended)
 
 -- what leaves: the tasks, their subpools, the extents of these, and rows of sight
 abbrev pub weight_ended : Subpools → List ℕ → ℕ

@@ -1,6 +1,6 @@
 -- The table in the order of its names: which of its rows come behind a name, and which of them is the first.
 -- Assembler Services Reference, CPOOL.
-use Rattle.std.specs.Prelude.{◌≡◌, ℕ, Bool, true, false, Option, Some, None, List, [], ◌∷◌, filter}
+use Rattle.std.specs.Prelude.{◌≡◌, ℕ, true, false, Option, Some, None, List, [], ◌∷◌, filter}
 use Rattle.vsm_model.specs.CellPools.{CellPools}
 use Rattle.cell_pool.specs.Pools.{Pool}
 use Rattle.cell_pool.specs.Order.{is_before, is_behind}
