@@ -123,8 +123,7 @@ module _ (m : Subpools) where
         each_map (λ p. (is_in ended p.owner ≡ true) × (is_there m p ≡ true)) (λ row. row.0) (filter is_own (seen_by_these m ended))
         (each_filter (IsSeen m ended) (λ row. (is_in ended row.0.owner ≡ true) × (is_there m row.0 ≡ true)) is_own (seen_by_these m ended)
         (λ row own is.
-        let same = eqb-true row.0.owner row.1 own in
-        (
+        let same = eqb-true row.0.owner row.1 own in (
           ap (is_in ended) same ∙ is.ends,
           ap (λ task. holds (λ owner. owner == row.0.owner) (m.sight task row.0.number)) same ∙ ap (holds (λ owner. owner == row.0.owner)) is.sees ∙ eq-eqb row.0.owner row.0.owner refl,
         ))
