@@ -1,25 +1,40 @@
--- The records by which a subpool is emptied, where a task of the subtree owns it.
+-- The records of one row of sight, where the task owns what it sees, and where it doesn't.
 use Rattle.std.proofs.Common.{◌≡◌, ℕ, Bool, true, false, List, [], ◌∷◌, sym, ap, ◌∙◌}
-use Rattle.std.specs.Prelude.{if◌then◌else◌}
+use Rattle.std.specs.Prelude.{map, if◌then◌else◌}
 use Rattle.std.specs.List.{flat_map}
 use Rattle.std.proofs.lemmas.List.{append-nil}
 use Rattle.vsm_model.specs.declared.Subpool.{Subpool}
 use Rattle.vsm_model.specs.Search.{is_in}
 use Rattle.subpool_storage.specs.Extents.{extents}
-use Rattle.storage_changes.specs.declared.record.Record.{Record}
+use Rattle.subpool_storage.specs.Subpools.{Subpools}
 use Rattle.storage_changes.specs.declared.record.Record.TheVariants.{Queues}
 use Rattle.storage_changes.specs.Changes.{unassigned_records}
 use Rattle.storage_changes.specs.State.{StorageState}
-use Rattle.storage_changes.specs.Ending.{ended_below, emptying_records}
-use Rattle.task_plans.specs.TaskPlans.{owned_among}
+use Rattle.storage_changes.specs.Ending.{SightRow, is_own, owned_in, emptying_records, sharer_rows, rows_with}
 
-module _ (m : StorageState) (top : ℕ) (p : Subpool) where
-  abbrev records : Bool → List Record
-  records b = flat_map (emptying_records m.subpools) (if b then p ∷ [] else [])
+module _ (row : SightRow) where
+  abbrev its : Bool → List Subpool
+  its b = map (λ (r : SightRow). r.0) (if b then row ∷ [] else [])
 
-  pub emptied : true ≡ is_in (ended_below m.tasks.parents top) p.owner
-      → flat_map (emptying_records m.subpools) (owned_among m top (p ∷ [])) ≡ Queues (record { subpool = p }) ∷ unassigned_records (extents m.subpools p)
-  emptied is = ap records (sym is) ∙ append-nil (Queues (record { subpool = p }) ∷ unassigned_records (extents m.subpools p))
+  pub own_is : true ≡ is_own row → owned_in (row ∷ []) ≡ row.0 ∷ []
+  own_is is = ap its (sym is)
 
-  pub not_emptied : false ≡ is_in (ended_below m.tasks.parents top) p.owner → flat_map (emptying_records m.subpools) (owned_among m top (p ∷ [])) ≡ []
-  not_emptied is = ap records (sym is)
+  pub not_own : false ≡ is_own row → owned_in (row ∷ []) ≡ []
+  not_own is = ap its (sym is)
+
+  pub emptied : (m : StorageState) → true ≡ is_own row → flat_map (emptying_records m.subpools) (owned_in (row ∷ [])) ≡ Queues (record { subpool = row.0 }) ∷ unassigned_records (extents m.subpools row.0)
+  emptied m is = ap (flat_map (emptying_records m.subpools)) (own_is is) ∙ append-nil (Queues (record { subpool = row.0 }) ∷ unassigned_records (extents m.subpools row.0))
+
+-- what goes with a row of a task that ends, in each of the three cases
+module _ (m : Subpools) (ended : List ℕ) (row : SightRow) where
+  abbrev with : Bool → Bool → List SightRow
+  with own other = if own then sharer_rows m row.0 else if other then [] else row ∷ []
+
+  pub own_goes : true ≡ is_own row → rows_with m ended row ≡ sharer_rows m row.0
+  own_goes is = ap (λ b. with b (is_in ended row.0.owner)) (sym is)
+
+  pub others_goes : false ≡ is_own row → true ≡ is_in ended row.0.owner → rows_with m ended row ≡ []
+  others_goes foreign ends = λ i. with (sym foreign i) (sym ends i)
+
+  pub stays_goes : false ≡ is_own row → false ≡ is_in ended row.0.owner → rows_with m ended row ≡ row ∷ []
+  stays_goes foreign stays = λ i. with (sym foreign i) (sym stays i)

@@ -6,6 +6,7 @@ mod Rests
 mod Climbs
 mod Levels
 mod OwnedNames
+mod SightLemmas
 mod Walks
 mod Parks
 mod Reservations

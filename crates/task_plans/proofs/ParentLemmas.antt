@@ -1,10 +1,10 @@
 -- The parents that were read into an array.
-use Rattle.std.proofs.Common.{◌≡◌, ◌≢◌, ℕ, suc, ◌+◌, ◌<◌, ◌≤◌, ◌==◌, nat_lt, Bool, true, false, ◌⊎◌, inl, inr, List, length, set, get_or, Option, Some, None, IsSome, refl, sym, ap, ◌∙◌, subst, arith}
-use Rattle.std.specs.Prelude.{if◌then◌else◌, is_some, unwrap_or, slice_index_or, slice_set}
+use Rattle.std.proofs.Common.{◌≡◌, ◌≢◌, ℕ, suc, ◌+◌, ◌<◌, ◌≤◌, nat_lt, Bool, true, false, ◌⊎◌, inl, inr, List, length, Option, Some, None, IsSome, refl, sym, ap, ◌∙◌, subst, arith}
+use Rattle.std.specs.Prelude.{if◌then◌else◌, unwrap_or, slice_index_or, slice_set}
 use Rattle.std.proofs.lemmas.List.{get_or-set_same, get_or-set_other, length-set}
 use Rattle.std.proofs.lemmas.Bool.Decides.{eqb_tells, leb_tells}
 use Rattle.storage_changes.specs.State.{StorageState}
-use Rattle.task_plans.specs.Parents.{present, read_in, AreParents}
+use Rattle.task_plans.specs.Parents.{present, AreParents}
 
 lt_tells : (t m : ℕ) → ((nat_lt t m ≡ true) × (t < m)) ⊎ ((nat_lt t m ≡ false) × (m ≤ t))
 lt_tells t m = elim (leb_tells (suc t) m) [

@@ -1,16 +1,12 @@
 -- Empty subpools are parked under one name behind the other.
-use Rattle.std.proofs.Common.{◌≡◌, ℕ, suc, ◌+◌, ◌<◌, ◌≤◌, Bool, true, false, ◌&&◌, ◌==◌, Option, Some, None, Result, Ok, Err, OnOk, List, [], ◌∷◌, ◌++◌, length, length-append, refl, sym, ap, ◌∙◌, subst, arith}
-use Rattle.std.specs.Prelude.{filter, if◌then◌else◌}
+use Rattle.std.proofs.Common.{◌≡◌, ℕ, suc, ◌+◌, ◌≤◌, Bool, true, false, ◌&&◌, ◌==◌, Option, Some, None, Result, Ok, Err, OnOk, List, [], ◌∷◌, ◌++◌, length, length-append, refl, sym, ap, ◌∙◌, subst, arith}
+use Rattle.std.specs.Prelude.{if◌then◌else◌}
 use Rattle.std.specs.List.{All, AllPairs}
 use Rattle.std.proofs.lemmas.Bool.{and_parts, both_ways, eqb-true, false_from_ne_true}
 use Rattle.vsm_elements.specs.Store.{live_count}
 use Rattle.vsm_model.specs.declared.Subpool.{Subpool}
-use Rattle.vsm_model.specs.Search.{is_in}
 use Rattle.vsm_model.specs.Subpools.{same_subpool}
-use Rattle.subpool_set.specs.declared.places.PoolPlace.{PoolPlace}
-use Rattle.subpool_storage.specs.Order.{subpools_in_order}
 use Rattle.subpool_storage.specs.Subpools.{Subpools, no_subpools, with_own}
-use Rattle.subpool_storage.specs.SubpoolStorage.{IsSubpoolPlace, subpools_left}
 use Rattle.storage_changes.specs.Changes.{empties}
 use Rattle.storage_changes.specs.Names.{AreNames}
 use Rattle.storage_changes.proofs.Cases.{cond-out, same-self}
@@ -20,9 +16,12 @@ use Rattle.storage_swap.specs.declared.builder.ChangeBuilder.{ChangeBuilder}
 use Rattle.storage_swap.specs.Builder.{records_in, parked_in, IsBuilding, Builds, Parks}
 use Rattle.storage_swap.specs.Growth.{all_elements, MakesElements}
 use Rattle.storage_swap.proofs.BuilderLemmas.{builds-none, builds-follow, makes-follow}
-use Rattle.storage_changes.specs.Ending.{ended_below}
-use Rattle.task_plans.specs.TaskPlans.{owned_among, parked_onto, parks_all, CanPark, ParksAll}
-use Rattle.task_plans.proofs.Walks.{place_kept}
+use Rattle.storage_changes.specs.State.{StorageState}
+use Rattle.storage_changes.specs.Ending.{SightRow, ended_below, owned_in, seen_by_these}
+use Rattle.task_plans.specs.declared.sights.SightPlace.{SightPlace}
+use Rattle.task_plans.specs.Sights.{seen_left}
+use Rattle.task_plans.specs.TaskPlans.{parked_onto, parks_all, CanPark, ParksAll}
+use Rattle.task_plans.proofs.Walks.{owned_first}
 
 -- in whatever order
 swap-own : (m : Subpools) (p q : Subpool) → with_own (with_own m p true) q true ≡ with_own (with_own m q true) p true
@@ -80,12 +79,6 @@ can-from m (p ∷ ps) owners numbers once unseen = (
 pub names_can : (ps : List Subpool) → AreNames ps → CanPark no_subpools ps
 names_can ps names = can-from no_subpools ps names.owners names.numbers names.once (λ i d l. refl)
 
-filter-first : (f : Subpool → Bool) (x : Subpool) (xs : List Subpool) → filter f (x ∷ xs) ≡ filter f (x ∷ []) ++ filter f xs
-filter-first f x xs = go (f x) where
-  go : (b : Bool) → (if b then x ∷ filter f xs else filter f xs) ≡ (if b then x ∷ [] else []) ++ filter f xs
-  go true = refl
-  go false = refl
-
 -- one is parked, or none
 pub parks_one : {E : Type 0} (s : Parts) (a : ChangeBuilder) (p : Subpool) (names : List Subpool) (t : Parts) (b : ChangeBuilder) → names ≡ p ∷ [] → (r : Result (Unit {0}) E) → OnOk r (Parks s a p t b) → OnOk r (ParksAll s a names t b)
 parks_one s a p names t b is (Ok x) h =
@@ -98,82 +91,74 @@ parks_no s a names is =
     let P : List Subpool → Type 0 = λ ps. ParksAll s a ps s a in
     subst P (sym is) (record { records = refl; parked = refl; spare = omega arith; live = omega arith; made = omega arith })
 
--- Of the subpools that tasks of the subtree own, those behind the place are yet to be parked.
-pub record ParksLead (top : ℕ) (s : Parts) (a : ChangeBuilder) (t : Parts) (b : ChangeBuilder) (place : PoolPlace) : Type 0 where
+-- Of the subpools that tasks of the subtree own, those from the place on are yet to be parked.
+pub record ParksLead (top : ℕ) (s : Parts) (a : ChangeBuilder) (t : Parts) (b : ChangeBuilder) (place : SightPlace) : Type 0 where
   pub builds : Builds s a t b
-  pub there : IsSubpoolPlace t.elements t.subpools place
   pub records : records_in t b ≡ records_in s a
-  pub parked : parked_onto (parked_in t b) (owned_among (state_of s) top (subpools_left t.elements t.subpools place)) ≡ parked_onto (parked_in s a) (parks_all (state_of s) top)
-  pub can : CanPark (parked_in t b) (owned_among (state_of s) top (subpools_left t.elements t.subpools place))
-  pub spare : s.elements.spare + length (owned_among (state_of s) top (subpools_left t.elements t.subpools place)) ≤ t.elements.spare + length (parks_all (state_of s) top)
-  pub live : live_count t.elements + length (owned_among (state_of s) top (subpools_left t.elements t.subpools place)) ≤ live_count s.elements + length (parks_all (state_of s) top)
+  pub parked : parked_onto (parked_in t b) (owned_in (seen_left (state_of s) top place)) ≡ parked_onto (parked_in s a) (parks_all (state_of s) top)
+  pub can : CanPark (parked_in t b) (owned_in (seen_left (state_of s) top place))
+  pub spare : s.elements.spare + length (owned_in (seen_left (state_of s) top place)) ≤ t.elements.spare + length (parks_all (state_of s) top)
+  pub live : live_count t.elements + length (owned_in (seen_left (state_of s) top place)) ≤ live_count s.elements + length (parks_all (state_of s) top)
   pub made : MakesElements s.elements t.elements (length (parks_all (state_of s) top))
 
 module _ (top : ℕ) (s : Parts) (a : ChangeBuilder) where
-  abbrev owned : List Subpool → List Subpool
-  owned = owned_among (state_of s) top
+  abbrev left : SightPlace → List Subpool
+  left place = owned_in (seen_left (state_of s) top place)
 
-  pub parks_none : (place : PoolPlace) → IsBuilding s a → IsSubpoolPlace s.elements s.subpools place → subpools_left s.elements s.subpools place ≡ subpools_in_order (state_of s).subpools
+  pub parks_none : (place : SightPlace) → IsBuilding s a → seen_left (state_of s) top place ≡ seen_by_these (state_of s).subpools (ended_below (state_of s).tasks.parents top)
       → CanPark (parked_in s a) (parks_all (state_of s) top) → ParksLead top s a s a place
-  parks_none place building there all can =
-      let P : List Subpool → Type 0 = λ xs. CanPark (parked_in s a) (owned xs) in
+  parks_none place building all can =
+      let P : List SightRow → Type 0 = λ xs. CanPark (parked_in s a) (owned_in xs) in
       record {
         builds = builds-none s a building;
-        there = there;
         records = refl;
-        parked = ap (λ (xs : List Subpool). parked_onto (parked_in s a) (owned xs)) all;
+        parked = ap (λ (xs : List SightRow). parked_onto (parked_in s a) (owned_in xs)) all;
         can = subst P (sym all) can;
-        spare = omega (arith, ap (λ (xs : List Subpool). length (owned xs)) all);
-        live = omega (arith, ap (λ (xs : List Subpool). length (owned xs)) all);
+        spare = omega (arith, ap (λ (xs : List SightRow). length (owned_in xs)) all);
+        live = omega (arith, ap (λ (xs : List SightRow). length (owned_in xs)) all);
         made = omega arith;
       }
 
-  module _ (t : Parts) (b : ChangeBuilder) (place : PoolPlace) (w : ParksLead top s a t b place) where
-    pub parks_done : subpools_left t.elements t.subpools place ≡ [] → ParksAll s a (parks_all (state_of s) top) t b
-    parks_done none = record {
-      records = w.records;
-      parked = ap (λ (xs : List Subpool). parked_onto (parked_in t b) (owned xs)) (sym none) ∙ w.parked;
-      spare = omega (arith, w.spare, ap (λ (xs : List Subpool). length (owned xs)) none);
-      live = omega (arith, w.live, ap (λ (xs : List Subpool). length (owned xs)) none);
-      made = w.made;
-    }
+  module _ (t : Parts) (b : ChangeBuilder) (place : SightPlace) (w : ParksLead top s a t b place) where
+    same-rows : (place : SightPlace) → seen_left (state_of t) top place ≡ seen_left (state_of s) top place
+    same-rows place = ap (λ (m : StorageState). seen_left m top place) w.builds.keeps.shows
+
+    pub parks_done : seen_left (state_of t) top place ≡ [] → ParksAll s a (parks_all (state_of s) top) t b
+    parks_done none =
+        let is : left place ≡ [] = ap owned_in (sym (same-rows place) ∙ none) in
+        record {
+          records = w.records;
+          parked = ap (parked_onto (parked_in t b)) (sym is) ∙ w.parked;
+          spare = omega (arith, w.spare, ap length is);
+          live = omega (arith, w.live, ap length is);
+          made = w.made;
+        }
 
     -- the next one
-    module _ (next : PoolPlace) (x : Subpool) (is : subpools_left t.elements t.subpools place ≡ x ∷ subpools_left t.elements t.subpools next) (added : List Subpool) (its : added ≡ owned (x ∷ [])) where
-      abbrev later : List Subpool
-      later = owned (subpools_left t.elements t.subpools next)
+    module _ (next : SightPlace) (x : SightRow) (is : seen_left (state_of t) top place ≡ x ∷ seen_left (state_of t) top next) where
+      abbrev added : List Subpool
+      added = owned_in (x ∷ [])
 
-      front : owned (subpools_left t.elements t.subpools place) ≡ added ++ later
-      front = ap owned is ∙ filter-first (λ p. is_in (ended_below (state_of s).tasks.parents top) p.owner) x (subpools_left t.elements t.subpools next) ∙ ap (λ (z : List Subpool). z ++ later) (sym its)
+      front : left place ≡ added ++ left next
+      front = ap owned_in (sym (same-rows place) ∙ is ∙ ap (λ (z : List SightRow). x ∷ z) (same-rows next)) ∙ owned_first x (seen_left (state_of s) top next)
 
       pub parks_can : CanPark (parked_in t b) added
-      parks_can = let P : List Subpool → Type 0 = CanPark (parked_in t b) in can-front (parked_in t b) added later (subst P front w.can)
+      parks_can = let P : List Subpool → Type 0 = CanPark (parked_in t b) in can-front (parked_in t b) added (left next) (subst P front w.can)
 
       pub parks_room : length (parks_all (state_of s) top) ≤ s.elements.spare → length added ≤ t.elements.spare
-      parks_room room = omega (arith, room, w.spare, ap length front, length-append added later)
+      parks_room room = omega (arith, room, w.spare, ap length front, length-append added (left next))
 
-      pub parks_more : (u : Parts) (c : ChangeBuilder) → IsSubpoolPlace t.elements t.subpools next → Builds t b u c → records_in u c ≡ records_in t b → parked_in u c ≡ parked_onto (parked_in t b) added
-          → t.elements.spare ≤ u.elements.spare + length added → live_count u.elements ≤ live_count t.elements + length added → MakesElements t.elements u.elements (length added) → ParksLead top s a u c next
-      parks_more u c there builds records parked spare live made =
-          let k = place_kept t u _ _ builds.keeps w.builds.building.ready.stands.storage next there in
+      pub parks_more : (u : Parts) (c : ChangeBuilder) → Builds t b u c → ParksAll t b added u c → ParksLead top s a u c next
+      parks_more u c builds all =
           let P : List Subpool → Type 0 = CanPark (parked_in t b) in
-          let Q : List Subpool → Type 0 = λ xs. CanPark (parked_in u c) (owned xs) in
-          let R : Subpools → Type 0 = λ m. CanPark m later in
+          let R : Subpools → Type 0 = λ m. CanPark m (left next) in
           record {
             builds = builds-follow s t u a b c w.builds builds;
-            there = k.0;
-            records = records ∙ w.records;
-            parked = ap (λ (xs : List Subpool). parked_onto (parked_in u c) (owned xs)) k.1 ∙ ap (λ (m : Subpools). parked_onto m later) parked
-                ∙ sym (onto-more (parked_in t b) added later) ∙ ap (parked_onto (parked_in t b)) (sym front) ∙ w.parked;
-            can = subst Q (sym k.1) (subst R (sym parked) (can-rest (parked_in t b) added later (subst P front w.can)));
-            spare = omega (arith, w.spare, spare, ap length front, length-append added later, ap (λ (xs : List Subpool). length (owned xs)) k.1);
-            live = omega (arith, w.live, live, ap length front, length-append added later, ap (λ (xs : List Subpool). length (owned xs)) k.1);
+            records = all.records ∙ w.records;
+            parked = ap (λ (m : Subpools). parked_onto m (left next)) all.parked ∙ sym (onto-more (parked_in t b) added (left next)) ∙ ap (parked_onto (parked_in t b)) (sym front) ∙ w.parked;
+            can = subst R (sym all.parked) (can-rest (parked_in t b) added (left next) (subst P front w.can));
+            spare = omega (arith, w.spare, all.spare, ap length front, length-append added (left next));
+            live = omega (arith, w.live, all.live, ap length front, length-append added (left next));
             made = makes-follow (all_elements s.elements) (all_elements t.elements) (all_elements u.elements) (live_count s.elements) (live_count t.elements)
-                (length (parks_all (state_of s) top)) (length added) (length (parks_all (state_of s) top)) w.made (omega (arith, w.live, ap length front, length-append added later)) (omega arith) made;
+                (length (parks_all (state_of s) top)) (length added) (length (parks_all (state_of s) top)) w.made (omega (arith, w.live, ap length front, length-append added (left next))) (omega arith) all.made;
           }
-
-      pub parks_less : (u : Parts) (c : ChangeBuilder) → IsSubpoolPlace t.elements t.subpools next → Builds t b u c
-          → length (subpools_left u.elements u.subpools next) < length (subpools_left t.elements t.subpools place)
-      parks_less u c there builds =
-          let k = place_kept t u _ _ builds.keeps w.builds.building.ready.stands.storage next there in
-          omega (arith, ap length k.1, ap length is)

@@ -2,7 +2,8 @@
 use Rattle.std.proofs.Common.{◌≡◌, ℕ, suc, ◌+◌, ◌<◌, ◌≤◌, Bool, true, false, List, [], ◌∷◌, ◌++◌, length, length-append, map, drop, Some, None, Result, Ok, Err, OnOk, refl, sym, ap, ◌∙◌, subst, arith}
 use Rattle.std.specs.Prelude.{filter, slice_get, if◌then◌else◌}
 use Rattle.std.specs.List.{flat_map}
-use Rattle.std.proofs.lemmas.List.{append-nil}
+use Rattle.std.proofs.lemmas.Grind.{flat_map-append}
+use Rattle.std.proofs.lemmas.List.{append-nil, map-append}
 use Rattle.std.proofs.lemmas.Option.{slice_get_within}
 use Rattle.vsm_elements.specs.Store.{at}
 use Rattle.vsm_elements.specs.Owners.{times}
@@ -15,11 +16,11 @@ use Rattle.descriptor_queue.specs.Extents.{extents, IsExtents, IsPlace}
 use Rattle.descriptor_queue.specs.Extents
 use Rattle.descriptor_queue.proofs.PageLemmas.{extents_kept, extent_places_kept}
 use Rattle.vsm_model.specs.declared.Subpool.{Subpool}
-use Rattle.subpool_set.specs.declared.places.PoolPlace.{PoolPlace}
+use Rattle.subpool_set.specs.Pools.{sharers}
 use Rattle.subpool_set.specs.declared.sharers.SharerPlace.{SharerPlace}
 use Rattle.subpool_storage.specs.declared.storage.SubpoolStorage.{SubpoolStorage as TheSubpools}
-use Rattle.subpool_storage.specs.Order.{subpools_in_order}
-use Rattle.subpool_storage.specs.SubpoolStorage.{IsSubpoolPlace, subpools_left, sharers_left}
+use Rattle.subpool_storage.specs.Subpools.{Subpools}
+use Rattle.subpool_storage.specs.SubpoolStorage.{sharers_left}
 use Rattle.subpool_storage.specs.SubpoolStorage
 use Rattle.subpool_storage.proofs.PlaceStays.{places_stay}
 use Rattle.storage_changes.specs.declared.record.Record.{Record}
@@ -28,11 +29,45 @@ use Rattle.storage_changes.specs.Changes.{unassigned_records}
 use Rattle.storage_exchange.specs.declared.storage.Parts.{Parts}
 use Rattle.storage_exchange.specs.Storage.{hold, state_of, Stand}
 use Rattle.storage_swap.specs.declared.builder.ChangeBuilder.{ChangeBuilder}
-use Rattle.storage_swap.specs.Builder.{IsBuilding, Keeps, Builds, Pushes}
-use Rattle.storage_swap.proofs.BuilderLemmas.{Leads, leads-none, leads-more, leads-all, leads-room, pushes-follow}
+use Rattle.storage_swap.specs.Builder.{Keeps, Builds, Pushes}
+use Rattle.storage_swap.proofs.BuilderLemmas.{Leads, leads-more, leads-all, leads-room, pushes-follow}
+use Rattle.storage_changes.specs.State.{StorageState}
+use Rattle.storage_changes.specs.Ending.{SightRow, is_own, owned_in, sharer_rows, unshared}
+use Rattle.task_plans.specs.declared.sights.SightPlace.{SightPlace}
+use Rattle.task_plans.specs.Sights.{seen_left}
 use Rattle.task_plans.proofs.Rests.{drop_next, drop_none}
 
--- places, over elements that came beside the storage
+-- Of the records of what the tasks of a subtree see, those from the place on are left.
+module _ (h : List SightRow → List Record) (top : ℕ) (s : Parts) (a : ChangeBuilder) (t : Parts) (b : ChangeBuilder) (place : SightPlace) (builds : Builds s a t b) where
+  -- the state stays as it is while a change of it is made
+  same_left : (place : SightPlace) → seen_left (state_of t) top place ≡ seen_left (state_of s) top place
+  same_left place = ap (λ (m : StorageState). seen_left m top place) builds.keeps.shows
+
+  module _ (all : List Record) (w : Leads s a all t b (h (seen_left (state_of s) top place))) where
+    pub walk_all : seen_left (state_of t) top place ≡ [] → h [] ≡ [] → Pushes s a all t b
+    walk_all none nil = leads-all s t a b all (h (seen_left (state_of s) top place)) w (ap h (sym (same_left place) ∙ none) ∙ nil)
+
+    -- the next one
+    module _ (first : (x : SightRow) (xs : List SightRow) → h (x ∷ xs) ≡ h (x ∷ []) ++ h xs) (next : SightPlace) (x : SightRow) (is : seen_left (state_of t) top place ≡ x ∷ seen_left (state_of t) top next)
+        (added : List Record) (its : added ≡ h (x ∷ [])) where
+      front : h (seen_left (state_of s) top place) ≡ added ++ h (seen_left (state_of s) top next)
+      front = ap h (sym (same_left place) ∙ is ∙ ap (λ (z : List SightRow). x ∷ z) (same_left next)) ∙ first x (seen_left (state_of s) top next)
+          ∙ ap (λ (z : List Record). z ++ h (seen_left (state_of s) top next)) (sym its)
+
+      pub walk_room : length all ≤ s.elements.spare → length added ≤ t.elements.spare
+      walk_room room =
+          let r = leads-room s t a b all (h (seen_left (state_of s) top place)) w room in
+          omega (arith, r, ap length front, length-append added (h (seen_left (state_of s) top next)))
+
+      pub walk_more : (u : Parts) (c : ChangeBuilder) → Builds t b u c → Pushes t b added u c → Leads s a all u c (h (seen_left (state_of s) top next))
+      walk_more u c more pushes = leads-more s t a b all (h (seen_left (state_of s) top place)) w u c added (h (seen_left (state_of s) top next)) front more pushes
+
+-- fewer are left behind the next one
+pub walk_less : (top : ℕ) (t u : Parts) (b c : ChangeBuilder) (place next : SightPlace) (x : SightRow) → seen_left (state_of t) top place ≡ x ∷ seen_left (state_of t) top next → Builds t b u c
+    → length (seen_left (state_of u) top next) < length (seen_left (state_of t) top place)
+walk_less top t u b c place next x is more = omega (arith, ap length is, ap (λ (m : StorageState). length (seen_left m top next)) more.keeps.shows)
+
+-- places among sharers, over elements that came beside the storage
 module _ (t u : Parts) (f g : ℕ → ℕ) (k : Keeps t u f g) (stand : Stand t) where
   same-subpools : u.subpools ≡ t.subpools
   same-subpools = ap (λ (z : Parts). z.subpools) k.same
@@ -40,72 +75,16 @@ module _ (t u : Parts) (f g : ℕ → ℕ) (k : Keeps t u f g) (stand : Stand t)
   its-kept : (i : ℕ) → 0 < SubpoolStorage.hold t.elements t.subpools i → at u.elements i ≡ at t.elements i
   its-kept i n = k.kept i (omega (arith, n))
 
-  pub place_kept : (place : PoolPlace) → IsSubpoolPlace t.elements t.subpools place
-      → IsSubpoolPlace u.elements u.subpools place × (subpools_left u.elements u.subpools place ≡ subpools_left t.elements t.subpools place)
-  place_kept place h =
-      let P : TheSubpools → Type 0 = λ q. IsSubpoolPlace u.elements q place × (subpools_left u.elements q place ≡ subpools_left t.elements t.subpools place) in
-      subst P (sym same-subpools) ((places_stay t.elements u.elements t.subpools stand.subpools its-kept).0 place h)
-
   pub sharers_kept : (place : SharerPlace) (p : Subpool) → sharers_left u.elements u.subpools place p ≡ sharers_left t.elements t.subpools place p
   sharers_kept place p =
       let P : TheSubpools → Type 0 = λ q. sharers_left u.elements q place p ≡ sharers_left t.elements t.subpools place p in
       subst P (sym same-subpools) ((places_stay t.elements u.elements t.subpools stand.subpools its-kept).1 place p)
-
--- Of the records of the subpools, those behind the place are left.
-pub record WalkLeads (h : List Subpool → List Record) (s : Parts) (a : ChangeBuilder) (t : Parts) (b : ChangeBuilder) (place : PoolPlace) : Type 0 where
-  pub there : IsSubpoolPlace t.elements t.subpools place
-  pub leads : Leads s a (h (subpools_in_order (state_of s).subpools)) t b (h (subpools_left t.elements t.subpools place))
-
-module _ (h : List Subpool → List Record) (s : Parts) (a : ChangeBuilder) where
-  abbrev whole : List Record
-  whole = h (subpools_in_order (state_of s).subpools)
-
-  pub walk_none : (place : PoolPlace) → IsBuilding s a → IsSubpoolPlace s.elements s.subpools place → subpools_left s.elements s.subpools place ≡ subpools_in_order (state_of s).subpools
-      → WalkLeads h s a s a place
-  walk_none place building there all =
-      let P : List Subpool → Type 0 = λ xs. Leads s a whole s a (h xs) in
-      record { there = there; leads = subst P (sym all) (leads-none s a whole building) }
-
-  module _ (t : Parts) (b : ChangeBuilder) (place : PoolPlace) (w : WalkLeads h s a t b place) where
-    pub walk_all : subpools_left t.elements t.subpools place ≡ [] → h [] ≡ [] → Pushes s a whole t b
-    walk_all none nil = leads-all s t a b whole (h (subpools_left t.elements t.subpools place)) w.leads (ap h none ∙ nil)
-
-    -- the next one
-    module _ (first : (x : Subpool) (xs : List Subpool) → h (x ∷ xs) ≡ h (x ∷ []) ++ h xs) (next : PoolPlace) (x : Subpool) (is : subpools_left t.elements t.subpools place ≡ x ∷ subpools_left t.elements t.subpools next)
-        (added : List Record) (its : added ≡ h (x ∷ [])) where
-      front : h (subpools_left t.elements t.subpools place) ≡ added ++ h (subpools_left t.elements t.subpools next)
-      front = ap h is ∙ first x (subpools_left t.elements t.subpools next) ∙ ap (λ (z : List Record). z ++ h (subpools_left t.elements t.subpools next)) (sym its)
-
-      pub walk_room : length whole ≤ s.elements.spare → length added ≤ t.elements.spare
-      walk_room room =
-          let r = leads-room s t a b whole (h (subpools_left t.elements t.subpools place)) w.leads room in
-          omega (arith, r, ap length front, length-append added (h (subpools_left t.elements t.subpools next)))
-
-      pub walk_more : (u : Parts) (c : ChangeBuilder) → IsSubpoolPlace t.elements t.subpools next → Builds t b u c → Pushes t b added u c → WalkLeads h s a u c next
-      walk_more u c there builds pushes =
-          let k = place_kept t u _ _ builds.keeps w.leads.builds.building.ready.stands.storage next there in
-          let P : List Subpool → Type 0 = λ xs. Leads s a whole u c (h xs) in
-          record {
-            there = k.0;
-            leads = subst P (sym k.1) (leads-more s t a b whole (h (subpools_left t.elements t.subpools place)) w.leads u c added (h (subpools_left t.elements t.subpools next)) front builds pushes);
-          }
-
-      pub walk_less : (u : Parts) (c : ChangeBuilder) → IsSubpoolPlace t.elements t.subpools next → Builds t b u c
-          → length (subpools_left u.elements u.subpools next) < length (subpools_left t.elements t.subpools place)
-      walk_less u c there builds =
-          let k = place_kept t u _ _ builds.keeps w.leads.builds.building.ready.stands.storage next there in
-          omega (arith, ap length k.1, ap length is)
 
 -- Of the records of those who share a subpool, those behind the place are left.
 pub record SharersLead (h : List ℕ → List Record) (p : Subpool) (all : List ℕ) (s : Parts) (a : ChangeBuilder) (t : Parts) (b : ChangeBuilder) (place : SharerPlace) : Type 0 where
   pub leads : Leads s a (h all) t b (h (sharers_left t.elements t.subpools place p))
 
 module _ (h : List ℕ → List Record) (p : Subpool) (all : List ℕ) (s : Parts) (a : ChangeBuilder) where
-  pub sharers_none : (place : SharerPlace) → IsBuilding s a → sharers_left s.elements s.subpools place p ≡ all → SharersLead h p all s a s a place
-  sharers_none place building is =
-      let P : List ℕ → Type 0 = λ xs. Leads s a (h all) s a (h xs) in
-      record { leads = subst P (sym is) (leads-none s a (h all) building) }
-
   module _ (t : Parts) (b : ChangeBuilder) (place : SharerPlace) (w : SharersLead h p all s a t b place) where
     pub sharers_all : sharers_left t.elements t.subpools place p ≡ [] → h [] ≡ [] → Pushes s a (h all) t b
     sharers_all none nil = leads-all s t a b (h all) (h (sharers_left t.elements t.subpools place p)) w.leads (ap h none ∙ nil)
@@ -198,13 +177,6 @@ ok_last s t u a b c all left l (Ok x) builds p =
 ok_last s t u a b c all left l (Err e) builds p = tt
 
 -- what one gives, of those that pass
-module _ {A B : Type 0} (f : A → Bool) (g : A → B) where
-  pub mapped_first : (x : A) (xs : List A) → map g (filter f (x ∷ xs)) ≡ map g (filter f (x ∷ [])) ++ map g (filter f xs)
-  mapped_first x xs = go (f x) where
-    go : (b : Bool) → map g (if b then x ∷ filter f xs else filter f xs) ≡ map g (if b then x ∷ [] else []) ++ map g (filter f xs)
-    go true = refl
-    go false = refl
-
 module _ {A B : Type 0} (f : A → Bool) (g : A → List B) where
   pub passed_first : (x : A) (xs : List A) → flat_map g (filter f (x ∷ xs)) ≡ flat_map g (filter f (x ∷ [])) ++ flat_map g (filter f xs)
   passed_first x xs = go (f x) where
@@ -212,5 +184,31 @@ module _ {A B : Type 0} (f : A → Bool) (g : A → List B) where
     go true = ap (λ (z : List B). z ++ flat_map g (filter f xs)) (sym (append-nil (g x)))
     go false = refl
 
-pub all_first : {A B : Type 0} (g : A → List B) (x : A) (xs : List A) → flat_map g (x ∷ xs) ≡ flat_map g (x ∷ []) ++ flat_map g xs
-all_first g x xs = ap (λ (z : List _). z ++ flat_map g xs) (sym (append-nil (g x)))
+-- what owners' own rows give, and all rows
+pub owned_first : (x : SightRow) (xs : List SightRow) → owned_in (x ∷ xs) ≡ owned_in (x ∷ []) ++ owned_in xs
+owned_first x xs = go (is_own x) where
+  go : (b : Bool) → map (λ (row : SightRow). row.0) (if b then x ∷ filter is_own xs else filter is_own xs) ≡ map (λ (row : SightRow). row.0) (if b then x ∷ [] else []) ++ owned_in xs
+  go true = refl
+  go false = refl
+
+pub given_first : (g : Subpool → List Record) (x : SightRow) (xs : List SightRow) → flat_map g (owned_in (x ∷ xs)) ≡ flat_map g (owned_in (x ∷ [])) ++ flat_map g (owned_in xs)
+given_first g x xs = ap (flat_map g) (owned_first x xs) ∙ flat_map-append g (owned_in (x ∷ [])) (owned_in xs)
+
+pub made_first : (g : Subpool → Record) (x : SightRow) (xs : List SightRow) → map g (owned_in (x ∷ xs)) ≡ map g (owned_in (x ∷ [])) ++ map g (owned_in xs)
+made_first g x xs = ap (map g) (owned_first x xs) ∙ map-append g (owned_in (x ∷ [])) (owned_in xs)
+
+pub rows_first : (g : SightRow → Record) (f : SightRow → List SightRow) (x : SightRow) (xs : List SightRow) → map g (flat_map f (x ∷ xs)) ≡ map g (flat_map f (x ∷ [])) ++ map g (flat_map f xs)
+rows_first g f x xs = map-append g (f x) (flat_map f xs) ∙ ap (λ (z : List SightRow). map g z ++ map g (flat_map f xs)) (sym (append-nil (f x)))
+
+pub one_first : (g : ℕ → Record) (x : ℕ) (xs : List ℕ) → map g (x ∷ xs) ≡ map g (x ∷ []) ++ map g xs
+one_first g x xs = refl
+
+-- the records of who shares a subpool, one for each
+pub rows_are : (m : Subpools) (p : Subpool) → map unshared (sharer_rows m p) ≡ map (λ task. unshared (p, task)) (sharers m.sight p.number p.owner)
+rows_are m p = go (sharers m.sight p.number p.owner) where
+  go : (ts : List ℕ) → map unshared (map (λ task. (p, task)) ts) ≡ map (λ task. unshared (p, task)) ts
+  go [] = refl
+  go (t ∷ ts) = ap (λ (z : List Record). unshared (p, t) ∷ z) (go ts)
+
+pub fewer_rows : (m : Subpools) (p : Subpool) {n : ℕ} → length (map unshared (sharer_rows m p)) ≤ n → length (map (λ task. unshared (p, task)) (sharers m.sight p.number p.owner)) ≤ n
+fewer_rows m p {n} room = omega (arith, room, ap length (rows_are m p))

@@ -1,5 +1,5 @@
 -- The parents of all tasks in an array.
-use Rattle.std.specs.Prelude.{◌≡◌, ℕ, Bool, true, false, ◌==◌, nat_lt, if◌then◌else◌, List, Option, Some, None}
+use Rattle.std.specs.Prelude.{◌≡◌, ℕ, ◌==◌, nat_lt, if◌then◌else◌, List, Option, Some, None}
 use Rattle.std.specs.Prelude.{slice_index_or}
 
 -- what stands for no task is 255

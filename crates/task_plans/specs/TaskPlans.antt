@@ -1,11 +1,10 @@
 -- What the plans of tasks come to on the plain machine. Assembler Services Reference, ATTACH and DETACH; Assembler
 -- Services Guide, "Virtual storage management", "Subpool handling".
-use Rattle.std.specs.Prelude.{◌≡◌, ℕ, ◌+◌, ◌≤◌, Bool, true, ◌||◌, unwrap_or, None, IsSome, List, [], ◌∷◌, ◌++◌, filter}
-use Rattle.std.specs.Prelude.{length, Result, Ok, Err}
+use Rattle.std.specs.Prelude.{◌≡◌, ℕ, ◌+◌, ◌≤◌, Bool, true, unwrap_or, None, IsSome, List, [], ◌∷◌, ◌++◌, length}
+use Rattle.std.specs.Prelude.{Result, Ok, Err}
 use Rattle.std.specs.List.{flat_map}
 use Rattle.vsm_elements.specs.Store.{live_count}
 use Rattle.vsm_model.specs.declared.Subpool.{Subpool}
-use Rattle.vsm_model.specs.Search.{is_in}
 use Rattle.subpool_storage.specs.Subpools.{Subpools, with_own}
 use Rattle.storage_changes.specs.declared.record.Record.{Record}
 use Rattle.vsm_model.specs.declared.causes.Cause.{Cause}
@@ -58,23 +57,9 @@ end_change m plan =
     (end_records m ended plan.next ++ register_records (with_turn m plan.next) (end_registers plan.reply))
     (end_blanks m ended)
 
--- of these subpools, those that tasks of the subtree own
-abbrev pub owned_among : StorageState → ℕ → List Subpool → List Subpool
-owned_among m top ps = filter (λ p. is_in (ended_below m.tasks.parents top) p.owner) ps
-
--- the subpool, where a task of the subtree owns it
-abbrev pub owned_one : StorageState → ℕ → Subpool → List Subpool
-owned_one m top p = owned_among m top (p ∷ [])
-
 -- the subpools under whose names the end of a subtree parks empty ones
 abbrev pub parks_all : StorageState → ℕ → List Subpool
 parks_all m top = owned_by_these m.subpools (ended_below m.tasks.parents top)
-
--- of these tasks, those that see the subpool no more: they end, or its owner does
-abbrev pub unseeing_among : StorageState → ℕ → Subpool → List ℕ → List ℕ
-unseeing_among m top p tasks =
-    let ended = ended_below m.tasks.parents top in
-    filter (λ task. is_in ended task || is_in ended p.owner) tasks
 
 -- the records of a subtree's end that stand behind the turn
 abbrev pub rest_records : StorageState → EndPlan → List Record

@@ -16,14 +16,17 @@ ghost use Rattle.storage_plans.specs.Places.{StandsSound};
 ghost use Rattle.storage_swap.specs.Builder.{parked_in, records_in, IsBuilding, Builds, Pushes};
 ghost use Rattle.storage_swap.specs.Growth.{MakesElements};
 ghost use Rattle.storage_swap.specs.Reserve.{Grown, Reserves};
-ghost use Rattle.storage_changes.specs.Ending.{ended_below, owned_by_these, emptying_records, removed};
-ghost use Rattle.storage_changes.specs.Ending.{released_records, removed_records, unseeing, unshared, unshared_records};
+ghost use Rattle.storage_changes.specs.Ending.{ended_below, owned_in, emptying_records, removed};
+ghost use Rattle.storage_changes.specs.Ending.{released_records, removed_records, rows_with, sharer_rows, unshared};
+ghost use Rattle.storage_changes.specs.Ending.{unshared_records};
 ghost use Rattle.task_plans.specs.Parents.{AreParents};
-ghost use Rattle.task_plans.specs.TaskPlans.{end_change, owned_among, owned_one, parks_all, ParksAll};
-ghost use Rattle.task_plans.specs.TaskPlans.{rest_records, unseeing_among, CanBeEnded, CanPark, IsEndPlanned};
+ghost use Rattle.task_plans.specs.Sights.{row_of};
+ghost use Rattle.task_plans.specs.TaskPlans.{end_change, parks_all, ParksAll};
+ghost use Rattle.task_plans.specs.TaskPlans.{rest_records, CanBeEnded, CanPark, IsEndPlanned};
 
 use crate::ended::{Parents, Tree, is_ended, push_ended, read_parents};
 use crate::registers::set_register;
+use crate::sights::{Seen, first_seen, next_seen};
 use crate::{Builder, Pushed};
 use descriptor_queue::Extents;
 use std::alloc::AllocError;
@@ -230,27 +233,25 @@ fn park_owned(storage: &mut Parts, builder: &mut Builder, tree: &Tree) -> Pushed
         → IsOk result }
 {
     subpools_are_there();
-    let mut place = SubpoolStorage::first_subpool_place();
-    while let Some((subpool, next)) = storage.subpools.next_subpool(&storage.elements, place) {
-        park_one(storage, builder, tree, subpool)?;
+    let mut place = first_seen();
+    while let Some((seen, next)) = next_seen(storage, tree, place) {
+        park_one(storage, builder, seen)?;
         place = next;
     }
     Ok(())
 }
 
-// One is parked under this name, where a task of the subtree is the owner.
-fn park_one(storage: &mut Parts, builder: &mut Builder, tree: &Tree, subpool: Subpool) -> Pushed
+// One is parked under this name, where the task owns what it sees.
+fn park_one(storage: &mut Parts, builder: &mut Builder, seen: Seen) -> Pushed
     requires building { IsBuilding storage.old builder.old }
-    requires tree { AreParents tree.now.parents.of (state_of storage.old).tasks.parents }
-    requires can { CanPark (parked_in storage.old builder.old) (owned_one (state_of storage.old) tree.now.top subpool) }
+    requires can { CanPark (parked_in storage.old builder.old) (owned_in (row_of seen ∷ [])) }
     ensures builds { Builds storage.old builder.old storage.new builder.new }
-    ensures ok { OnOk result (ParksAll storage.old builder.old (owned_one (state_of storage.old) tree.now.top subpool)
+    ensures ok { OnOk result (ParksAll storage.old builder.old (owned_in (row_of seen ∷ []))
         storage.new builder.new) }
-    ensures needless { length (owned_one (state_of storage.old) tree.now.top subpool) ≤ storage.old.elements.spare
-        → IsOk result }
+    ensures needless { length (owned_in (row_of seen ∷ [])) ≤ storage.old.elements.spare → IsOk result }
 {
-    if is_ended(storage, tree, subpool.owner) {
-        return builder.park(storage, subpool);
+    if seen.is_own() {
+        return builder.park(storage, seen.subpool);
     }
     Ok(())
 }
@@ -266,26 +267,25 @@ fn push_released(storage: &mut Parts, builder: &mut Builder, tree: &Tree) -> Pus
     ensures needless { length (released_records (state_of storage.old).subpools
         (ended_below (state_of storage.old).tasks.parents tree.now.top)) ≤ storage.old.elements.spare → IsOk result }
 {
-    let mut place = SubpoolStorage::first_subpool_place();
-    while let Some((subpool, next)) = storage.subpools.next_subpool(&storage.elements, place) {
-        push_emptied(storage, builder, tree, subpool)?;
+    let mut place = first_seen();
+    while let Some((seen, next)) = next_seen(storage, tree, place) {
+        push_emptied(storage, builder, seen)?;
         place = next;
     }
     Ok(())
 }
 
-// So does that of one subpool, where a task of the subtree is the owner.
-fn push_emptied(storage: &mut Parts, builder: &mut Builder, tree: &Tree, subpool: Subpool) -> Pushed
+// So does that of one, where the task owns what it sees.
+fn push_emptied(storage: &mut Parts, builder: &mut Builder, seen: Seen) -> Pushed
     requires building { IsBuilding storage.old builder.old }
-    requires tree { AreParents tree.now.parents.of (state_of storage.old).tasks.parents }
     ensures builds { Builds storage.old builder.old storage.new builder.new }
-    ensures ok { OnOk result (Pushes storage.old builder.old
-        (flat_map (emptying_records (state_of storage.old).subpools)
-        (owned_among (state_of storage.old) tree.now.top (subpool ∷ []))) storage.new builder.new) }
+    ensures ok { OnOk result (Pushes storage.old builder.old (flat_map
+        (emptying_records (state_of storage.old).subpools) (owned_in (row_of seen ∷ []))) storage.new builder.new) }
     ensures needless { length (flat_map (emptying_records (state_of storage.old).subpools)
-        (owned_among (state_of storage.old) tree.now.top (subpool ∷ []))) ≤ storage.old.elements.spare → IsOk result }
+        (owned_in (row_of seen ∷ []))) ≤ storage.old.elements.spare → IsOk result }
 {
-    if is_ended(storage, tree, subpool.owner) {
+    if seen.is_own() {
+        let subpool = seen.subpool;
         builder.push(storage, Record::Queues(QueuesRecord { subpool }))?;
         return push_extents(storage, builder, subpool);
     }
@@ -324,69 +324,64 @@ fn push_unshared(storage: &mut Parts, builder: &mut Builder, tree: &Tree) -> Pus
     ensures needless { length (unshared_records (state_of storage.old).subpools
         (ended_below (state_of storage.old).tasks.parents tree.now.top)) ≤ storage.old.elements.spare → IsOk result }
 {
-    let mut place = SubpoolStorage::first_subpool_place();
-    while let Some((subpool, next)) = storage.subpools.next_subpool(&storage.elements, place) {
-        push_unseeing(storage, builder, tree, subpool)?;
+    let mut place = first_seen();
+    while let Some((seen, next)) = next_seen(storage, tree, place) {
+        push_unseen(storage, builder, tree, seen)?;
         place = next;
     }
     Ok(())
 }
 
-// Those who share the subpool and end, or all where its owner does, see it no more.
-fn push_unseeing(
-    storage: &mut Parts,
-    builder: &mut Builder,
-    tree: &Tree,
-    subpool: Subpool,
-) -> Pushed
+// With an owner, all who share its subpool see it no more; and a task of the subtree sees none whose owner stays. One
+// whose owner ends too is told with that owner.
+fn push_unseen(storage: &mut Parts, builder: &mut Builder, tree: &Tree, seen: Seen) -> Pushed
     requires building { IsBuilding storage.old builder.old }
     requires tree { AreParents tree.now.parents.of (state_of storage.old).tasks.parents }
     ensures builds { Builds storage.old builder.old storage.new builder.new }
-    ensures ok { OnOk result (Pushes storage.old builder.old
-        (map (unshared subpool) (unseeing (state_of storage.old).subpools
-        (ended_below (state_of storage.old).tasks.parents tree.now.top) subpool)) storage.new builder.new) }
-    ensures needless { length (map (unshared subpool) (unseeing (state_of storage.old).subpools
-        (ended_below (state_of storage.old).tasks.parents tree.now.top) subpool)) ≤ storage.old.elements.spare
+    ensures ok { OnOk result (Pushes storage.old builder.old (map unshared (rows_with (state_of storage.old).subpools
+        (ended_below (state_of storage.old).tasks.parents tree.now.top) (row_of seen))) storage.new builder.new) }
+    ensures needless { length (map unshared (rows_with (state_of storage.old).subpools
+        (ended_below (state_of storage.old).tasks.parents tree.now.top) (row_of seen))) ≤ storage.old.elements.spare
         → IsOk result }
+{
+    if seen.is_own() {
+        return push_sharers(storage, builder, seen.subpool);
+    }
+    if is_ended(storage, tree, seen.subpool.owner) {
+        return Ok(());
+    }
+    builder.push(storage, unseen(seen.subpool, seen.task))
+}
+
+// Those who share the subpool see it no more.
+fn push_sharers(storage: &mut Parts, builder: &mut Builder, subpool: Subpool) -> Pushed
+    requires building { IsBuilding storage.old builder.old }
+    ensures builds { Builds storage.old builder.old storage.new builder.new }
+    ensures ok { OnOk result (Pushes storage.old builder.old
+        (map unshared (sharer_rows (state_of storage.old).subpools subpool)) storage.new builder.new) }
+    ensures needless { length (map unshared (sharer_rows (state_of storage.old).subpools subpool))
+        ≤ storage.old.elements.spare → IsOk result }
 {
     let mut place = SubpoolStorage::first_sharer_place();
     while let Some((task, next)) = storage
         .subpools
         .next_sharer(&storage.elements, subpool, place)
     {
-        push_unseen(storage, builder, tree, subpool, task)?;
+        builder.push(storage, unseen(subpool, task))?;
         place = next;
     }
     Ok(())
 }
 
-// One who shares the subpool sees it no more, where it ends or its owner does.
-fn push_unseen(
-    storage: &mut Parts,
-    builder: &mut Builder,
-    tree: &Tree,
-    subpool: Subpool,
-    task: u8,
-) -> Pushed
-    requires building { IsBuilding storage.old builder.old }
-    requires tree { AreParents tree.now.parents.of (state_of storage.old).tasks.parents }
-    ensures builds { Builds storage.old builder.old storage.new builder.new }
-    ensures ok { OnOk result (Pushes storage.old builder.old
-        (map (unshared subpool) (unseeing_among (state_of storage.old) tree.now.top subpool (task ∷ [])))
-        storage.new builder.new) }
-    ensures needless { length (map (unshared subpool)
-        (unseeing_among (state_of storage.old) tree.now.top subpool (task ∷ []))) ≤ storage.old.elements.spare
-        → IsOk result }
+// The record by which a task sees a subpool no more.
+fn unseen(subpool: Subpool, task: u8) -> Record
+    ensures { result ≡ unshared (subpool, task) }
 {
-    if is_ended(storage, tree, task) || is_ended(storage, tree, subpool.owner) {
-        let unseen = Record::Sharer(SharerRecord {
-            subpool,
-            task,
-            present: false,
-        });
-        return builder.push(storage, unseen);
-    }
-    Ok(())
+    Record::Sharer(SharerRecord {
+        subpool,
+        task,
+        present: false,
+    })
 }
 
 // The subpools that tasks of the subtree own are gone.
@@ -399,27 +394,26 @@ fn push_removed(storage: &mut Parts, builder: &mut Builder, tree: &Tree) -> Push
     ensures needless { length (removed_records (state_of storage.old).subpools
         (ended_below (state_of storage.old).tasks.parents tree.now.top)) ≤ storage.old.elements.spare → IsOk result }
 {
-    let mut place = SubpoolStorage::first_subpool_place();
-    while let Some((subpool, next)) = storage.subpools.next_subpool(&storage.elements, place) {
-        push_gone(storage, builder, tree, subpool)?;
+    let mut place = first_seen();
+    while let Some((seen, next)) = next_seen(storage, tree, place) {
+        push_gone(storage, builder, seen)?;
         place = next;
     }
     Ok(())
 }
 
-// So is one, where a task of the subtree is the owner.
-fn push_gone(storage: &mut Parts, builder: &mut Builder, tree: &Tree, subpool: Subpool) -> Pushed
+// So is one, where the task owns what it sees.
+fn push_gone(storage: &mut Parts, builder: &mut Builder, seen: Seen) -> Pushed
     requires building { IsBuilding storage.old builder.old }
-    requires tree { AreParents tree.now.parents.of (state_of storage.old).tasks.parents }
     ensures builds { Builds storage.old builder.old storage.new builder.new }
-    ensures ok { OnOk result (Pushes storage.old builder.old
-        (map removed (owned_among (state_of storage.old) tree.now.top (subpool ∷ []))) storage.new builder.new) }
-    ensures needless { length (map removed (owned_among (state_of storage.old) tree.now.top (subpool ∷ [])))
-        ≤ storage.old.elements.spare → IsOk result }
+    ensures ok { OnOk result (Pushes storage.old builder.old (map removed (owned_in (row_of seen ∷ [])))
+        storage.new builder.new) }
+    ensures needless { length (map removed (owned_in (row_of seen ∷ []))) ≤ storage.old.elements.spare
+        → IsOk result }
 {
-    if is_ended(storage, tree, subpool.owner) {
+    if seen.is_own() {
         let gone = Record::Own(OwnRecord {
-            subpool,
+            subpool: seen.subpool,
             present: false,
         });
         return builder.push(storage, gone);

@@ -8,6 +8,7 @@ mod numbers;
 mod passing;
 mod registers;
 mod run;
+mod sights;
 
 pub use attach::{AttachPlan, plan_attach};
 pub use end::{EndPlan, plan_detach, plan_end_task};

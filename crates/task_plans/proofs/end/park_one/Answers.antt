@@ -1,20 +1,17 @@
-use Rattle.std.proofs.Common.{[], ◌∷◌, sym, ◌∙◌, ap}
-use Rattle.std.specs.Prelude.{if◌then◌else◌}
-use Rattle.storage_exchange.specs.Storage.{state_of}
-use Rattle.task_plans.specs.TaskPlans.{owned_one}
+use Rattle.std.proofs.Common.{sym, ◌∷◌, [], ◌∙◌}
+use Rattle.storage_changes.specs.Ending.{owned_in}
+use Rattle.task_plans.specs.Sights.{row_of}
+use Rattle.task_plans.proofs.EmptyingRecords.{own_is, not_own}
 use Rattle.task_plans.proofs.Parks.{parks_one, parks_no}
 use Rattle.task_plans.proofs.end.park_one.Goals as goal
 
-pub returns-then-is_ended-clause-ok : goal.returns-then-is_ended-clause-ok
-returns-then-is_ended-clause-ok c =
-    let p = c.args.storage.now in
-    let q = c.args.subpool in
-    parks_one p c.args.builder.now q (owned_one (state_of p) c.args.tree.now.top q) c.park.new.storage c.park.new.self
-    (ap (λ passes. if passes then q ∷ [] else []) (sym c.is_ended.ensures ∙ c.if-is_ended.true)) c.park.result c.park.ensures.ok
+pub returns-then-is_own-clause-ok : goal.returns-then-is_own-clause-ok
+returns-then-is_own-clause-ok c =
+    let row = row_of c.args.seen in
+    parks_one c.args.storage.now c.args.builder.now c.args.seen.subpool (owned_in (row ∷ [])) c.park.new.storage c.park.new.self
+    (own_is row (sym c.if-is_own.true ∙ c.is_own.ensures)) c.park.result c.park.ensures.ok
 
 pub returns-clause-ok : goal.returns-clause-ok
 returns-clause-ok c =
-    let p = c.args.storage.now in
-    let q = c.args.subpool in
-    parks_no p c.args.builder.now (owned_one (state_of p) c.args.tree.now.top q)
-    (ap (λ passes. if passes then q ∷ [] else []) (sym c.is_ended.ensures ∙ c.if-is_ended.false))
+    let row = row_of c.args.seen in
+    parks_no c.args.storage.now c.args.builder.now (owned_in (row ∷ [])) (not_own row (sym c.if-is_own.false ∙ c.is_own.ensures))

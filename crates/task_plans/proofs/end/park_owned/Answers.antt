@@ -1,60 +1,53 @@
-use Rattle.std.proofs.Common.{List, [], ◌∷◌, sym, ap, subst}
-use Rattle.vsm_model.specs.declared.Subpool.{Subpool}
+use Rattle.std.proofs.Common.{refl, sym, subst}
 use Rattle.subpool_storage.specs.Subpools.{Subpools}
-use Rattle.storage_changes.specs.State.{StorageState}
 use Rattle.storage_exchange.specs.Storage.{state_of}
 use Rattle.storage_changes.specs.Ending.{ended_below}
-use Rattle.task_plans.specs.TaskPlans.{owned_among, parks_all, CanPark}
+use Rattle.storage_swap.proofs.BuilderLemmas.{builds-follow}
+use Rattle.task_plans.specs.Sights.{row_of}
+use Rattle.task_plans.specs.TaskPlans.{parks_all, CanPark}
+use Rattle.task_plans.proofs.EndRecords.{never}
 use Rattle.task_plans.proofs.OwnedNames.{owned_are_names}
-use Rattle.task_plans.proofs.Parks.{names_can, parks_none, parks_done, parks_can, parks_more, parks_less}
 use Rattle.task_plans.proofs.ParentLemmas.{still}
+use Rattle.task_plans.proofs.Parks.{names_can, parks_none, parks_done, parks_can, parks_room, parks_more}
+use Rattle.task_plans.proofs.Walks.{walk_less}
 use Rattle.task_plans.proofs.end.park_owned.Goals as goal
 
-pub loop-subpool-init : goal.loop-subpool-init
-loop-subpool-init c =
+pub loop-seen-init : goal.loop-seen-init
+loop-seen-init c =
     let p = c.args.storage.now in
     let m = state_of p in
     let top = c.args.tree.now.top in
-    let stand = c.requires.building.ready.stands.storage in
-    let first = c.first_subpool_place-place in
-    let range = (c.subpools_are_there.ensures p.elements p.subpools stand.subpools).0 in
+    let range = (c.subpools_are_there.ensures p.elements p.subpools c.requires.building.ready.stands.storage.subpools).0 in
     let P : Subpools → Type 0 = λ z. CanPark z (parks_all m top) in
-    parks_none top p c.args.builder.now first.result c.requires.building (first.ensures.place p.elements p.subpools) (first.ensures.all p.elements p.subpools stand.subpools)
+    parks_none top p c.args.builder.now c.first_seen-place.result c.requires.building (c.first_seen-place.ensures m top)
     (subst P (sym c.requires.none) (names_can (parks_all m top) (owned_are_names m.subpools range (ended_below m.tasks.parents top))))
 
 pub park_one-requires-clause-can : goal.park_one-requires-clause-can
-park_one-requires-clause-can c =
-    let p = c.args.storage.now in
-    let t = c.loop-subpool.storage in
-    let top = c.args.tree.now.top in
-    let x = c.in-Some.subpool in
-    let w = c.loop-subpool.invariant in
-    let added : StorageState → List Subpool = λ m. owned_among m top (x ∷ []) in
-    parks_can top p c.args.builder.now t c.loop-subpool.builder c.loop-subpool.place w c.in-Some.next x c.in-Some.ensures.next (added (state_of t)) (ap added w.builds.keeps.shows)
+park_one-requires-clause-can c = parks_can c.args.tree.now.top c.args.storage.now c.args.builder.now c.loop-seen.storage c.loop-seen.builder c.loop-seen.place c.loop-seen.invariant c.in-Some.next (row_of c.in-Some.seen) c.in-Some.ensures.next
 
-pub loop-subpool-smaller : goal.loop-subpool-smaller
-loop-subpool-smaller c =
-    let p = c.args.storage.now in
-    let t = c.loop-subpool.storage in
-    let top = c.args.tree.now.top in
-    let x = c.in-Some.subpool in
-    let w = c.loop-subpool.invariant in
-    let added : StorageState → List Subpool = λ m. owned_among m top (x ∷ []) in
-    parks_less top p c.args.builder.now t c.loop-subpool.builder c.loop-subpool.place w c.in-Some.next x c.in-Some.ensures.next (added (state_of t)) (ap added w.builds.keeps.shows) c.park_one.new.storage c.park_one.new.builder c.in-Some.ensures.place c.park_one.ensures.builds
+pub loop-seen-smaller : goal.loop-seen-smaller
+loop-seen-smaller c =
+    walk_less c.args.tree.now.top c.loop-seen.storage c.park_one.new.storage c.loop-seen.builder c.park_one.new.builder c.loop-seen.place c.in-Some.next (row_of c.in-Some.seen) c.in-Some.ensures.next c.park_one.ensures.builds
 
-pub loop-subpool-preserved : goal.loop-subpool-preserved
-loop-subpool-preserved c =
-    let p = c.args.storage.now in
-    let t = c.loop-subpool.storage in
-    let top = c.args.tree.now.top in
-    let x = c.in-Some.subpool in
-    let w = c.loop-subpool.invariant in
-    let added : StorageState → List Subpool = λ m. owned_among m top (x ∷ []) in
-    parks_more top p c.args.builder.now t c.loop-subpool.builder c.loop-subpool.place w c.in-Some.next x c.in-Some.ensures.next (added (state_of t)) (ap added w.builds.keeps.shows) c.park_one.new.storage c.park_one.new.builder c.in-Some.ensures.place c.park_one.ensures.builds
-    c.in_ok-park_one.ensures.ok.records c.in_ok-park_one.ensures.ok.parked c.in_ok-park_one.ensures.ok.spare c.in_ok-park_one.ensures.ok.live c.in_ok-park_one.ensures.ok.made
+pub loop-seen-preserved : goal.loop-seen-preserved
+loop-seen-preserved c =
+    parks_more c.args.tree.now.top c.args.storage.now c.args.builder.now c.loop-seen.storage c.loop-seen.builder c.loop-seen.place c.loop-seen.invariant c.in-Some.next (row_of c.in-Some.seen) c.in-Some.ensures.next c.park_one.new.storage c.park_one.new.builder c.park_one.ensures.builds c.in_ok-park_one.ensures.ok
+
+pub next_seen-requires-clause-tree : goal.next_seen-requires-clause-tree
+next_seen-requires-clause-tree c = still c.args.tree.now.parents.of _ _ (c.loop-seen.invariant.builds.keeps.shows) c.requires.tree
+
+pub returns-in_err-park_one-clause-builds : goal.returns-in_err-park_one-clause-builds
+returns-in_err-park_one-clause-builds c = builds-follow _ _ _ _ _ _ c.loop-seen.invariant.builds c.park_one.ensures.builds
+
+pub returns-in_err-park_one-clause-needless : goal.returns-in_err-park_one-clause-needless
+returns-in_err-park_one-clause-needless c = λ room.
+    never (c.in_err-park_one.ensures.needless (parks_room c.args.tree.now.top c.args.storage.now c.args.builder.now c.loop-seen.storage c.loop-seen.builder c.loop-seen.place c.loop-seen.invariant c.in-Some.next (row_of c.in-Some.seen) c.in-Some.ensures.next room))
+
+pub returns-clause-builds : goal.returns-clause-builds
+returns-clause-builds c = c.loop-seen.invariant.builds
 
 pub returns-clause-ok : goal.returns-clause-ok
-returns-clause-ok c = parks_done c.args.tree.now.top c.args.storage.now c.args.builder.now c.loop-subpool.storage c.loop-subpool.builder c.loop-subpool.place c.loop-subpool.invariant c.in_default.ensures.none
+returns-clause-ok c = parks_done c.args.tree.now.top c.args.storage.now c.args.builder.now c.loop-seen.storage c.loop-seen.builder c.loop-seen.place c.loop-seen.invariant c.in_default.ensures.none
 
-pub park_one-requires-clause-tree : goal.park_one-requires-clause-tree
-park_one-requires-clause-tree c = still c.args.tree.now.parents.of _ _ (c.loop-subpool.invariant.builds.keeps.shows) c.requires.tree
+pub returns-clause-needless : goal.returns-clause-needless
+returns-clause-needless c = λ room. refl

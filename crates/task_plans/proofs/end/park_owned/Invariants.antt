@@ -1,10 +1,11 @@
 use Rattle.std.proofs.Common.{length}
-use Rattle.subpool_storage.specs.SubpoolStorage.{subpools_left}
+use Rattle.storage_exchange.specs.Storage.{state_of}
+use Rattle.task_plans.specs.Sights.{seen_left}
 use Rattle.task_plans.proofs.Parks.{ParksLead}
 use Rattle.task_plans.proofs.end.park_owned.Given as goal
 
-abbrev pub invariant-loop-subpool : goal.invariant-loop-subpool
-invariant-loop-subpool l = ParksLead l.tree.top l.fn.storage l.fn.builder l.storage l.builder l.place
+abbrev pub invariant-loop-seen : goal.invariant-loop-seen
+invariant-loop-seen l = ParksLead l.tree.top l.fn.storage l.fn.builder l.storage l.builder l.place
 
-abbrev pub decreases-loop-subpool : goal.decreases-loop-subpool
-decreases-loop-subpool l = length (subpools_left l.storage.elements l.storage.subpools l.place)
+abbrev pub decreases-loop-seen : goal.decreases-loop-seen
+decreases-loop-seen l = length (seen_left (state_of l.storage) l.tree.top l.place)

@@ -1,68 +1,74 @@
-use Rattle.std.proofs.Common.{◌≡◌, List, [], ◌∷◌, refl, ap}
+use Rattle.std.proofs.Common.{◌≡◌, List, [], ◌∷◌, refl, sym, subst}
 use Rattle.std.specs.Prelude.{map}
-use Rattle.storage_changes.specs.Ending.{ended_below, removed}
-use Rattle.storage_swap.proofs.BuilderLemmas.{builds-follow}
-use Rattle.task_plans.specs.TaskPlans.{owned_among}
-use Rattle.vsm_model.specs.declared.Subpool.{Subpool}
-use Rattle.vsm_model.specs.Search.{is_in}
-use Rattle.storage_changes.specs.declared.record.Record.{Record}
+use Rattle.storage_changes.specs.Ending.{SightRow, ended_below, owned_in, seen_by_these, removed}
 use Rattle.storage_changes.specs.State.{StorageState}
+use Rattle.storage_changes.specs.declared.record.Record.{Record}
 use Rattle.storage_exchange.specs.Storage.{state_of}
+use Rattle.storage_swap.proofs.BuilderLemmas.{Leads, builds-follow, leads-none}
+use Rattle.task_plans.specs.Sights.{row_of}
 use Rattle.task_plans.proofs.EndRecords.{never}
-use Rattle.task_plans.proofs.Walks.{walk_all, walk_room, walk_more, walk_less, mapped_first}
 use Rattle.task_plans.proofs.ParentLemmas.{still}
+use Rattle.task_plans.proofs.Walks.{walk_all, walk_room, walk_more, walk_less, made_first}
 use Rattle.task_plans.proofs.end.push_removed.Goals as goal
 
-pub loop-subpool-smaller : goal.loop-subpool-smaller
-loop-subpool-smaller c =
+pub loop-seen-init : goal.loop-seen-init
+loop-seen-init c =
     let p = c.args.storage.now in
-    let t = c.loop-subpool.storage in
     let top = c.args.tree.now.top in
-    let x = c.in-Some.subpool in
-    let w = c.loop-subpool.invariant in
-    let h : StorageState → List Subpool → List Record = λ m ps. map removed (owned_among m top ps) in
-    let added : StorageState → List Record = λ m. map removed (owned_among m top (x ∷ [])) in
-    let its : added (state_of t) ≡ h (state_of p) (x ∷ []) = ap added w.leads.builds.keeps.shows in
-    walk_less (h (state_of p)) p c.args.builder.now t c.loop-subpool.builder c.loop-subpool.place w (let m = state_of p in mapped_first (λ q. is_in (ended_below m.tasks.parents top) q.owner) removed) c.in-Some.next x c.in-Some.ensures.next (added (state_of t)) its c.push_gone.new.storage c.push_gone.new.builder c.in-Some.ensures.place c.push_gone.ensures.builds
+    let m = state_of p in
+    let h : List SightRow → List Record = λ rows. map removed (owned_in rows) in
+    let all = h (seen_by_these m.subpools (ended_below m.tasks.parents top)) in
+    let P : List SightRow → Type 0 = λ rows. Leads p c.args.builder.now all p c.args.builder.now (h rows) in
+    subst P (sym (c.first_seen-place.ensures m top)) (leads-none p c.args.builder.now all c.requires.building)
 
-pub loop-subpool-preserved : goal.loop-subpool-preserved
-loop-subpool-preserved c =
+pub loop-seen-smaller : goal.loop-seen-smaller
+loop-seen-smaller c =
+    walk_less c.args.tree.now.top c.loop-seen.storage c.push_gone.new.storage c.loop-seen.builder c.push_gone.new.builder c.loop-seen.place c.in-Some.next (row_of c.in-Some.seen) c.in-Some.ensures.next c.push_gone.ensures.builds
+
+pub loop-seen-preserved : goal.loop-seen-preserved
+loop-seen-preserved c =
     let p = c.args.storage.now in
-    let t = c.loop-subpool.storage in
+    let t = c.loop-seen.storage in
     let top = c.args.tree.now.top in
-    let x = c.in-Some.subpool in
-    let w = c.loop-subpool.invariant in
-    let h : StorageState → List Subpool → List Record = λ m ps. map removed (owned_among m top ps) in
-    let added : StorageState → List Record = λ m. map removed (owned_among m top (x ∷ [])) in
-    let its : added (state_of t) ≡ h (state_of p) (x ∷ []) = ap added w.leads.builds.keeps.shows in
-    walk_more (h (state_of p)) p c.args.builder.now t c.loop-subpool.builder c.loop-subpool.place w (let m = state_of p in mapped_first (λ q. is_in (ended_below m.tasks.parents top) q.owner) removed) c.in-Some.next x c.in-Some.ensures.next (added (state_of t)) its c.push_gone.new.storage c.push_gone.new.builder c.in-Some.ensures.place c.push_gone.ensures.builds c.in_ok-push_gone.ensures.ok
+    let m = state_of p in
+    let x = row_of c.in-Some.seen in
+    let w = c.loop-seen.invariant in
+    let h : List SightRow → List Record = λ rows. map removed (owned_in rows) in
+    let all = h (seen_by_these m.subpools (ended_below m.tasks.parents top)) in
+    let added : StorageState → List Record = λ _. map removed (owned_in (x ∷ [])) in
+    let its : added (state_of t) ≡ h (x ∷ []) = refl in
+    walk_more h top p c.args.builder.now t c.loop-seen.builder c.loop-seen.place w.builds all w (made_first removed) c.in-Some.next x c.in-Some.ensures.next (added (state_of t)) its c.push_gone.new.storage c.push_gone.new.builder c.push_gone.ensures.builds c.in_ok-push_gone.ensures.ok
 
-pub push_gone-requires-clause-tree : goal.push_gone-requires-clause-tree
-push_gone-requires-clause-tree c = still c.args.tree.now.parents.of _ _ (c.loop-subpool.invariant.leads.builds.keeps.shows) c.requires.tree
+pub next_seen-requires-clause-tree : goal.next_seen-requires-clause-tree
+next_seen-requires-clause-tree c = still c.args.tree.now.parents.of _ _ (c.loop-seen.invariant.builds.keeps.shows) c.requires.tree
 
 pub returns-in_err-push_gone-clause-builds : goal.returns-in_err-push_gone-clause-builds
-returns-in_err-push_gone-clause-builds c = builds-follow _ _ _ _ _ _ c.loop-subpool.invariant.leads.builds c.push_gone.ensures.builds
+returns-in_err-push_gone-clause-builds c = builds-follow _ _ _ _ _ _ c.loop-seen.invariant.builds c.push_gone.ensures.builds
 
 pub returns-in_err-push_gone-clause-needless : goal.returns-in_err-push_gone-clause-needless
 returns-in_err-push_gone-clause-needless c = λ room.
     let p = c.args.storage.now in
-    let t = c.loop-subpool.storage in
+    let t = c.loop-seen.storage in
     let top = c.args.tree.now.top in
-    let x = c.in-Some.subpool in
-    let w = c.loop-subpool.invariant in
-    let h : StorageState → List Subpool → List Record = λ m ps. map removed (owned_among m top ps) in
-    let added : StorageState → List Record = λ m. map removed (owned_among m top (x ∷ [])) in
-    let its : added (state_of t) ≡ h (state_of p) (x ∷ []) = ap added w.leads.builds.keeps.shows in
-    never (c.in_err-push_gone.ensures.needless (walk_room (h (state_of p)) p c.args.builder.now t c.loop-subpool.builder c.loop-subpool.place w (let m = state_of p in mapped_first (λ q. is_in (ended_below m.tasks.parents top) q.owner) removed) c.in-Some.next x c.in-Some.ensures.next (added (state_of t)) its room))
+    let m = state_of p in
+    let x = row_of c.in-Some.seen in
+    let w = c.loop-seen.invariant in
+    let h : List SightRow → List Record = λ rows. map removed (owned_in rows) in
+    let all = h (seen_by_these m.subpools (ended_below m.tasks.parents top)) in
+    let added : StorageState → List Record = λ _. map removed (owned_in (x ∷ [])) in
+    let its : added (state_of t) ≡ h (x ∷ []) = refl in
+    never (c.in_err-push_gone.ensures.needless (walk_room h top p c.args.builder.now t c.loop-seen.builder c.loop-seen.place w.builds all w (made_first removed) c.in-Some.next x c.in-Some.ensures.next (added (state_of t)) its room))
 
 pub returns-clause-builds : goal.returns-clause-builds
-returns-clause-builds c = c.loop-subpool.invariant.leads.builds
+returns-clause-builds c = c.loop-seen.invariant.builds
 
 pub returns-clause-ok : goal.returns-clause-ok
 returns-clause-ok c =
+    let p = c.args.storage.now in
     let top = c.args.tree.now.top in
-    let h : StorageState → List Subpool → List Record = λ m ps. map removed (owned_among m top ps) in
-    walk_all (h (state_of c.args.storage.now)) c.args.storage.now c.args.builder.now c.loop-subpool.storage c.loop-subpool.builder c.loop-subpool.place c.loop-subpool.invariant c.in_default.ensures.none refl
+    let m = state_of p in
+    let h : List SightRow → List Record = λ rows. map removed (owned_in rows) in
+    walk_all h top p c.args.builder.now c.loop-seen.storage c.loop-seen.builder c.loop-seen.place c.loop-seen.invariant.builds (h (seen_by_these m.subpools (ended_below m.tasks.parents top))) c.loop-seen.invariant c.in_default.ensures.none refl
 
 pub returns-clause-needless : goal.returns-clause-needless
 returns-clause-needless c = λ room. refl

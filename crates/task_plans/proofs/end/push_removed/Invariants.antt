@@ -1,16 +1,18 @@
-use Rattle.std.proofs.Common.{length}
+use Rattle.std.proofs.Common.{length, List}
 use Rattle.std.specs.Prelude.{map}
-use Rattle.subpool_storage.specs.SubpoolStorage.{subpools_left}
+use Rattle.storage_changes.specs.Ending.{SightRow, ended_below, owned_in, seen_by_these, removed}
+use Rattle.storage_changes.specs.declared.record.Record.{Record}
 use Rattle.storage_exchange.specs.Storage.{state_of}
-use Rattle.task_plans.proofs.Walks.{WalkLeads}
-use Rattle.storage_changes.specs.Ending.{removed}
-use Rattle.task_plans.specs.TaskPlans.{owned_among}
+use Rattle.storage_swap.proofs.BuilderLemmas.{Leads}
+use Rattle.task_plans.specs.Sights.{seen_left}
 use Rattle.task_plans.proofs.end.push_removed.Given as goal
 
-abbrev pub invariant-loop-subpool : goal.invariant-loop-subpool
-invariant-loop-subpool l =
+abbrev pub invariant-loop-seen : goal.invariant-loop-seen
+invariant-loop-seen l =
     let m = state_of l.fn.storage in
-    WalkLeads (λ ps. map removed (owned_among m l.tree.top ps)) l.fn.storage l.fn.builder l.storage l.builder l.place
+    let top = l.tree.top in
+    let h : List SightRow → List Record = λ rows. map removed (owned_in rows) in
+    Leads l.fn.storage l.fn.builder (h (seen_by_these m.subpools (ended_below m.tasks.parents top))) l.storage l.builder (h (seen_left m top l.place))
 
-abbrev pub decreases-loop-subpool : goal.decreases-loop-subpool
-decreases-loop-subpool l = length (subpools_left l.storage.elements l.storage.subpools l.place)
+abbrev pub decreases-loop-seen : goal.decreases-loop-seen
+decreases-loop-seen l = length (seen_left (state_of l.storage) l.tree.top l.place)

@@ -4,14 +4,13 @@ use Rattle.subpool_set.specs.Pools.{sharers}
 use Rattle.subpool_storage.specs.SubpoolStorage.{sharers_left}
 use Rattle.storage_exchange.specs.Storage.{state_of}
 use Rattle.storage_changes.specs.Ending.{unshared}
-use Rattle.task_plans.specs.TaskPlans.{unseeing_among}
 use Rattle.task_plans.proofs.Walks.{SharersLead}
-use Rattle.task_plans.proofs.end.push_unseeing.Given as goal
+use Rattle.task_plans.proofs.end.push_sharers.Given as goal
 
 abbrev pub invariant-loop-task : goal.invariant-loop-task
 invariant-loop-task l =
-    let m = state_of l.fn.storage in
-    SharersLead (λ tasks. map (unshared l.subpool) (unseeing_among m l.tree.top l.subpool tasks)) l.subpool (sharers m.subpools.sight l.subpool.number l.subpool.owner) l.fn.storage l.fn.builder l.storage l.builder l.place
+    let p = l.subpool in
+    SharersLead (map (λ task. unshared (p, task))) p (sharers (state_of l.fn.storage).subpools.sight p.number p.owner) l.fn.storage l.fn.builder l.storage l.builder l.place
 
 abbrev pub decreases-loop-task : goal.decreases-loop-task
 decreases-loop-task l = length (sharers_left l.storage.elements l.storage.subpools l.place l.subpool)

@@ -1,7 +1,6 @@
 use Rattle.std.proofs.Common.{◌≡◌, ℕ, Option, ap, ◌∙◌}
 use Rattle.std.specs.Prelude.{unwrap_or}
 use Rattle.task_tree.specs.TaskTree.{parent}
-use Rattle.storage_exchange.specs.Storage.{state_of}
 use Rattle.task_plans.specs.Parents.{present}
 use Rattle.task_plans.proofs.ParentLemmas.{small, filled, one_more}
 use Rattle.task_plans.proofs.ended.read_parents.Goals as goal
