@@ -1,7 +1,7 @@
 -- The records of tasks that end. Assembler Services Reference, DETACH; Assembler Services Guide, "Virtual storage
 -- management", "Subpool handling": when a task ends, the subpools that it owns are released.
-use Rattle.std.specs.Prelude.{◌≡◌, ℕ, zero, suc, ◌+◌, ◌*◌, Bool, true, false, ◌==◌, if◌then◌else◌, Option, Some, option_map}
-use Rattle.std.specs.Prelude.{unwrap_or}
+use Rattle.std.specs.Prelude.{◌≡◌, ℕ, zero, suc, ◌+◌, ◌*◌, Bool, true, false, ◌==◌, if◌then◌else◌}
+use Rattle.std.specs.Prelude.{Option, Some, option_map, unwrap_or}
 use Rattle.std.specs.Prelude.{List, [], ◌∷◌, ◌++◌, length, map, filter}
 use Rattle.std.specs.List.{flat_map, filter_map, range_with_len}
 use Rattle.vsm_model.specs.declared.Subpool.{Subpool}
@@ -72,8 +72,8 @@ released_records m ended = flat_map (emptying_records m) (owned_by_these m ended
 abbrev pub sharer_rows : Subpools → Subpool → List SightRow
 sharer_rows m p = map (λ task. (p, task)) (sharers m.sight p.number p.owner)
 
--- The rows that go with one of a task that ends: with an owner's own those of who shares its subpool, and one of another's
--- subpool itself. Where that other ends too, it goes with the owner's.
+-- The rows that go with one of a task that ends: with an owner's own those of who shares its subpool, and one of
+-- another's subpool itself. Where that other ends too, it goes with the owner's.
 abbrev pub rows_with : Subpools → List ℕ → SightRow → List SightRow
 rows_with m ended row =
     if is_own row then sharer_rows m row.0 else if is_in ended row.0.owner then [] else row ∷ []

@@ -1,5 +1,5 @@
--- What the tasks of a subtree see, read from a place on: by task, and then by number. Assembler Services Guide, "Virtual
--- storage management", "Subpool handling".
+-- What the tasks of a subtree see, read from a place on: by task, and then by number. Assembler Services Guide,
+-- "Virtual storage management", "Subpool handling".
 use Rattle.std.specs.Prelude.{ℕ, ◌+◌, ◌-◌, if◌then◌else◌, List, [], ◌++◌, filter}
 use Rattle.std.specs.List.{flat_map, filter_map, range_with_len}
 use Rattle.vsm_model.specs.Search.{is_in}
@@ -19,7 +19,8 @@ rows_from m task number = filter_map (row_at m.subpools task) (range_with_len nu
 -- those of the tasks of a subtree behind this one
 abbrev pub rows_behind : StorageState → ℕ → ℕ → List SightRow
 rows_behind m top task =
-    flat_map (rows_of m.subpools) (filter (is_in (ended_below m.tasks.parents top)) (range_with_len (task + 1) (65 - (task + 1))))
+    flat_map (rows_of m.subpools)
+    (filter (is_in (ended_below m.tasks.parents top)) (range_with_len (task + 1) (65 - (task + 1))))
 
 -- those of the tasks of a subtree, from a number of this task on
 abbrev pub seen_from : StorageState → ℕ → ℕ → ℕ → List SightRow
