@@ -21,7 +21,7 @@ left_of : (t n : ℕ) (xs : List Row) (r : Row) (ys : List Row) → AreInOrder (
 left_of t n [] r ys order h = rows_none t n (r ∷ ys) (h, rows_more t n (word r.words 0) (word r.words 1) ys h order.0)
 left_of t n (x ∷ xs) r ys order h = ap (λ (o : Option Row). if is_under t n x.words then Some x else o) (left_of t n xs r ys order.1 h)
 
-right_of : (t n : ℕ) (xs : List Row) (r : Row) (ys : List Row) → AreInOrder (xs ++ r ∷ ys) → comes_before (word r.words 0) (word r.words 1) t n ≡ true → row_among t n (xs ++ r ∷ ys) ≡ row_among t n ys
+pub right_of : (t n : ℕ) (xs : List Row) (r : Row) (ys : List Row) → AreInOrder (xs ++ r ∷ ys) → comes_before (word r.words 0) (word r.words 1) t n ≡ true → row_among t n (xs ++ r ∷ ys) ≡ row_among t n ys
 right_of t n [] r ys order h = row_later t n r ys h
 right_of t n (x ∷ xs) r ys order h =
     row_later t n x (xs ++ r ∷ ys) (before_more (word x.words 0) (word x.words 1) (word r.words 0) (word r.words 1) t n (behind_right (word x.words 0) (word x.words 1) xs (r ∷ ys) order.0).0 h)

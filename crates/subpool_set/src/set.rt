@@ -2,7 +2,7 @@ ghost use Rattle.std.specs.Prelude.{◌≡◌, ◌≢◌, ℕ, ◌+◌, ◌<◌,
 ghost use Rattle.vsm_elements.specs.Store.{Store, among};
 ghost use Rattle.vsm_elements.specs.Ownership.{Leaves, Apart};
 ghost use Rattle.row_table.specs.Rows.{either_of, IsInRange};
-ghost use Rattle.subpool_set.specs.Pools.{no_queues, sight_with, pools_with, sight_given, pools_given, sight_of_pool};
+ghost use Rattle.subpool_set.specs.Pools.{IsNumbersEnd, no_queues, sight_with, pools_with, sight_given, pools_given, sight_of_pool};
 ghost use Rattle.subpool_set.specs.Pools.{sight_without, pool_alone};
 ghost use Rattle.row_table.specs.RowTable.{row};
 ghost use Rattle.subpool_set.specs.Kept.{owner_in, AreWords};
@@ -85,6 +85,17 @@ impl SubpoolSet {
             .find(elements, u32::from(task), u32::from(number))?;
         let own = self.own_row(elements, row, task, number)?;
         Some(own.id)
+    }
+
+    /// One more than the highest number at which a task sees a subpool; 0 where none sees any.
+    pub fn numbers_end(&self, elements: &Elements) -> u8
+        requires { IsSubpoolSet elements.now self.now }
+        ensures { IsNumbersEnd (sight elements.now self.now) result }
+    {
+        match self.rows.last(elements) {
+            Some(row) => row.words[1] as u8 + 1,
+            None => 0,
+        }
     }
 
     // The own row of the subpool that the task sees by this row: the same one, where the task is its owner.

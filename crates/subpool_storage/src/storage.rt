@@ -3,6 +3,7 @@ ghost use Rattle.vsm_elements.specs.Store.{Store, made};
 ghost use Rattle.vsm_elements.specs.Owners.{Moves};
 ghost use Rattle.run_set.specs.Runs.{AllIn, NoneIn};
 ghost use Rattle.run_set.specs.Counts.{joins};
+ghost use Rattle.subpool_set.specs.Pools.{IsNumbersEnd};
 ghost use Rattle.subpool_set.specs.SubpoolSet.{IsPool, number_of, owner_of};
 ghost use Rattle.subpool_storage.specs.Subpools.{no_subpools, is_there, with_pages, with_free, with_own};
 ghost use Rattle.subpool_storage.specs.Subpools.{with_storage_of, CanExchange};
@@ -53,6 +54,14 @@ impl SubpoolStorage {
     {
         let id = self.set.visible(elements, task, number)?;
         Some(self.set.owner(elements, id))
+    }
+
+    /// One more than the highest number at which a task sees a subpool; 0 where none sees any.
+    pub fn numbers_end(&self, elements: &Elements) -> u8
+        requires { Stands elements.now self.now }
+        ensures { IsNumbersEnd (subpools_of elements.now self.now).sight result }
+    {
+        self.set.numbers_end(elements)
     }
 
     // The name of a subpool that is there.

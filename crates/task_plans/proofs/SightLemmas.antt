@@ -1,5 +1,5 @@
 -- What tasks see from a place on, where the place moves on.
-use Rattle.std.proofs.Common.{◌≡◌, ℕ, ◌+◌, ◌-◌, ◌<◌, ◌≤◌, Bool, true, false, inl, inr, Option, Some, None, List, [], ◌∷◌, ◌++◌, refl, sym, ◌∙◌, ap, arith}
+use Rattle.std.proofs.Common.{◌≡◌, ℕ, zero, suc, ◌+◌, ◌-◌, ◌<◌, ◌≤◌, Bool, true, false, inl, inr, Option, Some, None, List, [], ◌∷◌, ◌++◌, refl, sym, ◌∙◌, ap, arith}
 use Rattle.std.specs.Prelude.{filter, if◌then◌else◌, option_map}
 use Rattle.std.specs.List.{flat_map, filter_map, cons_option, range_with_len}
 use Rattle.std.proofs.lemmas.Bool.{cases_lt}
@@ -20,7 +20,7 @@ passing_first f g x xs = go (f x) where
 
 module _ (m : StorageState) where
   -- the rows of a task from a number on
-  pub rows_done : (task number : ℕ) → 128 ≤ number → rows_from m task number ≡ []
+  rows_done : (task number : ℕ) → 128 ≤ number → rows_from m task number ≡ []
   rows_done task number high =
       let none : 128 - number ≡ 0 = omega (arith, high) in
       ap (λ (n : ℕ). filter_map (row_at m.subpools task) (range_with_len number n)) none
@@ -28,10 +28,23 @@ module _ (m : StorageState) where
   rows_at : (task number : ℕ) → number < 128 → rows_from m task number ≡ cons_option (row_at m.subpools task number) (rows_from m task (number + 1))
   rows_at task number low = ap (filter_map (row_at m.subpools task)) (run_next number 128 low)
 
-  pub rows_pass : (task number : ℕ) → number < 128 → m.subpools.sight task number ≡ None → rows_from m task number ≡ rows_from m task (number + 1)
-  rows_pass task number low none =
-      rows_at task number low
-      ∙ ap (λ (o : Option ℕ). cons_option (option_map (λ owner. (record { number = number; owner = owner }, task)) o) (rows_from m task (number + 1))) none
+  pub rows_pass : (task number : ℕ) → m.subpools.sight task number ≡ None → rows_from m task number ≡ rows_from m task (number + 1)
+  rows_pass task number none =
+      elim (cases_lt number 128) [
+        | inl low ↦
+            rows_at task number low
+            ∙ ap (λ (o : Option ℕ). cons_option (option_map (λ owner. (record { number = number; owner = owner }, task)) o) (rows_from m task (number + 1))) none
+        | inr high ↦ rows_done task number high ∙ sym (rows_done task (number + 1) (omega (arith, high)))
+      ]
+
+  rows_none : (len task number : ℕ) → 128 ≤ number + len → ((n : ℕ) → number ≤ n → m.subpools.sight task n ≡ None) → rows_from m task number ≡ []
+  rows_none zero task number high none = rows_done task number (omega (arith, high))
+  rows_none (suc len) task number high none =
+      rows_pass task number (none number (omega arith)) ∙ rows_none len task (number + 1) (omega (arith, high)) (λ n more. none n (omega (arith, more)))
+
+  -- from where no task sees a subpool any more
+  pub rows_end : (task number : ℕ) → ((n : ℕ) → number ≤ n → m.subpools.sight task n ≡ None) → rows_from m task number ≡ []
+  rows_end task number none = rows_none 128 task number (omega arith) none
 
   pub rows_meet : (task number owner : ℕ) → number < 128 → m.subpools.sight task number ≡ Some owner
       → rows_from m task number ≡ (record { number = number; owner = owner }, task) ∷ rows_from m task (number + 1)

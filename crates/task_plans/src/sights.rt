@@ -9,11 +9,9 @@ ghost use Rattle.task_plans.specs.Sights.{row_of, rows_from, seen_left};
 
 use crate::ended::{Tree, is_ended};
 use storage_exchange::Parts;
+use subpool_storage::laws::subpools_are_there;
 use vsm_model::Subpool;
 use vsm_model::geometry::TASKS_END;
-
-/// One more than the highest number of a subpool of private storage.
-const NUMBERS_END: u8 = 128;
 
 /// A row of sight: a subpool, and a task that sees it.
 #[derive(Clone, Copy)]
@@ -54,7 +52,9 @@ fn seen_of(storage: &Parts, task: u8, first: u8) -> Option<Subpool>
         ≡ (p, task) ∷ rows_from (state_of storage.now) task (p.number + 1)) }
     ensures range { IfSome result (λ p. p.number ≤ 127) }
 {
-    for number in first..NUMBERS_END {
+    subpools_are_there();
+    let end = storage.subpools.numbers_end(&storage.elements);
+    for number in first..end {
         if let Some(owner) = storage.subpools.owner_seen(&storage.elements, task, number) {
             return Some(Subpool { number, owner });
         }
