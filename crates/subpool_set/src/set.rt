@@ -2,8 +2,8 @@ ghost use Rattle.std.specs.Prelude.{◌≡◌, ◌≢◌, ℕ, ◌+◌, ◌<◌,
 ghost use Rattle.vsm_elements.specs.Store.{Store, among};
 ghost use Rattle.vsm_elements.specs.Ownership.{Leaves, Apart};
 ghost use Rattle.row_table.specs.Rows.{either_of, IsInRange};
-ghost use Rattle.subpool_set.specs.Pools.{IsNumbersEnd, no_queues, sight_with, pools_with, sight_given, pools_given, sight_of_pool};
-ghost use Rattle.subpool_set.specs.Pools.{sight_without, pool_alone};
+ghost use Rattle.subpool_set.specs.Pools.{no_queues, sight_with, pools_with, sight_given, pools_given, sight_of_pool};
+ghost use Rattle.subpool_set.specs.Pools.{sight_without, pool_alone, IsNumbersEnd};
 ghost use Rattle.row_table.specs.RowTable.{row};
 ghost use Rattle.subpool_set.specs.Kept.{owner_in, AreWords};
 ghost use Rattle.subpool_set.specs.QueueElements.{AreApart, AreApartTogether};
