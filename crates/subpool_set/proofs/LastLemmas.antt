@@ -1,11 +1,11 @@
 -- The last row of a table has the highest number.
-use Rattle.std.proofs.Common.{◌≡◌, ℕ, ◌+◌, ◌-◌, ◌<◌, ◌≤◌, List, [], ◌∷◌, ◌++◌, Option, Some, None, IsSome, inl, refl, sym, ap, ◌∙◌, subst, arith}
+use Rattle.std.proofs.Common.{◌≡◌, ℕ, ◌+◌, ◌-◌, ◌≤◌, List, [], ◌∷◌, ◌++◌, Option, Some, None, IsSome, inl, refl, sym, ap, ◌∙◌, subst, arith}
 use Rattle.std.specs.Prelude.{option_map}
 use Rattle.vsm_elements.specs.Store.{Store}
 use Rattle.row_table.specs.declared.row.Row.{Row}
 use Rattle.row_table.specs.declared.table.RowTable.{RowTable}
-use Rattle.row_table.specs.Rows.{word, last_row, row_or, AreInOrder, row_among}
-use Rattle.row_table.specs.RowTable.{row, rows, IsTable}
+use Rattle.row_table.specs.Rows.{word, last_row, AreInOrder, row_among}
+use Rattle.row_table.specs.RowTable.{row, rows}
 use Rattle.row_table.proofs.NextLemmas.{says_before}
 use Rattle.row_table.proofs.TableLemmas.{rows_ascend}
 use Rattle.subpool_set.specs.Pools.{IsNumbersEnd}

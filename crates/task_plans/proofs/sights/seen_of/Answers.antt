@@ -1,4 +1,4 @@
-use Rattle.std.proofs.Common.{◌≡◌, ℕ, ◌≤◌, Option, IsSome, refl, sym, ◌∙◌, subst, arith}
+use Rattle.std.proofs.Common.{ℕ, ◌≤◌, Option, IsSome, refl, sym, ◌∙◌, subst, arith}
 use Rattle.storage_exchange.specs.Storage.{state_of}
 use Rattle.task_plans.proofs.SightLemmas.{rows_end, rows_pass, rows_meet}
 use Rattle.task_plans.proofs.sights.seen_of.Goals as goal

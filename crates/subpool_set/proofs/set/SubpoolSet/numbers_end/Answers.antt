@@ -1,4 +1,4 @@
-use Rattle.std.proofs.Common.{◌≡◌, ◌+◌, ◌≤◌, refl, sym, arith}
+use Rattle.std.proofs.Common.{◌+◌, ◌≤◌, refl, sym, arith}
 use Rattle.row_table.specs.Rows.{word}
 use Rattle.subpool_set.specs.SubpoolSet.{sight, IsSubpoolSet}
 use Rattle.subpool_set.proofs.LastLemmas.{no_numbers, last_range, numbers_are_below}
