@@ -93,9 +93,6 @@ at_or_behind a b n ns h e = go (before_or (first n) (second n) a b e) where
   go (inl p) = inl (p, behind_more a b (first n) (second n) ns p h.0)
   go (inr p) = inr (same_by (first n) (second n) a b (sym p.0) (sym p.1))
 
-pub all_behind_from : (a b : ℕ) (n : Link) (ns : List Link) → Ascends (n ∷ ns) → comes_before a b (first n) (second n) ≡ true → AllBehind a b (n ∷ ns)
-all_behind_from a b n ns h e = (e, behind_more a b (first n) (second n) ns e h.0)
-
 -- the list of rows
 
 rows_behind : (a b : ℕ) (ns : List Link) → AllBehind a b ns → RowsBehind a b (map row_of ns)

@@ -30,9 +30,7 @@ pub record IsUnseeing (f : Sight) (ended : List ℕ) (row : SightRow) : Type 0 w
 
 -- Such a row, which goes with one of a task that ends: that task is the owner, or it shares what one owns that stays.
 pub record GoesWith (f : Sight) (ended : List ℕ) (x row : SightRow) : Type 0 where
-  pub seen : f row.1 row.0.number ≡ Some row.0.owner
-  pub sharer : row.1 ≢ row.0.owner
-  pub ends : (is_in ended row.1 || is_in ended row.0.owner) ≡ true
+  pub unseeing : IsUnseeing f ended row
   pub number : row.0.number ≡ x.0.number
   pub by : (row.0.owner ≡ x.1) ⊎ ((row.1 ≡ x.1) × (is_in ended row.0.owner ≡ false))
 
@@ -64,9 +62,7 @@ module _ (settings : Settings) (m : StorageState) (sound : IsSound settings m) (
       each_map (GoesWith sight ended x) (λ task. (x.0, task)) (sharers sight x.0.number x.0.owner)
       (each_so (λ task. (sight task x.0.number ≡ Some x.0.owner) × (task ≢ x.0.owner)) (λ task. GoesWith sight ended x (x.0, task)) (sharers sight x.0.number x.0.owner)
       (λ task shares. record {
-        seen = shares.0;
-        sharer = shares.1;
-        ends = or_right (is_in ended task) (is_in ended x.0.owner) (ap (is_in ended) same ∙ is.ends);
+        unseeing = record { seen = shares.0; sharer = shares.1; ends = or_right (is_in ended task) (is_in ended x.0.owner) (ap (is_in ended) same ∙ is.ends) };
         number = refl;
         by = inl same;
       })
@@ -74,9 +70,11 @@ module _ (settings : Settings) (m : StorageState) (sound : IsSound settings m) (
       (λ other. cond_both (is_in ended x.0.owner) [] (x ∷ []) (Each (GoesWith sight ended x)) (λ _. tt)
       (λ stays. (
         record {
-          seen = is.sees;
-          sharer = λ same. both_ways (is_own x) other (eq-eqb x.0.owner x.1 (sym same));
-          ends = or_left (is_in ended x.1) (is_in ended x.0.owner) is.ends;
+          unseeing = record {
+            seen = is.sees;
+            sharer = λ same. both_ways (is_own x) other (eq-eqb x.0.owner x.1 (sym same));
+            ends = or_left (is_in ended x.1) (is_in ended x.0.owner) is.ends;
+          };
           number = refl;
           by = inr (refl, stays);
         },
@@ -87,7 +85,7 @@ module _ (settings : Settings) (m : StorageState) (sound : IsSound settings m) (
   rows_have =
       each_flat (IsUnseeing sight ended) (rows_with m.subpools ended) seen
       (each_so (IsSeen m.subpools ended) (λ x. Each (IsUnseeing sight ended) (rows_with m.subpools ended x)) seen
-      (λ x is. each_so (GoesWith sight ended x) (IsUnseeing sight ended) (rows_with m.subpools ended x) (λ row goes. record { seen = goes.seen; sharer = goes.sharer; ends = goes.ends })
+      (λ x is. each_so (GoesWith sight ended x) (IsUnseeing sight ended) (rows_with m.subpools ended x) (λ row goes. goes.unseeing)
       (rows_go x is)) (seen_have m.subpools ended))
 
   pub rows_are_shared : Each (IsShared sight) rows
@@ -106,7 +104,7 @@ module _ (settings : Settings) (m : StorageState) (sound : IsSound settings m) (
       let parts = and_parts (v.1 == u.1) (v.0.number == u.0.number) same in
       let task = eqb-true v.1 u.1 parts.0 in
       let number = eqb-true v.0.number u.0.number parts.1 in
-      let both : Some v.0.owner ≡ Some u.0.owner = sym is.seen ∙ (λ i. sight (task i) (number i)) ∙ at.seen in
+      let both : Some v.0.owner ≡ Some u.0.owner = sym is.unseeing.seen ∙ (λ i. sight (task i) (number i)) ∙ at.unseeing.seen in
       let owner = same_some v.0.owner u.0.owner both in
       let meet : y.1 ≡ x.1 → ⊥ = λ seer.
       both_ways (is_row x.1 x.0.number y.1 y.0.number) other

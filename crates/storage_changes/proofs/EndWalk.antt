@@ -57,9 +57,6 @@ leads_first m n o r rs one behind w rests =
     let rest : Comes (step (with_state w m) r) rs o = subst P there later in
     record { fits = (fits, rest.fits); rests = rest.rests }
 
-pub leads_to_same : (m n o : StorageState) (rs : List Record) → n ≡ o → LeadsOn m rs n → LeadsOn m rs o
-leads_to_same m n o rs e leads = let P : StorageState → Type 0 = λ x. LeadsOn m rs x in subst P e leads
-
 -- registers of the current task are set behind them
 pub rows_then : (w : Walk) (rs : List Record) (n : StorageState) (rows : List (ℕ × ℕ)) → IsSome (n.tasks.parents n.tasks.current) → AreRegisters rows
     → Comes w rs n → Comes w (rs ++ register_records n rows) (with_rows n rows)

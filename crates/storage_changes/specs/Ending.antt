@@ -72,8 +72,8 @@ released_records m ended = flat_map (emptying_records m) (owned_by_these m ended
 abbrev pub sharer_rows : Subpools → Subpool → List SightRow
 sharer_rows m p = map (λ task. (p, task)) (sharers m.sight p.number p.owner)
 
--- The rows that go with one of a task that ends: with an owner's own those of who shares its subpool, and one of
--- another's subpool itself. Where that other ends too, it goes with the owner's.
+-- The rows that go with one of a task that ends. With an owner's own go those of all who share its subpool; a row of
+-- another's subpool goes alone where its owner stays, and else with the owner's.
 abbrev pub rows_with : Subpools → List ℕ → SightRow → List SightRow
 rows_with m ended row =
     if is_own row then sharer_rows m row.0 else if is_in ended row.0.owner then [] else row ∷ []

@@ -10,7 +10,6 @@ ghost use Rattle.vsm_model.specs.Services.{detach, end_task};
 ghost use Rattle.subpool_storage.specs.Extents.{extents};
 ghost use Rattle.subpool_storage.specs.Subpools.{no_subpools};
 ghost use Rattle.storage_changes.specs.Changes.{unassigned_records, empties};
-ghost use Rattle.storage_changes.specs.Names.{AreNames};
 ghost use Rattle.storage_exchange.specs.Storage.{hold, state_of, Stand, IsFrameless};
 ghost use Rattle.storage_plans.specs.Places.{StandsSound};
 ghost use Rattle.storage_swap.specs.Builder.{parked_in, records_in, IsBuilding, Builds, Pushes};
@@ -332,8 +331,8 @@ fn push_unshared(storage: &mut Parts, builder: &mut Builder, tree: &Tree) -> Pus
     Ok(())
 }
 
-// With an owner, all who share its subpool see it no more; and a task of the subtree sees none whose owner stays. One
-// whose owner ends too is told with that owner.
+// Where the task owns what it sees, all who share that see it no more; where the owner stays, the task doesn't. Where
+// the owner ends too, the row goes with the owner's.
 fn push_unseen(storage: &mut Parts, builder: &mut Builder, tree: &Tree, seen: Seen) -> Pushed
     requires building { IsBuilding storage.old builder.old }
     requires tree { AreParents tree.now.parents.of (state_of storage.old).tasks.parents }

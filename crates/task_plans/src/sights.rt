@@ -1,4 +1,4 @@
-//! What the tasks of a subtree see, one subpool behind the other: no row of another task's is read.
+//! What the tasks of a subtree see, one subpool behind the other, each found by a look-up of its task and number.
 
 ghost use Rattle.std.specs.Prelude.{◌≡◌, ℕ, ◌+◌, ◌≤◌, [], ◌∷◌, IfNone, IfSome};
 ghost use Rattle.storage_exchange.specs.Storage.{state_of, Stand};
@@ -44,7 +44,7 @@ pub(crate) fn first_seen() -> SightPlace
     SightPlace { task: 1, number: 0 }
 }
 
-// The next subpool that a task sees, from a number on.
+// The next subpool that a task sees, from a number on; `None` where it sees no more.
 fn seen_of(storage: &Parts, task: u8, first: u8) -> Option<Subpool>
     requires stands { Stand storage.now }
     ensures none { IfNone result (rows_from (state_of storage.now) task first ≡ []) }
@@ -62,7 +62,8 @@ fn seen_of(storage: &Parts, task: u8, first: u8) -> Option<Subpool>
     None
 }
 
-/// What a task of the subtree sees next, from a place on, by task and then by number, and the place behind it.
+/// What a task of the subtree sees next, from a place on, by task and then by number, and the place behind it; `None`
+/// where they see no more.
 pub(crate) fn next_seen(
     storage: &Parts,
     tree: &Tree,
