@@ -1,8 +1,8 @@
 -- What holds of each element of a list, and of each and each later one.
-use Rattle.std.proofs.Common.{◌≡◌, ℕ, zero, suc, ◌+◌, ◌<◌, ◌≤◌, Bool, true, false, ◌||◌, ◌==◌, Option, Some, None, List, [], ◌∷◌, ◌++◌, refl, sym, ◌∙◌, ap, arith, inl, inr, true≢false}
+use Rattle.std.proofs.Common.{◌≡◌, ℕ, zero, suc, ◌+◌, ◌<◌, ◌≤◌, Bool, true, false, ◌||◌, Option, Some, None, List, [], ◌∷◌, ◌++◌, refl, sym, ◌∙◌, ap, arith, inl, inr, true≢false}
 use Rattle.std.specs.Prelude.{filter, map}
 use Rattle.std.specs.List.{range_with_len, flat_map, filter_map, cons_option, list_any}
-use Rattle.std.proofs.lemmas.Bool.{or_cases, or_left, or_right, eq-eqb, cases_lt, cond_both}
+use Rattle.std.proofs.lemmas.Bool.{or_cases, or_left, or_right, cond_both}
 
 abbrev pub Each : {A : Type 0} → (A → Type 0) → List A → Type 0
 Each P [] = Unit {0}
@@ -192,11 +192,3 @@ any_filter f same g (x ∷ xs) has any =
       | inl here ↦ absurd (true≢false (sym (has x here).0 ∙ other))
       | inr later ↦ any_filter f same g xs has later
     ])
-
-pub in_range : (first len t : ℕ) → first ≤ t → t < first + len → list_any (λ k. k == t) (range_with_len first len) ≡ true
-in_range first zero t low high = absurd (omega (arith, low, high))
-in_range first (suc len) t low high =
-    elim (cases_lt first t) [
-      | inl more ↦ or_right (first == t) _ (in_range (first + 1) len t (omega (arith, more)) (omega (arith, high)))
-      | inr less ↦ or_left (first == t) _ (eq-eqb first t (omega (arith, low, less)))
-    ]

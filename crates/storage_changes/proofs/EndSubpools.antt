@@ -7,13 +7,14 @@ use Rattle.vsm_model.specs.declared.Subpool.{Subpool}
 use Rattle.vsm_model.specs.Search.{holds, is_in}
 use Rattle.vsm_model.specs.Subpools.{same_subpool}
 use Rattle.subpool_set.specs.Pools.{tasks, numbers}
+use Rattle.subpool_set.proofs.SharedLemmas.{any_of_range}
 use Rattle.subpool_storage.specs.Subpools.{Subpools, is_there}
 use Rattle.storage_changes.specs.Laws.{CanBe}
 use Rattle.storage_changes.proofs.Cases.{same-self}
 use Rattle.service_laws.proofs.Options.{none_some, same_some, held}
-use Rattle.storage_changes.specs.Ending.{SightRow, row_at, rows_of, seen_by_these, is_own, owned_by_these}
+use Rattle.storage_changes.specs.Ending.{SightRow, row_at, rows_at, ending_tasks, seen_by_these, is_own, owned_by_these}
 use Rattle.storage_changes.proofs.EndEach.{Each, Apart, each_all, each_so, each_flat, each_map, each_filter, each_given, apart_flat, apart_map, apart_filter, apart_passing, apart_given}
-use Rattle.storage_changes.proofs.EndEach.{range_ascends, any_flat, any_given, any_map, any_filter, in_range}
+use Rattle.storage_changes.proofs.EndEach.{range_ascends, any_flat, any_given, any_map, any_filter}
 
 -- the second one is another subpool than the first
 abbrev pub IsAnother : Subpool → Subpool → Type 0
@@ -33,11 +34,11 @@ IsOtherRow row other = is_row row.1 row.0.number other.1 other.0.number ≡ fals
 
 pub in_tasks : (task : ℕ) → 1 ≤ task → task ≤ 64 → list_any (λ k. k == task) tasks ≡ true
 unfolding tasks
-in_tasks task low high = in_range 1 64 task low (omega (arith, high))
+in_tasks task low high = any_of_range (λ k. k == task) task 64 1 (eq-eqb task task refl) low (omega (arith, high))
 
 in_numbers : (number : ℕ) → number ≤ 127 → list_any (λ k. k == number) numbers ≡ true
 unfolding numbers
-in_numbers number high = in_range 0 128 number (omega arith) (omega (arith, high))
+in_numbers number high = any_of_range (λ k. k == number) number 128 0 (eq-eqb number number refl) (omega arith) (omega (arith, high))
 
 pub tasks_ascend : Apart (λ j k. j < k) tasks
 unfolding tasks
@@ -53,8 +54,8 @@ pub record IsSeen (m : Subpools) (ended : List ℕ) (row : SightRow) : Type 0 wh
   pub sees : m.sight row.1 row.0.number ≡ Some row.0.owner
 
 module _ (m : Subpools) where
-  at_is : (task number : ℕ) (row : SightRow) → row_at m task number ≡ Some row → (row.1 ≡ task) × (row.0.number ≡ number) × (m.sight task number ≡ Some row.0.owner)
-  at_is task number row e = go (m.sight task number) refl e where
+  at_is : (number task : ℕ) (row : SightRow) → row_at m number task ≡ Some row → (row.1 ≡ task) × (row.0.number ≡ number) × (m.sight task number ≡ Some row.0.owner)
+  at_is number task row e = go (m.sight task number) refl e where
     go : (o : Option ℕ) → m.sight task number ≡ o → ◌≡◌ {A = Option SightRow} (option_map (λ owner. (record { number = number; owner = owner }, task)) o) (Some row)
         → (row.1 ≡ task) × (row.0.number ≡ number) × (m.sight task number ≡ Some row.0.owner)
     go None at e = absurd (none_some row e)
@@ -63,60 +64,64 @@ module _ (m : Subpools) where
         let is : ◌≡◌ {A = SightRow} (p, task) row = same_some (p, task) row e in
         (sym (ap (λ (r : SightRow). r.1) is), sym (ap (λ (r : SightRow). r.0.number) is), at ∙ ap (λ (r : SightRow). Some r.0.owner) is)
 
-  its_rows : (task : ℕ) → Each (λ row. (row.1 ≡ task) × (m.sight row.1 row.0.number ≡ Some row.0.owner)) (rows_of m task)
-  its_rows task =
-      each_given (λ number. Unit {0}) (λ row. (row.1 ≡ task) × (m.sight row.1 row.0.number ≡ Some row.0.owner)) (row_at m task) numbers
-      (λ number row _ e. let (same, at, sees) = at_is task number row e in (same, (λ i. m.sight (same i) (at i)) ∙ sees))
-      (each_all (λ number. Unit {0}) numbers (λ _. tt))
-
-  its_rows_apart : (task : ℕ) → Apart IsOtherRow (rows_of m task)
-  its_rows_apart task =
-      apart_given IsOtherRow (λ j k. j < k) (row_at m task) numbers
-      (λ j k x y less at is.
-      let first = (at_is task j x at).1 in
-      let second = (at_is task k y is).1 in
-      and_right (y.1 == x.1) (y.0.number == x.0.number) (ne_eqb y.0.number x.0.number (λ same. absurd (omega (arith, less, first, second, same)))))
-      numbers_ascend
-
-  rows_apart : (j k : ℕ) → j < k → Each (λ x. Each (IsOtherRow x) (rows_of m k)) (rows_of m j)
-  rows_apart j k less =
-      each_so (λ x. (x.1 ≡ j) × (m.sight x.1 x.0.number ≡ Some x.0.owner)) (λ x. Each (IsOtherRow x) (rows_of m k)) (rows_of m j)
-      (λ x first. each_so (λ y. (y.1 ≡ k) × (m.sight y.1 y.0.number ≡ Some y.0.owner)) (IsOtherRow x) (rows_of m k)
-      (λ y second.
-      let at = first.0 in
-      let is = second.0 in
-      and_left (y.1 == x.1) (y.0.number == x.0.number) (ne_eqb y.1 x.1 (λ same. absurd (omega (arith, less, at, is, same)))))
-      (its_rows k))
-      (its_rows j)
-
   module _ (ended : List ℕ) where
+    abbrev those : List ℕ
+    those = ending_tasks ended
+
+    abbrev IsRowAt : ℕ → SightRow → Type 0
+    IsRowAt number row = (row.0.number ≡ number) × IsSeen m ended row
+
+    its_rows : (number : ℕ) → Each (IsRowAt number) (rows_at m those number)
+    its_rows number =
+        each_given (λ task. is_in ended task ≡ true) (IsRowAt number) (row_at m number) those
+        (λ task row ends e. let (same, at, sees) = at_is number task row e in
+        (at, record { ends = ap (is_in ended) same ∙ ends; sees = (λ i. m.sight (same i) (at i)) ∙ sees }))
+        (each_filter (λ task. Unit {0}) (λ task. is_in ended task ≡ true) (is_in ended) tasks (λ task ends _. ends) (each_all (λ task. Unit {0}) tasks (λ _. tt)))
+
+    its_rows_apart : (number : ℕ) → Apart IsOtherRow (rows_at m those number)
+    its_rows_apart number =
+        apart_given IsOtherRow (λ j k. j < k) (row_at m number) those
+        (λ j k x y less at is.
+        let first = (at_is number j x at).0 in
+        let second = (at_is number k y is).0 in
+        and_left (y.1 == x.1) (y.0.number == x.0.number) (ne_eqb y.1 x.1 (λ same. absurd (omega (arith, less, first, second, same)))))
+        (apart_filter (λ j k. j < k) (is_in ended) tasks tasks_ascend)
+
+    rows_apart : (j k : ℕ) → j < k → Each (λ x. Each (IsOtherRow x) (rows_at m those k)) (rows_at m those j)
+    rows_apart j k less =
+        each_so (IsRowAt j) (λ x. Each (IsOtherRow x) (rows_at m those k)) (rows_at m those j)
+        (λ x first. each_so (IsRowAt k) (IsOtherRow x) (rows_at m those k)
+        (λ y second.
+        let at = first.0 in
+        let is = second.0 in
+        and_right (y.1 == x.1) (y.0.number == x.0.number) (ne_eqb y.0.number x.0.number (λ same. absurd (omega (arith, less, at, is, same)))))
+        (its_rows k))
+        (its_rows j)
+
     pub seen_have : Each (IsSeen m ended) (seen_by_these m ended)
     seen_have =
-        each_flat (IsSeen m ended) (rows_of m) (filter (is_in ended) tasks)
-        (each_filter (λ task. Unit {0}) (λ task. Each (IsSeen m ended) (rows_of m task)) (is_in ended) tasks
-        (λ task ends _. each_so (λ row. (row.1 ≡ task) × (m.sight row.1 row.0.number ≡ Some row.0.owner)) (IsSeen m ended) (rows_of m task)
-        (λ row its. record { ends = ap (is_in ended) its.0 ∙ ends; sees = its.1 }) (its_rows task))
-        (each_all (λ task. Unit {0}) tasks (λ _. tt)))
+        each_flat (IsSeen m ended) (rows_at m those) numbers
+        (each_all (λ number. Each (IsSeen m ended) (rows_at m those number)) numbers
+        (λ number. each_so (IsRowAt number) (IsSeen m ended) (rows_at m those number) (λ row its. its.1) (its_rows number)))
 
     pub seen_are_apart : Apart IsOtherRow (seen_by_these m ended)
     seen_are_apart =
-        apart_flat IsOtherRow (λ j k. j < k) (rows_of m) (filter (is_in ended) tasks) rows_apart
-        (each_all (λ task. Apart IsOtherRow (rows_of m task)) (filter (is_in ended) tasks) its_rows_apart)
-        (apart_filter (λ j k. j < k) (is_in ended) tasks tasks_ascend)
+        apart_flat IsOtherRow (λ j k. j < k) (rows_at m those) numbers rows_apart
+        (each_all (λ number. Apart IsOtherRow (rows_at m those number)) numbers its_rows_apart) numbers_ascend
 
     -- a row of theirs that passes is among them
     pub seen_list : (f : SightRow → Bool) (task : ℕ) (p : Subpool) → (1 ≤ task) × (task ≤ 64) → p.number ≤ 127 → is_in ended task ≡ true → m.sight task p.number ≡ Some p.owner
         → f (p, task) ≡ true → list_any f (seen_by_these m ended) ≡ true
     seen_list f task p range high ends sees passes =
-        any_flat f (λ k. k == task) (rows_of m) (filter (is_in ended) tasks)
-        (λ k at. any_given f (λ j. j == p.number) (row_at m k) numbers
-        (λ j is.
+        any_flat f (λ j. j == p.number) (rows_at m those) numbers
+        (λ j is. any_given f (λ k. k == task) (row_at m j) those
+        (λ k at.
         let its = eqb-true k task at in
         let number = eqb-true j p.number is in
-        let same : row_at m k j ≡ row_at m task p.number = λ i. row_at m (its i) (number i) in
+        let same : row_at m j k ≡ row_at m p.number task = λ i. row_at m (number i) (its i) in
         ((p, task), same ∙ ap (option_map (λ owner. (record { number = p.number; owner = owner }, task))) sees, passes))
-        (in_numbers p.number high))
-        (any_filter (λ k. k == task) (λ k. k == task) (is_in ended) tasks (λ k same. (ap (is_in ended) (eqb-true k task same) ∙ ends, same)) (in_tasks task range.0 range.1))
+        (any_filter (λ k. k == task) (λ k. k == task) (is_in ended) tasks (λ k same. (ap (is_in ended) (eqb-true k task same) ∙ ends, same)) (in_tasks task range.0 range.1)))
+        (in_numbers p.number high)
 
     pub owned_have : Each (λ p. (is_in ended p.owner ≡ true) × (is_there m p ≡ true)) (owned_by_these m ended)
     owned_have =

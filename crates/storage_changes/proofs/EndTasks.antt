@@ -14,7 +14,8 @@ use Rattle.service_laws.proofs.Ends.{comes}
 use Rattle.service_laws.proofs.Options.{none_some, held}
 use Rattle.storage_changes.specs.Ending.{cleared_quarter, ended_records, AreSubtasksFirst}
 use Rattle.storage_changes.proofs.EndLists.{or_nothing}
-use Rattle.storage_changes.proofs.EndEach.{Each, each_to, in_range}
+use Rattle.subpool_set.proofs.SharedLemmas.{any_of_range}
+use Rattle.storage_changes.proofs.EndEach.{Each, each_to}
 use Rattle.storage_changes.proofs.EndWalk.{LeadsOn, leads_nowhere, leads_first, leads_then}
 
 abbrev pub Parents : Type 0
@@ -152,7 +153,7 @@ module _ (m : StorageState) (w : TasksAreSound (model_of m)) where
     are_zeros : (r : ℕ) → zeros task r ≡ 0
     are_zeros r =
         elim (cases_lt r 16) [
-          | inl low ↦ cleared_in words task r (range_with_len 0 4) (in_range 0 4 (r / 4) (omega arith) (omega (arith, low)))
+          | inl low ↦ cleared_in words task r (range_with_len 0 4) (any_of_range (λ k. k == r / 4) (r / 4) 4 0 (eq-eqb (r / 4) (r / 4) refl) (omega arith) (omega (arith, low)))
           | inr high ↦ cleared_zero words task r (range_with_len 0 4) (have.same_words task r order.0 ∙ w.no_register task r high)
         ]
 

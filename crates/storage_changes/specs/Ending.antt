@@ -37,17 +37,21 @@ ended_below parents top = ended_from parents top 63
 abbrev pub SightRow : Type 0
 SightRow = Subpool × ℕ
 
--- the row of a task at a number, if it sees a subpool there
+-- the row of a number and a task, if the task sees a subpool there
 abbrev pub row_at : Subpools → ℕ → ℕ → Option SightRow
-row_at m task number = option_map (λ owner. (record { number = number; owner = owner }, task)) (m.sight task number)
+row_at m number task = option_map (λ owner. (record { number = number; owner = owner }, task)) (m.sight task number)
 
--- the rows of a task, by number
-abbrev pub rows_of : Subpools → ℕ → List SightRow
-rows_of m task = filter_map (row_at m task) numbers
+-- the rows of these tasks at a number
+abbrev pub rows_at : Subpools → List ℕ → ℕ → List SightRow
+rows_at m those number = filter_map (row_at m number) those
 
--- what these tasks see, by task and then by number
+-- the tasks that end, in ascending order
+abbrev pub ending_tasks : List ℕ → List ℕ
+ending_tasks ended = filter (is_in ended) tasks
+
+-- what these tasks see, by number and then by task
 abbrev pub seen_by_these : Subpools → List ℕ → List SightRow
-seen_by_these m ended = flat_map (rows_of m) (filter (is_in ended) tasks)
+seen_by_these m ended = flat_map (rows_at m (ending_tasks ended)) numbers
 
 -- whether the task owns what it sees
 abbrev pub is_own : SightRow → Bool

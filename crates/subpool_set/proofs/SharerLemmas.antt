@@ -52,7 +52,7 @@ none_on_right t n r (y ∷ ys) behind h = cond-false (is_under t n y.words) (Som
       let Q : ℕ → Type 0 = λ z. comes_before (word r.words 0) z (word y.words 0) (word y.words 1) ≡ true in
       subst P (sym e.0) (subst Q (sym e.1) behind.0)
 
-order_behind : (xs : List Row) (r : Row) (ys : List Row) → AreInOrder (xs ++ r ∷ ys) → RowsBehind (word r.words 0) (word r.words 1) ys
+pub order_behind : (xs : List Row) (r : Row) (ys : List Row) → AreInOrder (xs ++ r ∷ ys) → RowsBehind (word r.words 0) (word r.words 1) ys
 order_behind [] r ys order = order.0
 order_behind (x ∷ xs) r ys order = order_behind xs r ys order.1
 

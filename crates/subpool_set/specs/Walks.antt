@@ -23,6 +23,10 @@ sharers_behind f number owner behind = filter (λ task. nat_lt behind task && is
 abbrev pub is_sharers_row : ℕ → Row → Bool
 is_sharers_row owner r = (owner_in r == owner) && not (word r.words 0 == owner)
 
+-- the row is that of a task that shares a subpool of this number
+abbrev pub is_sharing_row : ℕ → Row → Bool
+is_sharing_row number r = (word r.words 1 == number) && not (owner_in r == word r.words 0)
+
 -- behind this task no task shares the subpool
 abbrev pub HasNoSharer : Sight → ℕ → ℕ → ℕ → Type 0
 HasNoSharer f number owner behind = (t : ℕ) → behind < t → is_sharer f number owner t ≡ false

@@ -2,13 +2,14 @@
 //! descent for each sharer.
 
 ghost use Rattle.std.specs.Prelude.{◌≡◌, ℕ, [], ◌∷◌, IfSome, IfNone};
+ghost use Rattle.std.specs.List.{list_any};
 ghost use Rattle.vsm_elements.specs.Store.{Store};
-ghost use Rattle.row_table.specs.RowTable.{row, IsTable};
+ghost use Rattle.row_table.specs.RowTable.{row, rows, IsTable};
 ghost use Rattle.row_table.specs.Rows.{word, comes_before};
 ghost use Rattle.subpool_set.specs.Kept.{sight_in};
-ghost use Rattle.subpool_set.specs.Pools.{sharers};
+ghost use Rattle.subpool_set.specs.Pools.{is_shared, sharers};
 ghost use Rattle.subpool_set.specs.SubpoolSet.{sight, sharers_left, IsSubpoolSet};
-ghost use Rattle.subpool_set.specs.Walks.{is_sharers_row, HasNoSharer, IsFirstSharer};
+ghost use Rattle.subpool_set.specs.Walks.{is_sharers_row, is_sharing_row, HasNoSharer, IsFirstSharer};
 
 use crate::set::SubpoolSet;
 use row_table::{Row, RowTable};
@@ -64,6 +65,28 @@ fn sharer_among(
     sharer_among(part.behind, elements, number, owner, behind)
 }
 
+// Whether a row of the number is that of a task which shares another's subpool, by a table's rows. Of those of other
+// numbers it reads the ones alone on the ways down to where the number's begin and end.
+fn is_shared_in(table: RowTable, elements: &Elements, number: u32) -> bool
+    requires { IsTable elements.now table }
+    ensures { result ≡ list_any (is_sharing_row number) (rows elements.now table) }
+{
+    let Some(part) = table.part(elements) else {
+        return false;
+    };
+    let row = part.row;
+    if row.words[1] < number {
+        return is_shared_in(part.behind, elements, number);
+    }
+    if row.words[1] > number {
+        return is_shared_in(part.before, elements, number);
+    }
+    if row.words[2] != row.words[0] {
+        return true;
+    }
+    is_shared_in(part.before, elements, number) || is_shared_in(part.behind, elements, number)
+}
+
 #[tactic(auto, unfolding(
 // who sees what, and who is left of a subpool's sharers
 crate::specs::SubpoolSet::sight, crate::specs::SubpoolSet::sharers_left,
@@ -96,5 +119,14 @@ impl SubpoolSet {
         let owner = u32::from(owner);
         let task = sharer_among(self.rows, elements, number, owner, place.behind)?;
         Some((task as u8, SharerPlace { behind: task }))
+    }
+
+    /// Whether a task shares a subpool of this number with its owner. The rows of sight of the number are read up to
+    /// the first one that says so.
+    pub fn is_shared(&self, elements: &Elements, number: u8) -> bool
+        requires { IsSubpoolSet elements.now self.now }
+        ensures { result ≡ is_shared (sight elements.now self.now) number }
+    {
+        is_shared_in(self.rows, elements, u32::from(number))
     }
 }

@@ -6,7 +6,7 @@ ghost use Rattle.vsm_elements.specs.Owners.{times};
 ghost use Rattle.descriptor_queue.specs.Extents.{extents as extents_in, has_page as extents_have, owned as extents_own};
 ghost use Rattle.descriptor_queue.specs.Extents.{IsExtents};
 ghost use Rattle.free_queue.specs.FreeQueue.{areas, is_free, owned as areas_own, IsFreeQueue};
-ghost use Rattle.subpool_set.specs.Pools.{sharers};
+ghost use Rattle.subpool_set.specs.Pools.{is_shared, sharers};
 ghost use Rattle.subpool_set.specs.SubpoolSet.{IsPool};
 ghost use Rattle.subpool_storage.specs.Extents.{extents, free_areas};
 ghost use Rattle.subpool_storage.specs.Subpools.{is_there};
@@ -147,6 +147,15 @@ impl SubpoolStorage {
     {
         self.set
             .next_sharer(elements, subpool.number, subpool.owner, place)
+    }
+
+    /// Whether a task sees a subpool of this number besides its owner. The rows of sight of the number are read up to
+    /// the first one that says so. (z/OS MVS Programming: Assembler Services Guide, "Subpool handling".)
+    pub fn is_shared(&self, elements: &Elements, number: u8) -> bool
+        requires { Stands elements.now self.now }
+        ensures { result ≡ is_shared (subpools_of elements.now self.now).sight number }
+    {
+        self.set.is_shared(elements, number)
     }
 
     /// The subpool of this index, from 0 on, by number and then by owner; `None` past the last. Each row of sight up to

@@ -7,6 +7,8 @@ mod Climbs
 mod Levels
 mod OwnedNames
 mod SightLemmas
+mod EndingTasks
+mod Unshared
 mod Walks
 mod Parks
 mod Reservations

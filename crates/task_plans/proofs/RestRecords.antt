@@ -1,5 +1,5 @@
 -- The records of an end that stand behind the turn.
-use Rattle.std.proofs.Common.{◌≡◌, ℕ, ◌<◌, ◌≤◌, List, length, subst}
+use Rattle.std.proofs.Common.{◌≡◌, ℕ, ◌<◌, ◌≤◌, List, length, sym, subst}
 use Rattle.std.specs.List.{flat_map}
 use Rattle.vsm_model.specs.declared.replies.Reply.{Reply}
 use Rattle.vsm_model.specs.declared.replies.Reply.TheVariants.{Returned}
@@ -8,7 +8,18 @@ use Rattle.storage_changes.specs.State.{StorageState}
 use Rattle.storage_changes.specs.StorageActions.{register_records}
 use Rattle.storage_changes.specs.Ending.{ended_below, ended_records, removed_records, unshared_records, with_turn}
 use Rattle.task_plans.specs.declared.end.EndPlan.{EndPlan}
-use Rattle.task_plans.specs.TaskPlans.{end_registers}
+use Rattle.task_plans.specs.TaskPlans.{end_registers, rest_records}
+
+-- the plan of what ends with this task
+abbrev pub with_top : EndPlan → ℕ → EndPlan
+with_top plan top = record plan { top = top }
+
+module _ (plan : EndPlan) (top : ℕ) (is : top ≡ plan.top) where
+  pub same_plan : with_top plan top ≡ plan
+  same_plan = λ i. record plan { top = is i }
+
+  pub same_room : (m : StorageState) {n : ℕ} → length (rest_records m plan) ≤ n → length (rest_records m (with_top plan top)) ≤ n
+  same_room m {n} room = let P : EndPlan → Type 0 = λ plan. length (rest_records m plan) ≤ n in subst P (sym same_plan) room
 
 -- the four kinds of them
 module _ (plan : EndPlan) where

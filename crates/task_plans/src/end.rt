@@ -15,17 +15,16 @@ ghost use Rattle.storage_plans.specs.Places.{StandsSound};
 ghost use Rattle.storage_swap.specs.Builder.{parked_in, records_in, IsBuilding, Builds, Pushes};
 ghost use Rattle.storage_swap.specs.Growth.{MakesElements};
 ghost use Rattle.storage_swap.specs.Reserve.{Grown, Reserves};
-ghost use Rattle.storage_changes.specs.Ending.{ended_below, owned_in, emptying_records, removed};
+ghost use Rattle.storage_changes.specs.Ending.{owned_in, emptying_records, removed};
 ghost use Rattle.storage_changes.specs.Ending.{released_records, removed_records, rows_with, sharer_rows, unshared};
 ghost use Rattle.storage_changes.specs.Ending.{unshared_records};
-ghost use Rattle.task_plans.specs.Parents.{AreParents};
-ghost use Rattle.task_plans.specs.Sights.{row_of};
+ghost use Rattle.task_plans.specs.Sights.{ended_by, row_of, IsEnding};
 ghost use Rattle.task_plans.specs.TaskPlans.{end_change, parks_all, ParksAll};
 ghost use Rattle.task_plans.specs.TaskPlans.{rest_records, CanBeEnded, CanPark, IsEndPlanned};
 
-use crate::ended::{Parents, Tree, is_ended, push_ended, read_parents};
+use crate::ended::{Ending, Tree, is_ended, push_ended, read_parents, tasks_that_end};
 use crate::registers::set_register;
-use crate::sights::{Seen, first_seen, next_seen};
+use crate::sights::{Seen, behind_number, first_seen, next_seen};
 use crate::{Builder, Pushed};
 use descriptor_queue::Extents;
 use std::alloc::AllocError;
@@ -183,36 +182,37 @@ impl EndPlan {
         ensures needless { length (parks_all (state_of storage.old) self.top)
             + length (end_change (state_of storage.old) self).records ≤ storage.old.elements.spare → IsOk result }
     {
-        let parents = read_parents(storage);
         let tree = Tree {
             top: self.top,
-            parents,
+            parents: read_parents(storage),
         };
-        park_owned(storage, builder, &tree)?;
-        push_released(storage, builder, &tree)?;
+        let ending = Ending {
+            tree,
+            tasks: tasks_that_end(storage, &tree),
+            numbers_end: storage.subpools.numbers_end(&storage.elements),
+        };
+        park_owned(storage, builder, &ending)?;
+        push_released(storage, builder, &ending)?;
         builder.push(storage, Record::Turn(TurnRecord { task: self.next }))?;
         let blanks = builder.count();
-        self.push_rest(storage, builder, &parents)?;
+        self.push_rest(storage, builder, &ending)?;
         Ok(blanks)
     }
 
     // The records behind the turn.
-    fn push_rest(self, storage: &mut Parts, builder: &mut Builder, parents: &Parents) -> Pushed
+    fn push_rest(self, storage: &mut Parts, builder: &mut Builder, ending: &Ending) -> Pushed
         requires building { IsBuilding storage.old builder.old }
-        requires tree { AreParents parents.now.of (state_of storage.old).tasks.parents }
+        requires ending { IsEnding (state_of storage.old) ending.now }
+        requires top { ending.now.tree.top ≡ self.top }
         ensures builds { Builds storage.old builder.old storage.new builder.new }
         ensures ok { OnOk result (Pushes storage.old builder.old
             (rest_records (state_of storage.old) self) storage.new builder.new) }
         ensures needless { length (rest_records (state_of storage.old) self) ≤ storage.old.elements.spare
             → IsOk result }
     {
-        let tree = Tree {
-            top: self.top,
-            parents: *parents,
-        };
-        push_unshared(storage, builder, &tree)?;
-        push_removed(storage, builder, &tree)?;
-        push_ended(storage, builder, &tree)?;
+        push_unshared(storage, builder, ending)?;
+        push_removed(storage, builder, ending)?;
+        push_ended(storage, builder, &ending.tree)?;
         match self.reply {
             Reply::Returned(code) => builder.push(storage, set_register(self.next, 15, code)),
             _ => Ok(()),
@@ -221,19 +221,19 @@ impl EndPlan {
 }
 
 // An empty subpool is parked under the name of each that a task of the subtree owns.
-fn park_owned(storage: &mut Parts, builder: &mut Builder, tree: &Tree) -> Pushed
+fn park_owned(storage: &mut Parts, builder: &mut Builder, ending: &Ending) -> Pushed
     requires building { IsBuilding storage.old builder.old }
-    requires tree { AreParents tree.now.parents.of (state_of storage.old).tasks.parents }
+    requires ending { IsEnding (state_of storage.old) ending.now }
     requires none { parked_in storage.old builder.old ≡ no_subpools }
     ensures builds { Builds storage.old builder.old storage.new builder.new }
-    ensures ok { OnOk result (ParksAll storage.old builder.old (parks_all (state_of storage.old) tree.now.top)
+    ensures ok { OnOk result (ParksAll storage.old builder.old (parks_all (state_of storage.old) ending.now.tree.top)
         storage.new builder.new) }
-    ensures needless { length (parks_all (state_of storage.old) tree.now.top) ≤ storage.old.elements.spare
+    ensures needless { length (parks_all (state_of storage.old) ending.now.tree.top) ≤ storage.old.elements.spare
         → IsOk result }
 {
     subpools_are_there();
     let mut place = first_seen();
-    while let Some((seen, next)) = next_seen(storage, tree, place) {
+    while let Some((seen, next)) = next_seen(storage, ending, place) {
         park_one(storage, builder, seen)?;
         place = next;
     }
@@ -257,17 +257,17 @@ fn park_one(storage: &mut Parts, builder: &mut Builder, seen: Seen) -> Pushed
 
 // The storage of each subpool that a task of the subtree owns goes over into the change, and its pages become
 // unassigned.
-fn push_released(storage: &mut Parts, builder: &mut Builder, tree: &Tree) -> Pushed
+fn push_released(storage: &mut Parts, builder: &mut Builder, ending: &Ending) -> Pushed
     requires building { IsBuilding storage.old builder.old }
-    requires tree { AreParents tree.now.parents.of (state_of storage.old).tasks.parents }
+    requires ending { IsEnding (state_of storage.old) ending.now }
     ensures builds { Builds storage.old builder.old storage.new builder.new }
     ensures ok { OnOk result (Pushes storage.old builder.old (released_records (state_of storage.old).subpools
-        (ended_below (state_of storage.old).tasks.parents tree.now.top)) storage.new builder.new) }
+        (ended_by (state_of storage.old) ending.now)) storage.new builder.new) }
     ensures needless { length (released_records (state_of storage.old).subpools
-        (ended_below (state_of storage.old).tasks.parents tree.now.top)) ≤ storage.old.elements.spare → IsOk result }
+        (ended_by (state_of storage.old) ending.now)) ≤ storage.old.elements.spare → IsOk result }
 {
     let mut place = first_seen();
-    while let Some((seen, next)) = next_seen(storage, tree, place) {
+    while let Some((seen, next)) = next_seen(storage, ending, place) {
         push_emptied(storage, builder, seen)?;
         place = next;
     }
@@ -313,19 +313,26 @@ fn push_extents(storage: &mut Parts, builder: &mut Builder, subpool: Subpool) ->
     Ok(())
 }
 
-// Tasks of the subtree see no subpool of others any more, nor others theirs.
-fn push_unshared(storage: &mut Parts, builder: &mut Builder, tree: &Tree) -> Pushed
+// Tasks of the subtree see no subpool of others any more, nor others theirs. What they see at a number at which nobody
+// shares is passed at once.
+fn push_unshared(storage: &mut Parts, builder: &mut Builder, ending: &Ending) -> Pushed
     requires building { IsBuilding storage.old builder.old }
-    requires tree { AreParents tree.now.parents.of (state_of storage.old).tasks.parents }
+    requires ending { IsEnding (state_of storage.old) ending.now }
     ensures builds { Builds storage.old builder.old storage.new builder.new }
     ensures ok { OnOk result (Pushes storage.old builder.old (unshared_records (state_of storage.old).subpools
-        (ended_below (state_of storage.old).tasks.parents tree.now.top)) storage.new builder.new) }
+        (ended_by (state_of storage.old) ending.now)) storage.new builder.new) }
     ensures needless { length (unshared_records (state_of storage.old).subpools
-        (ended_below (state_of storage.old).tasks.parents tree.now.top)) ≤ storage.old.elements.spare → IsOk result }
+        (ended_by (state_of storage.old) ending.now)) ≤ storage.old.elements.spare → IsOk result }
 {
+    subpools_are_there();
     let mut place = first_seen();
-    while let Some((seen, next)) = next_seen(storage, tree, place) {
-        push_unseen(storage, builder, tree, seen)?;
+    while let Some((seen, next)) = next_seen(storage, ending, place) {
+        let number = seen.subpool.number;
+        if !storage.subpools.is_shared(&storage.elements, number) {
+            place = behind_number(ending, number);
+            continue;
+        }
+        push_unseen(storage, builder, ending, seen)?;
         place = next;
     }
     Ok(())
@@ -333,20 +340,20 @@ fn push_unshared(storage: &mut Parts, builder: &mut Builder, tree: &Tree) -> Pus
 
 // Where the task owns what it sees, all who share that see it no more; where the owner stays, the task doesn't. Where
 // the owner ends too, the row goes with the owner's.
-fn push_unseen(storage: &mut Parts, builder: &mut Builder, tree: &Tree, seen: Seen) -> Pushed
+fn push_unseen(storage: &mut Parts, builder: &mut Builder, ending: &Ending, seen: Seen) -> Pushed
     requires building { IsBuilding storage.old builder.old }
-    requires tree { AreParents tree.now.parents.of (state_of storage.old).tasks.parents }
+    requires ending { IsEnding (state_of storage.old) ending.now }
     ensures builds { Builds storage.old builder.old storage.new builder.new }
     ensures ok { OnOk result (Pushes storage.old builder.old (map unshared (rows_with (state_of storage.old).subpools
-        (ended_below (state_of storage.old).tasks.parents tree.now.top) (row_of seen))) storage.new builder.new) }
+        (ended_by (state_of storage.old) ending.now) (row_of seen))) storage.new builder.new) }
     ensures needless { length (map unshared (rows_with (state_of storage.old).subpools
-        (ended_below (state_of storage.old).tasks.parents tree.now.top) (row_of seen))) ≤ storage.old.elements.spare
+        (ended_by (state_of storage.old) ending.now) (row_of seen))) ≤ storage.old.elements.spare
         → IsOk result }
 {
     if seen.is_own() {
         return push_sharers(storage, builder, seen.subpool);
     }
-    if is_ended(storage, tree, seen.subpool.owner) {
+    if is_ended(storage, &ending.tree, seen.subpool.owner) {
         return Ok(());
     }
     builder.push(storage, unseen(seen.subpool, seen.task))
@@ -384,17 +391,17 @@ fn unseen(subpool: Subpool, task: u8) -> Record
 }
 
 // The subpools that tasks of the subtree own are gone.
-fn push_removed(storage: &mut Parts, builder: &mut Builder, tree: &Tree) -> Pushed
+fn push_removed(storage: &mut Parts, builder: &mut Builder, ending: &Ending) -> Pushed
     requires building { IsBuilding storage.old builder.old }
-    requires tree { AreParents tree.now.parents.of (state_of storage.old).tasks.parents }
+    requires ending { IsEnding (state_of storage.old) ending.now }
     ensures builds { Builds storage.old builder.old storage.new builder.new }
     ensures ok { OnOk result (Pushes storage.old builder.old (removed_records (state_of storage.old).subpools
-        (ended_below (state_of storage.old).tasks.parents tree.now.top)) storage.new builder.new) }
+        (ended_by (state_of storage.old) ending.now)) storage.new builder.new) }
     ensures needless { length (removed_records (state_of storage.old).subpools
-        (ended_below (state_of storage.old).tasks.parents tree.now.top)) ≤ storage.old.elements.spare → IsOk result }
+        (ended_by (state_of storage.old) ending.now)) ≤ storage.old.elements.spare → IsOk result }
 {
     let mut place = first_seen();
-    while let Some((seen, next)) = next_seen(storage, tree, place) {
+    while let Some((seen, next)) = next_seen(storage, ending, place) {
         push_gone(storage, builder, seen)?;
         place = next;
     }

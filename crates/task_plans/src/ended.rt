@@ -7,8 +7,10 @@ ghost use Rattle.storage_swap.specs.Builder.{IsBuilding, Builds, Pushes};
 ghost use Rattle.storage_changes.specs.Ending.{cleared_quarter, is_below_by, ended_below, ended_level, ended_records};
 ghost use Rattle.std.specs.List.{flat_map};
 ghost use Rattle.task_plans.specs.Parents.{AreParents};
+ghost use Rattle.task_plans.specs.Sights.{tasks_below};
 
 use crate::{Builder, Pushed};
+use arrayvec::ArrayVec;
 use storage_changes::{Record, RegistersRecord, TaskRecord};
 use storage_exchange::Parts;
 use task_tree::laws::trees_stand;
@@ -31,6 +33,15 @@ pub(crate) struct Parents {
 pub(crate) struct Tree {
     pub(crate) top: u8,
     pub(crate) parents: Parents,
+}
+
+/// What ends: a tree of tasks, the tasks of it in ascending order, and what is one more than the highest number at
+/// which any task sees a subpool.
+#[derive(Drop)]
+pub(crate) struct Ending {
+    pub(crate) tree: Tree,
+    pub(crate) tasks: ArrayVec<u8, 64>,
+    pub(crate) numbers_end: u8,
 }
 
 /// The parents of all tasks.
@@ -129,6 +140,20 @@ pub(crate) fn is_ended(storage: &Parts, tree: &Tree, task: u8) -> bool
         }
     }
     above == tree.top
+}
+
+/// The tasks of the subtree, in ascending order.
+pub(crate) fn tasks_that_end(storage: &Parts, tree: &Tree) -> ArrayVec<u8, 64>
+    requires { AreParents tree.now.parents.of (state_of storage.now).tasks.parents }
+    ensures { result.items ≡ tasks_below (state_of storage.now) tree.now.top }
+{
+    let mut tasks = ArrayVec::new();
+    for task in 1..TASKS_END {
+        if is_ended(storage, tree, task) {
+            tasks.push(task);
+        }
+    }
+    tasks
 }
 
 // Four registers of a task become zeros: a quarter of its sixteen.

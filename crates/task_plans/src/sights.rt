@@ -1,17 +1,15 @@
-//! What the tasks of a subtree see, one subpool behind the other, each found by a look-up of its task and number.
+//! What the tasks of a subtree see, one subpool behind the other, each found by a look-up of its number and task.
 
-ghost use Rattle.std.specs.Prelude.{◌≡◌, ℕ, ◌+◌, ◌≤◌, [], ◌∷◌, IfNone, IfSome};
+ghost use Rattle.std.specs.Prelude.{◌≡◌, ℕ, [], ◌∷◌, Some, IfNone, IfSome};
 ghost use Rattle.storage_exchange.specs.Storage.{state_of, Stand};
 ghost use Rattle.storage_changes.specs.Ending.{ended_below, is_own, seen_by_these};
 ghost use Rattle.storage_changes.specs.State.{StorageState};
-ghost use Rattle.task_plans.specs.Parents.{AreParents};
-ghost use Rattle.task_plans.specs.Sights.{row_of, rows_from, seen_left};
+ghost use Rattle.task_plans.specs.Sights.{row_of, rows_behind, rows_from, seen_left, IsEnding};
 
-use crate::ended::{Tree, is_ended};
+use crate::ended::Ending;
 use storage_exchange::Parts;
 use subpool_storage::laws::subpools_are_there;
 use vsm_model::Subpool;
-use vsm_model::geometry::TASKS_END;
 
 /// A row of sight: a subpool, and a task that sees it.
 #[derive(Clone, Copy)]
@@ -20,11 +18,11 @@ pub(crate) struct Seen {
     pub(crate) task: u8,
 }
 
-/// A place in what the tasks of a subtree see: a task, and the number of its subpool that is looked at first.
+/// A place in what the tasks of a subtree see: a number, and how many of the tasks that end were asked for it.
 #[derive(Clone, Copy)]
 pub(crate) struct SightPlace {
-    task: u8,
     number: u8,
+    asked: usize,
 }
 
 impl Seen {
@@ -41,52 +39,76 @@ pub(crate) fn first_seen() -> SightPlace
     ensures { (m : StorageState) (top : ℕ)
         → seen_left m top result ≡ seen_by_these m.subpools (ended_below m.tasks.parents top) }
 {
-    SightPlace { task: 1, number: 0 }
+    SightPlace {
+        number: 0,
+        asked: 0,
+    }
 }
 
-// The next subpool that a task sees, from a number on; `None` where it sees no more.
-fn seen_of(storage: &Parts, task: u8, first: u8) -> Option<Subpool>
-    requires stands { Stand storage.now }
-    ensures none { IfNone result (rows_from (state_of storage.now) task first ≡ []) }
-    ensures next { IfSome result (λ p. rows_from (state_of storage.now) task first
-        ≡ (p, task) ∷ rows_from (state_of storage.now) task (p.number + 1)) }
-    ensures range { IfSome result (λ p. p.number ≤ 127) }
+/// The place behind all that they see at the number.
+pub(crate) fn behind_number(ending: &Ending, number: u8) -> SightPlace
+    ensures { (m : StorageState) → IsEnding m ending.now
+        → seen_left m ending.now.tree.top result ≡ rows_behind m ending.now.tree.top number }
 {
-    subpools_are_there();
-    let end = storage.subpools.numbers_end(&storage.elements);
-    for number in first..end {
+    SightPlace {
+        number,
+        asked: ending.tasks.len(),
+    }
+}
+
+// The next of the tasks that end which sees a subpool at the number, where so many were asked; `None` where no other
+// does.
+fn seen_at(storage: &Parts, ending: &Ending, place: SightPlace) -> Option<(Seen, SightPlace)>
+    requires stands { Stand storage.now }
+    requires ending { IsEnding (state_of storage.now) ending.now }
+    ensures none { IfNone result (rows_from (state_of storage.now) ending.now.tree.top place ≡ []) }
+    ensures next { IfSome result (λ r. rows_from (state_of storage.now) ending.now.tree.top place
+        ≡ row_of r.0 ∷ rows_from (state_of storage.now) ending.now.tree.top r.1) }
+    ensures number { IfSome result (λ r. (r.0.subpool.number ≡ place.number) × (r.1.number ≡ place.number)) }
+    ensures sees { IfSome result (λ r. (state_of storage.now).subpools.sight r.0.task r.0.subpool.number
+        ≡ Some r.0.subpool.owner) }
+{
+    let number = place.number;
+    for asked in place.asked..ending.tasks.len() {
+        let task = ending.tasks[asked];
         if let Some(owner) = storage.subpools.owner_seen(&storage.elements, task, number) {
-            return Some(Subpool { number, owner });
+            let seen = Seen {
+                subpool: Subpool { number, owner },
+                task,
+            };
+            let behind = SightPlace {
+                number,
+                asked: asked + 1,
+            };
+            return Some((seen, behind));
         }
     }
     None
 }
 
-/// What a task of the subtree sees next, from a place on, by task and then by number, and the place behind it; `None`
-/// where they see no more.
+/// The next subpool that a task of the subtree sees from a place on, by number and then by task, and the place behind
+/// it; `None` where they see no more.
 pub(crate) fn next_seen(
     storage: &Parts,
-    tree: &Tree,
+    ending: &Ending,
     place: SightPlace,
 ) -> Option<(Seen, SightPlace)>
     requires stands { Stand storage.now }
-    requires tree { AreParents tree.now.parents.of (state_of storage.now).tasks.parents }
-    ensures none { IfNone result (seen_left (state_of storage.now) tree.now.top place ≡ []) }
-    ensures next { IfSome result (λ r. seen_left (state_of storage.now) tree.now.top place
-        ≡ row_of r.0 ∷ seen_left (state_of storage.now) tree.now.top r.1) }
+    requires ending { IsEnding (state_of storage.now) ending.now }
+    ensures none { IfNone result (seen_left (state_of storage.now) ending.now.tree.top place ≡ []) }
+    ensures next { IfSome result (λ r. seen_left (state_of storage.now) ending.now.tree.top place
+        ≡ row_of r.0 ∷ seen_left (state_of storage.now) ending.now.tree.top r.1) }
+    ensures number { IfSome result (λ r. r.1.number ≡ r.0.subpool.number) }
+    ensures sees { IfSome result (λ r. (state_of storage.now).subpools.sight r.0.task r.0.subpool.number
+        ≡ Some r.0.subpool.owner) }
 {
-    let mut first = place.number;
-    for task in place.task..TASKS_END {
-        if is_ended(storage, tree, task) {
-            if let Some(subpool) = seen_of(storage, task, first) {
-                let behind = SightPlace {
-                    task,
-                    number: subpool.number + 1,
-                };
-                return Some((Seen { subpool, task }, behind));
-            }
+    subpools_are_there();
+    let mut asked = place.asked;
+    for number in place.number..ending.numbers_end {
+        if let Some(next) = seen_at(storage, ending, SightPlace { number, asked }) {
+            return Some(next);
         }
-        first = 0;
+        asked = 0;
     }
     None
 }

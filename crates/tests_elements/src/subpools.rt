@@ -1,5 +1,6 @@
 //! A set beside the plain slow program: the owner that each task sees at each number.
 
+ghost use Rattle.std.specs.Prelude.{◌<◌};
 ghost use Rattle.subpool_set.specs.SubpoolSet.{IsSubpoolSet, QueuesStand};
 
 use crate::checks::{all_given_back, holds, same, stocked};
@@ -12,6 +13,18 @@ use vsm_elements::Elements;
 // The owner that each of four tasks sees at each of three numbers; 0 where it sees none.
 type Seen = [[u8; 3]; 4];
 
+// Whether a task sees one of this number that is another's.
+fn has_sharer(seen: &Seen, number: u8) -> bool
+    requires { number < 3 }
+{
+    let mut found = false;
+    for task in 0..4u8 {
+        let owner = seen[usize::from(task)][usize::from(number)];
+        found = found || owner != 0 && owner != task + 1;
+    }
+    found
+}
+
 fn compare(rt: &impl Abort, elements: &Elements, set: &SubpoolSet, seen: &Seen)
     requires { IsSubpoolSet elements.now set.now }
 {
@@ -23,6 +36,9 @@ fn compare(rt: &impl Abort, elements: &Elements, set: &SubpoolSet, seen: &Seen)
             };
             same!(rt; owner, seen[usize::from(task)][usize::from(number)]);
         }
+    }
+    for number in 0..3u8 {
+        same!(rt; set.is_shared(elements, number), has_sharer(seen, number));
     }
 }
 

@@ -5,7 +5,7 @@ use Rattle.task_plans.proofs.Parks.{ParksLead}
 use Rattle.task_plans.proofs.end.park_owned.Given as goal
 
 abbrev pub invariant-loop-seen : goal.invariant-loop-seen
-invariant-loop-seen l = ParksLead l.tree.top l.fn.storage l.fn.builder l.storage l.builder l.place
+invariant-loop-seen l = ParksLead l.ending.tree.top l.fn.storage l.fn.builder l.storage l.builder l.place
 
 abbrev pub decreases-loop-seen : goal.decreases-loop-seen
-decreases-loop-seen l = length (seen_left (state_of l.storage) l.tree.top l.place)
+decreases-loop-seen l = length (seen_left (state_of l.storage) l.ending.tree.top l.place)

@@ -7,14 +7,14 @@ use Rattle.storage_exchange.specs.Storage.{state_of}
 use Rattle.storage_swap.proofs.BuilderLemmas.{Leads, builds-follow, leads-none}
 use Rattle.task_plans.specs.Sights.{row_of}
 use Rattle.task_plans.proofs.EndRecords.{never}
-use Rattle.task_plans.proofs.ParentLemmas.{still}
+use Rattle.task_plans.proofs.SightLemmas.{still_ends}
 use Rattle.task_plans.proofs.Walks.{walk_all, walk_room, walk_more, walk_less, given_first}
 use Rattle.task_plans.proofs.end.push_released.Goals as goal
 
 pub loop-seen-init : goal.loop-seen-init
 loop-seen-init c =
     let p = c.args.storage.now in
-    let top = c.args.tree.now.top in
+    let top = c.args.ending.now.tree.top in
     let m = state_of p in
     let h : List SightRow → List Record = λ rows. flat_map (emptying_records m.subpools) (owned_in rows) in
     let all = h (seen_by_these m.subpools (ended_below m.tasks.parents top)) in
@@ -23,13 +23,13 @@ loop-seen-init c =
 
 pub loop-seen-smaller : goal.loop-seen-smaller
 loop-seen-smaller c =
-    walk_less c.args.tree.now.top c.loop-seen.storage c.push_emptied.new.storage c.loop-seen.builder c.push_emptied.new.builder c.loop-seen.place c.in-Some.next (row_of c.in-Some.seen) c.in-Some.ensures.next c.push_emptied.ensures.builds
+    walk_less c.args.ending.now.tree.top c.loop-seen.storage c.push_emptied.new.storage c.loop-seen.builder c.push_emptied.new.builder c.loop-seen.place c.in-Some.next (row_of c.in-Some.seen) c.in-Some.ensures.next c.push_emptied.ensures.builds
 
 pub loop-seen-preserved : goal.loop-seen-preserved
 loop-seen-preserved c =
     let p = c.args.storage.now in
     let t = c.loop-seen.storage in
-    let top = c.args.tree.now.top in
+    let top = c.args.ending.now.tree.top in
     let m = state_of p in
     let x = row_of c.in-Some.seen in
     let w = c.loop-seen.invariant in
@@ -39,8 +39,8 @@ loop-seen-preserved c =
     let its : added (state_of t) ≡ h (x ∷ []) = ap added w.builds.keeps.shows in
     walk_more h top p c.args.builder.now t c.loop-seen.builder c.loop-seen.place w.builds all w (given_first (emptying_records m.subpools)) c.in-Some.next x c.in-Some.ensures.next (added (state_of t)) its c.push_emptied.new.storage c.push_emptied.new.builder c.push_emptied.ensures.builds c.in_ok-push_emptied.ensures.ok
 
-pub next_seen-requires-clause-tree : goal.next_seen-requires-clause-tree
-next_seen-requires-clause-tree c = still c.args.tree.now.parents.of _ _ (c.loop-seen.invariant.builds.keeps.shows) c.requires.tree
+pub next_seen-requires-clause-ending : goal.next_seen-requires-clause-ending
+next_seen-requires-clause-ending c = still_ends c.args.ending.now _ _ (c.loop-seen.invariant.builds.keeps.shows) c.requires.ending
 
 pub returns-in_err-push_emptied-clause-builds : goal.returns-in_err-push_emptied-clause-builds
 returns-in_err-push_emptied-clause-builds c = builds-follow _ _ _ _ _ _ c.loop-seen.invariant.builds c.push_emptied.ensures.builds
@@ -49,7 +49,7 @@ pub returns-in_err-push_emptied-clause-needless : goal.returns-in_err-push_empti
 returns-in_err-push_emptied-clause-needless c = λ room.
     let p = c.args.storage.now in
     let t = c.loop-seen.storage in
-    let top = c.args.tree.now.top in
+    let top = c.args.ending.now.tree.top in
     let m = state_of p in
     let x = row_of c.in-Some.seen in
     let w = c.loop-seen.invariant in
@@ -65,7 +65,7 @@ returns-clause-builds c = c.loop-seen.invariant.builds
 pub returns-clause-ok : goal.returns-clause-ok
 returns-clause-ok c =
     let p = c.args.storage.now in
-    let top = c.args.tree.now.top in
+    let top = c.args.ending.now.tree.top in
     let m = state_of p in
     let h : List SightRow → List Record = λ rows. flat_map (emptying_records m.subpools) (owned_in rows) in
     walk_all h top p c.args.builder.now c.loop-seen.storage c.loop-seen.builder c.loop-seen.place c.loop-seen.invariant.builds (h (seen_by_these m.subpools (ended_below m.tasks.parents top))) c.loop-seen.invariant c.in_default.ensures.none refl

@@ -13,7 +13,7 @@ pub returns-then-is_own : goal.returns-then-is_own
 returns-then-is_own c =
     let p = c.args.storage.now in
     let m = state_of p in
-    let is = own_goes m.subpools (ended_below m.tasks.parents c.args.tree.now.top) (row_of c.args.seen) (sym c.if-is_own.true ∙ c.is_own.ensures) in
+    let is = own_goes m.subpools (ended_below m.tasks.parents c.args.ending.now.tree.top) (row_of c.args.seen) (sym c.if-is_own.true ∙ c.is_own.ensures) in
     let done = c.push_sharers in
     let P : List SightRow → Type 0 = λ rows. OnOk done.result (Pushes p c.args.builder.now (map unshared rows) done.new.storage done.new.builder) in
     record {
@@ -26,7 +26,7 @@ pub returns-then-is_ended : goal.returns-then-is_ended
 returns-then-is_ended c =
     let p = c.args.storage.now in
     let m = state_of p in
-    let is = others_goes m.subpools (ended_below m.tasks.parents c.args.tree.now.top) (row_of c.args.seen) (sym c.if-is_own.false ∙ c.is_own.ensures) (sym c.if-is_ended.true ∙ c.is_ended.ensures) in
+    let is = others_goes m.subpools (ended_below m.tasks.parents c.args.ending.now.tree.top) (row_of c.args.seen) (sym c.if-is_own.false ∙ c.is_own.ensures) (sym c.if-is_ended.true ∙ c.is_ended.ensures) in
     let P : List SightRow → Type 0 = λ rows. Pushes p c.args.builder.now (map unshared rows) p c.args.builder.now in
     record {
       builds = builds-none _ _ c.requires.building;
@@ -38,8 +38,8 @@ pub returns : goal.returns
 returns c =
     let p = c.args.storage.now in
     let m = state_of p in
-    let is : map unshared (rows_with m.subpools (ended_below m.tasks.parents c.args.tree.now.top) (row_of c.args.seen)) ≡ c.unseen.result ∷ [] =
-    ap (map unshared) (stays_goes m.subpools (ended_below m.tasks.parents c.args.tree.now.top) (row_of c.args.seen) (sym c.if-is_own.false ∙ c.is_own.ensures) (sym c.if-is_ended.false ∙ c.is_ended.ensures))
+    let is : map unshared (rows_with m.subpools (ended_below m.tasks.parents c.args.ending.now.tree.top) (row_of c.args.seen)) ≡ c.unseen.result ∷ [] =
+    ap (map unshared) (stays_goes m.subpools (ended_below m.tasks.parents c.args.ending.now.tree.top) (row_of c.args.seen) (sym c.if-is_own.false ∙ c.is_own.ensures) (sym c.if-is_ended.false ∙ c.is_ended.ensures))
     ∙ ap (λ (r : Record). r ∷ []) (sym c.unseen.ensures) in
     let done = c.push in
     let P : List Record → Type 0 = λ rs. OnOk done.result (Pushes p c.args.builder.now rs done.new.storage done.new.self) in

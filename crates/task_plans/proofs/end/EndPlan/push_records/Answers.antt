@@ -1,7 +1,7 @@
 use Rattle.std.proofs.Common.{◌∙◌}
 use Rattle.storage_swap.proofs.BuilderLemmas.{builds-follow}
 use Rattle.task_plans.proofs.EndRecords.{front_room, never, released_room, turn_room, rest_room, counted, end_records_are, end_parked_is, end_spare, end_live, end_made}
-use Rattle.task_plans.proofs.ParentLemmas.{still}
+use Rattle.task_plans.proofs.SightLemmas.{still_ends}
 use Rattle.task_plans.proofs.end.EndPlan.push_records.Goals as goal
 
 pub returns-in_err-park_owned-clause-builds : goal.returns-in_err-park_owned-clause-builds
@@ -74,8 +74,14 @@ returns-clause-made c =
     _ _ c.push_released.ensures.builds c.in_ok-push_released.ensures.ok _ _ c.push.ensures.builds c.in_ok-push.ensures.ok
     _ _ c.in_ok-push_rest.ensures.ok
 
-pub push_released-requires-clause-tree : goal.push_released-requires-clause-tree
-push_released-requires-clause-tree c = still c.read_parents-parents.result.of _ _ (c.park_owned.ensures.builds.keeps.shows) c.read_parents-parents.ensures
+pub park_owned-requires-clause-ending : goal.park_owned-requires-clause-ending
+park_owned-requires-clause-ending c = record { parents = c.read_parents.ensures; tasks = c.tasks_that_end.ensures; numbers = c.numbers_end.ensures }
 
-pub push_rest-requires-clause-tree : goal.push_rest-requires-clause-tree
-push_rest-requires-clause-tree c = still c.read_parents-parents.result.of _ _ (c.push.ensures.builds.keeps.shows ∙ c.push_released.ensures.builds.keeps.shows ∙ c.park_owned.ensures.builds.keeps.shows) c.read_parents-parents.ensures
+pub push_released-requires-clause-ending : goal.push_released-requires-clause-ending
+push_released-requires-clause-ending c =
+    still_ends _ _ _ (c.park_owned.ensures.builds.keeps.shows) (record { parents = c.read_parents.ensures; tasks = c.tasks_that_end.ensures; numbers = c.numbers_end.ensures })
+
+pub push_rest-requires-clause-ending : goal.push_rest-requires-clause-ending
+push_rest-requires-clause-ending c =
+    still_ends _ _ _ (c.push.ensures.builds.keeps.shows ∙ c.push_released.ensures.builds.keeps.shows ∙ c.park_owned.ensures.builds.keeps.shows)
+    (record { parents = c.read_parents.ensures; tasks = c.tasks_that_end.ensures; numbers = c.numbers_end.ensures })

@@ -8,35 +8,40 @@ use Rattle.storage_exchange.specs.Storage.{state_of}
 use Rattle.storage_swap.specs.Builder.{Pushes}
 use Rattle.storage_swap.proofs.BuilderLemmas.{builds-follow}
 use Rattle.storage_changes.specs.Ending.{with_turn}
-use Rattle.task_plans.specs.TaskPlans.{end_registers}
+use Rattle.task_plans.specs.declared.end.EndPlan.{EndPlan}
+use Rattle.task_plans.specs.TaskPlans.{end_registers, rest_records}
 use Rattle.task_plans.proofs.EndRecords.{never}
 use Rattle.task_plans.proofs.FourSteps.{first_room, second_room, third_room, fourth_room, three_pushed}
-use Rattle.task_plans.proofs.RestRecords.{unseen, gone, tasks, registers, register_room}
+use Rattle.task_plans.proofs.RestRecords.{with_top, same_plan, same_room, unseen, gone, tasks, registers, register_room}
 use Rattle.task_plans.proofs.RecordCounts.{no_register}
 use Rattle.task_plans.proofs.Walks.{ok_follows}
-use Rattle.task_plans.proofs.ParentLemmas.{still}
+use Rattle.task_plans.proofs.SightLemmas.{still_ends}
 use Rattle.task_plans.proofs.end.EndPlan.push_rest.Goals as goal
 
 pub returns-in_err-push_unshared-clause-builds : goal.returns-in_err-push_unshared-clause-builds
 returns-in_err-push_unshared-clause-builds c = c.push_unshared.ensures.builds
 
 pub returns-in_err-push_unshared-clause-needless : goal.returns-in_err-push_unshared-clause-needless
-returns-in_err-push_unshared-clause-needless c = λ h. never (c.in_err-push_unshared.ensures.needless (first_room (unseen c.args.self) (gone c.args.self) (tasks c.args.self) (registers c.args.self) c.args.storage.now h))
+returns-in_err-push_unshared-clause-needless c = λ h.
+    let plan = with_top c.args.self c.args.ending.now.tree.top in
+    never (c.in_err-push_unshared.ensures.needless (first_room (unseen plan) (gone plan) (tasks plan) (registers plan) c.args.storage.now (same_room c.args.self c.args.ending.now.tree.top c.requires.top (state_of c.args.storage.now) h)))
 
 pub returns-in_err-push_removed-clause-builds : goal.returns-in_err-push_removed-clause-builds
 returns-in_err-push_removed-clause-builds c = builds-follow _ _ _ _ _ _ c.push_unshared.ensures.builds c.push_removed.ensures.builds
 
 pub returns-in_err-push_removed-clause-needless : goal.returns-in_err-push_removed-clause-needless
 returns-in_err-push_removed-clause-needless c = λ h.
-    never (c.in_err-push_removed.ensures.needless (second_room (unseen c.args.self) (gone c.args.self) (tasks c.args.self) (registers c.args.self) c.args.storage.now _ c.args.builder.now _ c.push_unshared.ensures.builds c.in_ok-push_unshared.ensures.ok h))
+    let plan = with_top c.args.self c.args.ending.now.tree.top in
+    never (c.in_err-push_removed.ensures.needless (second_room (unseen plan) (gone plan) (tasks plan) (registers plan) c.args.storage.now _ c.args.builder.now _ c.push_unshared.ensures.builds c.in_ok-push_unshared.ensures.ok (same_room c.args.self c.args.ending.now.tree.top c.requires.top (state_of c.args.storage.now) h)))
 
 pub returns-in_err-push_ended-clause-builds : goal.returns-in_err-push_ended-clause-builds
 returns-in_err-push_ended-clause-builds c = builds-follow _ _ _ _ _ _ (builds-follow _ _ _ _ _ _ c.push_unshared.ensures.builds c.push_removed.ensures.builds) c.push_ended.ensures.builds
 
 pub returns-in_err-push_ended-clause-needless : goal.returns-in_err-push_ended-clause-needless
 returns-in_err-push_ended-clause-needless c = λ h.
-    never (c.in_err-push_ended.ensures.needless (third_room (unseen c.args.self) (gone c.args.self) (tasks c.args.self) (registers c.args.self) c.args.storage.now _ c.args.builder.now _ c.push_unshared.ensures.builds c.in_ok-push_unshared.ensures.ok
-    _ _ c.push_removed.ensures.builds c.in_ok-push_removed.ensures.ok h))
+    let plan = with_top c.args.self c.args.ending.now.tree.top in
+    never (c.in_err-push_ended.ensures.needless (third_room (unseen plan) (gone plan) (tasks plan) (registers plan) c.args.storage.now _ c.args.builder.now _ c.push_unshared.ensures.builds c.in_ok-push_unshared.ensures.ok
+    _ _ c.push_removed.ensures.builds c.in_ok-push_removed.ensures.ok (same_room c.args.self c.args.ending.now.tree.top c.requires.top (state_of c.args.storage.now) h)))
 
 pub returns-in-Returned-clause-builds : goal.returns-in-Returned-clause-builds
 returns-in-Returned-clause-builds c =
@@ -48,21 +53,25 @@ returns-in-Returned-clause-ok c =
     let a = c.args.builder.now in
     let m = state_of p in
     let next = c.args.self.next in
-    let base : List Record = unseen c.args.self m ++ gone c.args.self m ++ tasks c.args.self m in
+    let plan = with_top c.args.self c.args.ending.now.tree.top in
+    let same = same_plan c.args.self c.args.ending.now.tree.top c.requires.top in
+    let base : List Record = unseen plan m ++ gone plan m ++ tasks plan m in
     let three : Pushes p a base c.push_ended.new.storage c.push_ended.new.builder =
-    three_pushed (unseen c.args.self) (gone c.args.self) (tasks c.args.self) (registers c.args.self) p _ a _ c.push_unshared.ensures.builds c.in_ok-push_unshared.ensures.ok _ _ c.push_removed.ensures.builds c.in_ok-push_removed.ensures.ok _ _ c.push_ended.ensures.builds c.in_ok-push_ended.ensures.ok in
+    three_pushed (unseen plan) (gone plan) (tasks plan) (registers plan) p _ a _ c.push_unshared.ensures.builds c.in_ok-push_unshared.ensures.ok _ _ c.push_removed.ensures.builds c.in_ok-push_removed.ensures.ok _ _ c.push_ended.ensures.builds c.in_ok-push_ended.ensures.ok in
     let u = c.push.new.storage in
     let d = c.push.new.self in
     let R : Record → Type 0 = λ x. OnOk c.push.result (Pushes c.push_ended.new.storage c.push_ended.new.builder (x ∷ []) u d) in
     let Q : Reply → Type 0 = λ reply. OnOk c.push.result (Pushes p a (base ++ register_records (with_turn m next) (end_registers reply)) u d) in
-    subst Q (sym c.in-Returned.is)
-    (ok_follows p c.push_ended.new.storage u a c.push_ended.new.builder d base (Register (record { task = next; register = 15; word = c.in-Returned.code }) ∷ []) c.push.result three (subst R c.set_register.ensures c.push.ensures.ok))
+    let whole : EndPlan → Type 0 = λ plan. OnOk c.push.result (Pushes p a (rest_records m plan) u d) in
+    subst whole same (subst Q (sym c.in-Returned.is)
+    (ok_follows p c.push_ended.new.storage u a c.push_ended.new.builder d base (Register (record { task = next; register = 15; word = c.in-Returned.code }) ∷ []) c.push.result three (subst R c.set_register.ensures c.push.ensures.ok)))
 
 pub returns-in-Returned-clause-needless : goal.returns-in-Returned-clause-needless
 returns-in-Returned-clause-needless c = λ h.
-    c.push.ensures.needless (register_room c.args.self (state_of c.push_ended.new.storage) c.in-Returned.code c.in-Returned.is
-    (fourth_room (unseen c.args.self) (gone c.args.self) (tasks c.args.self) (registers c.args.self) c.args.storage.now _ c.args.builder.now _ c.push_unshared.ensures.builds c.in_ok-push_unshared.ensures.ok
-    _ _ c.push_removed.ensures.builds c.in_ok-push_removed.ensures.ok _ _ c.push_ended.ensures.builds c.in_ok-push_ended.ensures.ok h))
+    let plan = with_top c.args.self c.args.ending.now.tree.top in
+    c.push.ensures.needless (register_room plan (state_of c.push_ended.new.storage) c.in-Returned.code c.in-Returned.is
+    (fourth_room (unseen plan) (gone plan) (tasks plan) (registers plan) c.args.storage.now _ c.args.builder.now _ c.push_unshared.ensures.builds c.in_ok-push_unshared.ensures.ok
+    _ _ c.push_removed.ensures.builds c.in_ok-push_removed.ensures.ok _ _ c.push_ended.ensures.builds c.in_ok-push_ended.ensures.ok (same_room c.args.self c.args.ending.now.tree.top c.requires.top (state_of c.args.storage.now) h)))
 
 pub returns-in_default : goal.returns-in_default
 returns-in_default c =
@@ -70,17 +79,21 @@ returns-in_default c =
     let a = c.args.builder.now in
     let m = state_of p in
     let next = c.args.self.next in
-    let base : List Record = unseen c.args.self m ++ gone c.args.self m ++ tasks c.args.self m in
+    let plan = with_top c.args.self c.args.ending.now.tree.top in
+    let same = same_plan c.args.self c.args.ending.now.tree.top c.requires.top in
+    let base : List Record = unseen plan m ++ gone plan m ++ tasks plan m in
     let P : List Record → Type 0 = λ rs. Pushes p a rs c.push_ended.new.storage c.push_ended.new.builder in
+    let whole : EndPlan → Type 0 = λ plan. Pushes p a (rest_records m plan) c.push_ended.new.storage c.push_ended.new.builder in
     record {
       builds = builds-follow _ _ _ _ _ _ (builds-follow _ _ _ _ _ _ c.push_unshared.ensures.builds c.push_removed.ensures.builds) c.push_ended.ensures.builds;
-      ok = subst P (sym (append-nil base) ∙ sym (ap (λ rows. base ++ register_records (with_turn m next) rows) (no_register c.args.self.reply c.in_default.not-Returned)))
-          (three_pushed (unseen c.args.self) (gone c.args.self) (tasks c.args.self) (registers c.args.self) p _ a _ c.push_unshared.ensures.builds c.in_ok-push_unshared.ensures.ok _ _ c.push_removed.ensures.builds c.in_ok-push_removed.ensures.ok _ _ c.push_ended.ensures.builds c.in_ok-push_ended.ensures.ok);
+      ok = subst whole same (subst P (sym (append-nil base) ∙ sym (ap (λ rows. base ++ register_records (with_turn m next) rows) (no_register c.args.self.reply c.in_default.not-Returned)))
+          (three_pushed (unseen plan) (gone plan) (tasks plan) (registers plan) p _ a _ c.push_unshared.ensures.builds c.in_ok-push_unshared.ensures.ok _ _ c.push_removed.ensures.builds c.in_ok-push_removed.ensures.ok _ _ c.push_ended.ensures.builds c.in_ok-push_ended.ensures.ok));
       needless = λ room. refl;
     }
 
-pub push_removed-requires-clause-tree : goal.push_removed-requires-clause-tree
-push_removed-requires-clause-tree c = still c.args.parents.now.of _ _ (c.push_unshared.ensures.builds.keeps.shows) c.requires.tree
+pub push_removed-requires-clause-ending : goal.push_removed-requires-clause-ending
+push_removed-requires-clause-ending c = still_ends c.args.ending.now _ _ (c.push_unshared.ensures.builds.keeps.shows) c.requires.ending
 
 pub push_ended-requires-clause-tree : goal.push_ended-requires-clause-tree
-push_ended-requires-clause-tree c = still c.args.parents.now.of _ _ (c.push_removed.ensures.builds.keeps.shows ∙ c.push_unshared.ensures.builds.keeps.shows) c.requires.tree
+push_ended-requires-clause-tree c =
+    (still_ends c.args.ending.now _ _ (c.push_removed.ensures.builds.keeps.shows ∙ c.push_unshared.ensures.builds.keeps.shows) c.requires.ending).parents
