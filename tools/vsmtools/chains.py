@@ -20,14 +20,15 @@ Of one fewer `narrows` tells those that nothing makes; in small regions all othe
 from __future__ import annotations
 
 from functools import partial
-from itertools import count, product
+from itertools import product
 from typing import Iterator, Optional
 
-from .building import Build, Step, page_end, page_start, shape
-from .holding import Held, NoChain
+from .building import Build, Step, page_end, page_start
+from .holding import NoChain, runs_of
 from .maps import PAGE, Area
 from .merging import merged
 from .places import Key, location
+from .spread import Spread
 
 
 Side = tuple[list[Area], list[Build]]      # its runs of unassigned pages, and its cell pools
@@ -64,21 +65,17 @@ def side_by_side(sides: list[Side], most: int) -> Optional[list[Step]]:
     return next((steps for high, low in product(*ways) if (steps := merged(high, low, most)) is not None), None)
 
 
-class Descent(Held):
+class Descent(Spread):
     """Makes cell pools of one side of the line, each of which begins in a page in which no other one begins."""
-
-    def __init__(self, runs: list[Area], wanted: list[Build], most: int) -> None:
-        super().__init__(runs, most)
-        self.wanted = sorted(wanted, key=lambda it: it.area.start)
 
     def plans(self, is_resting: bool) -> Iterator[list[Step]]:
         """The steps of each of the ways that leads there. is_resting: whether others come meanwhile, so that ways help
         that rest where few are there."""
-        blocks = self.first_blocks()
-        first, most_held = blocks[:1], self.most_held([it for block in blocks for it in block])
+        blocks = [run.its for run in runs_of(self.first_its())]
+        first = blocks[:1]
         ways = [partial(self.make, early, late, tight) for early, late, tight in (
             (first, [], []), ([], first, []), ([], [block[:1] for block in first], []), (blocks, [], []),
-            ([], [], first))] + [partial(self.make_behind_all, most_held)] * (most_held > 1)
+            ([], [], first))] + list(self.spread_ways())
         for way in ways + [partial(self.make, early, [], [], True) for early in (first, blocks) if is_resting]:
             self.begin()
             try:
@@ -86,18 +83,6 @@ class Descent(Held):
             except NoChain:
                 continue
             yield self.steps
-
-    def first_blocks(self) -> list[list[Build]]:
-        """The cell pools in the first pages, up to the first page that none has, by runs of pages of a subpool."""
-        found: list[list[Build]] = []
-        for it, page in zip(self.wanted, count(self.runs[0].start if self.runs else 0, PAGE)):
-            if page_start(it.area.start) != page:
-                break
-            if found and found[-1][0].key == it.key:
-                found[-1].append(it)
-            else:
-                found.append([it])
-        return found
 
     def make(self, early: list[list[Build]], late: list[list[Build]], tight: list[list[Build]],
              is_resting: bool = False) -> None:
@@ -116,40 +101,6 @@ class Descent(Held):
             self.delete(fillers)
         for block, chain in reversed(list(zip(early, chains))):
             self.make_chained(block, chain, is_resting)
-
-    def make_behind_all(self, number: int) -> None:
-        """All of several subpools. number: so many of the first ones come behind fillers that hold all their pages."""
-        for it in reversed(self.wanted[number:]):
-            self.make_high(it)
-        self.make_all(self.wanted[:number])
-
-    # Cell pools behind unassigned pages.
-
-    def make_high(self, it: Build) -> None:
-        """A cell pool in an unassigned page, behind a filler from the lowest one: right behind it, or behind one more;
-        or before what that leaves of the page, where it has to be longer."""
-        start = it.area.start
-        lowest = next((run.start for run in self.ground.unassigned()), page_start(start))
-        end = self.end_of_filler(it, lowest)
-        fillers = self.fill(it.key, lowest, end) + self.fill(it.key, end, start)
-        if end > start:
-            holder = self.fill(it.key, end, page_end(end))
-            self.delete(fillers)
-            fillers = self.fill(it.key, page_start(start), start)
-            self.delete(holder if fillers else [])
-            fillers = fillers or holder
-        self.build(it)
-        self.delete(fillers)
-
-    def end_of_filler(self, it: Build, lowest: int) -> int:
-        """Up to where a filler reaches that begins at the lowest unassigned page and fits no gap: to the place of a
-        cell pool, else past it within its page, else before it there."""
-        start, page = it.area.start, page_start(it.area.start)
-        longest = max((gap.length for gap in self.ground.gaps(it.key)), default=0)
-        for end in [start, *range(page + PAGE - 8, start, -8), *range(start - 8, page, -8)]:
-            if end > page and end - lowest > longest and shape(end - lowest):
-                return end
-        raise NoChain
 
     # Cell pools behind a chain.
 

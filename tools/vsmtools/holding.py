@@ -54,6 +54,13 @@ class Fillers:
         """A filler from one address up to another; none where there's nothing between."""
         return [self.build(span(key, start, end))] if start < end else []
 
+    def lowest(self) -> int:
+        """The first unassigned page."""
+        lowest = next(self.ground.unassigned(), None)
+        if lowest is None:
+            raise NoChain
+        return lowest.start
+
     def delete(self, its: Iterable[Build]) -> None:
         for it in its:
             self.ground.remove(it)
@@ -116,8 +123,8 @@ class Held(Fillers):
     # Pages that are held.
 
     def front(self, key: Key, end: int) -> list[Build]:
-        """A filler from the first page on that fits no free area, or two where its length is that of no cells."""
-        start, longest = self.runs[0].start, max((gap.length for gap in self.ground.gaps(key)), default=0)
+        """A filler from the lowest unassigned page on that fits no free area, or two where its length is that of no cells."""
+        start, longest = self.lowest(), max((gap.length for gap in self.ground.gaps(key)), default=0)
         for at in [start, *range(start + PAGE, end, PAGE)]:
             if end - at > longest and shape(end - at) and (at == start or at - start > longest and shape(at - start)):
                 return self.fill(key, start, at) + self.fill(key, at, end)
@@ -156,10 +163,11 @@ class Held(Fillers):
         return found
 
     def first_link(self, key: Key) -> list[Build]:
-        """The first page, all but its last doubleword, while all free areas that are as long are filled."""
+        """The lowest unassigned page, all but its last doubleword, while all free areas that are as long are filled."""
         fillers = [filler for gap in list(self.ground.gaps(key)) if gap.length >= PAGE - 8
                    for filler in self.fill(key, gap.start, gap.end)]
-        found = self.fill(key, self.runs[0].start, self.runs[0].start + PAGE - 8)
+        start = self.lowest()
+        found = self.fill(key, start, start + PAGE - 8)
         self.delete(fillers)
         return found
 
@@ -202,45 +210,7 @@ class Held(Fillers):
                 return gap.end
         raise NoChain
 
-    # Pages of several subpools.
-
-    def make_all(self, its: list[Build]) -> None:
-        """Those of several subpools, run by run from the last one on. All pages are held two by one or better; just in
-        those of a run's subpool there are all links."""
-        runs = runs_of(its)
-        first, held, links = runs[0], {}, {}
-        for run in reversed(runs):
-            held[run.start] = self.held_pages(run.key, run.start + (run is first) * PAGE,
-                                              run.start + len(run.its) * PAGE)
-        links[first.start] = [self.first_link(first.key)]
-        for at in reversed(range(len(runs))):
-            own = [run for run in runs[:at + 1] if run.key == runs[at].key]
-            for run in own:
-                if run.start in held:
-                    self.link_pages(run.key, run.start + (run is first) * PAGE, held.pop(run.start),
-                              links.setdefault(run.start, []))
-                else:
-                    self.link_again(links[run.start])
-            for k, it in reversed(list(enumerate(runs[at].its))):
-                self.make_linked(it, links[runs[at].start], k)
-            self.delete_all(links[runs[at].start])
-            for run in own[:-1]:
-                self.delete_all(links[run.start][::2])
-
     def link_again(self, links: list[list[Build]]) -> None:
         """All links of a run of pages, each second of which is there."""
         for k in range(0, len(links), 2):
             links[k] = [self.build(it) for it in links[k]]
-
-    def most_held(self, its: list[Build]) -> int:
-        """Of how many of the first cell pools the pages may be held at once, so that there are links for each subpool;
-        0 if of none."""
-        for number in range(len(its), 1, -1):
-            runs = runs_of(its[:number])
-            held = sum((len(run.its) + 1) // 2 for run in runs)
-            more: dict[Key, int] = {}
-            for run in runs:
-                more[run.key] = more.get(run.key, 0) + len(run.its) + 1 - (len(run.its) + 1) // 2
-            if len(self.wanted) - number + held + max(more.values()) < self.most:
-                return number
-        return 0

@@ -1,0 +1,206 @@
+"""Small cell pools of several subpools that are spread over the first pages of a region, one in each page.
+
+A page that nothing takes can be the last one that gets something just where few free areas of its subpool are as long
+as a page but 8 bytes, as each of these has a filler then. So one subpool's first page is the last: the pages below it
+are held from the begin, those above it come or are held from the highest to the lowest, behind fillers from it on, and
+then it's held itself, while all such areas are filled.
+
+Which cell pools come before that, and of which just the pages are held, two by one or better? For one to come where no
+page is unassigned, all lower pages of its subpool have links, one more than pages in each run of these side by side.
+Those in pages that are held otherwise make room for that: one for each two pages side by side. So of each subpool the
+first cell pools come last, as many as can: beginning with none, one more of any subpool is taken that could be made
+last of them all, until there's none. That takes nothing from others, as what is held makes only more room for them. In
+the reverse order they're made, and all that can be made so last are found.
+"""
+from __future__ import annotations
+
+from functools import partial
+from itertools import count
+from typing import Callable, Iterator, Optional
+
+from .building import END, Build, page_end, page_start, shape
+from .holding import Held, NoChain, Run, runs_of
+from .maps import PAGE, Area
+from .places import Key
+
+
+class Spread(Held):
+    """Makes cell pools of one side of the line, each of which begins in a page in which no other one begins."""
+
+    def __init__(self, runs: list[Area], wanted: list[Build], most: int) -> None:
+        super().__init__(runs, most)
+        self.wanted = sorted(wanted, key=lambda it: it.area.start)
+        self.parts: list[Run] = []                     # of the pages that are held so far, from the lowest on
+        self.held: dict[int, list[list[Build]]] = {}   # by where a part begins: what holds it before it has links
+        self.links: dict[int, list[list[Build]]] = {}
+        self.linked: Optional[Key] = None              # the subpool whose parts have all links
+
+    def first_its(self) -> list[Build]:
+        """The cell pools in the first pages, up to the first page that none has."""
+        pages = count(self.runs[0].start if self.runs else 0, PAGE)
+        number = next((k for k, (it, page) in enumerate(zip(self.wanted, pages))
+                       if page_start(it.area.start) != page), len(self.wanted))
+        return self.wanted[:number]
+
+    # Cell pools behind unassigned pages.
+
+    def make_high(self, it: Build) -> None:
+        """A cell pool in an unassigned page, behind a filler from the lowest one: right behind it, or behind one more;
+        or before what that leaves of the page, where it has to be longer."""
+        start = it.area.start
+        lowest = next((run.start for run in self.ground.unassigned()), page_start(start))
+        end = self.end_of_filler(it, lowest)
+        fillers = self.fill(it.key, lowest, end) + self.fill(it.key, end, start)
+        if end > start:
+            holder = self.fill(it.key, end, page_end(end))
+            self.delete(fillers)
+            fillers = self.fill(it.key, page_start(start), start)
+            self.delete(holder if fillers else [])
+            fillers = fillers or holder
+        self.build(it)
+        self.delete(fillers)
+
+    def end_of_filler(self, it: Build, lowest: int) -> int:
+        """Up to where a filler reaches that begins at the lowest unassigned page and fits no gap: to the place of a
+        cell pool, else past it within its page, else before it there."""
+        start, page = it.area.start, page_start(it.area.start)
+        longest = max((gap.length for gap in self.ground.gaps(it.key)), default=0)
+        for end in [start, *range(page + PAGE - 8, start, -8), *range(start - 8, page, -8)]:
+            if end > page and end - lowest > longest and shape(end - lowest):
+                return end
+        raise NoChain
+
+    # Cell pools of several subpools.
+
+    def spread_ways(self) -> Iterator[Callable[[], None]]:
+        """The ways by each of the subpools in the first pages, and with all of these held from the begin."""
+        its, spare = self.first_its(), self.most - len(self.wanted)
+        firsts: dict[Key, int] = {}
+        for it in its:
+            firsts.setdefault(it.key, page_start(it.area.start))
+        bases = [*firsts.values(), *(page_end(it.area.end) for it in its[-1:] if len(its) < len(self.wanted))]
+        for room in (spare - 1, spare):
+            groups = groups_of(its, room, spare - 1)
+            yield from (partial(self.make_spread, base, groups) for base in bases)
+
+    def make_spread(self, base: int, groups: list[list[Build]]) -> None:
+        """All, so that the page at an address is the last of the first ones that gets something. groups: those that
+        come late, the last ones first."""
+        self.parts, self.held, self.links, self.linked = [], {}, {}, None
+        its = self.first_its()
+        late = {it.area.start for group in groups for it in group}
+        runs = runs_of(its)
+        low = [run for run in runs if run.start < base]
+        self.descend(low, late, 0)
+        self.descend(runs[len(low):] + runs_of(self.wanted[len(its):]), late, base)
+        for key in dict.fromkeys(part.key for part in self.parts):
+            self.turn_to(key, END)
+        for group in reversed(groups):
+            self.turn_to(group[0].key, END)
+            for it in reversed(group):
+                self.make_late(it)
+
+    def descend(self, runs: list[Run], late: set[int], base: int) -> None:
+        """Makes cell pools from the highest to the lowest, and holds the pages of those that come late; of the first
+        page last. base: below it, all pages are held."""
+        for run in reversed(runs):
+            self.turn_to(run.key, base)
+            part = [it for it in run.its if it.area.start in late]
+            for it in reversed(run.its[len(part):]):
+                self.make_high(it)
+            if part:
+                self.hold_part(Run(run.key, run.start, part), run is runs[0])
+        self.turn_to(None, base)
+        for part in self.parts:
+            if runs and part.start == runs[0].start:
+                self.hold_first(part)
+
+    def hold_part(self, part: Run, is_first: bool) -> None:
+        """Holds the pages of a part, but for the first one of all."""
+        self.parts = sorted([*self.parts, part], key=lambda it: it.start)
+        self.held[part.start] = self.held_pages(part.key, part.start + is_first * PAGE,
+                                                part.start + len(part.its) * PAGE)
+
+    def hold_first(self, part: Run) -> None:
+        """Holds the lowest unassigned page, and then just what holds each two pages of its part."""
+        self.links[part.start] = [self.first_link(part.key)]
+        self.link_part(part)
+        self.delete_all(self.links[part.start][::2])
+
+    def turn_to(self, key: Optional[Key], base: int) -> None:
+        """All links of a subpool's parts that begin below an address, and each second one of others."""
+        if key == self.linked:
+            return
+        for part in self.parts:
+            if part.key == self.linked and part.start not in self.held:
+                self.delete_all(self.links[part.start][::2])
+        for part in self.parts:
+            if part.key == key and part.start < base:
+                self.link_part(part)
+        self.linked = key
+
+    def link_part(self, part: Run) -> None:
+        if part.start in self.held:
+            links = self.links.setdefault(part.start, [])
+            self.link_pages(part.key, part.start + len(links) * PAGE, self.held.pop(part.start), links)
+        else:
+            self.link_again(self.links[part.start])
+
+    def make_late(self, it: Build) -> None:
+        """A cell pool in a page that is held, while its subpool has all links below."""
+        part = next(part for part in reversed(self.parts) if part.key == it.key)
+        links, k = self.links[part.start], (page_start(it.area.start) - part.start) // PAGE
+        self.make_linked(it, links, k)
+        if k == 0:
+            self.delete_all(links)
+            self.parts.remove(part)
+
+
+class Groups:
+    """Which of the cell pools in the first pages come last, the last ones first: some of a subpool, one after another.
+    """
+
+    def __init__(self, its: list[Build], room: int) -> None:
+        """room: how many more than all cell pools there may be while a subpool has all links."""
+        self.room = room
+        self.own: dict[Key, list[Build]] = {}
+        for it in its:
+            self.own.setdefault(it.key, []).append(it)
+        self.sizes: dict[Key, list[int]] = {key: [] for key in self.own}     # of the runs of pages that are held
+        self.found: list[list[Build]] = []
+        is_changed = True
+        while is_changed:
+            is_changed = any([self.take(key) for key in self.own])
+
+    def others(self, key: Key) -> int:
+        """How many fewer than pages hold those of other subpools."""
+        return sum(size // 2 for other, sizes in self.sizes.items() if other != key for size in sizes)
+
+    def take(self, key: Key) -> int:
+        """Takes as many of a subpool as can be."""
+        sizes, its = self.sizes[key], self.own[key]
+        start, most = sum(sizes), self.room + self.others(key)
+        at = start
+        while at < len(its):
+            if at and page_start(its[at - 1].area.start) + PAGE == page_start(its[at].area.start):
+                sizes[-1] += 1
+            elif len(sizes) < most:
+                sizes.append(1)
+            else:
+                break
+            at += 1
+        self.found += [its[start:at]] * (at > start)
+        return at - start
+
+    def least_room(self) -> int:
+        """How many more than all cell pools there are while any subpool has all links."""
+        return max((len(sizes) - self.others(key) for key, sizes in self.sizes.items()), default=0)
+
+
+def groups_of(its: list[Build], room: int, first_room: int) -> list[list[Build]]:
+    """The same of as many as can be. first_room: as room, but at first."""
+    for number in range(len(its), 0, -1):
+        groups = Groups(its[:number], room)
+        if groups.least_room() <= first_room:
+            return groups.found
+    return []
