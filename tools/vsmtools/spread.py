@@ -80,7 +80,7 @@ class Spread(Held):
             firsts.setdefault(it.key, page_start(it.area.start))
         bases = [*firsts.values(), *(page_end(it.area.end) for it in its[-1:] if len(its) < len(self.wanted))]
         for room in (spare - 1, spare):
-            groups = groups_of(its, room, spare - 1)
+            groups = Groups(its, room).found
             yield from (partial(self.make_spread, base, groups) for base in bases)
 
     def make_spread(self, base: int, groups: list[list[Build]]) -> None:
@@ -93,8 +93,6 @@ class Spread(Held):
         low = [run for run in runs if run.start < base]
         self.descend(low, late, 0)
         self.descend(runs[len(low):] + runs_of(self.wanted[len(its):]), late, base)
-        for key in dict.fromkeys(part.key for part in self.parts):
-            self.turn_to(key, END)
         for group in reversed(groups):
             self.turn_to(group[0].key, END)
             for it in reversed(group):
@@ -116,10 +114,15 @@ class Spread(Held):
                 self.hold_first(part)
 
     def hold_part(self, part: Run, is_first: bool) -> None:
-        """Holds the pages of a part, but for the first one of all."""
+        """Holds the pages of a part, but for the first one of all. What holds a single one is a link."""
+        key, start, second = part.key, part.start, part.start + PAGE
+        is_odd = not is_first and len(part.its) % 2
         self.parts = sorted([*self.parts, part], key=lambda it: it.start)
-        self.held[part.start] = self.held_pages(part.key, part.start + is_first * PAGE,
-                                                part.start + len(part.its) * PAGE)
+        self.held[start] = self.held_pages(key, second if is_first or is_odd else start, start + len(part.its) * PAGE)
+        if is_odd:
+            holder = self.held_page(key, start)
+            self.links[start] = [self.fill(key, start, second - 8)]
+            self.delete(holder)
 
     def hold_first(self, part: Run) -> None:
         """Holds the lowest unassigned page, and then just what holds each two pages of its part."""
@@ -176,31 +179,20 @@ class Groups:
         """How many fewer than pages hold those of other subpools."""
         return sum(size // 2 for other, sizes in self.sizes.items() if other != key for size in sizes)
 
-    def take(self, key: Key) -> int:
-        """Takes as many of a subpool as can be."""
+    def take(self, key: Key) -> bool:
+        """Takes as many of a subpool as can be, if any. One that begins with its page within a run needs one more, as
+        what is behind it holds the page."""
         sizes, its = self.sizes[key], self.own[key]
         start, most = sum(sizes), self.room + self.others(key)
-        at = start
-        while at < len(its):
-            if at and page_start(its[at - 1].area.start) + PAGE == page_start(its[at].area.start):
-                sizes[-1] += 1
-            elif len(sizes) < most:
-                sizes.append(1)
-            else:
+        for at in range(start, len(its)):
+            page = page_start(its[at].area.start)
+            is_next = at > 0 and page_start(its[at - 1].area.start) + PAGE == page
+            if len(sizes) + (not is_next or its[at].area.start == page) > most:
                 break
-            at += 1
-        self.found += [its[start:at]] * (at > start)
-        return at - start
-
-    def least_room(self) -> int:
-        """How many more than all cell pools there are while any subpool has all links."""
-        return max((len(sizes) - self.others(key) for key, sizes in self.sizes.items()), default=0)
-
-
-def groups_of(its: list[Build], room: int, first_room: int) -> list[list[Build]]:
-    """The same of as many as can be. first_room: as room, but at first."""
-    for number in range(len(its), 0, -1):
-        groups = Groups(its[:number], room)
-        if groups.least_room() <= first_room:
-            return groups.found
-    return []
+            if is_next:
+                sizes[-1] += 1
+            else:
+                sizes.append(1)
+        group = its[start:sum(sizes)]
+        self.found += [group] if group else []
+        return bool(group)
