@@ -16,6 +16,8 @@ makes as many as there may be: behind the last BUILD of one that stays there's n
 and there was a gap in any other page, where it would have gone.
 
 Of one fewer `narrows` tells those that nothing makes; in small regions all others come this way (`holding`).
+
+Those of several subpools come as `spread` has it.
 """
 from __future__ import annotations
 

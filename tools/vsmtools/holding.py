@@ -76,13 +76,14 @@ class Run(NamedTuple):
 
 
 def runs_of(its: list[Build]) -> list[Run]:
-    """The runs of pages of a subpool among pages side by side."""
+    """The runs of pages of a subpool among the pages of cell pools, from the lowest on."""
     found: list[Run] = []
     for it in its:
-        if found and found[-1].key == it.key:
-            found[-1].its.append(it)
+        last, page = found[-1] if found else None, page_start(it.area.start)
+        if last and last.key == it.key and last.start + len(last.its) * PAGE == page:
+            last.its.append(it)
         else:
-            found.append(Run(it.key, page_start(it.area.start), [it]))
+            found.append(Run(it.key, page, [it]))
     return found
 
 
@@ -123,7 +124,8 @@ class Held(Fillers):
     # Pages that are held.
 
     def front(self, key: Key, end: int) -> list[Build]:
-        """A filler from the lowest unassigned page on that fits no free area, or two where its length is that of no cells."""
+        """A filler from the lowest unassigned page on that fits no free area, or two where its length is that of no
+        cells."""
         start, longest = self.lowest(), max((gap.length for gap in self.ground.gaps(key)), default=0)
         for at in [start, *range(start + PAGE, end, PAGE)]:
             if end - at > longest and shape(end - at) and (at == start or at - start > longest and shape(at - start)):

@@ -1,16 +1,17 @@
-"""Small cell pools of several subpools that are spread over the first pages of a region, one in each page.
+"""Small cell pools of several subpools that are spread over pages, one in each.
 
-A page that nothing takes can be the last one that gets something just where few free areas of its subpool are as long
-as a page but 8 bytes, as each of these has a filler then. So one subpool's first page is the last: the pages below it
-are held from the begin, those above it come or are held from the highest to the lowest, behind fillers from it on, and
-then it's held itself, while all such areas are filled.
+They come from the highest to the lowest, each behind a filler from the lowest unassigned page on that is longer than
+any free area. That fails in the first pages, up to the first one that none has. So fillers hold these: all from the
+begin, while no free area is there, if a higher page is unassigned; or those up to the first page of one subpool. Then
+this is the last that gets something: a filler of all but 8 bytes of it, for which each free area of the subpool that is
+as long has one too. Few may be, so that each subpool there is tried.
 
-Which cell pools come before that, and of which just the pages are held, two by one or better? For one to come where no
-page is unassigned, all lower pages of its subpool have links, one more than pages in each run of these side by side.
-Those in pages that are held otherwise make room for that: one for each two pages side by side. So of each subpool the
-first cell pools come last, as many as can: beginning with none, one more of any subpool is taken that could be made
-last of them all, until there's none. That takes nothing from others, as what is held makes only more room for them. In
-the reverse order they're made, and all that can be made so last are found.
+What comes late, when none of these pages is unassigned, comes behind links (`holding`) in all lower pages of its
+subpool where something else comes late too: one more than pages in each run of these side by side. The pages of other
+subpools are held two by one, where two are side by side, which makes room for that. So of each subpool the first ones
+come late, as many as can: beginning with none, one more of any subpool is taken if it could be the last of all, until
+there's none. What is taken only makes more room for others, so that this finds all that can be taken so; they come in
+the reverse order. The pages of higher ones that come late are held as their cell pools would come.
 """
 from __future__ import annotations
 
@@ -30,6 +31,9 @@ class Spread(Held):
     def __init__(self, runs: list[Area], wanted: list[Build], most: int) -> None:
         super().__init__(runs, most)
         self.wanted = sorted(wanted, key=lambda it: it.area.start)
+        self.begin_spread()
+
+    def begin_spread(self) -> None:
         self.parts: list[Run] = []                     # of the pages that are held so far, from the lowest on
         self.held: dict[int, list[list[Build]]] = {}   # by where a part begins: what holds it before it has links
         self.links: dict[int, list[list[Build]]] = {}
@@ -73,55 +77,55 @@ class Spread(Held):
     # Cell pools of several subpools.
 
     def spread_ways(self) -> Iterator[Callable[[], None]]:
-        """The ways by each of the subpools in the first pages, and with all of these held from the begin."""
+        """The ways by each of the subpools in the first pages, and with all these pages held from the begin."""
         its, spare = self.first_its(), self.most - len(self.wanted)
         firsts: dict[Key, int] = {}
         for it in its:
             firsts.setdefault(it.key, page_start(it.area.start))
         bases = [*firsts.values(), *(page_end(it.area.end) for it in its[-1:] if len(its) < len(self.wanted))]
         for room in (spare - 1, spare):
-            groups = Groups(its, room).found
+            groups = Groups(self.wanted, room).found
             yield from (partial(self.make_spread, base, groups) for base in bases)
 
     def make_spread(self, base: int, groups: list[list[Build]]) -> None:
-        """All, so that the page at an address is the last of the first ones that gets something. groups: those that
-        come late, the last ones first."""
-        self.parts, self.held, self.links, self.linked = [], {}, {}, None
-        its = self.first_its()
+        """All. base: below it, pages are held from the begin. groups: those that come late, the last ones first."""
+        self.begin_spread()
         late = {it.area.start for group in groups for it in group}
-        runs = runs_of(its)
+        runs = runs_of(self.wanted)
         low = [run for run in runs if run.start < base]
         self.descend(low, late, 0)
-        self.descend(runs[len(low):] + runs_of(self.wanted[len(its):]), late, base)
+        self.descend(runs[len(low):], late, base)
         for group in reversed(groups):
             self.turn_to(group[0].key, END)
             for it in reversed(group):
                 self.make_late(it)
 
     def descend(self, runs: list[Run], late: set[int], base: int) -> None:
-        """Makes cell pools from the highest to the lowest, and holds the pages of those that come late; of the first
-        page last. base: below it, all pages are held."""
+        """Makes cell pools from the highest to the lowest, or holds the pages of those that come late; the lowest
+        unassigned page last. base: below it, all pages are held."""
         for run in reversed(runs):
             self.turn_to(run.key, base)
-            part = [it for it in run.its if it.area.start in late]
-            for it in reversed(run.its[len(part):]):
+            held = [it for it in run.its if it.area.start in late]
+            for it in reversed(run.its[len(held):]):
                 self.make_high(it)
-            if part:
-                self.hold_part(Run(run.key, run.start, part), run is runs[0])
+            if held:
+                self.hold_part(Run(run.key, run.start, held))
         self.turn_to(None, base)
         for part in self.parts:
-            if runs and part.start == runs[0].start:
+            if part.start == self.lowest():
                 self.hold_first(part)
+                break
 
-    def hold_part(self, part: Run, is_first: bool) -> None:
-        """Holds the pages of a part, but for the first one of all. What holds a single one is a link."""
-        key, start, second = part.key, part.start, part.start + PAGE
-        is_odd = not is_first and len(part.its) % 2
+    def hold_part(self, part: Run) -> None:
+        """Holds the pages of a part, but not yet the lowest unassigned one. What holds a single page is a link."""
+        key, start, end = part.key, part.start, part.start + len(part.its) * PAGE
+        is_first = start == self.lowest()
+        is_odd = not is_first and len(part.its) % 2 > 0
         self.parts = sorted([*self.parts, part], key=lambda it: it.start)
-        self.held[start] = self.held_pages(key, second if is_first or is_odd else start, start + len(part.its) * PAGE)
+        self.held[start] = self.held_pages(key, start + (is_first or is_odd) * PAGE, end)
         if is_odd:
             holder = self.held_page(key, start)
-            self.links[start] = [self.fill(key, start, second - 8)]
+            self.links[start] = [self.fill(key, start, start + PAGE - 8)]
             self.delete(holder)
 
     def hold_first(self, part: Run) -> None:
@@ -160,8 +164,7 @@ class Spread(Held):
 
 
 class Groups:
-    """Which of the cell pools in the first pages come last, the last ones first: some of a subpool, one after another.
-    """
+    """Which cell pools come late, the last ones first: some of a subpool, one after another."""
 
     def __init__(self, its: list[Build], room: int) -> None:
         """room: how many more than all cell pools there may be while a subpool has all links."""
