@@ -452,6 +452,8 @@ LONE = {
     "250 in pages by two of two subpools": [(at, k // 2 % 2) for k, at in enumerate(in_pages([MIDDLE] * 250))],
     "255 anywhere in pages by threes of two subpools": [(at, k // 3 % 2) for k, at in enumerate(in_pages(DOWN[:255]))],
     "204 at begins of pages by turns of two subpools": [(at, k % 2) for k, at in enumerate(in_pages([0] * 204))],
+    "250 anywhere in pages by turns of two subpools": [
+        (at, k % 2) for k, at in enumerate(in_pages(8 * (7 * k * k % 512) for k in range(250)))],
     "254 in pages by turns of three subpools": [(at, k % 3) for k, at in enumerate(in_pages([MIDDLE] * 254))],
     "127 on each side": [(at, 0) for start in (maps.LOW_START, maps.HIGH_START)
                          for at in in_pages([MIDDLE] * 127, start)],
@@ -521,9 +523,9 @@ def test_too_many_cell_pools_of_two_subpools(run: Callable, vsm: str) -> None:
 
 
 def endless_map() -> str:
-    """A map of task 1 with register 1 0: 250 cell pools of 8 bytes, each anywhere in its page, by turns of two
-    subpools, for which no order is found in any time that a trial has."""
-    lines = lone_cells((at, k % 2) for k, at in enumerate(in_pages(8 * (7 * k * k % 512) for k in range(250))))
+    """A map of task 1 with register 1 0: 255 cell pools of 8 bytes, each anywhere in its page, of three subpools, for
+    which no order is found in any time that a trial has."""
+    lines = lone_cells((at, k * k // 5 % 3) for k, at in enumerate(in_pages(8 * (7 * k * k % 512) for k in range(255))))
     return "".join(line + "\n" for line in lines)
 
 
