@@ -77,13 +77,14 @@ class Spread(Held):
     # Cell pools of several subpools.
 
     def spread_ways(self) -> Iterator[Callable[[], None]]:
-        """The ways by each of the subpools in the first pages, and with all these pages held from the begin."""
+        """The ways of several subpools: by the first page of each, and with all first pages held from the begin."""
         its, spare = self.first_its(), self.most - len(self.wanted)
         firsts: dict[Key, int] = {}
         for it in its:
             firsts.setdefault(it.key, page_start(it.area.start))
         bases = [*firsts.values(), *(page_end(it.area.end) for it in its[-1:] if len(its) < len(self.wanted))]
-        for room in (spare - 1, spare):
+        are_several = len({it.key for it in self.wanted}) > 1
+        for room in (spare - 1, spare) if are_several else ():
             groups = Groups(self.wanted, room).found
             yield from (partial(self.make_spread, base, groups) for base in bases)
 
