@@ -1,5 +1,5 @@
 //! The sharers of a subpool in ascending order, from place to place: each row of its number is read on the way, and a
-//! descent for each sharer.
+//! descent for each sharer. And whether anybody shares at a number.
 
 ghost use Rattle.std.specs.Prelude.{◌≡◌, ℕ, [], ◌∷◌, IfSome, IfNone};
 ghost use Rattle.std.specs.List.{list_any};
@@ -122,7 +122,7 @@ impl SubpoolSet {
     }
 
     /// Whether a task shares a subpool of this number with its owner. The rows of sight of the number are read up to
-    /// the first one that says so.
+    /// the first one that says so. (z/OS MVS Programming: Assembler Services Guide, "Subpool handling".)
     pub fn is_shared(&self, elements: &Elements, number: u8) -> bool
         requires { IsSubpoolSet elements.now self.now }
         ensures { result ≡ is_shared (sight elements.now self.now) number }

@@ -313,8 +313,8 @@ fn push_extents(storage: &mut Parts, builder: &mut Builder, subpool: Subpool) ->
     Ok(())
 }
 
-// Tasks of the subtree see no subpool of others any more, nor others theirs. What they see at a number at which nobody
-// shares is passed at once.
+// Tasks of the subtree see no subpool of others any more, nor others theirs. Of each number it's asked once whether
+// anybody shares there; what they see at one at which nobody does is passed at once.
 fn push_unshared(storage: &mut Parts, builder: &mut Builder, ending: &Ending) -> Pushed
     requires building { IsBuilding storage.old builder.old }
     requires ending { IsEnding (state_of storage.old) ending.now }
@@ -326,12 +326,14 @@ fn push_unshared(storage: &mut Parts, builder: &mut Builder, ending: &Ending) ->
 {
     subpools_are_there();
     let mut place = first_seen();
+    let mut shared = None;
     while let Some((seen, next)) = next_seen(storage, ending, place) {
         let number = seen.subpool.number;
-        if !storage.subpools.is_shared(&storage.elements, number) {
+        if shared != Some(number) && !storage.subpools.is_shared(&storage.elements, number) {
             place = behind_number(ending, number);
             continue;
         }
+        shared = Some(number);
         push_unseen(storage, builder, ending, seen)?;
         place = next;
     }
