@@ -32,9 +32,12 @@ impl Storage {
         ensures { result ≡ slice_get (sharers (state_in_place self.now).subpools.sight
             subpool.number subpool.owner) i }
     {
-        self.parts
-            .subpools
-            .sharer_at(&self.parts.elements, subpool, i)
+        let mut place = Self::first_sharer_place();
+        for _ in 0..i {
+            (_, place) = self.next_sharer(subpool, place)?;
+        }
+        let (task, _) = self.next_sharer(subpool, place)?;
+        Some(task)
     }
 
     /// The extent of this index of a subpool, in pages of 4,096 bytes, ascending.

@@ -1,17 +1,15 @@
-//! Subpools and sharers by position, in ascending order.
+//! Subpools by position, in ascending order.
 
 ghost use Rattle.std.specs.Prelude.{◌≡◌, IfSome, option_map, slice_get};
-ghost use Rattle.subpool_set.specs.Pools.{sharers, in_order};
-ghost use Rattle.subpool_set.specs.SubpoolSet.{sight, pool, number_of, owner_of, IsSubpoolSet, IsPool};
+ghost use Rattle.subpool_set.specs.Pools.{in_order};
+ghost use Rattle.subpool_set.specs.SubpoolSet.{pool, IsSubpoolSet, IsPool};
 
 use crate::set::{PoolId, SubpoolSet};
 use vsm_elements::Elements;
 
 #[tactic(auto, unfolding(
-// who sees what, and the subpools
-crate::specs::SubpoolSet::sight, crate::specs::SubpoolSet::pool,
-// what an id names
-crate::specs::SubpoolSet::number_of, crate::specs::SubpoolSet::owner_of,
+// the subpools
+crate::specs::SubpoolSet::pool,
 // where the set stands
 crate::specs::SubpoolSet::IsSubpoolSet))]
 impl SubpoolSet {
@@ -28,23 +26,5 @@ impl SubpoolSet {
         }
         let (id, _) = self.next_pool(elements, place)?;
         Some(id)
-    }
-
-    /// The `i`-th of the tasks that share the subpool with its owner, in ascending order from 0 on; `None` past the
-    /// last. Each row of sight of its number is read on the way, and a descent for each sharer.
-    pub fn sharer_at(&self, elements: &Elements, id: PoolId, i: u32) -> Option<u8>
-        requires set { IsSubpoolSet elements.now self.now }
-        requires pool { IsPool elements.now self.now id }
-        ensures { result ≡ slice_get (sharers (sight elements.now self.now)
-            (number_of elements.now id) (owner_of elements.now id)) i }
-    {
-        let number = self.number(elements, id);
-        let owner = self.owner(elements, id);
-        let mut place = Self::first_sharer();
-        for _ in 0..i {
-            (_, place) = self.next_sharer(elements, number, owner, place)?;
-        }
-        let (task, _) = self.next_sharer(elements, number, owner, place)?;
-        Some(task)
     }
 }

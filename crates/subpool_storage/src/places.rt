@@ -167,19 +167,4 @@ impl SubpoolStorage {
         let id = self.set.pool_at(elements, i)?;
         Some(self.subpool_of(elements, id))
     }
-
-    /// The task of this index, from 0 on, of those that see the subpool besides its owner, in ascending order; `None`
-    /// past the last, and where the subpool isn't there. (z/OS MVS Programming: Assembler Services Guide, "Subpool
-    /// handling".)
-    pub fn sharer_at(&self, elements: &Elements, subpool: Subpool, i: u32) -> Option<u8>
-        requires { Stands elements.now self.now }
-        ensures { result ≡ slice_get (sharers (subpools_of elements.now self.now).sight
-            subpool.number subpool.owner) i }
-    {
-        if !self.has_subpool(elements, subpool) {
-            return None;
-        }
-        let id = self.id(elements, subpool);
-        self.set.sharer_at(elements, id, i)
-    }
 }

@@ -1,21 +1,18 @@
 -- What tasks that end see at a number at which nobody shares: no other row goes with it.
 use Rattle.std.proofs.Common.{◌≡◌, ℕ, ◌<◌, ◌≤◌, Bool, false, inl, inr, ◌&&◌, ◌==◌, not, Option, Some, None, IsSome, List, [], ◌∷◌, ◌++◌, length, length-append, refl, sym, ◌∙◌, ap, subst, arith, true≢false}
-use Rattle.std.specs.Prelude.{filter, map, drop, option_map, if◌then◌else◌}
+use Rattle.std.specs.Prelude.{map, drop, option_map}
 use Rattle.std.specs.List.{flat_map, filter_map, cons_option}
 use Rattle.std.proofs.lemmas.Bool.{cases_Bool, eq-eqb, eqb-true, and_left, and_right}
 use Rattle.std.proofs.lemmas.Grind.{flat_map-append}
 use Rattle.vsm_model.specs.declared.Subpool.{Subpool}
 use Rattle.subpool_set.specs.Pools.{is_others, is_owner, is_shared, sees, sharers, tasks}
+use Rattle.subpool_set.proofs.OrderLemmas.{passed_none}
 use Rattle.subpool_set.proofs.SharedLemmas.{any_task}
 use Rattle.storage_changes.specs.State.{StorageState}
 use Rattle.storage_changes.specs.Ending.{SightRow, ended_below, row_at, rows_with}
 use Rattle.task_plans.specs.declared.sights.SightPlace.{SightPlace}
 use Rattle.task_plans.specs.Sights.{tasks_below, rows_from, rows_behind, seen_left}
 use Rattle.task_plans.proofs.EmptyingRecords.{own_goes}
-
-none_passes : (f : ℕ → Bool) (xs : List ℕ) → ((x : ℕ) → f x ≡ false) → filter f xs ≡ []
-none_passes f [] none = refl
-none_passes f (x ∷ xs) none = ap (λ (b : Bool). if b then x ∷ filter f xs else filter f xs) (none x) ∙ none_passes f xs none
 
 module _ (m : StorageState) (top number : ℕ) (range : (task n : ℕ) → IsSome (m.subpools.sight task n) → (1 ≤ task) × (task ≤ 64) × (n ≤ 127)) (alone : is_shared m.subpools.sight number ≡ false) where
   abbrev ended : List ℕ
@@ -36,7 +33,7 @@ module _ (m : StorageState) (top number : ℕ) (range : (task n : ℕ) → IsSom
       ]
 
   no_sharers : (owner : ℕ) → sharers m.subpools.sight number owner ≡ []
-  no_sharers owner = none_passes (λ task. sees m.subpools.sight number owner task && not (task == owner)) tasks (λ task. go task (m.subpools.sight task number) refl) where
+  no_sharers owner = passed_none (λ task. sees m.subpools.sight number owner task && not (task == owner)) (λ task. go task (m.subpools.sight task number) refl) tasks where
     go : (task : ℕ) (o : Option ℕ) → m.subpools.sight task number ≡ o → (is_owner owner o && not (task == owner)) ≡ false
     go task None at = refl
     go task (Some x) at = elim (cases_Bool (x == owner)) [

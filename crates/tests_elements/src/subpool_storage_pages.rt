@@ -208,7 +208,6 @@ fn in_order(rt: &impl Abort, elements: &Elements, storage: &SubpoolStorage)
     );
     let sharers = SubpoolStorage::first_sharer_place();
     same!(rt; storage.next_sharer(elements, FIRST, sharers), None);
-    same!(rt; storage.sharer_at(elements, FIRST, 0), None);
     let Some((subpool, place)) = storage.next_subpool(elements, place) else {
         holds!(rt; false);
         return;

@@ -68,6 +68,14 @@ fn unshare(rt: &impl Abort, elements: &mut Elements, storage: &mut SubpoolStorag
     storage.unshare(elements, subpool, SHARER);
 }
 
+// The first task that shares the subpool.
+fn first_sharer(storage: &SubpoolStorage, elements: &Elements, subpool: Subpool) -> Option<u8>
+    requires { Stands elements.now storage.now }
+{
+    let (task, _) = storage.next_sharer(elements, subpool, SubpoolStorage::first_sharer_place())?;
+    Some(task)
+}
+
 // The page and the area are just the first subpool's, whose owner sees it, and so does the sharer.
 fn is_at(
     rt: &impl Abort,
@@ -93,7 +101,7 @@ fn is_at(
     );
     same!(rt; storage.owner_seen(elements, elsewhere.owner, 9), None);
     same!(rt; storage.owner_seen(elements, SHARER, 9), Some(here.owner));
-    same!(rt; storage.sharer_at(elements, here, 0), Some(SHARER));
+    same!(rt; first_sharer(storage, elements, here), Some(SHARER));
 }
 
 #[test]
@@ -112,7 +120,7 @@ fn a_shared_subpool_passes_and_comes_back(rt: HostRuntime) -> Result<(), Fail> {
     unshare(&rt, &mut elements, &mut storage, GIVERS);
     same!(rt; elements.spare(), 125);
     same!(rt; storage.owner_seen(&elements, SHARER, 9), None);
-    same!(rt; storage.sharer_at(&elements, GIVERS, 0), None);
+    same!(rt; first_sharer(&storage, &elements, GIVERS), None);
     storage.discard(&mut elements);
     all_given_back(&rt, elements);
     Ok(())

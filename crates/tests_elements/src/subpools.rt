@@ -66,7 +66,7 @@ fn list_subpools(rt: &impl Abort, elements: &Elements, set: &SubpoolSet, want: &
     same!(rt; set.pool_at(elements, i.saturating_add(1)), None);
 }
 
-// These tasks share the subpool of this number with its owner, in this order, on a walk as by position.
+// These tasks share the subpool of this number with its owner, in this order.
 fn list_sharers(
     rt: &impl Abort,
     elements: &Elements,
@@ -77,26 +77,17 @@ fn list_sharers(
 )
     requires { IsSubpoolSet elements.now set.now }
 {
-    let Some(id) = set.visible(elements, owner, number) else {
-        holds!(rt; false);
-        return;
-    };
     let mut place = SubpoolSet::first_sharer();
-    let mut i = 0u32;
     for sharer in want {
         match set.next_sharer(elements, number, owner, place) {
             Some((task, behind)) => {
                 same!(rt; task, *sharer);
-                same!(rt; set.sharer_at(elements, id, i), Some(*sharer));
                 place = behind;
             }
             None => holds!(rt; false),
         }
-        i = i.saturating_add(1);
     }
     same!(rt; set.next_sharer(elements, number, owner, place), None);
-    same!(rt; set.sharer_at(elements, id, i), None);
-    same!(rt; set.sharer_at(elements, id, i.saturating_add(1)), None);
 }
 
 fn create(rt: &impl Abort, elements: &mut Elements, set: &mut SubpoolSet, task: u8, number: u8)
