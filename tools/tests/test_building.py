@@ -234,19 +234,57 @@ class Shared(Region):
                 yield state | {(start, start + length, key)}
 
 
-@pytest.mark.parametrize("words, pages, most", [(3, 3, 3), (3, 3, 4)])
-def test_pools_of_a_doubleword_of_two_subpools(monkeypatch: pytest.MonkeyPatch, words: int, pages: int, most: int
-                                               ) -> None:
-    """What is refused isn't made, and what comes from the highest to the lowest is."""
+@pytest.mark.parametrize("words, pages, most, refused", [(3, 3, 3, 0), (3, 3, 4, 6), (3, 4, 3, 54)])
+def test_pools_of_a_doubleword_of_two_subpools(monkeypatch: pytest.MonkeyPatch, words: int, pages: int, most: int,
+                                               refused: int) -> None:
+    """What is refused isn't made, and what comes from the highest to the lowest is. refused: of how many maps."""
     for module in (building, chains, holding, narrows, searching, spread, stuck):
         monkeypatch.setattr(module, "PAGE", 8 * words)
-    made, runs = Shared(words, pages, most, False).made(), [Area(0, 8 * words * pages)]
+    made, runs, count = Shared(words, pages, most, False).made(), [Area(0, 8 * words * pages)], 0
     for offsets in product([None, *product(range(words), (0, 1))], repeat=pages):
         pools = [(words * k + at[0], words * k + at[0] + 1, at[1]) for k, at in enumerate(offsets) if at is not None]
         if 2 <= len(pools) <= most:
             builds = [Build(Area(8 * start, 8), (key, 1), 24) for start, _, key in pools]
             is_made, is_stuck = State(pools) in made, Stuck(0, builds, most).lowest() is not None
             assert not (is_made and is_stuck) and (is_made or descent(runs, builds, most) is None), pools
+            count += is_stuck
+    assert count == refused
+
+
+def check_steps(steps: list[Step], runs: list[Area], builds: list[Build], most: int) -> None:
+    """That each BUILD goes to its place, that there are never too many, and that just some cell pools are left."""
+    ground, wanted = Ground(runs, []), Ground(runs, builds)
+    for is_built, it in steps:
+        place = ground.fit(it.key, it.area.length, it.side) if is_built else None
+        assert not is_built or place and place.start == it.area.start
+        (ground.add if is_built else ground.remove)(it)
+    assert most_at_once(steps) <= most and ground.spans == wanted.spans
+    assert {key: areas for key, areas in ground.taken.items() if areas} == wanted.taken
+
+
+def scattered(chance: random.Random, words: int, number: int) -> list[Build]:
+    """Cell pools of two to four subpools, each anywhere in a page, with more or fewer of them side by side."""
+    subpools, share, again = chance.choice((2, 3, 4)), chance.choice((0.6, 0.8, 0.9, 1.0)), chance.choice((0.0, 0.7))
+    found: list[Build] = []
+    for page in [page for page in range(4 * number) if chance.random() < share][:number]:
+        key = found[-1].key if found and chance.random() < again else (chance.randrange(subpools), 1)
+        found.append(Build(Area(8 * (words * page + chance.randrange(words)), 8), key, 24))
+    return found
+
+
+def test_pools_of_subpools_behind_unassigned_pages(monkeypatch: pytest.MonkeyPatch) -> None:
+    """If there may be one more, or a few: what is refused isn't made from the highest to the lowest."""
+    words, chance, told = 4, random.Random(1), [0, 0, 0]
+    for module in (building, chains, holding, narrows, searching, spread, stuck):
+        monkeypatch.setattr(module, "PAGE", 8 * words)
+    for _ in range(300):
+        most = chance.randrange(6, 24)
+        builds, runs = scattered(chance, words, most - chance.choice((1, 1, 2))), [Area(0, 8 * words * 4 * most)]
+        steps, is_stuck = descent(runs, builds, most), Stuck(0, builds, most).lowest() is not None
+        assert steps is None or not is_stuck, builds
+        check_steps(steps or [], runs, builds if steps else [], most)
+        told[is_stuck + 2 * (steps is not None)] += 1
+    assert told[0] < told[1] < told[2], told
 
 
 @pytest.mark.parametrize("every, number", [(1, 200), (2, 250), (2, 255), (3, 255)])
@@ -254,13 +292,7 @@ def test_pools_of_subpools_in_pages_side_by_side(every: int, number: int) -> Non
     """By turns of two subpools; each BUILD goes to its place."""
     runs = [Area(0, 256 * building.PAGE)]
     builds = [Build(Area(building.PAGE * k + 2048, 8), (k // every % 2, 1), 24) for k in range(number)]
-    steps, ground, most = descent(runs, builds, 256), Ground(runs, []), 0
-    for is_built, it in steps or []:
-        place = ground.fit(it.key, it.area.length, it.side) if is_built else None
-        assert not is_built or place and place.start == it.area.start
-        (ground.add if is_built else ground.remove)(it)
-        most = max(most, len(ground.spans))
-    assert most <= 256 and ground.spans == Ground(runs, builds).spans and ground.taken == Ground(runs, builds).taken
+    check_steps(descent(runs, builds, 256) or [], runs, builds, 256)
 
 
 def test_pools_of_subpools_that_nothing_makes() -> None:

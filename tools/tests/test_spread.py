@@ -21,7 +21,8 @@ def scattered(subpools: int, number: int, share: float, seed: int) -> list[str]:
 
 
 @pytest.mark.parametrize("subpools, number, share, seed", [
-    (2, 250, 1.0, 2), (2, 250, 0.9, 1), (3, 250, 0.9, 0), (3, 253, 1.0, 0), (5, 250, 0.97, 1), (5, 254, 0.6, 3)])
+    (2, 250, 1.0, 2), (2, 250, 0.9, 1), (2, 254, 0.97, 17), (3, 250, 0.9, 0), (3, 253, 1.0, 0), (3, 254, 0.97, 1),
+    (5, 250, 0.97, 1), (5, 254, 0.6, 3)])
 def test_cell_pools_spread_over_pages(vsm: str, subpools: int, number: int, share: float, seed: int) -> None:
     lines = scattered(subpools, number, share, seed)
     start = time.monotonic()
@@ -30,9 +31,12 @@ def test_cell_pools_spread_over_pages(vsm: str, subpools: int, number: int, shar
     assert map_behind(vsm, WIDER, "".join(line + "\n" for line in script)) == lines[:-1]
 
 
-def test_cell_pools_spread_over_pages_that_nothing_makes(run: Callable, vsm: str) -> None:
-    """Of both subpools there are too many pages side by side between whose cell pools nearly a page is free."""
-    lines = scattered(2, 250, 1.0, 0)
+@pytest.mark.parametrize("subpools, number, share, seed", [(2, 250, 1.0, 0), (3, 255, 0.95, 19), (4, 254, 0.97, 2)])
+def test_cell_pools_spread_over_pages_that_nothing_makes(run: Callable, vsm: str, subpools: int, number: int,
+                                                         share: float, seed: int) -> None:
+    """Too many pages of a subpool are side by side between whose cell pools nearly a page is free; or higher pages have
+    to be held while others come."""
+    lines = scattered(subpools, number, share, seed)
     text = one_line(run(TOOL, "--vsm", vsm, *WIDER[:4], given="".join(line + "\n" for line in lines).encode()), TOOL)
     assert "no list of statements makes this: " + UNHELD in text
     assert lines[int(text.split(":")[1]) - 1].startswith(" CELLPOOL C")

@@ -11,12 +11,14 @@ subpool where something else comes late too: one more than pages in each run of 
 subpools are held two by one, where two are side by side, which makes room for that. So of each subpool the first ones
 come late, as many as can: beginning with none, one more of any subpool is taken if it could be the last of all, until
 there's none. What is taken only makes more room for others, so that this finds all that can be taken so; they come in
-the reverse order. The pages of higher ones that come late are held as their cell pools would come.
+the reverse order. The pages of higher ones that come late are held as their cell pools would come; or, that of the
+lowest higher one is unassigned until it comes behind a filler from the lowest unassigned page on, and so on with the
+next one: each makes room for one more, as nothing holds its page.
 """
 from __future__ import annotations
 
 from functools import partial
-from itertools import count
+from itertools import count, product
 from typing import Callable, Iterator, Optional
 
 from .building import END, Build, page_end, page_start, shape
@@ -84,22 +86,24 @@ class Spread(Held):
             firsts.setdefault(it.key, page_start(it.area.start))
         bases = [*firsts.values(), *(page_end(it.area.end) for it in its[-1:] if len(its) < len(self.wanted))]
         are_several = len({it.key for it in self.wanted}) > 1
-        for room in (spare - 1, spare) if are_several else ():
-            groups = Groups(self.wanted, room).found
-            yield from (partial(self.make_spread, base, groups) for base in bases)
+        for room, high in product((spare - 1, spare), ([], self.wanted[len(its):])) if are_several else ():
+            groups = Groups(self.wanted, room, high)
+            if groups.opened or not high:
+                yield from (partial(self.make_spread, base, groups) for base in bases)
 
-    def make_spread(self, base: int, groups: list[list[Build]]) -> None:
-        """All. base: below it, pages are held from the begin. groups: those that come late, the last ones first."""
+    def make_spread(self, base: int, groups: Groups) -> None:
+        """All. base: below it, pages are held from the begin. groups: those that come late."""
         self.begin_spread()
-        late = {it.area.start for group in groups for it in group}
-        runs = runs_of(self.wanted)
+        late = {it.area.start for group in groups.found for it in group}
+        opened = {it.area.start for it in groups.opened}
+        runs = runs_of([it for it in self.wanted if it.area.start not in opened])
         low = [run for run in runs if run.start < base]
         self.descend(low, late, 0)
         self.descend(runs[len(low):], late, base)
-        for group in reversed(groups):
+        for group in reversed(groups.found):
             self.turn_to(group[0].key, END)
             for it in reversed(group):
-                self.make_late(it)
+                (self.make_high if it.area.start in opened else self.make_late)(it)
 
     def descend(self, runs: list[Run], late: set[int], base: int) -> None:
         """Makes cell pools from the highest to the lowest, or holds the pages of those that come late; the lowest
@@ -167,31 +171,50 @@ class Spread(Held):
 class Groups:
     """Which cell pools come late, the last ones first: some of a subpool, one after another."""
 
-    def __init__(self, its: list[Build], room: int) -> None:
-        """room: how many more than all cell pools there may be while a subpool has all links."""
-        self.room = room
+    def __init__(self, its: list[Build], room: int, high: list[Build]) -> None:
+        """room: how many more than all cell pools there may be while a subpool has all links. high: those whose pages
+        may be unassigned until they come."""
+        self.room, self.high = room, high
+        self.opened: list[Build] = []        # the lowest of these, which come so
         self.own: dict[Key, list[Build]] = {}
         for it in its:
             self.own.setdefault(it.key, []).append(it)
         self.sizes: dict[Key, list[int]] = {key: [] for key in self.own}     # of the runs of pages that are held
         self.found: list[list[Build]] = []
+        ends = [*(page_start(it.area.start) for it in high[:1]), END]
         is_changed = True
         while is_changed:
-            is_changed = any([self.take(key) for key in self.own])
+            is_changed = self.open_next() or any(self.take_below(end) for end in ends)
 
     def others(self, key: Key) -> int:
         """How many fewer than pages hold those of other subpools."""
         return sum(size // 2 for other, sizes in self.sizes.items() if other != key for size in sizes)
 
-    def take(self, key: Key) -> bool:
-        """Takes as many of a subpool as can be, if any. One that begins with its page within a run needs one more, as
-        what is behind it holds the page."""
+    def open_next(self) -> bool:
+        """Takes the lowest one whose page may be unassigned, if all lower ones of its subpool come late too and there's
+        room for the filler before it."""
+        it = next(iter(self.high[len(self.opened):]), None)
+        if it is None or len(self.sizes[it.key]) + 1 > self.room + self.others(it.key) or (
+                self.own[it.key].index(it) != sum(self.sizes[it.key])):
+            return False
+        self.own[it.key].remove(it)
+        self.opened.append(it)
+        self.found.append([it])
+        self.room += 1
+        return True
+
+    def take_below(self, end: int) -> bool:
+        return any([self.take(key, end) for key in self.own])
+
+    def take(self, key: Key, end: int) -> bool:
+        """Takes as many of a subpool below an address as can be, if any. One that begins with its page within a run
+        needs one more, as what is behind it holds the page."""
         sizes, its = self.sizes[key], self.own[key]
         start, most = sum(sizes), self.room + self.others(key)
         for at in range(start, len(its)):
             page = page_start(its[at].area.start)
             is_next = at > 0 and page_start(its[at - 1].area.start) + PAGE == page
-            if len(sizes) + (not is_next or its[at].area.start == page) > most:
+            if page >= end or len(sizes) + (not is_next or its[at].area.start == page) > most:
                 break
             if is_next:
                 sizes[-1] += 1

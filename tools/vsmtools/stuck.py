@@ -1,21 +1,29 @@
 """Cell pools of 8 bytes, each alone in its page, that nothing makes by BUILD and DELETE alone.
 
 The first pages of a region have one each, of one subpool or several; there may be more in higher pages. Look at what
-led there from its end backwards, up to the first time when one of the first pages has nothing. Up to then each of these
-is its subpool's, and nothing takes one whole, as nothing would be left there once it goes: so a filler is in two of
-them at most, side by side. Which cell pools can be missing at some time is found from those that are all there at the
-end:
+led there from its end backwards, up to the first time when one of the first pages has nothing; or to the begin, if the
+region's first page has no cell pool. A page is kept if it's a cell pool's, and never unassigned meanwhile: at least the
+first ones are. Which cell pools can be missing at some time, and which pages aren't kept, is found from those that are
+all there at the end: of the others, look at the last time when one is missing, or its page is unassigned. What comes
+then is such a cell pool, or something else that takes such a page; all others are there, and all other kept pages have
+something. Nothing takes one of these whole, as nothing would be left there once it goes: so a filler is in two of them
+at most, side by side.
 
-- For one to come within its subpool's page, all lower pages of the subpool are filled: of a run of them by one more
-  than it has pages, as an end is within each. If it begins with its page, something else is behind it. Each other page
-  has its cell pool, if that's never missing, or is held, two by one at best.
-- For one in a higher page to come, all of its subpool's first pages are filled, and something else is in the unassigned
-  page behind the first ones, or in its own.
+- For a cell pool to come within its subpool's page, all lower kept pages of the subpool are filled: of a run of them by
+  one more than it has pages, as an end is within each. If it begins with its page, something else is behind it. Each
+  other kept page has its cell pool, if that's never missing, or is held, two by one at best.
+- For one to come to an unassigned page, its subpool has no free area: all its kept pages are filled.
+- Something else that takes a kept page ends there, and takes no other one: it begins with the page, or in those right
+  before that aren't kept. So each lower run of pages that aren't kept has something, if it's as long as those and this
+  page, as it would go there else: a filler is in one such run at most, and in one kept page beside it. If the page
+  right before is kept, it's shorter than a page, so that each free area of its subpool that's as long as all but 8
+  bytes of a page, or longer, has something too: at least those between cell pools that are never missing, in two pages
+  side by side.
 
-At that time a page got something that's shorter than a page, so that each free area of its subpool that's as long as
-all but 8 bytes of a page, or longer, had something too: at least those between cell pools that are never missing. One
-that's never missing else is what came there, and its subpool had no free area. If that's too many for each page,
-nothing makes them.
+At the first time of all, a page got something that's shorter than a page, so that each such free area had something
+then too: at least those between cell pools that are never missing. One that's never missing else is what came there,
+and its subpool had no free area. If that's too many for each of the first pages, nothing makes them; or if there are
+none of these, while a cell pool can't be missing.
 """
 from __future__ import annotations
 
@@ -33,44 +41,48 @@ class Stuck:
 
     def __init__(self, first: int, wanted: list[Build], most: int) -> None:
         """first: where the region begins. most: how many there may be at once, and nothing else."""
-        its = sorted(wanted, key=lambda it: it.area.start)
-        pages = [page_start(it.area.start) for it in its]
-        self.is_lone = len(set(pages)) == len(its) and all(it.area.length == 8 for it in its)
-        number = next((k for k, page in zip(count(), pages) if page != first + k * PAGE), len(its))
-        self.runs, self.high = runs_of(its[:number]), its[number:]
-        self.most = most
-        self.gone: set[int] = set()      # where those begin that may not be there
+        self.its = sorted(wanted, key=lambda it: it.area.start)
+        pages = [page_start(it.area.start) for it in self.its]
+        self.is_lone = len(set(pages)) == len(pages) and all(it.area.length == 8 for it in self.its)
+        number = next((k for k, page in zip(count(), pages) if page != first + k * PAGE), len(pages))
+        self.first, self.behind, self.most = first, first + number * PAGE, most
+        self.gone: set[int] = set()          # where those begin that may not be there
+        self.unassigned: set[int] = set()    # and those of these whose pages may be unassigned
+        self.runs: list[Run] = []            # of the pages that are kept
 
     def lowest(self) -> Optional[Build]:
         """The lowest one that's always there, where nothing makes them; none where that isn't certain."""
         size = -1
-        while self.is_lone and size < len(self.gone):
-            size = len(self.gone)
+        while self.is_lone and size < len(self.gone) + len(self.unassigned):
+            size = len(self.gone) + len(self.unassigned)
             self.look()
-        there = [it for run in self.runs for it in run.its if it.area.start not in self.gone]
+        there = [it for it in self.its if it.area.start not in self.gone]
         is_proved = self.is_lone and all(
             (self.least_new if it.area.start in self.gone else self.least_alone)(run, k) > self.most
-            for run in self.runs for k, it in enumerate(run.its)
+            for run in self.runs if run.start < self.behind for k, it in enumerate(run.its)
             if it.area.start in self.gone or it.area.start % PAGE == 0)
         return there[0] if is_proved and self.gone and there else None
 
     def look(self) -> None:
-        """Finds more that may not be there."""
-        total = sum(self.held(run.its) for run in self.runs) + self.high_there()
+        """Finds more that may not be there, and more pages that may be unassigned."""
+        self.runs = runs_of([it for it in self.its if it.area.start not in self.unassigned])
+        total = sum(self.held(run.its) for run in self.runs)
         filled: dict[Key, int] = {}       # how many more all lower pages of a subpool take if they're filled
         for run in self.runs:
-            for k, it in enumerate(run.its):
-                if total + filled.get(run.key, 0) + self.least_more(run, k) <= self.most:
-                    self.gone.add(it.area.start)
+            room = self.most - total - filled.get(run.key, 0)
+            self.gone.update(it.area.start for k, it in enumerate(run.its)
+                             if self.least_more(run, k) <= room or self.can_take(run, k))
             end = run.start + len(run.its) * PAGE
             filled[run.key] = filled.get(run.key, 0) + self.filled(run.its, end) - self.held(run.its)
-        for it in self.high:
-            is_there = it.area.start not in self.gone
-            if total + (not is_there) + filled.get(it.key, 0) + 1 <= self.most:
-                self.gone.add(it.area.start)
+        its = [it for run in self.runs for it in run.its]
+        self.unassigned.update(it.area.start for k, it in enumerate(its)
+                               if it.area.start in self.gone and it.area.start > self.behind
+                               and self.least_taken(its, k) <= self.most)
 
-    def high_there(self) -> int:
-        return sum(it.area.start not in self.gone for it in self.high)
+    def can_take(self, run: Run, k: int) -> bool:
+        """Whether a cell pool in a higher page may come while that's unassigned."""
+        return (run.its[k].area.start % PAGE == 0 and run.start > self.behind
+                and self.least_alone(run, k) <= self.most)
 
     def least_more(self, run: Run, k: int) -> int:
         """How many more a run's pages have when one of its cell pools comes there."""
@@ -78,6 +90,33 @@ class Stuck:
         if start % PAGE == 0:
             behind = self.held(run.its[k:], run.its[k])
         return (self.filled(run.its[:k], start) if start > run.start else 0) + 1 + behind - self.held(run.its)
+
+    def least_taken(self, its: list[Build], k: int) -> int:
+        """How many are there at least when something takes the page of one of those in kept pages, which has it from
+        then on."""
+        page, end, key = page_start(its[k].area.start), self.first, its[0].key
+        longest = page - (page_start(its[k - 1].area.start) if k else self.first - PAGE)
+        sizes = [0]       # how much lies side by side that may be held two by one: kept pages, and runs of others
+        for it in its:
+            start, is_next = page_start(it.area.start), it.area.start == its[k].area.start
+            if end < start < page and start - end >= longest:
+                sizes[-1] += 1
+            elif end < start or it.key != key:
+                sizes.append(0)
+            if it.area.start in self.gone and not is_next:
+                sizes[-1] += 1
+            else:
+                sizes += [0] if is_next else [1, 0]
+            end, key = start + PAGE, it.key
+        return 1 + sum((size + 1) // 2 for size in sizes) + (self.inner_gaps(its[k]) if longest == PAGE else 0)
+
+    def inner_gaps(self, it: Build) -> int:
+        """How many free areas of a cell pool's subpool are as long as all but 8 bytes of a page, or longer, and between
+        two others that are always there, in pages side by side."""
+        there = [other.area for other in self.its
+                 if other.key == it.key and other is not it and other.area.start not in self.gone]
+        return sum(page_start(other.start) - page_start(area.start) == PAGE and other.start - area.end >= PAGE - 8
+                   for area, other in zip(there, there[1:]))
 
     def filled(self, its: list[Build], end: int) -> int:
         """How many fill the pages of some cell pools up to an address at least."""
@@ -94,13 +133,12 @@ class Stuck:
 
     def least_new(self, run: Run, k: int) -> int:
         """How many are there at least when a page gets something, and all others have something."""
-        total = self.high_there() + sum(self.held(other.its) for other in self.runs if other is not run)
-        total += self.held(run.its[:k]) + 1 + self.held(run.its[k + 1:])
-        return total + self.long_gaps(run)
+        total = sum(self.held(other.its) for other in self.runs if other is not run)
+        return total + self.held(run.its[:k]) + 1 + self.held(run.its[k + 1:]) + self.long_gaps(run)
 
     def least_alone(self, run: Run, k: int) -> int:
         """How many are there at least when a cell pool comes to an unassigned page: its subpool has no free area."""
-        total = self.high_there() + 1
+        total = 1
         for other in self.runs:
             parts = [other.its[:k], other.its[k + 1:]] if other is run else [other.its]
             total += sum(self.filled(part, page_start(part[-1].area.start) + PAGE) if other.key == run.key
@@ -110,11 +148,8 @@ class Stuck:
     def long_gaps(self, run: Run) -> int:
         """How many free areas of a run's subpool are as long as all but 8 bytes of a page, or longer, and between what
         is always there."""
-        found = 0
-        for other in [other.its for other in self.runs if other.key == run.key]:
-            there = [it for it in other if it.area.start not in self.gone]
-            pages = {page_start(it.area.start) for it in other if it.area.start in self.gone}
-            found += sum(gap.length >= PAGE - 8 and gap.end not in pages and gap.start - PAGE not in pages
-                         for gap in Ground([], there).gaps(run.key))
-        there = [it for it in self.high if it.key == run.key and it.area.start not in self.gone]
-        return found + sum(gap.length >= PAGE - 8 for gap in Ground([], there).gaps(run.key))
+        its = [it for other in self.runs if other.key == run.key for it in other.its]
+        there = [it for it in its if it.area.start not in self.gone]
+        pages = {page_start(it.area.start) for it in its if it.area.start in self.gone}
+        return sum(gap.length >= PAGE - 8 and gap.end not in pages and gap.start - PAGE not in pages
+                   for gap in Ground([], there).gaps(run.key))
