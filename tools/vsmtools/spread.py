@@ -11,14 +11,16 @@ subpool where something else comes late too: one more than pages in each run of 
 subpools are held two by one, where two are side by side, which makes room for that. So of each subpool the first ones
 come late, as many as can: beginning with none, one more of any subpool is taken if it could be the last of all, until
 there's none. What is taken only makes more room for others, so that this finds all that can be taken so; they come in
-the reverse order. The pages of higher ones that come late are held as their cell pools would come; or, that of the
-lowest higher one is unassigned until it comes behind a filler from the lowest unassigned page on, and so on with the
-next one: each makes room for one more, as nothing holds its page.
+the reverse order. The pages of higher ones that come late are held as their cell pools would come.
+
+In other ways such a page is left unassigned, until a filler that ends there comes to the unassigned pages right before
+it, if these are more with it than any lower ones side by side: most often it's the lowest page, and then the next one.
+That makes room for one more, as nothing holds the page; so one is held just if none can be left so.
 """
 from __future__ import annotations
 
 from functools import partial
-from itertools import count, product
+from itertools import count, product, takewhile
 from typing import Callable, Iterator, Optional
 
 from .building import END, Build, page_end, page_start, shape
@@ -51,11 +53,12 @@ class Spread(Held):
     # Cell pools behind unassigned pages.
 
     def make_high(self, it: Build) -> None:
-        """A cell pool in an unassigned page, behind a filler from the lowest one: right behind it, or behind one more;
-        or before what that leaves of the page, where it has to be longer."""
-        start = it.area.start
-        lowest = next((run.start for run in self.ground.unassigned()), page_start(start))
-        end = self.end_of_filler(it, lowest)
+        """A cell pool in an unassigned page, behind a filler from the lowest one of these side by side, for which each
+        lower run of them is too short: right behind it, or behind one more; or before what that leaves of the page,
+        where it has to be longer."""
+        start, lower = it.area.start, self.runs_up_to(it)
+        lowest = lower.pop().start if lower else page_start(start)
+        end = self.end_of_filler(it, lowest, lower)
         fillers = self.fill(it.key, lowest, end) + self.fill(it.key, end, start)
         if end > start:
             holder = self.fill(it.key, end, page_end(end))
@@ -66,11 +69,15 @@ class Spread(Held):
         self.build(it)
         self.delete(fillers)
 
-    def end_of_filler(self, it: Build, lowest: int) -> int:
-        """Up to where a filler reaches that begins at the lowest unassigned page and fits no gap: to the place of a
-        cell pool, else past it within its page, else before it there."""
+    def runs_up_to(self, it: Build) -> list[Area]:
+        """The runs of unassigned pages up to that of a cell pool's page."""
+        return list(takewhile(lambda run: run.start <= it.area.start, self.ground.unassigned()))
+
+    def end_of_filler(self, it: Build, lowest: int, lower: list[Area]) -> int:
+        """Up to where a filler reaches that begins at an unassigned page and fits no gap, nor a lower run of such
+        pages: to the place of a cell pool, else past it within its page, else before it there."""
         start, page = it.area.start, page_start(it.area.start)
-        longest = max((gap.length for gap in self.ground.gaps(it.key)), default=0)
+        longest = max((area.length for area in [*lower, *self.ground.gaps(it.key)]), default=0)
         for end in [start, *range(page + PAGE - 8, start, -8), *range(start - 8, page, -8)]:
             if end > page and end - lowest > longest and shape(end - lowest):
                 return end
@@ -84,11 +91,12 @@ class Spread(Held):
         firsts: dict[Key, int] = {}
         for it in its:
             firsts.setdefault(it.key, page_start(it.area.start))
-        bases = [*firsts.values(), *(page_end(it.area.end) for it in its[-1:] if len(its) < len(self.wanted))]
+        behind = [page_end(it.area.end) for it in its[-1:] if len(its) < len(self.wanted)]
+        bases = [*firsts.values(), *behind]
         are_several = len({it.key for it in self.wanted}) > 1
-        for room, high in product((spare - 1, spare), ([], self.wanted[len(its):])) if are_several else ():
-            groups = Groups(self.wanted, room, high)
-            if groups.opened or not high:
+        for room, begin in product((spare - 1, spare), [END, *behind]) if are_several else ():
+            groups = Groups(self.wanted, room, begin)
+            if groups.opened or begin == END:
                 yield from (partial(self.make_spread, base, groups) for base in bases)
 
     def make_spread(self, base: int, groups: Groups) -> None:
@@ -171,44 +179,52 @@ class Spread(Held):
 class Groups:
     """Which cell pools come late, the last ones first: some of a subpool, one after another."""
 
-    def __init__(self, its: list[Build], room: int, high: list[Build]) -> None:
-        """room: how many more than all cell pools there may be while a subpool has all links. high: those whose pages
-        may be unassigned until they come."""
-        self.room, self.high = room, high
-        self.opened: list[Build] = []        # the lowest of these, which come so
+    def __init__(self, its: list[Build], room: int, begin: int) -> None:
+        """room: how many more than all cell pools there may be while a subpool has all links; one more for each page
+        that nothing holds. begin: from where on pages may be unassigned until cell pools come there."""
+        self.room, self.begin = room, begin
+        self.high = [it for it in its if it.area.start >= begin]
+        self.opened: list[Build] = []        # those in pages that are unassigned, and so no more in these lists
         self.own: dict[Key, list[Build]] = {}
         for it in its:
             self.own.setdefault(it.key, []).append(it)
         self.sizes: dict[Key, list[int]] = {key: [] for key in self.own}     # of the runs of pages that are held
         self.found: list[list[Build]] = []
-        ends = [*(page_start(it.area.start) for it in high[:1]), END]
         is_changed = True
         while is_changed:
-            is_changed = self.open_next() or any(self.take_below(end) for end in ends)
+            is_changed = self.open_next() or any(self.take_below(end) for end in (begin, END))
 
     def others(self, key: Key) -> int:
         """How many fewer than pages hold those of other subpools."""
         return sum(size // 2 for other, sizes in self.sizes.items() if other != key for size in sizes)
 
     def open_next(self) -> bool:
-        """Takes the lowest one whose page may be unassigned, if all lower ones of its subpool come late too and there's
-        room for the filler before it."""
-        it = next(iter(self.high[len(self.opened):]), None)
-        if it is None or len(self.sizes[it.key]) + 1 > self.room + self.others(it.key) or (
-                self.own[it.key].index(it) != sum(self.sizes[it.key])):
-            return False
-        self.own[it.key].remove(it)
-        self.opened.append(it)
-        self.found.append([it])
-        self.room += 1
-        return True
+        """Takes the lowest one before which more unassigned pages are side by side than anywhere below, if any can be:
+        a filler goes there that ends in its page."""
+        longest, end = 0, self.begin
+        for it in self.high:
+            page = page_start(it.area.start)
+            if page + PAGE - end > longest and self.can_open(it):
+                self.own[it.key].remove(it)
+                self.high.remove(it)
+                self.opened.append(it)
+                self.found.append([it])
+                self.room += 1
+                return True
+            longest, end = max(longest, page - end), page + PAGE
+        return False
+
+    def can_open(self, it: Build) -> bool:
+        """Whether all lower ones of a subpool come late too and there's room for the filler."""
+        sizes, its = self.sizes[it.key], self.own[it.key]
+        return len(sizes) + 1 <= self.room + self.others(it.key) and its[sum(sizes):][:1] == [it]
 
     def take_below(self, end: int) -> bool:
         return any([self.take(key, end) for key in self.own])
 
     def take(self, key: Key, end: int) -> bool:
-        """Takes as many of a subpool below an address as can be, if any. One that begins with its page within a run
-        needs one more, as what is behind it holds the page."""
+        """Takes as many of a subpool below an address as can be, if any; but just one in a higher page. One that begins
+        with its page within a run needs one more, as what is behind it holds the page."""
         sizes, its = self.sizes[key], self.own[key]
         start, most = sum(sizes), self.room + self.others(key)
         for at in range(start, len(its)):
@@ -220,6 +236,8 @@ class Groups:
                 sizes[-1] += 1
             else:
                 sizes.append(1)
+            if page >= self.begin:
+                break
         group = its[start:sum(sizes)]
         self.found += [group] if group else []
         return bool(group)
