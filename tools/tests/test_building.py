@@ -8,7 +8,7 @@ from itertools import accumulate, chain, combinations, product
 from typing import Iterator, Optional
 
 import pytest
-from vsmtools import building, chains, holding, narrows, places, searching, spread, stuck
+from vsmtools import building, chains, groups, holding, narrows, places, searching, spread, stuck
 from vsmtools.building import Build, Builder, Ground, Step, core
 from vsmtools.chains import descent
 from vsmtools.maps import Area
@@ -140,7 +140,7 @@ def test_pools_of_a_doubleword_alone_in_pages(monkeypatch: pytest.MonkeyPatch, w
                                               ) -> None:
     """Each of some pages has one: all are made if there may be two more; none if there may be no more; and if there may
     be one more, just those that aren't refused. They come from the highest to the lowest."""
-    for module in (building, chains, holding, narrows, searching, spread, stuck):
+    for module in (building, chains, groups, holding, narrows, searching, spread, stuck):
         monkeypatch.setattr(module, "PAGE", 8 * words)
     region = Region(words, pages, most, False)
     made, runs, count = region.made(), [Area(0, 8 * words * pages)], 0
@@ -201,7 +201,7 @@ def test_pools_of_a_doubleword_on_both_sides(monkeypatch: pytest.MonkeyPatch, pa
                                              ) -> None:
     """If there may be one more than they are, just those are made that aren't refused; all if there may be two more."""
     words, high = 3, 2400
-    for module in (building, chains, holding, narrows, searching, spread, stuck):
+    for module in (building, chains, groups, holding, narrows, searching, spread, stuck):
         monkeypatch.setattr(module, "PAGE", 8 * words)
     monkeypatch.setattr(places, "HIGH_START", high)
     regions = [Region(words, number, most, False) for number in pages]
@@ -238,7 +238,7 @@ class Shared(Region):
 def test_pools_of_a_doubleword_of_two_subpools(monkeypatch: pytest.MonkeyPatch, words: int, pages: int, most: int,
                                                refused: int) -> None:
     """What is refused isn't made, and what comes from the highest to the lowest is. refused: of how many maps."""
-    for module in (building, chains, holding, narrows, searching, spread, stuck):
+    for module in (building, chains, groups, holding, narrows, searching, spread, stuck):
         monkeypatch.setattr(module, "PAGE", 8 * words)
     made, runs, count = Shared(words, pages, most, False).made(), [Area(0, 8 * words * pages)], 0
     for offsets in product([None, *product(range(words), (0, 1))], repeat=pages):
@@ -275,7 +275,7 @@ def scattered(chance: random.Random, words: int, number: int) -> list[Build]:
 def test_pools_of_subpools_behind_unassigned_pages(monkeypatch: pytest.MonkeyPatch) -> None:
     """If there may be one more, or a few: what is refused isn't made from the highest to the lowest."""
     words, chance, told = 4, random.Random(1), [0, 0, 0]
-    for module in (building, chains, holding, narrows, searching, spread, stuck):
+    for module in (building, chains, groups, holding, narrows, searching, spread, stuck):
         monkeypatch.setattr(module, "PAGE", 8 * words)
     for _ in range(300):
         most = chance.randrange(6, 24)

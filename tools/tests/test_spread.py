@@ -21,8 +21,8 @@ def scattered(subpools: int, number: int, share: float, seed: int) -> list[str]:
 
 
 @pytest.mark.parametrize("subpools, number, share, seed", [
-    (2, 250, 1.0, 2), (2, 250, 0.9, 1), (2, 254, 0.97, 17), (3, 250, 0.9, 0), (3, 253, 1.0, 0), (3, 254, 0.97, 1),
-    (3, 255, 0.95, 24), (5, 250, 0.97, 1), (5, 254, 0.6, 3)])
+    (2, 250, 1.0, 2), (2, 250, 0.9, 1), (2, 254, 0.97, 17), (2, 255, 0.6, 3), (2, 255, 0.6, 57), (3, 250, 0.9, 0),
+    (3, 253, 1.0, 0), (3, 254, 0.97, 1), (3, 254, 1.0, 0), (3, 255, 0.95, 24), (5, 250, 0.97, 1), (5, 254, 0.6, 3)])
 def test_cell_pools_spread_over_pages(vsm: str, subpools: int, number: int, share: float, seed: int) -> None:
     lines = scattered(subpools, number, share, seed)
     start = time.monotonic()

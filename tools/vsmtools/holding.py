@@ -112,11 +112,15 @@ class Held(Fillers):
         """A cell pool behind the filler of its page, which becomes shorter first where the next one is there. That one
         holds its page while a cell pool comes that begins with it."""
         if len(links) > k + 1:
-            start = links[k][0].area.start
-            self.delete(links[k])
-            links[k] = self.fill(it.key, start, it.area.start)
-            if it.area.start % PAGE:
+            start, end = links[k][0].area.start, links[k][-1].area.end
+            if end < it.area.start:
                 self.delete(links.pop())
+                links[k] += self.fill(it.key, end, it.area.start)
+            else:
+                self.delete(links[k])
+                links[k] = self.fill(it.key, start, it.area.start)
+                if it.area.start % PAGE:
+                    self.delete(links.pop())
         self.build(it)
         if len(links) > k + 1:
             self.delete(links.pop())
@@ -191,25 +195,25 @@ class Held(Fillers):
 
     def link_pages(self, key: Key, start: int, held: list[list[Build]], links: list[list[Build]]) -> None:
         """Links in place of what holds some pages, behind others in the page before, if any are there."""
-        before = 8 if links else 0
-        holder = self.fill(key, start - before, min(start + 8, self.gap_end(key, start - before)))
+        begin = links[-1][0].area.end if links else start
+        holder = self.fill_gap(key, begin, start + 8)
         for one in held:
             end, last = one[0].area.end, page_start(start) + PAGE - 8
-            behind = self.fill(key, end, min(end + 16, self.gap_end(key, end)))
+            behind = self.fill_gap(key, end, end + 16)
             self.delete(one)
             low = self.fill(key, start + 8, last) if end > last else []
             self.delete(holder)
             upper = self.fill(key, last, end)
             self.delete(low)
-            links += [it for it in (self.fill(key, start - before, last), upper) if it]
-            holder, start, before = behind, end + 8, 8
+            links += [it for it in (self.fill(key, begin, last), upper) if it]
+            holder, start, begin = behind, end + 8, end
         links.append(holder)
 
-    def gap_end(self, key: Key, start: int) -> int:
-        """Where the free area ends that begins at an address."""
+    def fill_gap(self, key: Key, start: int, end: int) -> list[Build]:
+        """A filler from where a free area begins up to where that ends, or to an address before."""
         for gap in self.ground.gaps(key):
             if gap.start == start:
-                return gap.end
+                return self.fill(key, start, min(end, gap.end))
         raise NoChain
 
     def link_again(self, links: list[list[Build]]) -> None:

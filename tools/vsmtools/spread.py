@@ -1,21 +1,23 @@
 """Small cell pools of several subpools that are spread over pages, one in each.
 
 They come from the highest to the lowest, each behind a filler from the lowest unassigned page on that is longer than
-any free area. That fails in the first pages, up to the first one that none has. So fillers hold these: all from the
-begin, while no free area is there, if a higher page is unassigned; or those up to the first page of one subpool. Then
-this is the last that gets something: a filler of all but 8 bytes of it, for which each free area of the subpool that is
-as long has one too. Few may be, so that each subpool there is tried.
+any free area. That fails in the first pages, up to the first one that none has. So fillers hold these from the begin,
+while no free area is there: all of them, if a higher page is unassigned; or those below one that is the last to get
+something. Few pages can be that, so that each is tried for which there's room (`groups`).
 
-What comes late, when none of these pages is unassigned, comes behind links (`holding`) in all lower pages of its
+What comes late, when each of these pages has something, comes behind links (`holding`) in all lower pages of its
 subpool where something else comes late too: one more than pages in each run of these side by side. The pages of other
-subpools are held two by one, where two are side by side, which makes room for that. So of each subpool the first ones
-come late, as many as can: beginning with none, one more of any subpool is taken if it could be the last of all, until
-there's none. What is taken only makes more room for others, so that this finds all that can be taken so; they come in
-the reverse order. The pages of higher ones that come late are held as their cell pools would come.
+subpools are held two by one, where two are side by side, which makes room for that.
 
-In other ways such a page is left unassigned, until a filler that ends there comes to the unassigned pages right before
-it, if these are more with it than any lower ones side by side: most often it's the lowest page, and then the next one.
-That makes room for one more, as nothing holds the page; so one is held just if none can be left so.
+A higher page of what comes late is held from the begin too, or it's unassigned while others come; so is the page that is
+the last one. A filler takes it then, while all other pages of what comes late are held two by one, between which free
+areas are short:
+
+- if pages right before it are unassigned, one from the first of these on, which is longer than any free area; what's
+  left of the page holds it next, and at last a filler from where it begins, as a link is. While the first one comes,
+  others are in all lower runs of unassigned pages that are as long;
+- else one of all but 8 bytes of it, while others are in all lower unassigned pages, and in each free area of its subpool
+  that is as long.
 """
 from __future__ import annotations
 
@@ -24,6 +26,7 @@ from itertools import count, product, takewhile
 from typing import Callable, Iterator, Optional
 
 from .building import END, Build, page_end, page_start, shape
+from .groups import Groups
 from .holding import Held, NoChain, Run, runs_of
 from .maps import PAGE, Area
 from .places import Key
@@ -86,36 +89,41 @@ class Spread(Held):
     # Cell pools of several subpools.
 
     def spread_ways(self) -> Iterator[Callable[[], None]]:
-        """The ways of several subpools: by the first page of each, and with all first pages held from the begin."""
+        """The ways of several subpools."""
+        if len({it.key for it in self.wanted}) > 1:
+            yield from (partial(self.make_spread, base, groups) for base, groups in self.bases()
+                        if groups.is_late_below(base))
+
+    def bases(self) -> Iterator[tuple[int, Groups]]:
+        """Below which address pages are held from the begin, and what comes late: all first pages, if a higher one is
+        unassigned; those up to one that's the last to get something; or none."""
         its, spare = self.first_its(), self.most - len(self.wanted)
-        firsts: dict[Key, int] = {}
-        for it in its:
-            firsts.setdefault(it.key, page_start(it.area.start))
-        behind = [page_end(it.area.end) for it in its[-1:] if len(its) < len(self.wanted)]
-        bases = [*firsts.values(), *behind]
-        are_several = len({it.key for it in self.wanted}) > 1
-        for room, begin in product((spare - 1, spare), [END, *behind]) if are_several else ():
+        end = page_end(its[-1].area.end) if its else 0
+        behind = [end] if len(its) < len(self.wanted) else []
+        for room, begin in product((spare - 1, spare), [END, *behind]):
             groups = Groups(self.wanted, room, begin)
-            if groups.opened or begin == END:
-                yield from (partial(self.make_spread, base, groups) for base in bases)
+            if behind or not groups.found:
+                yield (end if groups.found else 0), groups
+            for it in groups.last_ones(end):
+                yield page_start(it.area.start), Groups(self.wanted, room, begin, it)
 
     def make_spread(self, base: int, groups: Groups) -> None:
         """All. base: below it, pages are held from the begin. groups: those that come late."""
         self.begin_spread()
-        late = {it.area.start for group in groups.found for it in group}
-        opened = {it.area.start for it in groups.opened}
-        runs = runs_of([it for it in self.wanted if it.area.start not in opened])
+        late = {it.area.start for found in groups.found for it in found.its}
+        unassigned = {it.area.start for it in groups.unassigned}
+        runs = runs_of([it for it in self.wanted if it.area.start not in unassigned])
         low = [run for run in runs if run.start < base]
         self.descend(low, late, 0)
         self.descend(runs[len(low):], late, base)
-        for group in reversed(groups.found):
-            self.turn_to(group[0].key, END)
-            for it in reversed(group):
-                (self.make_high if it.area.start in opened else self.make_late)(it)
+        for its, is_holder in reversed(groups.found):
+            self.turn_to(its[0].key, END)
+            for it in reversed(its):
+                (self.hold_late if is_holder else self.make_late)(it)
 
     def descend(self, runs: list[Run], late: set[int], base: int) -> None:
-        """Makes cell pools from the highest to the lowest, or holds the pages of those that come late; the lowest
-        unassigned page last. base: below it, all pages are held."""
+        """Makes cell pools from the highest to the lowest, or holds the pages of those that come late. base: below it,
+        all pages are held."""
         for run in reversed(runs):
             self.turn_to(run.key, base)
             held = [it for it in run.its if it.area.start in late]
@@ -124,13 +132,10 @@ class Spread(Held):
             if held:
                 self.hold_part(Run(run.key, run.start, held))
         self.turn_to(None, base)
-        for part in self.parts:
-            if part.start == self.lowest():
-                self.hold_first(part)
-                break
 
     def hold_part(self, part: Run) -> None:
-        """Holds the pages of a part, but not yet the lowest unassigned one. What holds a single page is a link."""
+        """Holds the pages of a part two by one; the region's first page by a link, and then the others by links too.
+        What holds a single page is a link."""
         key, start, end = part.key, part.start, part.start + len(part.its) * PAGE
         is_first = start == self.lowest()
         is_odd = not is_first and len(part.its) % 2 > 0
@@ -140,12 +145,9 @@ class Spread(Held):
             holder = self.held_page(key, start)
             self.links[start] = [self.fill(key, start, start + PAGE - 8)]
             self.delete(holder)
-
-    def hold_first(self, part: Run) -> None:
-        """Holds the lowest unassigned page, and then just what holds each two pages of its part."""
-        self.links[part.start] = [self.first_link(part.key)]
-        self.link_part(part)
-        self.delete_all(self.links[part.start][::2])
+        if is_first:
+            self.links[start] = [self.first_link(key)]
+            self.link_part(part)
 
     def turn_to(self, key: Optional[Key], base: int) -> None:
         """All links of a subpool's parts that begin below an address, and each second one of others."""
@@ -175,69 +177,64 @@ class Spread(Held):
             self.delete_all(links)
             self.parts.remove(part)
 
+    # Pages that are held late.
 
-class Groups:
-    """Which cell pools come late, the last ones first: some of a subpool, one after another."""
+    def hold_late(self, it: Build) -> None:
+        """Holds an unassigned page, while all lower ones of its subpool are held two by one, which have all links before
+        that and behind it."""
+        key, page = it.key, page_start(it.area.start)
+        for part in reversed(self.parts):
+            if part.key == key:
+                self.hold_again(part)
+        self.linked = None
+        *lower, run = self.runs_up_to(it)
+        end = self.end_of_link(key, run.start, page)
+        fillers = [filler for area in [*self.ground.gaps(key), *lower] if area.length >= end - run.start
+                   for filler in self.fill(key, area.start, area.end)]
+        link = self.fill(key, run.start, end)
+        self.delete(fillers)
+        if run.start < page:
+            holder = self.fill(key, end, page + PAGE)
+            self.delete(link)
+            link = self.fill(key, page, end)
+            self.delete(holder)
+        self.join_part(it, link)
+        self.turn_to(key, END)
 
-    def __init__(self, its: list[Build], room: int, begin: int) -> None:
-        """room: how many more than all cell pools there may be while a subpool has all links; one more for each page
-        that nothing holds. begin: from where on pages may be unassigned until cell pools come there."""
-        self.room, self.begin = room, begin
-        self.high = [it for it in its if it.area.start >= begin]
-        self.opened: list[Build] = []        # those in pages that are unassigned, and so no more in these lists
-        self.own: dict[Key, list[Build]] = {}
-        for it in its:
-            self.own.setdefault(it.key, []).append(it)
-        self.sizes: dict[Key, list[int]] = {key: [] for key in self.own}     # of the runs of pages that are held
-        self.found: list[list[Build]] = []
-        is_changed = True
-        while is_changed:
-            is_changed = self.open_next() or any(self.take_below(end) for end in (begin, END))
+    def end_of_link(self, key: Key, start: int, page: int) -> int:
+        """Where a filler ends that begins at an unassigned page: before the last doubleword of a page, if that is the
+        one; else so that what's left of the page is longer than any lower free area."""
+        if start == page:
+            return page + PAGE - 8
+        longest = max((gap.length for gap in self.ground.gaps(key) if gap.start < page), default=8)
+        return next((end for end in range(page + PAGE - 8 - longest, page, -8)
+                     if shape(end - start) and shape(end - page) and shape(page + PAGE - end)), page)
 
-    def others(self, key: Key) -> int:
-        """How many fewer than pages hold those of other subpools."""
-        return sum(size // 2 for other, sizes in self.sizes.items() if other != key for size in sizes)
+    def join_part(self, it: Build, link: list[Build]) -> None:
+        """A page that a link holds, right behind those of a part, or as one of its own."""
+        page = page_start(it.area.start)
+        for part in self.parts:
+            if part.key == it.key and part.start + len(part.its) * PAGE == page:
+                part.its.append(it)
+                self.held[part.start].append(link)
+                return
+        self.parts = sorted([*self.parts, Run(it.key, page, [it])], key=lambda part: part.start)
+        self.links[page], self.held[page] = [link], []
 
-    def open_next(self) -> bool:
-        """Takes the lowest one before which more unassigned pages are side by side than anywhere below, if any can be:
-        a filler goes there that ends in its page."""
-        longest, end = 0, self.begin
-        for it in self.high:
-            page = page_start(it.area.start)
-            if page + PAGE - end > longest and self.can_open(it):
-                self.own[it.key].remove(it)
-                self.high.remove(it)
-                self.opened.append(it)
-                self.found.append([it])
-                self.room += 1
-                return True
-            longest, end = max(longest, page - end), page + PAGE
-        return False
-
-    def can_open(self, it: Build) -> bool:
-        """Whether all lower ones of a subpool come late too and there's room for the filler."""
-        sizes, its = self.sizes[it.key], self.own[it.key]
-        return len(sizes) + 1 <= self.room + self.others(it.key) and its[sum(sizes):][:1] == [it]
-
-    def take_below(self, end: int) -> bool:
-        return any([self.take(key, end) for key in self.own])
-
-    def take(self, key: Key, end: int) -> bool:
-        """Takes as many of a subpool below an address as can be, if any; but just one in a higher page. One that begins
-        with its page within a run needs one more, as what is behind it holds the page."""
-        sizes, its = self.sizes[key], self.own[key]
-        start, most = sum(sizes), self.room + self.others(key)
-        for at in range(start, len(its)):
-            page = page_start(its[at].area.start)
-            is_next = at > 0 and page_start(its[at - 1].area.start) + PAGE == page
-            if page >= end or len(sizes) + (not is_next or its[at].area.start == page) > most:
-                break
-            if is_next:
-                sizes[-1] += 1
-            else:
-                sizes.append(1)
-            if page >= self.begin:
-                break
-        group = its[start:sum(sizes)]
-        self.found += [group] if group else []
-        return bool(group)
+    def hold_again(self, part: Run) -> None:
+        """Holds the pages of a part two by one in place of its links, while all below is filled."""
+        key, links, found = part.key, self.links[part.start], []
+        behind = links.pop()
+        while len(links) > 1:
+            page = part.start + (len(links) - 2) * PAGE
+            low, upper = links.pop(-2), links.pop()
+            begin = low[0].area.start
+            self.delete(low)
+            holder = self.fill(key, begin, page + 8)
+            middle = self.fill(key, page + 8, upper[0].area.start)
+            self.delete(upper + middle)
+            found.append(self.fill(key, page + 8, page + 2 * PAGE - 8))
+            self.delete(behind)
+            behind = holder
+        self.delete(behind)
+        self.held[part.start] = found[::-1]

@@ -18,7 +18,8 @@ at most, side by side.
   page, as it would go there else: a filler is in one such run at most, and in one kept page beside it. If the page
   right before is kept, it's shorter than a page, so that each free area of its subpool that's as long as all but 8
   bytes of a page, or longer, has something too: at least those between cell pools that are never missing, in two pages
-  side by side.
+  side by side, and those between one and a kept page of another subpool. What's there is in no other kept page, and in
+  no run of others.
 
 At the first time of all, a page got something that's shorter than a page, so that each such free area had something
 then too: at least those between cell pools that are never missing. One that's never missing else is what came there,
@@ -27,7 +28,7 @@ none of these, while a cell pool can't be missing.
 """
 from __future__ import annotations
 
-from itertools import count, groupby
+from itertools import count, groupby, pairwise
 from typing import Optional
 
 from .building import Build, Ground, page_start
@@ -112,11 +113,15 @@ class Stuck:
 
     def inner_gaps(self, it: Build) -> int:
         """How many free areas of a cell pool's subpool are as long as all but 8 bytes of a page, or longer, and between
-        two others that are always there, in pages side by side."""
+        two others that are always there, in pages side by side; or between one and a kept page of another subpool."""
         there = [other.area for other in self.its
                  if other.key == it.key and other is not it and other.area.start not in self.gone]
+        kept = {run.start + k * PAGE: run.key for run in self.runs for k in range(len(run.its))}
+        ends = [(area.start % PAGE, page_start(area.start) - PAGE) for area in there]
+        ends += [(PAGE - area.end % PAGE, page_start(area.start) + PAGE) for area in there if area.end % PAGE]
         return sum(page_start(other.start) - page_start(area.start) == PAGE and other.start - area.end >= PAGE - 8
-                   for area, other in zip(there, there[1:]))
+                   for area, other in pairwise(there)) + sum(
+            length >= PAGE - 8 and kept.get(page, it.key) != it.key for length, page in ends)
 
     def filled(self, its: list[Build], end: int) -> int:
         """How many fill the pages of some cell pools up to an address at least."""
