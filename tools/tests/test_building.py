@@ -284,7 +284,7 @@ def test_pools_of_subpools_behind_unassigned_pages(monkeypatch: pytest.MonkeyPat
         assert steps is None or not is_stuck, builds
         check_steps(steps or [], runs, builds if steps else [], most)
         told[is_stuck + 2 * (steps is not None)] += 1
-    assert told[0] < told[1] < told[2], told
+    assert 4 * told[0] < told[1] < told[2], told
 
 
 @pytest.mark.parametrize("every, number", [(1, 200), (2, 250), (2, 255), (3, 255)])
@@ -300,3 +300,13 @@ def test_pools_of_subpools_that_nothing_makes() -> None:
     builds = [Build(Area(building.PAGE * k, 8), (k % 2, 1), 24) for k in range(255)]
     assert Stuck(0, builds[:230], 256).lowest() and Stuck(0, builds, 256).lowest()
     assert not Stuck(0, builds[:190], 256).lowest() and descent([Area(0, 256 * building.PAGE)], builds[:190], 256)
+
+
+def test_pools_beside_pages_of_other_subpools(monkeypatch: pytest.MonkeyPatch) -> None:
+    """Something has to be in the rest of a page that's between those of another subpool."""
+    words = 4
+    for module in (building, chains, groups, holding, narrows, searching, spread, stuck):
+        monkeypatch.setattr(module, "PAGE", 8 * words)
+    places_of = [(0, 0, 3), (2, 0, 3), (3, 1, 3), (4, 1, 0), (5, 0, 0), (6, 1, 3)]
+    builds = [Build(Area(8 * (words * page + at), 8), (key, 1), 24) for page, key, at in places_of]
+    assert Stuck(0, builds, 7).lowest() and not Stuck(0, builds[1:], 7).lowest()

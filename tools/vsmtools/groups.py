@@ -125,30 +125,33 @@ class Groups:
         return -1
 
     def can_release(self, it: Build, before: int, lower: list[int]) -> bool:
-        """Whether a page is the last one of a run that's held, and there's room for fillers until one holds it late,
-        while all others are held two by one; and for one more while its subpool gets all links, if another page of it
-        is right before, or if that filler may end before the cell pool begins."""
+        """Whether a page is the last one of a run that's held, and there's room for fillers until one holds it late:
+        while its subpool has all links; or while all others are held two by one, where that filler has to end before the
+        cell pool begins."""
         k, sizes = self.run_that_ends(it), self.sizes[it.key]
         if k < 0:
             return False
-        is_longer = sizes[k] > 1 or before > 0 and it.area.start % PAGE >= PAGE - 8 * NEAR
-        return (self.fillers(it, before, lower) <= self.room + 1 + self.others() - (sizes[k] % 2 == 0)
-                and len(sizes) + is_longer <= self.room + self.others(it.key))
+        is_alone, is_near = sizes[k] == 1, it.area.start % PAGE >= PAGE - 8 * NEAR
+        fillers = self.fillers(it, before, lower, is_alone)
+        if len(sizes) - is_alone + max(1 + is_alone, fillers) <= self.room + 1 + self.others(it.key):
+            return True
+        return (fillers <= self.room + 1 + self.others() - (sizes[k] % 2 == 0)
+                and not (is_near and (before or not is_alone)))
 
-    def fillers(self, it: Build, before: int, lower: list[int]) -> int:
+    def fillers(self, it: Build, before: int, lower: list[int], is_alone: bool) -> int:
         """How many there are at once until one holds a page: one from the pages before on, while others are in lower
         runs that are as long, and then one in what's left of the page; or one in it, while others are in all lower runs
-        and in free areas that are as long."""
+        and in free areas that are as long. is_alone: whether no page of its subpool is right before."""
         if before:
             return max(2, 1 + sum(length >= before + PAGE for length in lower))
-        return 1 + len(lower) + self.long_gaps(it.key)
+        return 1 + len(lower) + self.long_gaps(it.key, PAGE - (8 if is_alone else 24))
 
-    def long_gaps(self, key: Key) -> int:
-        """How many free areas of a subpool are as long as all but 8 bytes of a page, or longer."""
+    def long_gaps(self, key: Key, least: int) -> int:
+        """How many free areas of a subpool are so long."""
         areas = [it.area for it in self.own[key][sum(self.sizes[key]):]]
-        count = sum(area.start % PAGE >= PAGE - 16 for area in areas[:1])
+        count = sum(area.start % PAGE + 8 >= least for area in areas[:1])
         for area, other in pairwise(areas):
             is_near = page_start(other.start) - page_start(area.start) <= PAGE
             lengths = [other.start - area.end] if is_near else [page_end(area.end) - area.end, other.start % PAGE]
-            count += sum(length >= PAGE - 8 for length in lengths)
-        return count + sum(page_end(area.end) - area.end >= PAGE - 8 for area in areas[-1:])
+            count += sum(length >= least for length in lengths)
+        return count + sum(page_end(area.end) - area.end >= least for area in areas[-1:])

@@ -20,7 +20,7 @@ from __future__ import annotations
 
 from typing import Iterable, NamedTuple
 
-from .building import Build, Ground, Step, page_start, shape, span
+from .building import END, Build, Ground, Step, page_end, page_start, shape, span
 from .maps import PAGE, Area
 from .places import Key
 
@@ -194,19 +194,23 @@ class Held(Fillers):
         return links
 
     def link_pages(self, key: Key, start: int, held: list[list[Build]], links: list[list[Build]]) -> None:
-        """Links in place of what holds some pages, behind others in the page before, if any are there."""
+        """Links in place of what holds some pages, behind others in the page before, if any are there. What holds a
+        single page from where it begins leaves more at its end than what's between it and the page before."""
         begin = links[-1][0].area.end if links else start
         holder = self.fill_gap(key, begin, start + 8)
         for one in held:
             end, last = one[0].area.end, page_start(start) + PAGE - 8
-            behind = self.fill_gap(key, end, end + 16)
+            if one[0].area.start == start:
+                self.delete(holder)
+                holder, last = [], end
+            behind = self.fill_gap(key, end, page_end(end) + 8 if one is held[-1] else END)
             self.delete(one)
             low = self.fill(key, start + 8, last) if end > last else []
             self.delete(holder)
             upper = self.fill(key, last, end)
             self.delete(low)
             links += [it for it in (self.fill(key, begin, last), upper) if it]
-            holder, start, begin = behind, end + 8, end
+            holder, start, begin = behind, page_end(end), end
         links.append(holder)
 
     def fill_gap(self, key: Key, start: int, end: int) -> list[Build]:

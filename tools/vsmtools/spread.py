@@ -180,16 +180,14 @@ class Spread(Held):
     # Pages that are held late.
 
     def hold_late(self, it: Build) -> None:
-        """Holds an unassigned page, while all lower ones of its subpool are held two by one, which have all links before
-        that and behind it."""
+        """Holds an unassigned page. Its subpool has all links before and behind that; meanwhile too, if there's room."""
         key, page = it.key, page_start(it.area.start)
-        for part in reversed(self.parts):
-            if part.key == key:
-                self.hold_again(part)
-        self.linked = None
         *lower, run = self.runs_up_to(it)
-        end = self.end_of_link(key, run.start, page)
-        fillers = [filler for area in [*self.ground.gaps(key), *lower] if area.length >= end - run.start
+        most = self.most_of_link(it)
+        if self.there + max(2, len(self.as_long(key, lower, most - run.start)) + 1) > self.most:
+            self.unlink(key)
+        end = self.end_of_link(key, run.start, page) if run.start < page else most
+        fillers = [filler for area in self.as_long(key, lower, end - run.start)
                    for filler in self.fill(key, area.start, area.end)]
         link = self.fill(key, run.start, end)
         self.delete(fillers)
@@ -199,41 +197,72 @@ class Spread(Held):
             link = self.fill(key, page, end)
             self.delete(holder)
         self.join_part(it, link)
-        self.turn_to(key, END)
+
+    def most_of_link(self, it: Build) -> int:
+        """Where a link of a page may end: what's left of the page is longer than what's between the page before and
+        it."""
+        page, part = page_start(it.area.start), self.part_before(it)
+        end = page + PAGE - 8 - (page - self.links[part.start][-1][0].area.start if part else 0)
+        if end <= page:
+            raise NoChain
+        return end
+
+    def as_long(self, key: Key, runs: list[Area], length: int) -> list[Area]:
+        """A subpool's free areas and runs of unassigned pages that are as long."""
+        return [area for area in [*self.ground.gaps(key), *runs] if area.length >= length]
 
     def end_of_link(self, key: Key, start: int, page: int) -> int:
-        """Where a filler ends that begins at an unassigned page: before the last doubleword of a page, if that is the
-        one; else so that what's left of the page is longer than any lower free area."""
-        if start == page:
-            return page + PAGE - 8
-        longest = max((gap.length for gap in self.ground.gaps(key) if gap.start < page), default=8)
-        return next((end for end in range(page + PAGE - 8 - longest, page, -8)
-                     if shape(end - start) and shape(end - page) and shape(page + PAGE - end)), page)
+        """Where a filler ends that begins at an unassigned page before another one, so that what's left of that is
+        longer than any lower free area."""
+        longest = max((gap.length for gap in self.ground.gaps(key) if gap.start < page), default=0)
+        for end in range(page + PAGE - 8 - longest, page, -8):
+            if shape(end - start) and shape(end - page) and shape(page + PAGE - end):
+                return end
+        raise NoChain
+
+    def part_before(self, it: Build) -> Optional[Run]:
+        """The part of its subpool right before the page of a cell pool."""
+        return next((part for part in self.parts if part.key == it.key
+                     and part.start + len(part.its) * PAGE == page_start(it.area.start)), None)
 
     def join_part(self, it: Build, link: list[Build]) -> None:
-        """A page that a link holds, right behind those of a part, or as one of its own."""
-        page = page_start(it.area.start)
-        for part in self.parts:
-            if part.key == it.key and part.start + len(part.its) * PAGE == page:
-                part.its.append(it)
-                self.held[part.start].append(link)
-                return
-        self.parts = sorted([*self.parts, Run(it.key, page, [it])], key=lambda part: part.start)
-        self.links[page], self.held[page] = [link], []
+        """All links of a subpool with one more page, which a link holds: right behind those of a part, or as one of its
+        own."""
+        part = self.part_before(it)
+        if part is None:
+            part = Run(it.key, page_start(it.area.start), [it])
+            self.parts = sorted([*self.parts, part], key=lambda part: part.start)
+            self.links[part.start], self.held[part.start] = [link], []
+        else:
+            part.its.append(it)
+            if self.linked == it.key:
+                self.delete(self.links[part.start].pop())
+                self.held[part.start] = []
+            self.held[part.start].append(link)
+        if self.linked == it.key:
+            self.link_part(part)
+        self.turn_to(it.key, END)
+
+    def unlink(self, key: Key) -> None:
+        """Holds the pages of a subpool's parts two by one, between which free areas are short."""
+        for part in reversed(self.parts):
+            if part.key == key:
+                self.hold_again(part)
+        self.linked = None
 
     def hold_again(self, part: Run) -> None:
         """Holds the pages of a part two by one in place of its links, while all below is filled."""
         key, links, found = part.key, self.links[part.start], []
         behind = links.pop()
         while len(links) > 1:
-            page = part.start + (len(links) - 2) * PAGE
+            start = part.start + (len(links) - 2) * PAGE + 8
             low, upper = links.pop(-2), links.pop()
-            begin = low[0].area.start
+            begin, middle, end = (one[0].area.start for one in (low, upper, behind))
             self.delete(low)
-            holder = self.fill(key, begin, page + 8)
-            middle = self.fill(key, page + 8, upper[0].area.start)
-            self.delete(upper + middle)
-            found.append(self.fill(key, page + 8, page + 2 * PAGE - 8))
+            holder = self.fill(key, begin, start)
+            fillers = self.fill(key, start, middle)
+            self.delete(upper + fillers)
+            found.append(self.fill(key, start, end))
             self.delete(behind)
             behind = holder
         self.delete(behind)
