@@ -126,8 +126,8 @@ class Groups:
 
     def can_release(self, it: Build, before: int, lower: list[int]) -> bool:
         """Whether a page is the last one of a run that's held, and there's room for fillers until one holds it late:
-        while its subpool has all links; or while all others are held two by one, where that filler has to end before the
-        cell pool begins."""
+        while its subpool has all links; or while all others are held two by one, where that filler has to end before
+        the cell pool begins."""
         k, sizes = self.run_that_ends(it), self.sizes[it.key]
         if k < 0:
             return False
@@ -151,7 +151,7 @@ class Groups:
         areas = [it.area for it in self.own[key][sum(self.sizes[key]):]]
         count = sum(area.start % PAGE + 8 >= least for area in areas[:1])
         for area, other in pairwise(areas):
-            is_near = page_start(other.start) - page_start(area.start) <= PAGE
-            lengths = [other.start - area.end] if is_near else [page_end(area.end) - area.end, other.start % PAGE]
+            is_beside = page_start(other.start) - page_start(area.start) <= PAGE
+            lengths = [other.start - area.end] if is_beside else [page_end(area.end) - area.end, other.start % PAGE]
             count += sum(length >= least for length in lengths)
         return count + sum(page_end(area.end) - area.end >= least for area in areas[-1:])

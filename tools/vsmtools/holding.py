@@ -109,8 +109,9 @@ class Held(Fillers):
         self.delete(filler for link in links for filler in link)
 
     def make_linked(self, it: Build, links: list[list[Build]], k: int) -> None:
-        """A cell pool behind the filler of its page, which becomes shorter first where the next one is there. That one
-        holds its page while a cell pool comes that begins with it."""
+        """A cell pool behind the filler of its page, which becomes shorter first where the next one is there, or gets
+        one more behind it if it's too short. The next one holds its page while a cell pool comes that begins with
+        it."""
         if len(links) > k + 1:
             start, end = links[k][0].area.start, links[k][-1].area.end
             if end < it.area.start:

@@ -9,15 +9,15 @@ What comes late, when each of these pages has something, comes behind links (`ho
 subpool where something else comes late too: one more than pages in each run of these side by side. The pages of other
 subpools are held two by one, where two are side by side, which makes room for that.
 
-A higher page of what comes late is held from the begin too, or it's unassigned while others come; so is the page that is
-the last one. A filler takes it then, while all other pages of what comes late are held two by one, between which free
-areas are short:
+A higher page of what comes late is held from the begin too, or it's unassigned while others come; so is the page that
+is the last one. A filler takes it then, while its subpool has all links, or while all other pages of what comes late
+are held two by one, between which free areas are short:
 
 - if pages right before it are unassigned, one from the first of these on, which is longer than any free area; what's
   left of the page holds it next, and at last a filler from where it begins, as a link is. While the first one comes,
   others are in all lower runs of unassigned pages that are as long;
-- else one of all but 8 bytes of it, while others are in all lower unassigned pages, and in each free area of its subpool
-  that is as long.
+- else one of all but a few doublewords of it, while others are in all lower unassigned pages, and in each free area of
+  its subpool that is as long.
 """
 from __future__ import annotations
 
@@ -180,7 +180,8 @@ class Spread(Held):
     # Pages that are held late.
 
     def hold_late(self, it: Build) -> None:
-        """Holds an unassigned page. Its subpool has all links before and behind that; meanwhile too, if there's room."""
+        """Holds an unassigned page. Its subpool has all links before that and behind it; meanwhile too, if there's
+        room."""
         key, page = it.key, page_start(it.area.start)
         *lower, run = self.runs_up_to(it)
         most = self.most_of_link(it)
