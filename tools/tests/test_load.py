@@ -523,9 +523,10 @@ def test_too_many_cell_pools_of_two_subpools(run: Callable, vsm: str) -> None:
 
 
 def endless_map() -> str:
-    """A map of task 1 with register 1 0: 255 cell pools of 8 bytes, each anywhere in its page, of three subpools, for
-    which no order is found in any time that a trial has."""
-    lines = lone_cells((at, k * k // 5 % 3) for k, at in enumerate(in_pages(8 * (7 * k * k % 512) for k in range(255))))
+    """A map of task 1 with register 1 0: 255 cell pools of 8 bytes on both sides of the line, each at its page's begin,
+    by turns of two subpools; no order is found in any time that a trial has."""
+    lines = lone_cells((at, k % 2) for start, most in ((maps.LOW_START, 128), (maps.HIGH_START, 127))
+                       for k, at in enumerate(in_pages([0] * most, start)))
     return "".join(line + "\n" for line in lines)
 
 

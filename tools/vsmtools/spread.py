@@ -182,8 +182,10 @@ class Spread(Held):
     def hold_late(self, it: Build) -> None:
         """Holds an unassigned page. Its subpool has all links before that and behind it; meanwhile too, if there's
         room."""
-        key, page = it.key, page_start(it.area.start)
-        *lower, run = self.runs_up_to(it)
+        key, page, lower = it.key, page_start(it.area.start), self.runs_up_to(it)
+        run = lower.pop() if lower else Area(0, 0)
+        if page >= run.end:
+            raise NoChain
         most = self.most_of_link(it)
         if self.there + max(2, len(self.as_long(key, lower, most - run.start)) + 1) > self.most:
             self.unlink(key)
