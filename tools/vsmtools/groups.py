@@ -2,7 +2,8 @@
 
 They're found from the last one on. At the time of each, those that are found before aren't there: something else holds
 their pages, two by one where two are side by side; or the pages are unassigned, until something takes them. What is
-found makes more room for others, so that this finds all that can be found so, in whichever order.
+found makes room for others, so that one after another is looked for, until there are no more. That these are all isn't
+shown.
 """
 from __future__ import annotations
 
