@@ -152,7 +152,7 @@ def test_pools_of_a_doubleword_alone_in_pages(monkeypatch: pytest.MonkeyPatch, w
             assert steps is None or built(region, steps) == State(pools), pools
             assert (steps is not None) == is_made, pools
             assert is_made or len(pools) == most and core(builds, most) or unheld(0, builds, most), pools
-            assert not is_made or not (unheld(0, builds, most) or Stuck(0, builds, most).lowest()), pools
+            assert not is_made or not (unheld(0, builds, most) or Stuck([0], builds, most).lowest()), pools
             count += unheld(0, builds, most) is not None
     assert count
 
@@ -245,9 +245,31 @@ def test_pools_of_a_doubleword_of_two_subpools(monkeypatch: pytest.MonkeyPatch, 
         pools = [(words * k + at[0], words * k + at[0] + 1, at[1]) for k, at in enumerate(offsets) if at is not None]
         if 2 <= len(pools) <= most:
             builds = [Build(Area(8 * start, 8), (key, 1), 24) for start, _, key in pools]
-            is_made, is_stuck = State(pools) in made, Stuck(0, builds, most).lowest() is not None
+            is_made, is_stuck = State(pools) in made, Stuck([0], builds, most).lowest() is not None
             assert not (is_made and is_stuck) and (is_made or descent(runs, builds, most) is None), pools
             count += is_stuck
+    assert count == refused
+
+
+@pytest.mark.parametrize("pages, most, refused", [((3, 1), 3, 4), ((3, 2), 4, 20)])
+def test_pools_of_two_subpools_on_both_sides(monkeypatch: pytest.MonkeyPatch, pages: tuple[int, int], most: int,
+                                             refused: int) -> None:
+    """What is refused isn't made. refused: of how many maps, none of which is refused for one side alone."""
+    words, high, count = 2, 2400, 0
+    for module in (building, holding, stuck):
+        monkeypatch.setattr(module, "PAGE", 8 * words)
+    monkeypatch.setattr(places, "HIGH_START", high)
+    made = made_beside(*(Shared(words, number, most, False) for number in pages), most)
+    for offsets in product([None, *product(range(words), (0, 1))], repeat=sum(pages)):
+        low, top = ([(words * k + at[0], at[1]) for k, at in enumerate(them) if at is not None]
+                    for them in (offsets[:pages[0]], offsets[pages[0]:]))
+        if low and top and len(low + top) <= most:
+            sides = [[Build(Area(8 * at + start, 8), (key, 1), side) for at, key in them]
+                     for them, start, side in ((low, 0, 24), (top, high, 31))]
+            is_stuck = Stuck([0, high], sum(sides, []), most).lowest() is not None
+            state = tuple(State((at, at + 1, key) for at, key in them) for them in (low, top))
+            assert not is_stuck or state not in made, offsets
+            count += is_stuck and not any(Stuck([start], its, most).lowest() for start, its in zip((0, high), sides))
     assert count == refused
 
 
@@ -262,13 +284,15 @@ def check_steps(steps: list[Step], runs: list[Area], builds: list[Build], most: 
     assert {key: areas for key, areas in ground.taken.items() if areas} == wanted.taken
 
 
-def scattered(chance: random.Random, words: int, number: int) -> list[Build]:
-    """Cell pools of two to four subpools, each anywhere in a page, with more or fewer of them side by side."""
+def scattered(chance: random.Random, words: int, number: int, begins: float = 0.0, start: int = 0) -> list[Build]:
+    """Cell pools of two to four subpools, each anywhere in a page, with more or fewer of them side by side. begins: how
+    many of them more begin with their pages. start: where the region begins."""
     subpools, share, again = chance.choice((2, 3, 4)), chance.choice((0.6, 0.8, 0.9, 1.0)), chance.choice((0.0, 0.7))
     found: list[Build] = []
     for page in [page for page in range(4 * number) if chance.random() < share][:number]:
         key = found[-1].key if found and chance.random() < again else (chance.randrange(subpools), 1)
-        found.append(Build(Area(8 * (words * page + chance.randrange(words)), 8), key, 24))
+        at = 0 if begins and chance.random() < begins else chance.randrange(words)
+        found.append(Build(Area(start + 8 * (words * page + at), 8), key, location(start)))
     return found
 
 
@@ -280,7 +304,26 @@ def test_pools_of_subpools_behind_unassigned_pages(monkeypatch: pytest.MonkeyPat
     for _ in range(300):
         most = chance.randrange(6, 24)
         builds, runs = scattered(chance, words, most - chance.choice((1, 1, 2))), [Area(0, 8 * words * 4 * most)]
-        steps, is_stuck = descent(runs, builds, most), Stuck(0, builds, most).lowest() is not None
+        steps, is_stuck = descent(runs, builds, most), Stuck([0], builds, most).lowest() is not None
+        assert steps is None or not is_stuck, builds
+        check_steps(steps or [], runs, builds if steps else [], most)
+        told[is_stuck + 2 * (steps is not None)] += 1
+    assert 4 * told[0] < told[1] < told[2], told
+
+
+def test_pools_of_subpools_on_both_sides(monkeypatch: pytest.MonkeyPatch) -> None:
+    """If there may be one more, or two: what is refused isn't made from the highest to the lowest."""
+    words, chance, high, told = 4, random.Random(3), 80000, [0, 0, 0]
+    for module in (building, chains, groups, holding, narrows, searching, spread, stuck):
+        monkeypatch.setattr(module, "PAGE", 8 * words)
+    monkeypatch.setattr(places, "HIGH_START", high)
+    for _ in range(150):
+        most = chance.randrange(8, 24)
+        number = chance.randrange(1, most - 2)
+        builds = [it for start, size in ((0, number), (high, most - number - chance.choice((1, 1, 2))))
+                  for it in scattered(chance, words, size, 0.9, start)]
+        runs = [Area(start, 8 * words * 4 * most) for start in (0, high)]
+        steps, is_stuck = descent(runs, builds, most), Stuck([0, high], builds, most).lowest() is not None
         assert steps is None or not is_stuck, builds
         check_steps(steps or [], runs, builds if steps else [], most)
         told[is_stuck + 2 * (steps is not None)] += 1
@@ -298,8 +341,8 @@ def test_pools_of_subpools_in_pages_side_by_side(every: int, number: int) -> Non
 def test_pools_of_subpools_that_nothing_makes() -> None:
     """Each second page is another subpool's, and its cell pool begins with it."""
     builds = [Build(Area(building.PAGE * k, 8), (k % 2, 1), 24) for k in range(255)]
-    assert Stuck(0, builds[:230], 256).lowest() and Stuck(0, builds, 256).lowest()
-    assert not Stuck(0, builds[:190], 256).lowest() and descent([Area(0, 256 * building.PAGE)], builds[:190], 256)
+    assert Stuck([0], builds[:230], 256).lowest() and Stuck([0], builds, 256).lowest()
+    assert not Stuck([0], builds[:190], 256).lowest() and descent([Area(0, 256 * building.PAGE)], builds[:190], 256)
 
 
 def test_pools_beside_pages_of_other_subpools(monkeypatch: pytest.MonkeyPatch) -> None:
@@ -309,4 +352,4 @@ def test_pools_beside_pages_of_other_subpools(monkeypatch: pytest.MonkeyPatch) -
         monkeypatch.setattr(module, "PAGE", 8 * words)
     places_of = [(0, 0, 3), (2, 0, 3), (3, 1, 3), (4, 1, 0), (5, 0, 0), (6, 1, 3)]
     builds = [Build(Area(8 * (words * page + at), 8), (key, 1), 24) for page, key, at in places_of]
-    assert Stuck(0, builds, 7).lowest() and not Stuck(0, builds[1:], 7).lowest()
+    assert Stuck([0], builds, 7).lowest() and not Stuck([0], builds[1:], 7).lowest()

@@ -405,22 +405,27 @@ def joined(areas: Iterable[tuple[int, int]]) -> list[Area]:
     return found
 
 
-def lone_cells(cells: Iterable[tuple[int, int]]) -> list[str]:
-    """A map of task 1 with register 1 0: cell pools of 8 bytes, each alone in its page, at addresses in subpools."""
+def lone_cells(cells: Iterable[tuple[int, int]], longer: int = 0) -> list[str]:
+    """A map of task 1 with register 1 0: cell pools of 8 bytes, each alone in its page, at addresses in subpools.
+    longer: where one begins that has 16 bytes."""
+    def size(at: int) -> int:
+        return 16 if at == longer else 8
+
     by_number: dict[int, list[int]] = {0: []}
     for at, number in cells:
         by_number.setdefault(number, []).append(at)
     subpools, pools = [], []
     for number, places in sorted(by_number.items()):
         pages = [(at - at % maps.PAGE, at) for at in places]
-        free = [part for page, at in pages for part in ((page, at), (at + 8, page + maps.PAGE)) if part[0] < part[1]]
+        free = [part for page, at in pages for part in ((page, at), (at + size(at), page + maps.PAGE))
+                if part[0] < part[1]]
         extents = joined((page, page + maps.PAGE) for page, _ in pages)
         subpools.append(maps.Subpool(number, 1, [], extents, joined(free)))
-        pools += [maps.CellPool("C%08X" % at, number, 1, 8, 1, 1, 31 if at >= maps.HIGH_START else 24, None,
-                                [Area(at, 8)], [at]) for at in places]
-    high = sum(pool.location == 31 for pool in pools)
+        pools += [maps.CellPool("C%08X" % at, number, 1, size(at), 1, 1, 31 if at >= maps.HIGH_START else 24, None,
+                                [Area(at, size(at))], [at]) for at in places]
+    high, taken = sum(pool.location == 31 for pool in pools), sum(pool.size for pool in pools)
     shown = maps.Map([maps.Task(1, 0, True, [0] * 16)], subpools, sorted(pools, key=lambda it: it.name),
-                     len(pools) - high, 512, high, 256, 8 * len(pools), (maps.PAGE - 8) * len(pools))
+                     len(pools) - high, 512, high, 256, taken, maps.PAGE * len(pools) - taken)
     return maps.map_lines(shown)
 
 
@@ -460,6 +465,10 @@ LONE = {
     "255 on both sides, of which most begin pages": [
         (at, 0) for start, most in ((maps.LOW_START, 97), (maps.HIGH_START, 150))
         for at in in_pages([MIDDLE] * 4 + [0] * most, start)],
+    "255 on both sides of three subpools": [
+        (at, k // every % 3) for start, most, every, offset in (
+            (maps.LOW_START, 229, 2, LAST), (maps.HIGH_START, 26, 1, 0))
+        for k, at in enumerate(in_pages([offset] * most, start))],
     "255 on both sides anywhere": [(at, 0) for start, most in ((maps.LOW_START, 201), (maps.HIGH_START, 54))
                                    for at in in_pages([8, *DOWN[:3], 0, *DOWN[9:most + 4]], start)],
 }
@@ -514,19 +523,22 @@ def test_too_many_cell_pools_on_both_sides(run: Callable, vsm: str) -> None:
     assert lines[int(text.split(":")[1]) - 1].startswith(" CELLPOOL C%08X " % in_pages([0, 0])[1])
 
 
-def test_too_many_cell_pools_of_two_subpools(run: Callable, vsm: str) -> None:
+@pytest.mark.parametrize("low, high", [(230, 0), (128, 127)])
+def test_too_many_cell_pools_of_two_subpools(run: Callable, vsm: str, low: int, high: int) -> None:
     """By turns, each at its page's begin: what is told is of the lowest one that can't be missing."""
-    lines = lone_cells((at, k % 2) for k, at in enumerate(in_pages([0] * 230)))
+    lines = lone_cells((at, k % 2) for start, most in ((maps.LOW_START, low), (maps.HIGH_START, high))
+                       for k, at in enumerate(in_pages([0] * most, start)))
     text = one_line(run(TOOL, "--vsm", vsm, *WIDER[:4], given="".join(line + "\n" for line in lines).encode()), TOOL)
     assert "no list of statements makes this: " + UNHELD in text
     assert lines[int(text.split(":")[1]) - 1].startswith(" CELLPOOL C")
 
 
 def endless_map() -> str:
-    """A map of task 1 with register 1 0: 255 cell pools of 8 bytes on both sides of the line, each at its page's begin,
-    by turns of two subpools; no order is found in any time that a trial has."""
-    lines = lone_cells((at, k % 2) for start, most in ((maps.LOW_START, 128), (maps.HIGH_START, 127))
-                       for k, at in enumerate(in_pages([0] * most, start)))
+    """A map of task 1 with register 1 0: 255 cell pools on both sides of the line, each at its page's begin, by turns
+    of two subpools; 8 bytes each, but for the first one, so that they aren't counted. No order is found in any time
+    that a trial has."""
+    lines = lone_cells(((at, k % 2) for start, most in ((maps.LOW_START, 128), (maps.HIGH_START, 127))
+                        for k, at in enumerate(in_pages([0] * most, start))), maps.LOW_START)
     return "".join(line + "\n" for line in lines)
 
 

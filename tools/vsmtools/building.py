@@ -24,7 +24,7 @@ from typing import Iterable, Iterator, NamedTuple, Optional
 
 from .judge import MOST_CELLS
 from .maps import HIGH_START, PAGE, Area, CellPool
-from .places import Key, location
+from .places import Half, Key, location
 
 
 END = 1 << 32       # of all addresses
@@ -46,6 +46,11 @@ class Build:
     key: Key
     side: int
     pool: Optional[CellPool] = None
+
+    @property
+    def half(self) -> Half:
+        """Its subpool's half: a BUILD goes to free areas of that alone, before any of the other side."""
+        return self.key, location(self.area.start)
 
 
 class Step(NamedTuple):

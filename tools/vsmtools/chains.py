@@ -17,7 +17,8 @@ and there was a gap in any other page, where it would have gone.
 
 Of one fewer `narrows` tells those that nothing makes; in small regions all others come this way (`holding`).
 
-Those of several subpools come as `spread` has it.
+Those of several subpools come as `spread` has it, those of both sides of the line as `both` has it where one side's
+can't come behind the other's.
 """
 from __future__ import annotations
 
@@ -25,8 +26,9 @@ from functools import partial
 from itertools import product
 from typing import Iterator, Optional
 
+from .both import Both
 from .building import Build, Step, page_end, page_start
-from .holding import NoChain, runs_of
+from .holding import NoChain, Record, runs_of
 from .maps import PAGE, Area
 from .merging import merged
 from .places import Key, location
@@ -45,7 +47,7 @@ def descent(runs: list[Area], wanted: list[Build], most: int) -> Optional[list[S
              if (its := [it for it in wanted if location(it.area.start) == side])]
     found = in_turn(sides, most)
     if found is None and len(sides) > 1:
-        found = in_turn(sides[::-1], most) or side_by_side(sides, most)
+        found = in_turn(sides[::-1], most) or next(Both(sides, most).plans(), None) or side_by_side(sides, most)
     return found
 
 
@@ -53,7 +55,7 @@ def in_turn(sides: list[Side], most: int) -> Optional[list[Step]]:
     """The steps of one side behind all of the other's."""
     steps: list[Step] = []
     for runs, its in sides:
-        found = next(Descent(runs, its, most).plans(False), None)
+        found = next(Descent(runs, its, Record(most)).plans(False), None)
         if found is None:
             return None
         steps += found
@@ -63,7 +65,7 @@ def in_turn(sides: list[Side], most: int) -> Optional[list[Step]]:
 
 def side_by_side(sides: list[Side], most: int) -> Optional[list[Step]]:
     """The steps of both sides, each of which may rest while the other goes on."""
-    ways = [list(Descent(runs, its, most).plans(True)) for runs, its in sides]
+    ways = [list(Descent(runs, its, Record(most)).plans(True)) for runs, its in sides]
     return next((steps for high, low in product(*ways) if (steps := merged(high, low, most)) is not None), None)
 
 
@@ -84,7 +86,7 @@ class Descent(Spread):
                 way()
             except NoChain:
                 continue
-            yield self.steps
+            yield self.record.steps
 
     def make(self, early: list[list[Build]], late: list[list[Build]], tight: list[list[Build]],
              is_resting: bool = False) -> None:

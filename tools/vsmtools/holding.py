@@ -22,32 +22,52 @@ from typing import Iterable, NamedTuple
 
 from .building import END, Build, Ground, Step, page_end, page_start, shape, span
 from .maps import PAGE, Area
-from .places import Key
+from .places import Half, Key
 
 
 class NoChain(Exception):
     """A BUILD wouldn't go to its place, or there are too many cell pools."""
 
 
-class Fillers:
-    """What is built and deleted so far, each BUILD at its place."""
+class Record:
+    """What is built and deleted so far, on both sides of the line."""
 
-    def __init__(self, runs: list[Area], most: int) -> None:
+    def __init__(self, most: int) -> None:
         """most: how many there may be at once."""
-        self.runs, self.most = runs, most
+        self.most = most
         self.begin()
 
     def begin(self) -> None:
-        self.ground, self.there = Ground(self.runs, []), 0
+        self.there = 0
         self.steps: list[Step] = []
+
+    @property
+    def room(self) -> int:
+        """How many more there may be."""
+        return self.most - self.there
+
+    def take(self, step: Step) -> None:
+        self.there += 1 if step.is_built else -1
+        self.steps.append(step)
+
+
+class Fillers:
+    """What is built and deleted on one side of the line, each BUILD at its place."""
+
+    def __init__(self, runs: list[Area], record: Record) -> None:
+        self.runs, self.record = runs, record
+        self.begin()
+
+    def begin(self) -> None:
+        self.ground = Ground(self.runs, [])
+        self.record.begin()
 
     def build(self, it: Build) -> Build:
         place = self.ground.fit(it.key, it.area.length, it.side)
-        if place is None or place.start != it.area.start or self.there == self.most or not shape(it.area.length):
+        if place is None or place.start != it.area.start or not self.record.room or not shape(it.area.length):
             raise NoChain
         self.ground.add(it)
-        self.there += 1
-        self.steps.append(Step(True, it))
+        self.record.take(Step(True, it))
         return it
 
     def fill(self, key: Key, start: int, end: int) -> list[Build]:
@@ -64,8 +84,7 @@ class Fillers:
     def delete(self, its: Iterable[Build]) -> None:
         for it in its:
             self.ground.remove(it)
-            self.there -= 1
-            self.steps.append(Step(False, it))
+            self.record.take(Step(False, it))
 
 
 class Run(NamedTuple):
@@ -73,6 +92,10 @@ class Run(NamedTuple):
     key: Key
     start: int
     its: list[Build]
+
+    @property
+    def half(self) -> Half:
+        return self.its[0].half
 
 
 def runs_of(its: list[Build]) -> list[Run]:
@@ -96,7 +119,7 @@ class Held(Fillers):
         links: list[list[Build]] = []
         for k, it in reversed(list(enumerate(block))):
             is_at_begin = k > 0 and it.area.start % PAGE == 0
-            if is_at_begin and self.there > len(links):
+            if is_at_begin and self.record.there > len(links):
                 self.delete_all(links)
                 links = []
                 self.make_at_begin(it)

@@ -205,16 +205,17 @@ class Loader:
     def judge_first_pages(self) -> None:
         """That cell pools of 8 bytes can be made, each of which is alone in its page."""
         built, is_alone = self.just_built().values(), not any(self.first.values())
-        sides: list[tuple[int, list[Build]]] = []
-        for side, first in ((24, LOW_START), (31, HIGH_START)):
-            groups = [its for builds in built if (its := [it for it in builds if location(it.area.start) == side])]
+        sides = [(first, [its for builds in built if (its := [it for it in builds if location(it.area.start) == side])])
+                 for side, first in ((24, LOW_START), (31, HIGH_START))]
+        for first, groups in sides:
             for its in groups:
                 self.refuse_unheld(unheld(first, its, MOST_POOLS, is_alone))
             if is_alone and len(groups) > 1:
-                self.refuse_unheld(Stuck(first, sum(groups, []), MOST_POOLS).lowest())
-            sides += [(first, its) for its in groups if len(groups) == 1]
-        if len(sides) == 2:
-            self.refuse_unheld(unheld_beside(sides, MOST_POOLS, is_alone))
+                self.refuse_unheld(Stuck([first], sum(groups, []), MOST_POOLS).lowest())
+        if all(len(groups) == 1 for _, groups in sides):
+            self.refuse_unheld(unheld_beside([(first, its) for first, [its] in sides], MOST_POOLS, is_alone))
+        if is_alone and all(groups for _, groups in sides):
+            self.refuse_unheld(Stuck([LOW_START, HIGH_START], sum(built, []), MOST_POOLS).lowest())
 
     def refuse_unheld(self, it: Optional[Build]) -> None:
         if it:

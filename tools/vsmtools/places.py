@@ -9,6 +9,7 @@ from .judge import MOST_TASKS
 from .maps import HIGH_START, LOW_START, PAGE, Area, CellPool, Map
 
 Key = tuple[int, int]       # a subpool: its number and its owner
+Half = tuple[Key, int]      # what it has on one side of the line
 
 
 @dataclass

@@ -23,21 +23,22 @@ from __future__ import annotations
 
 from functools import partial
 from itertools import count, product, takewhile
-from typing import Callable, Iterator, Optional
+from typing import Callable, Iterable, Iterator, Optional
 
 from .building import END, Build, page_end, page_start, shape
-from .groups import Groups
-from .holding import Held, NoChain, Run, runs_of
+from .groups import Groups, Late, are_beside
+from .holding import Held, NoChain, Record, Run, runs_of
 from .maps import PAGE, Area
-from .places import Key
+from .places import Key, location
 
 
 class Spread(Held):
     """Makes cell pools of one side of the line, each of which begins in a page in which no other one begins."""
 
-    def __init__(self, runs: list[Area], wanted: list[Build], most: int) -> None:
-        super().__init__(runs, most)
+    def __init__(self, runs: list[Area], wanted: list[Build], record: Record) -> None:
+        super().__init__(runs, record)
         self.wanted = sorted(wanted, key=lambda it: it.area.start)
+        self.side = location(self.wanted[0].area.start) if wanted else 24
         self.begin_spread()
 
     def begin_spread(self) -> None:
@@ -91,35 +92,70 @@ class Spread(Held):
     def spread_ways(self) -> Iterator[Callable[[], None]]:
         """The ways of several subpools."""
         if len({it.key for it in self.wanted}) > 1:
-            yield from (partial(self.make_spread, base, groups) for base, groups in self.bases()
-                        if groups.is_late_below(base))
+            yield from (partial(self.make_spread, base, groups) for base, groups in self.bases())
 
-    def bases(self) -> Iterator[tuple[int, Groups]]:
+    def bases(self, *beside: Spread, cuts: Iterable[Build] = ()) -> Iterator[tuple[int, Groups]]:
         """Below which address pages are held from the begin, and what comes late: all first pages, if a higher one is
-        unassigned; those up to one that's the last to get something; or none."""
-        its, spare = self.first_its(), self.most - len(self.wanted)
-        end = page_end(its[-1].area.end) if its else 0
-        behind = [end] if len(its) < len(self.wanted) else []
-        for room, begin in product((spare - 1, spare), [END, *behind]):
-            groups = Groups(self.wanted, room, begin)
-            if behind or not groups.found:
-                yield (end if groups.found else 0), groups
+        unassigned; those up to one that's the last to get something; or none. beside: the other side of the line, each
+        page of which has something then, and cuts in its runs."""
+        for base, groups in self.groups(*beside, cuts=cuts):
+            if groups.are_late_below(base):
+                yield base, groups
+
+    def groups(self, *beside: Spread, cuts: Iterable[Build]) -> Iterator[tuple[int, Groups]]:
+        wanted = sorted((it for spread in (self, *beside) for it in spread.wanted), key=lambda it: it.area.start)
+        spare, end = self.record.most - len(wanted), self.first_end()
+        for room, *begins in product((spare - 1, spare), *(spread.begins() for spread in (self, *beside))):
+            groups = Groups(wanted, room, dict(begins), cuts=cuts)
+            if len(self.begins()) > 1 or not groups.is_any_on(self.side):
+                yield (end if groups.is_any_on(self.side) else 0), groups
             for it in groups.last_ones(end):
-                yield page_start(it.area.start), Groups(self.wanted, room, begin, it)
+                yield page_start(it.area.start), Groups(wanted, room, dict(begins), it, cuts)
+
+    def early_bases(self) -> Iterator[tuple[int, Groups]]:
+        """The same while nothing is on the other side, so that there's room to hold all pages: the last one to get
+        something is one behind which no other one of its subpool is, if any is."""
+        groups = Groups(self.wanted, self.record.most - len(self.wanted) - 1, {self.side: END})
+        if len(self.begins()) > 1:
+            base = self.first_end() if groups.found else 0
+            yield from [(base, groups)] * groups.are_late_below(base)
+            return
+        lasts = groups.last_ones(self.first_end())
+        for it in sorted(lasts, key=lambda it: any(are_beside(it, other) for other in self.wanted)):
+            groups = Groups(self.wanted, self.record.most - len(self.wanted) - 1, {self.side: END})
+            if groups.are_late_below(page_start(it.area.start)):
+                groups.release(it)
+                yield page_start(it.area.start), groups
+
+    def first_end(self) -> int:
+        its = self.first_its()
+        return page_end(its[-1].area.end) if its else self.runs[0].start if self.runs else 0
+
+    def begins(self) -> list[tuple[int, int]]:
+        """The side of the line, and from where on its pages may be unassigned while others come: behind all, or behind
+        the first pages, if there are others."""
+        return [(self.side, end) for end in [END] + [self.first_end()] * (len(self.first_its()) < len(self.wanted))]
 
     def make_spread(self, base: int, groups: Groups) -> None:
         """All. base: below it, pages are held from the begin. groups: those that come late."""
         self.begin_spread()
-        late = {it.area.start for found in groups.found for it in found.its}
-        unassigned = {it.area.start for it in groups.unassigned}
+        self.make_early(base, groups)
+        for late in reversed(groups.found):
+            self.make_next(late)
+
+    def make_early(self, base: int, *groups: Groups) -> None:
+        """All that isn't late in any of some groups; pages of what is are held, but for those that are unassigned."""
+        late = {it.area.start for each in groups for found in each.found for it in found.its}
+        unassigned = {it.area.start for each in groups for it in each.unassigned}
         runs = runs_of([it for it in self.wanted if it.area.start not in unassigned])
         low = [run for run in runs if run.start < base]
         self.descend(low, late, 0)
         self.descend(runs[len(low):], late, base)
-        for its, is_holder in reversed(groups.found):
-            self.turn_to(its[0].key, END)
-            for it in reversed(its):
-                (self.hold_late if is_holder else self.make_late)(it)
+
+    def make_next(self, late: Late) -> None:
+        self.turn_to(late.its[0].key, END)
+        for it in reversed(late.its):
+            (self.hold_late if late.is_holder else self.make_late)(it)
 
     def descend(self, runs: list[Run], late: set[int], base: int) -> None:
         """Makes cell pools from the highest to the lowest, or holds the pages of those that come late. base: below it,
@@ -187,7 +223,7 @@ class Spread(Held):
         if page >= run.end:
             raise NoChain
         most = self.most_of_link(it)
-        if self.there + max(2, len(self.as_long(key, lower, most - run.start)) + 1) > self.most:
+        if max(2, len(self.as_long(key, lower, most - run.start)) + 1) > self.record.room:
             self.unlink(key)
         end = self.end_of_link(key, run.start, page) if run.start < page else most
         fillers = [filler for area in self.as_long(key, lower, end - run.start)
@@ -245,6 +281,18 @@ class Spread(Held):
         if self.linked == it.key:
             self.link_part(part)
         self.turn_to(it.key, END)
+        if self.record.room:
+            self.lengthen(it, self.links[part.start])
+
+    def lengthen(self, it: Build, links: list[list[Build]]) -> None:
+        """The last link of some, up to a cell pool behind it in its page, so that it needs no filler more then."""
+        holder, link = links[-1][0].area, links[-2][0].area
+        if link.end < it.area.start:
+            self.delete(links.pop())
+            front = self.fill(it.key, holder.start, it.area.start)
+            behind = self.fill(it.key, it.area.start, holder.end)
+            self.delete(front + links.pop())
+            links += [self.fill(it.key, link.start, it.area.start), behind]
 
     def unlink(self, key: Key) -> None:
         """Holds the pages of a subpool's parts two by one, between which free areas are short."""

@@ -1,13 +1,14 @@
 """Cell pools of 8 bytes, each alone in its page, that nothing makes by BUILD and DELETE alone.
 
-The first pages of a region have one each, of one subpool or several; there may be more in higher pages. Look at what
-led there from its end backwards, up to the first time when one of the first pages has nothing; or to the begin, if the
-region's first page has no cell pool. A page is kept if it's a cell pool's, and never unassigned meanwhile: at least the
-first ones are. Which cell pools can be missing at some time, and which pages aren't kept, is found from those that are
-all there at the end: of the others, look at the last time when one is missing, or its page is unassigned. What comes
-then is such a cell pool, or something else that takes such a page; all others are there, and all other kept pages have
-something. Nothing takes one of these whole, as nothing would be left there once it goes: so a filler is in two of them
-at most, side by side.
+The first pages of a region have one each, of one subpool or several; there may be more in higher pages. If both sides
+of the line are looked at, each has its first pages, and a subpool's free areas are those of the side where something
+comes. Look at what led there from its end backwards, up to the first time when one of the first pages has nothing; or
+to the begin, if no side's first page has a cell pool. A page is kept if it's a cell pool's, and never unassigned
+meanwhile: at least the first ones are. Which cell pools can be missing at some time, and which pages aren't kept, is
+found from those that are all there at the end: of the others, look at the last time when one is missing, or its page
+is unassigned. What comes then is such a cell pool, or something else that takes such a page; all others are there, and
+all other kept pages have something. Nothing takes one of these whole, as nothing would be left there once it goes: so
+a filler is in two of them at most, side by side.
 
 - For a cell pool to come within its subpool's page, all lower kept pages of the subpool are filled: of a run of them by
   one more than it has pages, as an end is within each. If it begins with its page, something else is behind it. Each
@@ -29,24 +30,26 @@ none of these, while a cell pool can't be missing.
 from __future__ import annotations
 
 from itertools import count, groupby, pairwise
-from typing import Optional
+from typing import Iterable, Optional
 
 from .building import Build, Ground, page_start
 from .holding import Run, runs_of
 from .maps import PAGE
-from .places import Key
+from .places import Half, location
 
 
 class Stuck:
     """Which cell pools may not be there at some time while none of the first pages is unassigned."""
 
-    def __init__(self, first: int, wanted: list[Build], most: int) -> None:
-        """first: where the region begins. most: how many there may be at once, and nothing else."""
-        self.its = sorted(wanted, key=lambda it: it.area.start)
-        pages = [page_start(it.area.start) for it in self.its]
-        self.is_lone = len(set(pages)) == len(pages) and all(it.area.length == 8 for it in self.its)
-        number = next((k for k, page in zip(count(), pages) if page != first + k * PAGE), len(pages))
-        self.first, self.behind, self.most = first, first + number * PAGE, most
+    def __init__(self, firsts: Iterable[int], wanted: list[Build], most: int) -> None:
+        """firsts: where the region begins on each side of the line. most: how many there may be at once, and nothing
+        else."""
+        self.its, self.most = sorted(wanted, key=lambda it: it.area.start), most
+        pages = {page_start(it.area.start) for it in self.its}
+        self.is_lone = len(pages) == len(self.its) and all(it.area.length == 8 for it in self.its)
+        self.firsts = {location(first): first for first in firsts}
+        self.behind = {side: next(page for page in count(first, PAGE) if page not in pages)
+                       for side, first in self.firsts.items()}
         self.gone: set[int] = set()          # where those begin that may not be there
         self.unassigned: set[int] = set()    # and those of these whose pages may be unassigned
         self.runs: list[Run] = []            # of the pages that are kept
@@ -60,7 +63,7 @@ class Stuck:
         there = [it for it in self.its if it.area.start not in self.gone]
         is_proved = self.is_lone and all(
             (self.least_new if it.area.start in self.gone else self.least_alone)(run, k) > self.most
-            for run in self.runs if run.start < self.behind for k, it in enumerate(run.its)
+            for run in self.runs if self.is_first(run) for k, it in enumerate(run.its)
             if it.area.start in self.gone or it.area.start % PAGE == 0)
         return there[0] if is_proved and self.gone and there else None
 
@@ -68,22 +71,24 @@ class Stuck:
         """Finds more that may not be there, and more pages that may be unassigned."""
         self.runs = runs_of([it for it in self.its if it.area.start not in self.unassigned])
         total = sum(self.held(run.its) for run in self.runs)
-        filled: dict[Key, int] = {}       # how many more all lower pages of a subpool take if they're filled
+        filled: dict[Half, int] = {}      # how many more all lower pages of a subpool take if they're filled
         for run in self.runs:
-            room = self.most - total - filled.get(run.key, 0)
+            room = self.most - total - filled.get(run.half, 0)
             self.gone.update(it.area.start for k, it in enumerate(run.its)
                              if self.least_more(run, k) <= room or self.can_take(run, k))
             end = run.start + len(run.its) * PAGE
-            filled[run.key] = filled.get(run.key, 0) + self.filled(run.its, end) - self.held(run.its)
-        its = [it for run in self.runs for it in run.its]
-        self.unassigned.update(it.area.start for k, it in enumerate(its)
-                               if it.area.start in self.gone and it.area.start > self.behind
-                               and self.least_taken(its, k) <= self.most)
+            filled[run.half] = filled.get(run.half, 0) + self.filled(run.its, end) - self.held(run.its)
+        self.unassigned.update(it.area.start for run in self.runs if not self.is_first(run) for it in run.its
+                               if it.area.start in self.gone and self.least_taken(it) <= self.most)
 
     def can_take(self, run: Run, k: int) -> bool:
         """Whether a cell pool in a higher page may come while that's unassigned."""
-        return (run.its[k].area.start % PAGE == 0 and run.start > self.behind
+        return (run.its[k].area.start % PAGE == 0 and not self.is_first(run)
                 and self.least_alone(run, k) <= self.most)
+
+    def is_first(self, run: Run) -> bool:
+        """Whether the pages of a run are first ones of their side."""
+        return run.start < self.behind[location(run.start)]
 
     def least_more(self, run: Run, k: int) -> int:
         """How many more a run's pages have when one of its cell pools comes there."""
@@ -92,30 +97,34 @@ class Stuck:
             behind = self.held(run.its[k:], run.its[k])
         return (self.filled(run.its[:k], start) if start > run.start else 0) + 1 + behind - self.held(run.its)
 
-    def least_taken(self, its: list[Build], k: int) -> int:
+    def least_taken(self, taken: Build) -> int:
         """How many are there at least when something takes the page of one of those in kept pages, which has it from
         then on."""
-        page, end, key = page_start(its[k].area.start), self.first, its[0].key
-        longest = page - (page_start(its[k - 1].area.start) if k else self.first - PAGE)
+        its, page = [it for run in self.runs for it in run.its], page_start(taken.area.start)
+        side = location(page)
+        longest = page - max((start for it in its if (start := page_start(it.area.start)) < page
+                              and location(start) == side), default=self.firsts[side] - PAGE)
         sizes = [0]       # how much lies side by side that may be held two by one: kept pages, and runs of others
+        ends, half = dict(self.firsts), its[0].half
         for it in its:
-            start, is_next = page_start(it.area.start), it.area.start == its[k].area.start
-            if end < start < page and start - end >= longest:
+            start, last, half = page_start(it.area.start), half, it.half
+            end = ends[location(start)]
+            if end < start < page and location(start) == side and start - end >= longest:
                 sizes[-1] += 1
-            elif end < start or it.key != key:
+            elif end < start or half != last:
                 sizes.append(0)
-            if it.area.start in self.gone and not is_next:
+            if it.area.start in self.gone and it is not taken:
                 sizes[-1] += 1
             else:
-                sizes += [0] if is_next else [1, 0]
-            end, key = start + PAGE, it.key
-        return 1 + sum((size + 1) // 2 for size in sizes) + (self.inner_gaps(its[k]) if longest == PAGE else 0)
+                sizes += [0] if it is taken else [1, 0]
+            ends[location(start)] = start + PAGE
+        return 1 + sum((size + 1) // 2 for size in sizes) + (self.inner_gaps(taken) if longest == PAGE else 0)
 
     def inner_gaps(self, it: Build) -> int:
-        """How many free areas of a cell pool's subpool are as long as all but 8 bytes of a page, or longer, and between
+        """How many free areas of a cell pool's half are as long as all but 8 bytes of a page, or longer, and between
         two others that are always there, in pages side by side; or between one and a kept page of another subpool."""
         there = [other.area for other in self.its
-                 if other.key == it.key and other is not it and other.area.start not in self.gone]
+                 if other.half == it.half and other is not it and other.area.start not in self.gone]
         kept = {run.start + k * PAGE: run.key for run in self.runs for k in range(len(run.its))}
         ends = [(area.start % PAGE, page_start(area.start) - PAGE) for area in there]
         ends += [(PAGE - area.end % PAGE, page_start(area.start) + PAGE) for area in there if area.end % PAGE]
@@ -142,18 +151,18 @@ class Stuck:
         return total + self.held(run.its[:k]) + 1 + self.held(run.its[k + 1:]) + self.long_gaps(run)
 
     def least_alone(self, run: Run, k: int) -> int:
-        """How many are there at least when a cell pool comes to an unassigned page: its subpool has no free area."""
+        """How many are there at least when a cell pool comes to an unassigned page: its half has no free area."""
         total = 1
         for other in self.runs:
-            parts = [other.its[:k], other.its[k + 1:]] if other is run else [other.its]
-            total += sum(self.filled(part, page_start(part[-1].area.start) + PAGE) if other.key == run.key
-                         else self.held(part) for part in parts if part)
+            groups = [other.its[:k], other.its[k + 1:]] if other is run else [other.its]
+            total += sum(self.filled(its, page_start(its[-1].area.start) + PAGE) if other.half == run.half
+                         else self.held(its) for its in groups if its)
         return total
 
     def long_gaps(self, run: Run) -> int:
-        """How many free areas of a run's subpool are as long as all but 8 bytes of a page, or longer, and between what
+        """How many free areas of a run's half are as long as all but 8 bytes of a page, or longer, and between what
         is always there."""
-        its = [it for other in self.runs if other.key == run.key for it in other.its]
+        its = [it for other in self.runs if other.half == run.half for it in other.its]
         there = [it for it in its if it.area.start not in self.gone]
         pages = {page_start(it.area.start) for it in its if it.area.start in self.gone}
         return sum(gap.length >= PAGE - 8 and gap.end not in pages and gap.start - PAGE not in pages
