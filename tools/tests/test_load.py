@@ -14,16 +14,16 @@ import sys
 import time
 from dataclasses import replace
 from pathlib import Path
-from typing import Callable, Iterable, Optional
+from typing import Callable
 
 import pytest
 from conftest import SECONDS, TOOLS, TOP, one_line
 from load_scripts import WIDE, WIDER, Requests, address_script, attached, family_script, pools_script, told
+from lone_maps import in_pages, lone_cells
 from test_tools import scripts
 
 from vsmtools import bench, building, family, loading, maps
 from vsmtools.command import Fault
-from vsmtools.maps import Area
 from vsmtools.progress import Work
 from vsmtools.searching import Reach
 
@@ -393,45 +393,6 @@ def test_a_line_on_a_terminal_while_it_searches(vsm: str, old: str, new: str, to
 def test_no_line_on_a_pipe_while_it_searches(vsm: str) -> None:
     done = shown_on(vsm, CELLS.encode(), subprocess.PIPE)
     assert done.returncode == 0 and done.stderr == b"" and done.stdout
-
-
-def joined(areas: Iterable[tuple[int, int]]) -> list[Area]:
-    """Areas from one address up to another in order, with those that touch as one."""
-    found: list[Area] = []
-    for start, end in sorted(areas):
-        if found and found[-1].end == start:
-            start = found.pop().start
-        found.append(Area(start, end - start))
-    return found
-
-
-def lone_cells(cells: Iterable[tuple[int, int]], longer: int = 0) -> list[str]:
-    """A map of task 1 with register 1 0: cell pools of 8 bytes, each alone in its page, at addresses in subpools.
-    longer: where one begins that has 16 bytes."""
-    def size(at: int) -> int:
-        return 16 if at == longer else 8
-
-    by_number: dict[int, list[int]] = {0: []}
-    for at, number in cells:
-        by_number.setdefault(number, []).append(at)
-    subpools, pools = [], []
-    for number, places in sorted(by_number.items()):
-        pages = [(at - at % maps.PAGE, at) for at in places]
-        free = [part for page, at in pages for part in ((page, at), (at + size(at), page + maps.PAGE))
-                if part[0] < part[1]]
-        extents = joined((page, page + maps.PAGE) for page, _ in pages)
-        subpools.append(maps.Subpool(number, 1, [], extents, joined(free)))
-        pools += [maps.CellPool("C%08X" % at, number, 1, size(at), 1, 1, 31 if at >= maps.HIGH_START else 24, None,
-                                [Area(at, size(at))], [at]) for at in places]
-    high, taken = sum(pool.location == 31 for pool in pools), sum(pool.size for pool in pools)
-    shown = maps.Map([maps.Task(1, 0, True, [0] * 16)], subpools, sorted(pools, key=lambda it: it.name),
-                     len(pools) - high, 512, high, 256, taken, maps.PAGE * len(pools) - taken)
-    return maps.map_lines(shown)
-
-
-def in_pages(offsets: Iterable[Optional[int]], start: int = maps.LOW_START, every: int = 1) -> list[int]:
-    """Addresses in pages side by side, or in each second one and so on; none in a page without an offset."""
-    return [start + every * maps.PAGE * k + offset for k, offset in enumerate(offsets) if offset is not None]
 
 
 MIDDLE, LAST = 2048, maps.PAGE - 8

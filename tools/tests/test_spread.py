@@ -8,7 +8,8 @@ from typing import Callable
 import pytest
 from conftest import one_line
 from load_scripts import WIDER
-from test_load import MOST_SECONDS, TOOL, UNHELD, lone_cells, map_behind
+from lone_maps import lone_cells, near_limit, outcome
+from test_load import MOST_SECONDS, TOOL, UNHELD, map_behind
 
 from vsmtools import loading, maps
 
@@ -40,3 +41,10 @@ def test_cell_pools_spread_over_pages_that_nothing_makes(run: Callable, vsm: str
     text = one_line(run(TOOL, "--vsm", vsm, *WIDER[:4], given="".join(line + "\n" for line in lines).encode()), TOOL)
     assert "no list of statements makes this: " + UNHELD in text
     assert lines[int(text.split(":")[1]) - 1].startswith(" CELLPOOL C")
+
+
+@pytest.mark.parametrize("number, kind", [
+    (3, "refused"), (4, "refused"), (5, "made"), (9, "made"), (21, "made"), (27, "made"), (38, "made")])
+def test_nearly_as_many_as_there_may_be_on_both_sides(vsm: str, number: int, kind: str) -> None:
+    """Of two to eight subpools."""
+    assert outcome(near_limit(number), vsm)[0] == kind
