@@ -107,34 +107,41 @@ class Spread(Held):
         spare, end = self.record.most - len(wanted), self.first_end()
         for room, *begins in product((spare - 1, spare), *(spread.begins() for spread in (self, *beside))):
             groups = Groups(wanted, room, dict(begins), cuts=cuts)
-            if len(self.begins()) > 1 or not groups.is_any_on(self.side):
+            if self.has_higher() or not groups.is_any_on(self.side):
                 yield (end if groups.is_any_on(self.side) else 0), groups
             for it in groups.last_ones(end):
                 yield page_start(it.area.start), Groups(wanted, room, dict(begins), it, cuts)
 
     def early_bases(self) -> Iterator[tuple[int, Groups]]:
-        """The same while nothing is on the other side, so that there's room to hold all pages: the last one to get
-        something is one behind which no other one of its subpool is, if any is."""
-        groups = Groups(self.wanted, self.record.most - len(self.wanted) - 1, {self.side: END})
-        if len(self.begins()) > 1:
-            base = self.first_end() if groups.found else 0
-            yield from [(base, groups)] * groups.are_late_below(base)
-            return
-        lasts = groups.last_ones(self.first_end())
-        for it in sorted(lasts, key=lambda it: any(are_beside(it, other) for other in self.wanted)):
-            groups = Groups(self.wanted, self.record.most - len(self.wanted) - 1, {self.side: END})
-            if groups.are_late_below(page_start(it.area.start)):
-                groups.release(it)
-                yield page_start(it.area.start), groups
+        """The same while nothing is on the other side, so that there's room to hold all pages; the page that's the last
+        one to get something is right before no other one of its subpool, if there's such a page."""
+        spare, end = self.record.most - len(self.wanted), self.first_end()
+        groups = Groups(self.wanted, spare - 1, {self.side: END})
+        if self.has_higher():
+            lasts: list[Optional[Build]] = [None]
+        else:
+            lasts = sorted(groups.last_ones(end), key=lambda it: any(are_beside(it, other) for other in self.wanted))
+        for last in lasts:
+            base = page_start(last.area.start) if last else end if groups.found else 0
+            if groups.are_late_below(base):
+                found = Groups(self.wanted, spare - 1, {self.side: END})
+                if last:
+                    found.release(last)
+                yield base, found
 
     def first_end(self) -> int:
+        """Where the first pages end."""
         its = self.first_its()
         return page_end(its[-1].area.end) if its else self.runs[0].start if self.runs else 0
+
+    def has_higher(self) -> bool:
+        """Whether there are others behind the first pages."""
+        return len(self.first_its()) < len(self.wanted)
 
     def begins(self) -> list[tuple[int, int]]:
         """The side of the line, and from where on its pages may be unassigned while others come: behind all, or behind
         the first pages, if there are others."""
-        return [(self.side, end) for end in [END] + [self.first_end()] * (len(self.first_its()) < len(self.wanted))]
+        return [(self.side, end) for end in ([END, self.first_end()] if self.has_higher() else [END])]
 
     def make_spread(self, base: int, groups: Groups) -> None:
         """All. base: below it, pages are held from the begin. groups: those that come late."""
