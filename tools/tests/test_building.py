@@ -234,10 +234,11 @@ class Shared(Region):
                 yield state | {(start, start + length, key)}
 
 
-@pytest.mark.parametrize("words, pages, most, refused", [(3, 3, 3, 0), (3, 3, 4, 6), (3, 4, 3, 54)])
+@pytest.mark.parametrize("words, pages, most, left", [(3, 3, 3, 0), (3, 3, 4, 0), (3, 4, 3, 0)])
 def test_pools_of_a_doubleword_of_two_subpools(monkeypatch: pytest.MonkeyPatch, words: int, pages: int, most: int,
-                                               refused: int) -> None:
-    """What is refused isn't made, and what comes from the highest to the lowest is. refused: of how many maps."""
+                                               left: int) -> None:
+    """What is refused isn't made, and what comes from the highest to the lowest is. left: how many maps nothing makes
+    that aren't refused."""
     for module in (building, chains, groups, holding, narrows, searching, spread, stuck):
         monkeypatch.setattr(module, "PAGE", 8 * words)
     made, runs, count = Shared(words, pages, most, False).made(), [Area(0, 8 * words * pages)], 0
@@ -247,14 +248,14 @@ def test_pools_of_a_doubleword_of_two_subpools(monkeypatch: pytest.MonkeyPatch, 
             builds = [Build(Area(8 * start, 8), (key, 1), 24) for start, _, key in pools]
             is_made, is_stuck = State(pools) in made, Stuck([0], builds, most).lowest() is not None
             assert not (is_made and is_stuck) and (is_made or descent(runs, builds, most) is None), pools
-            count += is_stuck
-    assert count == refused
+            count += not (is_made or is_stuck)
+    assert count == left
 
 
-@pytest.mark.parametrize("pages, most, refused", [((3, 1), 3, 4), ((3, 2), 4, 20)])
+@pytest.mark.parametrize("pages, most, left", [((3, 1), 3, 0), ((3, 2), 4, 8)])
 def test_pools_of_two_subpools_on_both_sides(monkeypatch: pytest.MonkeyPatch, pages: tuple[int, int], most: int,
-                                             refused: int) -> None:
-    """What is refused isn't made. refused: of how many maps, none of which is refused for one side alone."""
+                                             left: int) -> None:
+    """What is refused isn't made. left: how many maps nothing makes that aren't refused."""
     words, high, count = 2, 2400, 0
     for module in (building, holding, stuck):
         monkeypatch.setattr(module, "PAGE", 8 * words)
@@ -269,8 +270,8 @@ def test_pools_of_two_subpools_on_both_sides(monkeypatch: pytest.MonkeyPatch, pa
             is_stuck = Stuck([0, high], sum(sides, []), most).lowest() is not None
             state = tuple(State((at, at + 1, key) for at, key in them) for them in (low, top))
             assert not is_stuck or state not in made, offsets
-            count += is_stuck and not any(Stuck([start], its, most).lowest() for start, its in zip((0, high), sides))
-    assert count == refused
+            count += not (is_stuck or state in made)
+    assert count == left
 
 
 def check_steps(steps: list[Step], runs: list[Area], builds: list[Build], most: int) -> None:

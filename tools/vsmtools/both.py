@@ -6,7 +6,7 @@ comes at last, while its subpool has all links on that side, and all other pages
 """
 from __future__ import annotations
 
-from itertools import islice, permutations
+from itertools import chain, islice, permutations
 from typing import Iterator
 
 from .building import END, Build, Step
@@ -21,15 +21,15 @@ FIRST_TRIES = 2      # in so many ways is the first side tried, all of which the
 class Both:
     """Makes the cell pools of both sides."""
 
-    def __init__(self, sides: list[tuple[list[Area], list[Build]]], most: int) -> None:
-        """sides: the unassigned pages of each, and its cell pools. most: how many there may be at once."""
-        self.record = Record(most)
-        self.spreads = [Spread(runs, its, self.record) for runs, its in sides]
+    def __init__(self, sides: list[tuple[list[Area], list[Build]]], record: Record) -> None:
+        """sides: the unassigned pages of each, and its cell pools."""
+        self.record = record
+        self.spreads = [Spread(runs, its, record) for runs, its in sides]
 
     def plans(self) -> Iterator[list[Step]]:
         """The steps of each of the ways that leads there."""
         for first, second in permutations(self.spreads):
-            for early_base, early in islice(first.early_bases(), FIRST_TRIES):
+            for early_base, early in islice(chain(first.early_bases(), first.bases()), FIRST_TRIES):
                 for base, groups in second.bases(first, cuts=early.unassigned):
                     try:
                         self.make(first, early_base, early, second, base, groups)

@@ -24,7 +24,7 @@ from __future__ import annotations
 
 from functools import partial
 from itertools import product
-from typing import Iterator, Optional
+from typing import Callable, Iterator, Optional
 
 from .both import Both
 from .building import Build, Step, page_end, page_start
@@ -32,30 +32,33 @@ from .holding import NoChain, Record, runs_of
 from .maps import PAGE, Area
 from .merging import merged
 from .places import Key, location
+from .progress import Work
 from .spread import Spread
 
 
 Side = tuple[list[Area], list[Build]]      # its runs of unassigned pages, and its cell pools
 
 
-def descent(runs: list[Area], wanted: list[Build], most: int) -> Optional[list[Step]]:
+def descent(runs: list[Area], wanted: list[Build], most: int, work: Optional[Work] = None) -> Optional[list[Step]]:
     """The steps that make some cell pools, on either side of the line; None where they aren't made so. most: how many
-    there may be at once."""
+    there may be at once. work is told each try."""
+    work = work or Work()
     if any(it.side != location(it.area.start) for it in wanted):
         return None        # one that lies below the line as there was no place above
     sides = [([run for run in runs if location(run.start) == side], its) for side in (31, 24)
              if (its := [it for it in wanted if location(it.area.start) == side])]
-    found = in_turn(sides, most)
+    found = in_turn(sides, most, work)
     if found is None and len(sides) > 1:
-        found = in_turn(sides[::-1], most) or next(Both(sides, most).plans(), None) or side_by_side(sides, most)
+        found = (in_turn(sides[::-1], most, work) or next(Both(sides, Record(most, work)).plans(), None)
+                 or side_by_side(sides, most, work))
     return found
 
 
-def in_turn(sides: list[Side], most: int) -> Optional[list[Step]]:
+def in_turn(sides: list[Side], most: int, work: Work) -> Optional[list[Step]]:
     """The steps of one side behind all of the other's."""
     steps: list[Step] = []
     for runs, its in sides:
-        found = next(Descent(runs, its, Record(most)).plans(False), None)
+        found = next(Descent(runs, its, Record(most, work)).plans(False), None)
         if found is None:
             return None
         steps += found
@@ -63,10 +66,14 @@ def in_turn(sides: list[Side], most: int) -> Optional[list[Step]]:
     return steps
 
 
-def side_by_side(sides: list[Side], most: int) -> Optional[list[Step]]:
+def side_by_side(sides: list[Side], most: int, work: Work) -> Optional[list[Step]]:
     """The steps of both sides, each of which may rest while the other goes on."""
-    ways = [list(Descent(runs, its, Record(most)).plans(True)) for runs, its in sides]
-    return next((steps for high, low in product(*ways) if (steps := merged(high, low, most)) is not None), None)
+    for high, low in product(*(Descent(runs, its, Record(most, work)).plans(True) for runs, its in sides)):
+        work.tried()
+        steps = merged(high, low, most)
+        if steps is not None:
+            return steps
+    return None
 
 
 class Descent(Spread):
@@ -75,18 +82,23 @@ class Descent(Spread):
     def plans(self, is_resting: bool) -> Iterator[list[Step]]:
         """The steps of each of the ways that leads there. is_resting: whether others come meanwhile, so that ways help
         that rest where few are there."""
-        blocks = [run.its for run in runs_of(self.first_its())]
-        first = blocks[:1]
-        ways = [partial(self.make, early, late, tight) for early, late, tight in (
-            (first, [], []), ([], first, []), ([], [block[:1] for block in first], []), (blocks, [], []),
-            ([], [], first))] + list(self.spread_ways())
-        for way in ways + [partial(self.make, early, [], [], True) for early in (first, blocks) if is_resting]:
+        for way in self.ways(is_resting):
             self.begin()
             try:
                 way()
             except NoChain:
                 continue
             yield self.record.steps
+
+    def ways(self, is_resting: bool) -> Iterator[Callable[[], None]]:
+        blocks = [run.its for run in runs_of(self.first_its())]
+        first = blocks[:1]
+        for early, late, tight in ((first, [], []), ([], first, []), ([], [block[:1] for block in first], []),
+                                   (blocks, [], []), ([], [], first)):
+            yield partial(self.make, early, late, tight)
+        yield from self.spread_ways()
+        if is_resting:
+            yield from (partial(self.make, early, [], [], True) for early in (first, blocks))
 
     def make(self, early: list[list[Build]], late: list[list[Build]], tight: list[list[Build]],
              is_resting: bool = False) -> None:

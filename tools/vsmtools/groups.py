@@ -34,12 +34,14 @@ class Groups:
     """What comes late, the last first; on one side of the line, or on both."""
 
     def __init__(self, its: list[Build], room: int, begins: dict[int, int], last: Optional[Build] = None,
-                 cuts: Iterable[Build] = ()) -> None:
+                 cuts: Iterable[Build] = (), covering: Iterable[Build] = ()) -> None:
         """room: how many more than all cell pools there may be while a subpool's half has all links; one more for each
         page that nothing holds. begins: from where on pages of each side may be unassigned while others come. last:
         whose page is the last one to get something, so that from there on pages may be unassigned before. cuts: behind
-        whose pages no run goes on."""
+        whose pages no run goes on. covering: what holds whose page is in the unassigned one behind it too, up to its
+        last doubleword, which takes one more while others of that half come."""
         self.its, self.room, self.begins, self.cuts = its, room, dict(begins), list(cuts)
+        self.covering = {page_end(it.area.end): it for it in covering}
         self.unassigned: list[Build] = []    # those in pages that are unassigned, and so no more in these lists
         self.high = self.higher()
         self.own: dict[Half, list[Build]] = {}
@@ -89,7 +91,8 @@ class Groups:
         for at in range(start, len(its)):
             page = page_start(its[at].area.start)
             is_next = at > 0 and are_beside(its[at - 1], its[at]) and its[at - 1] not in self.cuts
-            if is_low and page >= begin or len(sizes) + (not is_next or its[at].area.start == page) > most:
+            count = len(sizes) + (not is_next or its[at].area.start == page) + self.covers(half)
+            if is_low and page >= begin or count > most:
                 break
             if is_next:
                 sizes[-1] += 1
@@ -132,9 +135,20 @@ class Groups:
         ends = dict(self.begins)
         for it in self.high:
             side, page = location(it.area.start), page_start(it.area.start)
+            if self.is_covered(ends[side]):
+                ends[side] += PAGE
             yield it, page - ends[side], lower[side]
             lower[side] = lower[side] + [page - ends[side]] * (page > ends[side])
             ends[side] = page + PAGE
+
+    def is_covered(self, page: int) -> bool:
+        """Whether what holds the page before is in an unassigned one too."""
+        it = self.covering.get(page)
+        return it is not None and it in self.own[it.half][:sum(self.sizes[it.half])]
+
+    def covers(self, half: Half) -> int:
+        """How many unassigned pages are covered by what holds pages of a half."""
+        return sum(it.half == half and self.is_covered(page) for page, it in self.covering.items())
 
     def run_that_ends(self, it: Build) -> int:
         """Which of the runs of its subpool that are held ends with a cell pool's page, or -1."""
@@ -154,9 +168,10 @@ class Groups:
             return False
         is_alone, is_near = sizes[k] == 1, it.area.start % PAGE >= PAGE - 8 * NEAR
         fillers = self.fillers(it, before, lower, is_alone)
-        if len(sizes) - is_alone + max(1 + is_alone, fillers) <= self.room + 1 + self.others(it.half):
+        if (len(sizes) - is_alone + max(1 + is_alone, fillers) + self.covers(it.half)
+                <= self.room + 1 + self.others(it.half)):
             return True
-        return (fillers <= self.room + 1 + self.others() - (sizes[k] % 2 == 0)
+        return (fillers + self.covers(it.half) <= self.room + 1 + self.others() - (sizes[k] % 2 == 0)
                 and not (is_near and (before or not is_alone)))
 
     def fillers(self, it: Build, before: int, lower: list[int], is_alone: bool) -> int:

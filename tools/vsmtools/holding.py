@@ -23,6 +23,7 @@ from typing import Iterable, NamedTuple
 from .building import END, Build, Ground, Step, page_end, page_start, shape, span
 from .maps import PAGE, Area
 from .places import Half, Key
+from .progress import Work
 
 
 class NoChain(Exception):
@@ -32,12 +33,13 @@ class NoChain(Exception):
 class Record:
     """What is built and deleted so far, on both sides of the line."""
 
-    def __init__(self, most: int) -> None:
-        """most: how many there may be at once."""
-        self.most = most
+    def __init__(self, most: int, work: Work) -> None:
+        """most: how many there may be at once. work is told each time that it begins anew."""
+        self.most, self.work = most, work
         self.begin()
 
     def begin(self) -> None:
+        self.work.tried()
         self.there = 0
         self.steps: list[Step] = []
 

@@ -67,7 +67,7 @@ class Search:
         """The steps where those that need more than a filler come from the highest to the lowest, at first behind
         chains."""
         turns, left = self.settled([], self.builder.wanted, 0)
-        found = descent(self.builder.runs, left, self.builder.most) if left else []
+        found = descent(self.builder.runs, left, self.builder.most, self.work) if left else []
         return None if found is None else found + steps_of(turns)
 
     def searched(self) -> Optional[list[Step]]:

@@ -18,6 +18,9 @@ are held two by one, between which free areas are short:
   others are in all lower runs of unassigned pages that are as long;
 - else one of all but a few doublewords of it, while others are in all lower unassigned pages, and in each free area of
   its subpool that is as long.
+
+A single page that is unassigned takes one of these others each time. What holds the page before, where that's one
+alone, may be in it too, up to its last doubleword: this one has to be filled while others of that subpool come behind.
 """
 from __future__ import annotations
 
@@ -46,6 +49,8 @@ class Spread(Held):
         self.held: dict[int, list[list[Build]]] = {}   # by where a part begins: what holds it before it has links
         self.links: dict[int, list[list[Build]]] = {}
         self.linked: Optional[Key] = None              # the subpool whose parts have all links
+        self.covering: set[int] = set()                # where parts begin that are to be covering (`groups`)
+        self.covered: set[int] = set()                 # where they begin that are
 
     def first_its(self) -> list[Build]:
         """The cell pools in the first pages, up to the first page that none has."""
@@ -105,12 +110,21 @@ class Spread(Held):
     def groups(self, *beside: Spread, cuts: Iterable[Build]) -> Iterator[tuple[int, Groups]]:
         wanted = sorted((it for spread in (self, *beside) for it in spread.wanted), key=lambda it: it.area.start)
         spare, end = self.record.most - len(wanted), self.first_end()
-        for room, *begins in product((spare - 1, spare), *(spread.begins() for spread in (self, *beside))):
-            groups = Groups(wanted, room, dict(begins), cuts=cuts)
+        coverable = list(self.coverable(wanted))
+        for covering, room, *begins in product([[], coverable] if coverable else [[]], (spare - 1, spare),
+                                               *(spread.begins() for spread in (self, *beside))):
+            groups = Groups(wanted, room, dict(begins), None, cuts, covering)
             if self.has_higher() or not groups.is_any_on(self.side):
                 yield (end if groups.is_any_on(self.side) else 0), groups
             for it in groups.last_ones(end):
-                yield page_start(it.area.start), Groups(wanted, room, dict(begins), it, cuts)
+                yield page_start(it.area.start), Groups(wanted, room, dict(begins), it, cuts, covering)
+
+    def coverable(self, wanted: list[Build]) -> Iterator[Build]:
+        """Those before a single unassigned page, but no page of whose subpool is right before theirs."""
+        for before, it, after in zip([None, *wanted], wanted, wanted[1:]):
+            if (page_start(it.area.start) + 2 * PAGE == page_start(after.area.start)
+                    and not (before and are_beside(before, it))):
+                yield it
 
     def early_bases(self) -> Iterator[tuple[int, Groups]]:
         """The same while nothing is on the other side, so that there's room to hold all pages; the page that's the last
@@ -154,6 +168,7 @@ class Spread(Held):
         """All that isn't late in any of some groups; pages of what is are held, but for those that are unassigned."""
         late = {it.area.start for each in groups for found in each.found for it in found.its}
         unassigned = {it.area.start for each in groups for it in each.unassigned}
+        self.covering = {page_start(it.area.start) for each in groups for it in each.covering.values()}
         runs = runs_of([it for it in self.wanted if it.area.start not in unassigned])
         low = [run for run in runs if run.start < base]
         self.descend(low, late, 0)
@@ -191,6 +206,33 @@ class Spread(Held):
         if is_first:
             self.links[start] = [self.first_link(key)]
             self.link_part(part)
+        if start in self.covering:
+            self.cover(part)
+
+    def cover(self, part: Run) -> None:
+        """Holds the unassigned page behind a single one too: its last link is up to the last doubleword there."""
+        page, links = part.start + PAGE, self.links[part.start]
+        holder = self.held_page(part.key, page)
+        self.delete_all(links[1:])
+        links[1:] = [self.fill(part.key, page - 8, page + PAGE - 8)]
+        self.delete(holder)
+        self.held.pop(part.start, None)
+        self.covered.add(part.start)
+        self.close(part)
+
+    def close(self, part: Run) -> None:
+        """Fills the last doubleword of a page that's covered, where others come behind it."""
+        links = self.links[part.start]
+        if (part.start in self.covered and len(links) == 2
+                and any(other.key == part.key and other.start > part.start for other in self.parts)):
+            links.append(self.fill(part.key, part.start + 2 * PAGE - 8, part.start + 2 * PAGE))
+
+    def each_second(self, part: Run) -> None:
+        """Deletes each second link of a part, of which one is left that's covering."""
+        links = self.links[part.start]
+        self.delete_all(links[::2])
+        if part.start in self.covered:
+            del links[2:]
 
     def turn_to(self, key: Optional[Key], base: int) -> None:
         """All links of a subpool's parts that begin below an address, and each second one of others."""
@@ -198,7 +240,7 @@ class Spread(Held):
             return
         for part in self.parts:
             if part.key == self.linked and part.start not in self.held:
-                self.delete_all(self.links[part.start][::2])
+                self.each_second(part)
         for part in self.parts:
             if part.key == key and part.start < base:
                 self.link_part(part)
@@ -210,11 +252,15 @@ class Spread(Held):
             self.link_pages(part.key, part.start + len(links) * PAGE, self.held.pop(part.start), links)
         else:
             self.link_again(self.links[part.start])
+            self.close(part)
 
     def make_late(self, it: Build) -> None:
         """A cell pool in a page that is held, while its subpool has all links below."""
         part = next(part for part in reversed(self.parts) if part.key == it.key)
         links, k = self.links[part.start], (page_start(it.area.start) - part.start) // PAGE
+        if part.start in self.covered:
+            self.delete_all(links[2:])
+            del links[2:]
         self.make_linked(it, links, k)
         if k == 0:
             self.delete_all(links)
@@ -286,6 +332,9 @@ class Spread(Held):
                 self.held[part.start] = []
             self.held[part.start].append(link)
         if self.linked == it.key:
+            for other in self.parts:
+                if other.key == it.key:
+                    self.close(other)
             self.link_part(part)
         self.turn_to(it.key, END)
         if self.record.room:
@@ -311,6 +360,9 @@ class Spread(Held):
     def hold_again(self, part: Run) -> None:
         """Holds the pages of a part two by one in place of its links, while all below is filled."""
         key, links, found = part.key, self.links[part.start], []
+        if part.start in self.covered:
+            self.each_second(part)
+            return
         behind = links.pop()
         while len(links) > 1:
             start = part.start + (len(links) - 2) * PAGE + 8

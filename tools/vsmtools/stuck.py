@@ -13,14 +13,16 @@ a filler is in two of them at most, side by side.
 - For a cell pool to come within its subpool's page, all lower kept pages of the subpool are filled: of a run of them by
   one more than it has pages, as an end is within each. If it begins with its page, something else is behind it. Each
   other kept page has its cell pool, if that's never missing, or is held, two by one at best.
-- For one to come to an unassigned page, its subpool has no free area: all its kept pages are filled.
+- For one to come to an unassigned page, its subpool has no free area: all its kept pages are filled. No lower page is
+  unassigned: each lower run of pages that aren't kept has something. That may be what's in the kept page before or
+  behind, if that's filled, or held in place of its cell pool.
 - Something else that takes a kept page ends there, and takes no other one: it begins with the page, or in those right
   before that aren't kept. So each lower run of pages that aren't kept has something, if it's as long as those and this
   page, as it would go there else: a filler is in one such run at most, and in one kept page beside it. If the page
   right before is kept, it's shorter than a page, so that each free area of its subpool that's as long as all but 8
   bytes of a page, or longer, has something too: at least those between cell pools that are never missing, in two pages
-  side by side, and those between one and a kept page of another subpool. What's there is in no other kept page, and in
-  no run of others.
+  side by side, those between one and a kept page of another subpool, and those behind one up to a higher page that
+  isn't kept. What's there is in no other kept page, unless the next one behind is held, and in no lower run of others.
 
 At the first time of all, a page got something that's shorter than a page, so that each such free area had something
 then too: at least those between cell pools that are never missing. One that's never missing else is what came there,
@@ -65,7 +67,7 @@ class Stuck:
             (self.least_new if it.area.start in self.gone else self.least_alone)(run, k) > self.most
             for run in self.runs if self.is_first(run) for k, it in enumerate(run.its)
             if it.area.start in self.gone or it.area.start % PAGE == 0)
-        return there[0] if is_proved and self.gone and there else None
+        return there[0] if is_proved and there else None
 
     def look(self) -> None:
         """Finds more that may not be there, and more pages that may be unassigned."""
@@ -84,11 +86,22 @@ class Stuck:
     def can_take(self, run: Run, k: int) -> bool:
         """Whether a cell pool in a higher page may come while that's unassigned."""
         return (run.its[k].area.start % PAGE == 0 and not self.is_first(run)
-                and self.least_alone(run, k) <= self.most)
+                and self.least_alone(run, k) + self.least_between(run.its[k]) <= self.most)
 
     def is_first(self, run: Run) -> bool:
         """Whether the pages of a run are first ones of their side."""
         return run.start < self.behind[location(run.start)]
+
+    def least_between(self, it: Build) -> int:
+        """How many more there are at least in lower pages that aren't kept, when a cell pool comes to an unassigned one:
+        what's in the kept page before or behind may be there too if that's its subpool's, or has no cell pool."""
+        found, end, may_share = 0, self.firsts[it.half[1]], False
+        for other in [other for run in self.runs for other in run.its if other.half[1] == it.half[1]]:
+            start, last = page_start(other.area.start), may_share
+            may_share = other is not it and (other.half == it.half or other.area.start in self.gone)
+            found += start <= it.area.start and end < start and not last and not may_share
+            end = start + PAGE
+        return found
 
     def least_more(self, run: Run, k: int) -> int:
         """How many more a run's pages have when one of its cell pools comes there."""
@@ -121,16 +134,28 @@ class Stuck:
         return 1 + sum((size + 1) // 2 for size in sizes) + (self.inner_gaps(taken) if longest == PAGE else 0)
 
     def inner_gaps(self, it: Build) -> int:
-        """How many free areas of a cell pool's half are as long as all but 8 bytes of a page, or longer, and between
-        two others that are always there, in pages side by side; or between one and a kept page of another subpool."""
-        there = [other.area for other in self.its
+        """How many free areas of a cell pool's half are as long as all but 8 bytes of a page, or longer, where what's
+        there is in no other kept page, nor in a lower run of others: those between two others that are always there, in
+        pages side by side; and those before and behind one."""
+        there = [other for other in self.its
                  if other.half == it.half and other is not it and other.area.start not in self.gone]
-        kept = {run.start + k * PAGE: run.key for run in self.runs for k in range(len(run.its))}
-        ends = [(area.start % PAGE, page_start(area.start) - PAGE) for area in there]
-        ends += [(PAGE - area.end % PAGE, page_start(area.start) + PAGE) for area in there if area.end % PAGE]
-        return sum(page_start(other.start) - page_start(area.start) == PAGE and other.start - area.end >= PAGE - 8
-                   for area, other in pairwise(there)) + sum(
-            length >= PAGE - 8 and kept.get(page, it.key) != it.key for length, page in ends)
+        kept = [other for run in self.runs for other in run.its if other.half[1] == it.half[1]]
+        keys = {page_start(other.area.start): other.key for other in kept}
+        between = sum(page_start(other.area.start) - page_start(one.area.start) == PAGE
+                      and other.area.start - one.area.end >= PAGE - 8 for one, other in pairwise(there))
+        before = sum(one.area.start % PAGE >= PAGE - 8 and keys.get(page_start(one.area.start) - PAGE, it.key) != it.key
+                     for one in there)
+        return between + before + sum(one.area.start % PAGE == 0 and self.ends_apart(one, it, kept) for one in there)
+
+    def ends_apart(self, one: Build, taken: Build, kept: list[Build]) -> bool:
+        """Whether what's behind a cell pool in its page is in no other kept page, nor in a run of others below what's
+        taken: the next page is another subpool's; or it's none that is kept, and the next one that is has its cell
+        pool, or is another subpool's."""
+        page = page_start(one.area.start) + PAGE
+        after = next((other for other in kept if other.area.start >= page), None)
+        if after is None or after.area.start >= page + PAGE:
+            return page > taken.area.start and not (after and after.key == one.key and after.area.start in self.gone)
+        return after.key != one.key
 
     def filled(self, its: list[Build], end: int) -> int:
         """How many fill the pages of some cell pools up to an address at least."""
