@@ -1,8 +1,8 @@
 #!/usr/bin/env python3
 """Maps of small cell pools, each alone in its page: nearly as many as there may be are hard to make, or can't be.
 
-Usage: tools/tests/lone_maps.py FIRST LAST [PROGRAM]     tries vsm-load with random maps by their numbers; PROGRAM is vsm,
-                                                         by default the built one of crates/vsm.
+Usage: tools/tests/lone_maps.py FIRST LAST [PROGRAM]     tries vsm-load with random maps by their numbers; PROGRAM is
+                                                         vsm, by default the built one of crates/vsm.
 
 It tells each map that's neither made nor refused, or takes more than 15 seconds of a processor, or whose script makes
 another map; the last line says how many there are of each kind.

@@ -354,3 +354,21 @@ def test_pools_beside_pages_of_other_subpools(monkeypatch: pytest.MonkeyPatch) -
     places_of = [(0, 0, 3), (2, 0, 3), (3, 1, 3), (4, 1, 0), (5, 0, 0), (6, 1, 3)]
     builds = [Build(Area(8 * (words * page + at), 8), (key, 1), 24) for page, key, at in places_of]
     assert Stuck([0], builds, 7).lowest() and not Stuck([0], builds[1:], 7).lowest()
+
+
+@pytest.mark.parametrize("low, high, most, is_made", [
+    ([*enumerate([0] * 6 + [1] * 13)], [(0, 1), (2, 1), (3, 1), (4, 0), (5, 1), (6, 1), (8, 0)], 27, True),
+    ([(0, 0), (1, 0), (2, 0)], [(0, 1), (1, 1), (2, 1), (4, 1), (5, 0), (6, 0)], 10, False)])
+def test_pools_at_begins_of_pages_on_both_sides(monkeypatch: pytest.MonkeyPatch, low: list[tuple[int, int]],
+                                                high: list[tuple[int, int]], most: int, is_made: bool) -> None:
+    """One more may be there: a single unassigned page is held with the one before; or that has to be filled."""
+    words, start = 8, 8 * 1000
+    for module in (building, chains, groups, holding, narrows, searching, spread, stuck):
+        monkeypatch.setattr(module, "PAGE", 8 * words)
+    monkeypatch.setattr(places, "HIGH_START", start)
+    runs = [Area(first, 64 * 8 * words) for first in (0, start)]
+    builds = [Build(Area(first + 8 * words * page, 8), (key, 1), side)
+              for first, side, them in ((0, 24, low), (start, 31, high)) for page, key in them]
+    steps = descent(runs, builds, most)
+    check_steps(steps or [], runs, builds if steps else [], most)
+    assert (steps is not None) == is_made == (Stuck([0, start], builds, most).lowest() is None)

@@ -93,8 +93,8 @@ class Stuck:
         return run.start < self.behind[location(run.start)]
 
     def least_between(self, it: Build) -> int:
-        """How many more there are at least in lower pages that aren't kept, when a cell pool comes to an unassigned one:
-        what's in the kept page before or behind may be there too if that's its subpool's, or has no cell pool."""
+        """How many more there are at least in lower pages that aren't kept, when a cell pool comes to an unassigned
+        one: what's in the kept page before or behind may be there too if that's its subpool's, or has no cell pool."""
         found, end, may_share = 0, self.firsts[it.half[1]], False
         for other in [other for run in self.runs for other in run.its if other.half[1] == it.half[1]]:
             start, last = page_start(other.area.start), may_share
