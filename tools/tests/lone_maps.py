@@ -25,7 +25,7 @@ from vsmtools import bench, maps  # noqa: E402
 from vsmtools.maps import Area  # noqa: E402
 
 MOST_SECONDS = 15
-REFUSED = "no list of statements makes this"
+REFUSED = ": no list of statements makes this: "
 WORDS = maps.PAGE // 8
 
 

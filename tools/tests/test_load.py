@@ -21,7 +21,7 @@ from typing import Callable
 import pytest
 from conftest import SECONDS, TOOLS, TOP, one_line
 from load_scripts import WIDE, WIDER, Requests, address_script, attached, family_script, pools_script, told
-from lone_maps import in_pages, lone_cells
+from lone_maps import REFUSED, in_pages, lone_cells
 from test_tools import scripts
 
 from vsmtools import bench, building, family, loading, maps
@@ -518,6 +518,7 @@ def test_a_search_is_given_up(run: Callable, vsm: str, seconds: str, longer: str
                          "longer, --seconds 0 without an end" % (seconds, ORDERS, UNPROVED, longer),
                          one_line(done, TOOL))
     assert found and text.split("\n")[int(found[1]) - 1].startswith((" SUBPOOL", " CELLPOOL"))
+    assert REFUSED not in done.stderr.decode()
 
 
 def test_choices_tell_what_they_are_at() -> None:

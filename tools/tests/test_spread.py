@@ -44,7 +44,7 @@ def test_cell_pools_spread_over_pages_that_nothing_makes(run: Callable, vsm: str
 
 
 @pytest.mark.parametrize("number, kind", [
-    (3, "refused"), (4, "refused"), (5, "made"), (9, "made"), (21, "made"), (27, "made"), (38, "made")])
+    (3, "refused"), (4, "refused"), (5, "made"), (9, "made"), (21, "made"), (27, "made"), (38, "made"), (76, "made")])
 def test_nearly_as_many_as_there_may_be_on_both_sides(vsm: str, number: int, kind: str) -> None:
     """Of two to eight subpools."""
     assert outcome(near_limit(number), vsm)[0] == kind

@@ -15,14 +15,14 @@ from .holding import NoChain, Record
 from .maps import Area
 from .spread import Spread
 
-FIRST_TRIES = 2      # in so many ways is the first side tried, all of which there's room for
+Side = tuple[list[Area], list[Build]]      # its runs of unassigned pages, and its cell pools
+FIRST_TRIES = 2      # so many ways of the first side are tried
 
 
 class Both:
     """Makes the cell pools of both sides."""
 
-    def __init__(self, sides: list[tuple[list[Area], list[Build]]], record: Record) -> None:
-        """sides: the unassigned pages of each, and its cell pools."""
+    def __init__(self, sides: list[Side], record: Record) -> None:
         self.record = record
         self.spreads = [Spread(runs, its, record) for runs, its in sides]
 

@@ -26,7 +26,7 @@ from functools import partial
 from itertools import product
 from typing import Callable, Iterator, Optional
 
-from .both import Both
+from .both import Both, Side
 from .building import Build, Step, page_end, page_start
 from .holding import NoChain, Record, runs_of
 from .maps import PAGE, Area
@@ -34,9 +34,6 @@ from .merging import merged
 from .places import Key, location
 from .progress import Work
 from .spread import Spread
-
-
-Side = tuple[list[Area], list[Build]]      # its runs of unassigned pages, and its cell pools
 
 
 def descent(runs: list[Area], wanted: list[Build], most: int, work: Optional[Work] = None) -> Optional[list[Step]]:
